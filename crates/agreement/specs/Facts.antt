@@ -16,10 +16,8 @@ use Rattle.adapter.specs.declared.command.Operation.{Operation}
 use Rattle.adapter.specs.declared.tape.Entry.{Entry}
 use Rattle.adapter.specs.declared.tape.Entry.TheVariants as entry
 use Rattle.adapter.specs.declared.tape.Fault as tape_fault
-use Rattle.block_machine.specs.Left.{after}
 use Rattle.block_machine.specs.State.{Pending, Machine}
-use Rattle.block_machine.specs.Steps.{Step, MayMove, AllTouched, NoneKept}
-use Rattle.agreement.specs.Driver.{ByDevice}
+use Rattle.block_machine.specs.Steps.{MayMove, AllTouched, NoneKept}
 use Rattle.agreement.specs.Follows.{Follows}
 use Rattle.agreement.specs.Slots.{Serves, Uses, IsOver, Brought}
 
@@ -58,26 +56,12 @@ pub record IsClear (p : PortState) (slot : ℕ) : Type 0 where
   pub over : IsOver p slot
   pub sact : p.sact slot ≡ false
 
--- What CI and then SACT tell: the machine follows; each slot whose bit was clear in both is clear, and its request has
--- ended; and none was kept meanwhile.
-pub record Finds (uses : Uses) (m : Machine) (port : Port) (ci sact : ℕ) (old new : Device) : Type 0 where
-  pub follows : Follows uses m old new
-  pub clear : (slot : ℕ) (id : RequestId) → slot < 32 → uses port.0 slot ≡ Serves id → bit ci slot ≡ false
-      → bit sact slot ≡ false → IsClear (new.port port.0) slot × EndedIn (after m follows.steps) port id
-  pub kept : NoneKept m port → NoneKept (after m follows.steps) port
-
 -- What CI tells of a command of the driver's own: the machine follows, and the command is over and has brought its page
 -- since ST was set.
 pub record FindsPage (uses : Uses) (m : Machine) (port : ℕ) (o : Operation) (old new : Device) : Type 0 where
   pub follows : Follows uses m old new
   pub clear : IsClear (new.port port) 0
   pub brought : Brought new.memory new.tape port o (new.port port).notes.st_set_at
-
--- these are the steps by which the machine follows, and the device made them alone
-pub record AreStepsOf {uses : Uses} {m : Machine} {old new : Device} (follows : Follows uses m old new)
-    (steps : List Step) : Type 0 where
-  pub same : steps ≡ follows.steps
-  pub device : ByDevice old new m steps
 
 -- ---- frames that the device leaves alone
 

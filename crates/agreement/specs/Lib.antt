@@ -24,3 +24,4 @@ pub mod Readying
 pub mod Vacant
 pub mod Recovered
 pub mod Logged
+pub mod Laws

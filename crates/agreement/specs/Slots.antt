@@ -4,6 +4,7 @@ use Rattle.std.specs.Prelude.{ℕ, zero, suc, Bool, true, false, not, if◌then�
 use Rattle.ata_types.specs.declared.request.Op.{Op}
 use Rattle.ata_types.specs.declared.request.Op.TheVariants.{Read, Write, Trim, Flush}
 use Rattle.ata_types.specs.declared.request.RequestId.{RequestId}
+use Rattle.ata_types.specs.declared.limits.TheConstants.{MOST_REQUEST_FRAMES}
 use Rattle.adapter.specs.Commands.{Meaning, is_queued, is_ranged}
 use Rattle.adapter.specs.Device.{Taken, PortState}
 use Rattle.adapter.specs.Memory.{bytes_at, changed}
@@ -76,11 +77,12 @@ pub record Means (port slot : ℕ) (r : Accepted) (c : Meaning) (places : List �
   pub places_are : ArePlaces r.asked.op port r places
   pub head : r.asked.op ≡ Trim → slot ≡ 0
 
--- header and table of the slot say the command, and the table is the slot's
+-- Header and table of the slot say the command, and the table is the slot's. So they do at each stage, also once the
+-- command is taken, has ended or was given up: what a slot in use has is never stored to.
 pub record Told (memory : ℕ → ℕ) (list port slot : ℕ) (c : Meaning) (places : List ℕ) : Type 0 where
   pub says : Says memory list slot c places
   pub table_is : says.table ≡ table_of port slot
-  pub few : length says.prds ≤ 32
+  pub few : length says.prds ≤ MOST_REQUEST_FRAMES
 
 -- the port's command list is where it belongs
 pub record IsPlaced (p : PortState) (port slot : ℕ) : Type 0 where

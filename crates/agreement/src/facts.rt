@@ -31,7 +31,7 @@ ghost use Rattle.agreement.specs.Booted.{BootIsFound};
 ghost use Rattle.agreement.specs.Driven.{Grows};
 ghost use Rattle.agreement.specs.Driver.{Known, Knows, IsOwnPrepared};
 ghost use Rattle.agreement.specs.Errors.{KeepsErrors, NoneComes, ChangesByDisks, StaysClear, NoneFatal, NoneFails, ChangesByErrors, IsLeftByReset, IsCleared, IsWork};
-ghost use Rattle.agreement.specs.Facts.{IsHalted, IsAfterReset, Finds, FindsPage, AreStepsOf, IsStill, AreOver, RunsWell, Undisturbed, ShowsNoTrouble, TellsNoTrouble, ClearsNoTrouble, IsFaulted, ShowsFault, HasFaults, IsRecorded, IsAwaited, IsUnflagged, IsQuiet, KeepsRecord, EndedIn, IsClear};
+ghost use Rattle.agreement.specs.Facts.{IsHalted, IsAfterReset, FindsPage, IsStill, AreOver, RunsWell, Undisturbed, ShowsNoTrouble, TellsNoTrouble, ClearsNoTrouble, IsFaulted, ShowsFault, HasFaults, IsRecorded, IsAwaited, IsUnflagged, IsQuiet, KeepsRecord, EndedIn, IsClear};
 ghost use Rattle.agreement.specs.Links.{SparesRegister, SameAdapter, LeavesControls, PlugsNone, LeavesDisk, LeavesLink, HasDeviceOrNone};
 ghost use Rattle.agreement.specs.Noted.{LeavesNotes};
 ghost use Rattle.agreement.specs.Places.{scratch_of};
@@ -87,18 +87,6 @@ pub fn reset_is_found()
     ensures is_idle { (p : PortState) → IsAfterReset p → IsIdlePort p }
 {}
 
-/// CI and then SACT of a running port are read: each slot whose bits were clear in both has ended its request. The
-/// steps by which the machine follows are those of the two readings, and what the driver knows stays known.
-pub fn done_is_found()
-    ensures finds { (uses : Uses) (m : Machine) (port : Port) (ci sact : ℕ) (old mid new : Device) → IsReached m
-        → Agrees uses m old → old.hr ≡ false → (old.port port.0).st ≡ true → Reads (Px port Ci) ci old mid
-        → Reads (Px port Sact) sact mid new → Finds uses m port ci sact old new }
-    ensures adds { (k : Known) (port : Port) (ci sact : ℕ) (mid new : Device) → k.device.hr ≡ false
-        → (k.device.port port.0).st ≡ true → Reads (Px port Ci) ci k.device mid → Reads (Px port Sact) sact mid new
-        → AddsSteps Knows k (record k { device = new })
-        (λ m steps. (found : Finds k.uses m port ci sact k.device new) × AreStepsOf found.follows steps) }
-{}
-
 /// A request of the book that has ended is issued still. One that may move and has ended leaves its slot clear, also
 /// where ST is 0. And on a running port a slot that serves a request and whose bits are both clear has ended it.
 pub fn ended_is_clear()
@@ -133,29 +121,6 @@ pub fn over_stays()
         → step ≢ Release → EndedIn m port id → EndedIn (after_step m step) port id }
     ensures ended_released { (m : Machine) (port : Port) (id : RequestId) → NoneKept m port → EndedIn m port id
         → EndedIn (after_step m Release) port id }
-{}
-
-/// CI of a running port with a command of the driver's own is read: once bit 0 is clear, the command has brought its
-/// page; and a load of the scratch frame then gives the bytes that the port's last command of this operation has moved.
-/// The steps by which the machine follows are the device's, and what the driver knows stays known.
-pub fn page_is_found()
-    ensures read { (uses : Uses) (m : Machine) (port : Port) (o : Operation) (v : ℕ) (old new : Device) → IsReached m
-        → Agrees uses m old → old.hr ≡ false → (old.port port.0).st ≡ true → uses port.0 0 ≡ Own o
-        → Reads (Px port Ci) v old new → bit v 0 ≡ false → FindsPage uses m port.0 o old new }
-    ensures load { (uses : Uses) (m : Machine) (port : ℕ) (o : Operation) (bytes : List ℕ) (old new : Device)
-        → IsReached m → Agrees uses m old → old.hr ≡ false → (old.port port).st ≡ true → uses port 0 ≡ Own o
-        → IsOver (old.port port) 0 → Loads (scratch_of port) bytes old new → length bytes ≡ 512
-        → (page : FindsPage uses m port o old new) × (bytes ≡ page.brought.move.bytes.value) }
-    ensures read_adds { (k : Known) (port : Port) (o : Operation) (v : ℕ) (new : Device) → k.device.hr ≡ false
-        → (k.device.port port.0).st ≡ true → k.uses port.0 0 ≡ Own o → Reads (Px port Ci) v k.device new
-        → bit v 0 ≡ false → AddsSteps Knows k (record k { device = new })
-        (λ m steps. (page : FindsPage k.uses m port.0 o k.device new) × AreStepsOf page.follows steps) }
-    ensures load_adds { (k : Known) (port : ℕ) (o : Operation) (bytes : List ℕ) (new : Device) → k.device.hr ≡ false
-        → (k.device.port port).st ≡ true → k.uses port 0 ≡ Own o → IsOver (k.device.port port) 0
-        → Loads (scratch_of port) bytes k.device new → length bytes ≡ 512
-        → AddsSteps Knows k (record k { device = new })
-        (λ m steps. (page : FindsPage k.uses m port o k.device new) × AreStepsOf page.follows steps
-        × (bytes ≡ page.brought.move.bytes.value)) }
 {}
 
 /// While the driver waits for the page of a command of its own, over as many readings as it takes. The write of PxCI

@@ -16,6 +16,7 @@ ghost use Rattle.agreement.specs.Driven.{IsAgreed, IsControl, IsFollowed, IsFoll
 ghost use Rattle.agreement.specs.Driver.{AllFree, LeavesUses, IsOwnPrepared};
 ghost use Rattle.agreement.specs.Facts.{IsHalted};
 ghost use Rattle.agreement.specs.GivingUp.{given_up};
+ghost use Rattle.agreement.specs.Laws.{StretchLaws};
 ghost use Rattle.agreement.specs.Links.{SparesRegister};
 ghost use Rattle.agreement.specs.Recovering.{WorksPlainly};
 ghost use Rattle.agreement.specs.Slots.{Uses, Free, Own, IsOver, op_of, put};
@@ -108,6 +109,15 @@ pub fn followed_stretches_give<K: Kinds>()
         new → IsAgreed uses old
         → WorksPlainly (old.port port.0) → WorksPlainly (new.port port.0) }
 {}
+
+/// What these laws say of a crate's kinds, for its proofs.
+pub fn stretch_laws_hold<K: Kinds>()
+    ensures { StretchLaws K.Kind K.may K.fits }
+{
+    accesses_are_followed::<K>();
+    stretches_are_followed::<K>();
+    followed_stretches_give::<K>();
+}
 
 /// A stretch that is followed is a part of a call, in which the device alone makes steps. And where a port has halted
 /// after it, the driver may give up all slots of the port, and go on with another stretch, of any kind that a port

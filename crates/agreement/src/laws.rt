@@ -49,43 +49,9 @@ pub fn device_is_followed()
         → Follows uses m old new }
 {}
 
-/// What is followed is known, and told by the device alone.
-pub fn knowing_goes_on()
-    ensures { (k : Known) (m : Machine) (new : Device) → Knows m k → (f : Follows k.uses m k.device new)
-        → Knows (after m f.steps) (record k { device = new }) × ByDevice k.device new m f.steps }
-{}
-
-/// So it is over any reading of a register: the machine makes the device's steps and no others.
+/// Over any reading of a register the two go on agreeing: the machine makes the device's steps and no others.
 pub fn reading_is_followed()
     ensures { (k : Known) (r : Reg) (v : ℕ) (new : Device) → Reads r v k.device new
-        → AddsSteps Knows k (record k { device = new }) (ByDevice k.device new) }
-{}
-
-/// So it is over any load.
-pub fn loading_is_followed()
-    ensures { (k : Known) (at : ℕ) (bytes : List ℕ) (new : Device) → Loads at bytes k.device new
-        → AddsSteps Knows k (record k { device = new }) (ByDevice k.device new) }
-{}
-
-/// So it is over a store to the header or the table of a free slot, or to the scratch frame of a port whose slot 0 is
-/// free.
-pub fn storing_is_followed()
-    ensures { (k : Known) (at : ℕ) (bytes : List ℕ) (new : Device) → MayStore k.uses at (length bytes)
-        → Stores at bytes k.device new
-        → AddsSteps Knows k (record k { device = new }) (ByDevice k.device new) }
-{}
-
-/// So it is over a write of any register that leaves each slot to its use: where ST is cleared, what waited is given
-/// up, and what is taken goes on.
-pub fn writing_is_followed()
-    ensures { (k : Known) (r : Reg) (v : ℕ) (new : Device) → Stays (MayWrite r v) k.device
-        → LeavesUses k.uses r v k.device → Writes r v k.device new
-        → AddsSteps Knows k (record k { device = new }) (ByDevice k.device new) }
-{}
-
-/// What the device does between two accesses is followed in the same form.
-pub fn waiting_is_followed()
-    ensures { (k : Known) (new : Device) → Steps k.device new
         → AddsSteps Knows k (record k { device = new }) (ByDevice k.device new) }
 {}
 
@@ -95,13 +61,6 @@ pub fn issuing_is_followed()
         → IsReached m → Knows m k → k.device.hr ≡ false
         → IsPrepared k.uses m k.device port.0 slot mode e v → Writes (Px port Ci) v k.device new
         → EndsWith k m (Issue mode e) (serving k port.0 slot e.request.id new) }
-{}
-
-/// The write of PxCI issues a command of the driver's own, which is no step of the machine.
-pub fn own_issuing_is_followed()
-    ensures { (k : Known) (port : Port) (o : Operation) (v : ℕ) (new : Device) → k.device.hr ≡ false
-        → IsOwnPrepared k.uses k.device port.0 o v → Writes (Px port Ci) v k.device new
-        → AddsSteps Knows k (record k { uses = put k.uses port.0 0 (Own o); device = new }) (ByDevice k.device new) }
 {}
 
 /// The write of PxSACT arms a free slot of a running port, which is no step of the machine. Once ST is cleared, the
@@ -131,18 +90,6 @@ pub fn client_load_is_followed()
         → IsReached m → Knows m k → IsOpen m.owner m.lent client frame offset (length bytes)
         → Loads (FRAME_BYTES * frame.0 + offset) bytes k.device new
         → EndsWith k m (Load client frame offset bytes) (record k { device = new }) }
-{}
-
-/// One part of a call goes on after another; and accesses are parts.
-pub fn parts_compose()
-    ensures device { (a b c : Known) → AddsSteps Knows a b (ByDevice a.device b.device)
-        → AddsSteps Knows b c (ByDevice b.device c.device)
-        → AddsSteps Knows a c (ByDevice a.device c.device) }
-    ensures access { (a b : Known) → AddsSteps Knows a b (ByDevice a.device b.device)
-        → AddsSteps Knows a b (IsBacked a.device b.device) }
-    ensures parts { (a b c : Known) → AddsSteps Knows a b (IsBacked a.device b.device)
-        → AddsSteps Knows b c (IsBacked b.device c.device)
-        → AddsSteps Knows a c (IsBacked a.device c.device) }
 {}
 
 /// A step of the driver's own needs nothing of the device.
@@ -224,12 +171,6 @@ pub fn parking_frees()
     ensures parks { (k : Known) (port slot : ℕ) (id : RequestId) → Contains ((parking k port slot id).parked port) id }
 {}
 
-/// So is one whose command was the driver's own.
-pub fn own_release_agrees()
-    ensures { (k : Known) (m : Machine) → Knows m k → (port slot : ℕ) → IsOver (k.device.port port) slot
-        → (o : Operation) → k.uses port slot ≡ Own o → Knows m (freeing k port slot) }
-{}
-
 /// A request that no slot serves may be answered: its frames are given back.
 pub fn answering_agrees()
     ensures { (k : Known) (m : Machine) (e : Pending) (outcome : Outcome) (later : ℕ → List RequestId) → IsReached m
@@ -309,17 +250,6 @@ pub fn free_slots_are_left()
         → (r : Reg) (v : ℕ) → Writes r v old new → LeavesFree uses old new }
 {}
 
-/// What is left over each of two stretches is left over both; and so it is over none. What is left while a slot has no
-/// command of the driver's own, is left where it is put to another use.
-pub fn leaving_composes()
-    ensures none { (uses : Uses) (d : Device) → LeavesFree uses d d }
-    ensures more { (uses : Uses) (old mid new : Device) → LeavesFree uses old mid → LeavesFree uses mid new
-        → LeavesFree uses old new }
-    ensures used { (uses : Uses) (port slot : ℕ) (u : Use) (old new : Device)
-        → ((o : Operation) → uses port slot ≡ Own o → ⊥) → LeavesFree uses old new
-        → LeavesFree (put uses port slot u) old new }
-{}
-
 /// A page comes only where slot 0 of its port has that command of the driver's own, which isn't over; and one at most
 /// comes for it, whatever the device does, also while a reset is pending. So it is over each access.
 pub fn pages_come_when_asked()
@@ -387,19 +317,6 @@ pub fn steps_spare_the_book()
         → NoneKept (after m steps) port }
 {}
 
-/// A step leaves each request that it isn't of as it was, in the book and among the kept ones: but a tick makes it
-/// older, and Release gives back all that are kept. An answer that keeps no frames leaves the kept ones as they were.
-pub fn others_are_spared()
-    ensures book { (m : Machine) (step : Step) (e : Pending) → IsOfAnother e.request.id step
-        → ((ready : Port → Bool) → step ≢ Age ready) → Contains m.book e → Contains (after_step m step).book e }
-    ensures aged { (m : Machine) (ready : Port → Bool) (e : Pending) → Contains m.book e
-        → Contains (after_step m (Age ready)).book (older ready e) }
-    ensures kept { (m : Machine) (step : Step) (e : Pending) → IsOfAnother e.request.id step → step ≢ Release
-        → Contains m.kept e → Contains (after_step m step).kept e }
-    ensures none_kept { (m : Machine) (e : Pending) (outcome : Outcome) → stays e outcome ≡ false
-        → (after_step m (Answer e outcome)).kept ≡ m.kept }
-{}
-
 /// Where entries of the tape tell of the device's steps among these, one of the entries is of a disk of the port that
 /// goes or comes exactly if one of the steps takes the port's disk out or puts one in.
 pub fn disks_are_told()
@@ -423,13 +340,6 @@ pub fn histories_go_on()
         → AllTold m (late ++ early) }
 {}
 
-/// And what was prepared for it stays so.
-pub fn prepared_stays()
-    ensures { (uses : Uses) (m : Machine) (old new : Device) (port slot : ℕ) (mode : Mode) (e : Pending) (v : ℕ)
-        → IsReached m → Agrees uses m old → old.hr ≡ false → Steps old new → (f : Follows uses m old new)
-        → IsPrepared uses m old port slot mode e v → IsPrepared uses (after m f.steps) new port slot mode e v }
-{}
-
 /// A bit of PxSACT that is clear stays so whatever the device does, over readings, and over writes but for one of
 /// PxSACT that sets it.
 pub fn clear_bits_stay()
@@ -442,13 +352,8 @@ pub fn clear_bits_stay()
         → (new.port port.0).sact slot ≡ false }
 {}
 
-/// What the driver may store for itself may be loaded and stored, whatever the device does first.
-pub fn own_bytes_are_free()
-    ensures { (uses : Uses) (m : Machine) (d : Device) → IsReached m → Agrees uses m d → (at n : ℕ) → at + n ≤ d.size
-        → MayStore uses at n → Stays (IsFree at n) d }
-{}
-
-/// So may the page that a command of the driver's own brought, once the command is over.
+/// The page that a command of the driver's own brought may be loaded, whatever the device does first, once the command
+/// is over.
 pub fn pages_are_free()
     ensures { (uses : Uses) (m : Machine) (d : Device) → IsReached m → Agrees uses m d → (port : ℕ) → port < 4
         → scratch_of port + 512 ≤ d.size → IsOver (d.port port) 0 → Stays (IsFree (scratch_of port) 512) d }
@@ -512,14 +417,7 @@ pub fn acknowledging_is_permitted()
         → Stays (MayWrite registers.Is ports) new }
 {}
 
-/// The bit of PxCI of a slot with a prepared request may be written, whatever the device does first.
-pub fn issuing_is_permitted()
-    ensures { (uses : Uses) (m : Machine) (d : Device) → IsReached m → Agrees uses m d → (port : Port) (slot : ℕ)
-        (mode : Mode) (e : Pending) (v : ℕ) → IsOn d → HasPort d port.0 → slot ≤ d.cap / 256 % 32
-        → IsPrepared uses m d port.0 slot mode e v → Stays (MayWrite (Px port Ci) v) d }
-{}
-
-/// So may that of a command of the driver's own.
+/// The bit of PxCI of a prepared command of the driver's own may be written, whatever the device does first.
 pub fn own_issuing_is_permitted()
     ensures { (uses : Uses) (m : Machine) (d : Device) → IsReached m → Agrees uses m d → (port : Port) (o : Operation)
         (v : ℕ) → IsOn d → HasPort d port.0 → IsOwnPrepared uses d port.0 o v → Stays (MayWrite (Px port Ci) v) d }

@@ -16,8 +16,14 @@ ghost use Rattle.adapter.specs.declared.tape.Entry.{Entry};
 ghost use Rattle.agreement.specs.Driven.{AnyAccess, Grows, AnyUse, IsUse, IsAgreed, IsDrivenBy, IsControl, IsFollowed, IsFollowedTo, IsOf, LeavesPort, HasNoCommand, SendsNone};
 ghost use Rattle.agreement.specs.Driver.{LeavesUses, MayStore};
 ghost use Rattle.agreement.specs.Facts.{IsRecorded};
+ghost use Rattle.agreement.specs.Laws.{TapeLaws};
 ghost use Rattle.agreement.specs.Links.{SameAdapter, SparesRegister};
 ghost use Rattle.agreement.specs.Slots.{Uses, Free, IsOver, Own, op_of, put};
+
+use super::facts::{
+    calm_composes, coming_composes, errors_rise_by_disks, fatal_errors_compose, faults_compose,
+    plugging_composes,
+};
 
 /// Accesses that touch no register of another port, nor another port's bit of IS (`IsOf`), leave every other port to
 /// the device, with what readings noted of it, and with the record of its faults; and where they are followed, its disk
@@ -61,6 +67,19 @@ pub fn tapes_grow()
     ensures access { (access : Access) (old new : Device) → Does access old new → Grows old new }
     ensures more { (old mid new : Device) → Grows old mid → Grows mid new → Grows old new }
 {}
+
+/// What laws say of the tape, for the proofs of the crates above.
+pub fn tape_laws_hold()
+    ensures { TapeLaws }
+{
+    tapes_grow();
+    coming_composes();
+    plugging_composes();
+    fatal_errors_compose();
+    faults_compose();
+    calm_composes();
+    errors_rise_by_disks();
+}
 
 /// A write of a register of the port but PxSCTL and PxIS leaves all that is noted of the port: but when ST was set,
 /// where PxCMD is written with ST one.

@@ -18,7 +18,7 @@ use Rattle.host_boot.specs.Taken.{found_of}
 use Rattle.request_queue.specs.Entries.{Held, unanswered_of}
 use Rattle.server_history.specs.Served.{Accepts, IssuesAll, accepted_as, accepting}
 use Rattle.server_history.specs.Server.{Server, IsKept, mode_in, no_slots, situation_of, state_of}
-use Rattle.server_history.proofs.Granting.{has_room, on_ready}
+use Rattle.server_history.proofs.plain_calls.AcceptableRequests.{has_room, on_ready}
 use Rattle.slots.specs.Uses.{Uses as PortSlots}
 use Rattle.block_server.proofs.Sending.{served_ready, slots_said}
 use Rattle.block_server.specs.Calls.{IsFor}

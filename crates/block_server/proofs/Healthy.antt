@@ -37,9 +37,9 @@ use Rattle.identify.specs.declared.DiskInfo.{DiskInfo}
 use Rattle.identify.specs.declared.wanted.Wanted.{Wanted}
 use Rattle.server_history.specs.Histories.{AddsEvent, Leads}
 use Rattle.server_history.specs.Server.{is_served, ports_of, state_of}
-use Rattle.block_server.specs.Clients.{AreCalls, EachAfter, HoldsBetween, IsConfinedCall, IsInState, IsSeenAt, ServesClients}
+use Rattle.block_server.specs.Clients.{AreCalls, EachAfter, HoldsBetween, IsConfinedCall, IsInState, IsSeenAt}
 use Rattle.block_server.specs.Made.{IsNew}
-use Rattle.block_server.specs.Promise.{DrivesDevice, IsServedWell, Simulates, KeepsPromise, ServesPorts}
+use Rattle.block_server.specs.Promise.{IsServedWell, Simulates, ServesPorts}
 use Rattle.block_server.specs.Running.{ask_of, said_of}
 use Rattle.block_server.specs.View.{ServerView, server_of, visible_of}
 use Rattle.block_server.specs.declared.types.Event.{Event}

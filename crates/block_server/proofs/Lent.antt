@@ -24,8 +24,8 @@ use Rattle.request_queue.specs.declared.fate.Failed.{Failed}
 use Rattle.server_history.specs.Mended.{AreQueued, IsFailed, IsFoundOut, TellsMending}
 use Rattle.server_history.specs.Served.{IsMaskOf, is_used}
 use Rattle.server_history.specs.Server.{Server, IsKept, slots_at, state_of, used_for}
-use Rattle.server_history.specs.declared.Trouble.{Trouble}
-use Rattle.server_history.specs.declared.Trouble.TheVariants.{Failed as Fails}
+use Rattle.port_look.specs.declared.Trouble.{Trouble}
+use Rattle.port_look.specs.declared.Trouble.TheVariants.{Failed as Fails}
 use Rattle.slots.specs.Uses.{Uses as PortSlots, IsTaken, use_at}
 use Rattle.slots.specs.declared.Use.{Use as SlotUse}
 use Rattle.block_server.specs.Ports.{AnswersAll, LendsDone, with_answers}
@@ -56,104 +56,140 @@ named_among false port outstanding accesses old new its rests =
     (subst (λ (n : ℕ). n < 32) (sym rests.slot_is) (omega arith), subst (λ (n : ℕ). bit outstanding n ≡ true) (sym rests.slot_is) rests.among)
 named_among true port outstanding accesses old new its rests = (rests.small, rests.among)
 
-module _ (laws : FailureLaws) (s : Server) (device : Device) (table : Table) (book : List Held) (slots : PortSlots) (port : Port) (trouble : Trouble) (l : LendsTroubled s device table book slots port trouble) where
+-- a port in trouble, and what is lent of its server
+pub record Troubled : Type 0 where
+  pub laws : FailureLaws
+  pub s : Server
+  pub device : Device
+  pub table : Table
+  pub book : List Held
+  pub slots : PortSlots
+  pub port : Port
+  pub trouble : Trouble
+  pub lends : LendsTroubled s device table book slots port trouble
+
+-- what was found done of it
+pub record FoundDone (x : Troubled) : Type 0 where
+  pub mask : ℕ
+  pub exact : (slot : ℕ) → slot < 32 → (bit_at mask slot ≡ 1) ↔ IsTaken x.slots slot
+  pub done : ℕ
+  pub found : Device
+  pub reads : ReadsDone x.port mask done x.device found
+
+abbrev from : (x : Troubled) → FoundDone x → Server
+from x f = record x.s { device = f.found }
+
+-- what was answered then
+pub record Answered (x : Troubled) (f : FoundDone x) : Type 0 where
+  pub before : List Reply
+  pub after : List Reply
+  pub t : Table
+  pub b : List Held
+  pub u : PortSlots
+  pub answers : AnswersAll x.port f.done before after (from x f) (with_answers (from x f) t b u x.port)
+  pub lent : LendsDone (with_answers (from x f) t b u x.port) t b u x.port f.done
+
+abbrev mid : (x : Troubled) (f : FoundDone x) → Answered x f → Server
+mid x f a = with_answers (from x f) a.t a.b a.u x.port
+
+-- which commands are outstanding
+pub record Waiting (x : Troubled) (f : FoundDone x) (a : Answered x f) : Type 0 where
+  pub outstanding : ℕ
+  pub left : (slot : ℕ) → slot < 32 → (bit_at outstanding slot ≡ 1) ↔ IsTaken a.u slot
+  pub queued : Bool
+  pub kinds : AreQueued queued a.u
+
+module _ (x : Troubled) where
   abbrev seen : Server
-  seen = record s { device = device }
+  seen = record x.s { device = x.device }
 
   pub seen_kept : IsKept seen
-  seen_kept = laws.looking s device port l.sees.kept l.sees.ready l.sees.followed
+  seen_kept = x.laws.looking x.s x.device x.port x.lends.sees.kept x.lends.sees.ready x.lends.sees.followed
 
-  pub seen_there : HasPort device port.0
-  seen_there = ready_there seen port seen_kept l.sees.ready
+  pub seen_there : HasPort x.device x.port.0
+  seen_there = ready_there seen x.port seen_kept x.lends.sees.ready
 
-  module _ (mask : ℕ) (exact : (slot : ℕ) → slot < 32 → (bit_at mask slot ≡ 1) ↔ IsTaken slots slot) (done : ℕ) (found : Device) (finds : ReadsDone port mask done device found) where
-    abbrev from : Server
-    from = record s { device = found }
+  module _ (f : FoundDone x) where
+    its_mask : IsMaskOf (slots_at x.s.slots x.port.0) f.mask
+    its_mask = subst (λ (u : PortSlots). IsMaskOf u f.mask) (sym x.lends.slots_are) (mask_of x.slots f.mask f.exact)
 
-    its_mask : IsMaskOf (slots_at s.slots port.0) mask
-    its_mask = subst (λ (u : PortSlots). IsMaskOf u mask) (sym l.slots_are) (mask_of slots mask exact)
-
-    pub lends_done : LendsDone from table book slots port done
+    pub lends_done : LendsDone (from x f) x.table x.book x.slots x.port f.done
     lends_done = record {
-      kept = laws.finding seen found port mask done seen_kept l.sees.ready finds;
-      ready = l.sees.ready;
-      table_is = l.table_is;
-      book_is = l.book_is;
-      slots_are = l.slots_are;
-      over = λ slot small its. laws.over seen found port mask done slot seen_kept l.sees.ready its_mask small finds its;
+      kept = x.laws.finding seen f.found x.port f.mask f.done seen_kept x.lends.sees.ready f.reads;
+      ready = x.lends.sees.ready;
+      table_is = x.lends.table_is;
+      book_is = x.lends.book_is;
+      slots_are = x.lends.slots_are;
+      over = λ slot small its. x.laws.over seen f.found x.port f.mask f.done slot seen_kept x.lends.sees.ready its_mask small f.reads its;
     }
 
-    pub may : trouble ≡ Fails → MayRecover port.0 found
-    may fails = laws.may s device found port mask done l.sees.kept l.sees.ready (subst (λ (its : Trouble). IsFoundOut port its s.device device) fails l.sees.finds) l.sees.followed finds
+    pub may : x.trouble ≡ Fails → MayRecover x.port.0 f.found
+    may fails = x.laws.may x.s x.device f.found x.port f.mask f.done x.lends.sees.kept x.lends.sees.ready (subst (λ (its : Trouble). IsFoundOut x.port its x.s.device x.device) fails x.lends.sees.finds) x.lends.sees.followed f.reads
 
-    module _ (before after : List Reply) (t : Table) (b : List Held) (u : PortSlots) (answers : AnswersAll port done before after from (with_answers from t b u port))
-        (lent : LendsDone (with_answers from t b u port) t b u port done) where
-      abbrev mid : Server
-      mid = with_answers from t b u port
+    module _ (a : Answered x f) where
+      pub mid_kept : IsKept (mid x f a)
+      mid_kept = a.lent.kept
 
-      pub mid_kept : IsKept mid
-      mid_kept = lent.kept
+      pub mid_there : HasPort f.found x.port.0
+      mid_there = ready_there (mid x f a) x.port a.lent.kept a.lent.ready
 
-      pub mid_there : HasPort found port.0
-      mid_there = ready_there mid port lent.kept lent.ready
+      pub alike : (slot : ℕ) (used : SlotUse) → use_at a.u slot ≡ Some used → AreQueued used.queued a.u
+      alike slot used taken = subst (AreQueued used.queued) a.lent.slots_are (x.laws.alike (mid x f a) x.port slot used a.lent.kept (ap (λ (p : PortSlots). use_at p slot) a.lent.slots_are ∙ taken))
 
-      pub alike : (slot : ℕ) (used : SlotUse) → use_at u slot ≡ Some used → AreQueued used.queued u
-      alike slot used taken = subst (AreQueued used.queued) lent.slots_are (laws.alike mid port slot used lent.kept (ap (λ (x : PortSlots). use_at x slot) lent.slots_are ∙ taken))
+      pub places : length a.u.places ≡ 32
+      places = ap (λ (p : PortSlots). length p.places) (sym a.lent.slots_are) ∙ (a.lent.kept.slots x.port.0 mid_there.0).places
 
-      pub places : length u.places ≡ 32
-      places = ap (λ (x : PortSlots). length x.places) (sym lent.slots_are) ∙ (lent.kept.slots port.0 mid_there.0).places
+      module _ (w : Waiting x f a) where
+        mid_mask : IsMaskOf (slots_at (mid x f a).slots x.port.0) w.outstanding
+        mid_mask = subst (λ (p : PortSlots). IsMaskOf p w.outstanding) (sym a.lent.slots_are) (mask_of a.u w.outstanding w.left)
 
-      module _ (outstanding : ℕ) (left : (slot : ℕ) → slot < 32 → (bit_at outstanding slot ≡ 1) ↔ IsTaken u slot) (queued : Bool) (kinds : AreQueued queued u) where
-        mid_mask : IsMaskOf (slots_at mid.slots port.0) outstanding
-        mid_mask = subst (λ (x : PortSlots). IsMaskOf x outstanding) (sym lent.slots_are) (mask_of u outstanding left)
+        mid_kinds : AreQueued w.queued (slots_at (mid x f a).slots x.port.0)
+        mid_kinds = subst (AreQueued w.queued) (sym a.lent.slots_are) w.kinds
 
-        mid_kinds : AreQueued queued (slots_at mid.slots port.0)
-        mid_kinds = subst (AreQueued queued) (sym lent.slots_are) kinds
+        pub agreed : AgreesWith (FitsFor w.queued x.port.0) f.found
+        agreed = x.laws.agreed (mid x f a) x.port w.queued a.lent.kept a.lent.ready mid_kinds
 
-        pub agreed : AgreesWith (FitsFor queued port.0) found
-        agreed = laws.agreed mid port queued lent.kept lent.ready mid_kinds
+        pub alone : IsAloneIn w.queued w.outstanding
+        alone = x.laws.alone (mid x f a) x.port w.queued w.outstanding a.lent.kept mid_mask mid_kinds
 
-        pub alone : IsAloneIn queued outstanding
-        alone = laws.alone mid port queued outstanding lent.kept mid_mask mid_kinds
-
-        module _ (result : Recovered) (new : Device) (its_end : (m : Mends port outstanding queued result found new) × TellsMending trouble port outstanding queued result m.accesses found new) where
-          abbrev mends : Mends port outstanding queued result found new
+        module _ (result : Recovered) (new : Device) (its_end : (m : Mends x.port w.outstanding w.queued result f.found new) × TellsMending x.trouble x.port w.outstanding w.queued result m.accesses f.found new) where
+          abbrev mends : Mends x.port w.outstanding w.queued result f.found new
           mends = its_end.0
 
-          pub named : (its : Failure) → result.failed ≡ Some its → (used : SlotUse) × (use_at u its.slot.0 ≡ Some used)
+          pub named : (its : Failure) → result.failed ≡ Some its → (used : SlotUse) × (use_at a.u its.slot.0 ≡ Some used)
           named its is =
-              let among = named_among queued port outstanding mends.accesses found new its (subst (Rests queued port outstanding mends.accesses found new) is mends.tells.rests) in
-              its_use (use_at u its.slot.0) (sym (mask_of u outstanding left its.slot.0 among.0) ∙ among.1)
+              let among = named_among w.queued x.port w.outstanding mends.accesses f.found new its (subst (Rests w.queued x.port w.outstanding mends.accesses f.found new) is mends.tells.rests) in
+              its_use (use_at a.u its.slot.0) (sym (mask_of a.u w.outstanding w.left its.slot.0 among.0) ∙ among.1)
 
-          pub mends_rest : (failed : Option Failed) → IsFailed u result.failed failed → MendsRest port trouble before after failed result.next s t b u new
+          pub mends_rest : (failed : Option Failed) → IsFailed a.u result.failed failed → MendsRest x.port x.trouble a.before a.after failed result.next x.s a.t a.b a.u new
           mends_rest failed names = record {
-            mid = mid;
-            kept = lent.kept;
+            mid = mid x f a;
+            kept = a.lent.kept;
             mended = record {
-              trouble = trouble;
-              seen = device;
-              finds = l.sees.finds;
-              mask = mask;
+              trouble = x.trouble;
+              seen = x.device;
+              finds = x.lends.sees.finds;
+              mask = f.mask;
               its = its_mask;
-              done = done;
-              found = found;
-              reads = finds;
-              requests = answers.requests;
-              ordered = answers.ordered;
-              each = answers.each;
-              free = answers.free;
-              outstanding = outstanding;
+              done = f.done;
+              found = f.found;
+              reads = f.reads;
+              requests = a.answers.requests;
+              ordered = a.answers.ordered;
+              each = a.answers.each;
+              free = a.answers.free;
+              outstanding = w.outstanding;
               left = mid_mask;
-              queued = queued;
+              queued = w.queued;
               alike = mid_kinds;
               result = result;
               mends = its_end.0;
               tells = its_end.1;
             };
             trouble_is = refl;
-            followed = l.sees.followed;
+            followed = x.lends.sees.followed;
             mid_is = refl;
             next_is = refl;
             names = names;
-            told = answers.told;
+            told = a.answers.told;
           }

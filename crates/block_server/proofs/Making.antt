@@ -7,6 +7,7 @@ use Rattle.std.proofs.lemmas.List.Elements.{All-contains}
 use Rattle.ata_types.specs.declared.grant.GrantRow.{GrantRow}
 use Rattle.ata_types.specs.declared.request.ClientId.{ClientId}
 use Rattle.ata_types.specs.declared.request.Frame.{Frame}
+use Rattle.ata_types.specs.declared.memory.TheConstants.{DRIVER_FRAMES}
 use Rattle.block_machine.specs.Rules.{DifferInName}
 use Rattle.block_machine.specs.Left.{IsRow}
 use Rattle.dma_frames.specs.Loan.{Lending}
@@ -46,7 +47,7 @@ module _ (s : Server) (host : Host) (plan : PlanView) (is : IsPlan plan) (rows :
   planned : (row : GrantRow) → Contains s.grants row → IsRow row
   planned row here = row_is plan row (All-contains (IsServedGrant plan.wanted) plan.grants row is.grants (rows.1 row here))
 
-  within : (frame : Frame) (client : ClientId) → owner_of s.table frame ≡ Some client → (40 ≤ frame.0) × (frame.0 < plan.frames) × IsClient client
+  within : (frame : Frame) (client : ClientId) → owner_of s.table frame ≡ Some client → (DRIVER_FRAMES ≤ frame.0) × (frame.0 < plan.frames) × IsClient client
   within frame client own =
       let run = only frame client own in
       let inside = All-contains (HasClientFrames plan.frames) plan.owners run.0 is.runs.within run.1 in

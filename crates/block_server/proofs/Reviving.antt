@@ -3,8 +3,6 @@ use Rattle.std.proofs.Common.{ℕ, zero, suc, ◌≡◌, ◌+◌, ◌/◌, ◌%�
 use Rattle.std.proofs.lemmas.List.{drop_all, drop_more, get_or_default}
 use Rattle.std.specs.List.{All, AllPairs, Contains}
 use Rattle.ata_types.specs.declared.Port.{Port}
-use Rattle.ata_types.specs.declared.PortState.{PortState}
-use Rattle.ata_types.specs.declared.PortState.TheVariants.{Ready as ReadyState}
 use Rattle.ata_types.specs.declared.request.Reply.{Reply}
 use Rattle.ata_types.specs.declared.request.RequestId.{RequestId}
 use Rattle.adapter.specs.Device.{Device}
@@ -19,13 +17,13 @@ use Rattle.host_boot.specs.declared.Found.{Found}
 use Rattle.host_boot.specs.declared.Found.TheVariants.{Ready, Unready, Unserved}
 use Rattle.host_boot.specs.declared.Host.{Host}
 use Rattle.identify.specs.declared.DiskInfo.{DiskInfo}
-use Rattle.request_queue.specs.Entries.{Held, IsAccepted}
+use Rattle.request_queue.specs.Entries.{Held}
 use Rattle.request_queue.specs.Fates.{Holdings, MeetFates, fate_of}
 use Rattle.request_queue.specs.declared.Entry.{Entry}
 use Rattle.request_queue.specs.declared.fate.Fate.{Fate}
 use Rattle.request_queue.specs.declared.fate.Prospect.{Prospect}
 use Rattle.server_history.specs.Kept.{IsKeptIn, MayGoBack, TakesBack}
-use Rattle.server_history.specs.Mended.{holdings_of, requests_of}
+use Rattle.server_history.specs.Mended.{requests_of}
 use Rattle.server_history.specs.Resets.{IsProspectAnew, IsTakenAgain, IssuePorts, SettlePorts, SettlesPort}
 use Rattle.server_history.specs.Served.{IssuesAll, IssuesEach, IssuesOne}
 use Rattle.server_history.specs.Server.{AreOfTwo, Server, IsKept, IsLentOut, disk_of, kept_at, mode_at, mode_found, no_slots, plain_mode, remembered_at, slots_at, state_of, used_for}
@@ -33,7 +31,7 @@ use Rattle.server_history.specs.Stalled.{GetsStuck, KeepsBooks, stuck_found}
 use Rattle.slots.specs.Uses.{Uses as PortSlots}
 use Rattle.block_server.specs.Fates.{IsSound, holding}
 use Rattle.block_server.specs.Ports.{Lends}
-use Rattle.block_server.specs.Resetting.{LendsBook, LendsPorts, with_book, with_issues}
+use Rattle.block_server.specs.Resetting.{LendsBook, LendsPorts, with_book}
 
 -- ---- one port's requests
 

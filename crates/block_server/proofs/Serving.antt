@@ -17,8 +17,8 @@ use Rattle.port_look.specs.declared.Look.TheVariants as look
 use Rattle.server_history.specs.Mended.{IsFoundOut}
 use Rattle.server_history.specs.Served.{HasNone, IsMaskOf, is_used}
 use Rattle.server_history.specs.Server.{Server, IsKept, slots_at, state_of}
-use Rattle.server_history.specs.declared.Trouble.{Trouble}
-use Rattle.server_history.specs.declared.Trouble.TheVariants.{Broken, Failed, Hung, Lost}
+use Rattle.port_look.specs.declared.Trouble.{Trouble}
+use Rattle.port_look.specs.declared.Trouble.TheVariants.{Broken, Failed, Hung, Lost}
 use Rattle.slots.specs.Uses.{Uses as PortSlots, IsTaken, use_at}
 use Rattle.slots.specs.declared.Use.{Use as SlotUse}
 use Rattle.block_server.specs.Recovery.{trouble_of}

@@ -13,6 +13,7 @@ use Rattle.ata_types.specs.declared.request.Reply.{Reply}
 use Rattle.dma_frames.specs.Loan.{Lending}
 use Rattle.dma_frames.specs.Table.{Table, LendsOnly}
 use Rattle.ata_types.specs.declared.request.RequestId.{RequestId}
+use Rattle.ata_types.specs.declared.limits.TheConstants.{MOST_UNANSWERED}
 use Rattle.std.specs.List.{All, AllPairs, Contains}
 use Rattle.block_server.proofs.Finishing as finishing
 use Rattle.request_queue.specs.Entries.{HasIssuesLeft, Held, IsEarlier, IsInOrder, at, ids_where, is_of, requeued, without}
@@ -148,17 +149,17 @@ pub record SoFar (fate : Entry → Fate) (all : List Held) (start : Holdings) (b
   pub rest : (later : List Reply) (end : Holdings) → MeetFates fate left later now end → (its : List Reply) × (replies ++ later ≡ before ++ its) × MeetFates fate all its start end
   pub places : HavePlaces left now.kept
   pub sound : IsSound now.table now.book
-  pub room : length replies + length now.book ≤ 128
+  pub room : length replies + length now.book ≤ MOST_UNANSWERED
 
 module _ (fate : Entry → Fate) (all : List Held) (start : Holdings) (before : List Reply) where
-  pub begins : ((e : Held) → Contains all e → Contains start.book e) → AllPairs IsEarlier all → HavePlaces all start.kept → IsSound start.table start.book → length before + length start.book ≤ 128
+  pub begins : ((e : Held) → Contains all e → Contains start.book e) → AllPairs IsEarlier all → HavePlaces all start.kept → IsSound start.table start.book → length before + length start.book ≤ MOST_UNANSWERED
       → SoFar fate all start before all start before
   begins here ordered places sound room = record { here = here; ordered = ordered; rest = λ later end meet. (later, refl, meet); places = places; sound = sound; room = room }
 
   -- the next one met its fate
   pub goes_on : (request : Held) (left : List Held) (now new : Holdings) (replies more its : List Reply) → SoFar fate all start before (request ∷ left) now replies
       → more ≡ replies ++ its → MeetsFate request (fate request.entry) its now new → ((e : Held) → Contains now.book e → e.entry.id ≢ request.entry.id → Contains new.book e)
-      → HavePlaces left new.kept → IsSound new.table new.book → length more + length new.book ≤ 128 → SoFar fate all start before left new more
+      → HavePlaces left new.kept → IsSound new.table new.book → length more + length new.book ≤ MOST_UNANSWERED → SoFar fate all start before left new more
   goes_on request left now new replies more its f same meets others places sound room = record {
     here = λ e there. others e (f.here e (Contains-append_right (request ∷ []) left e there))
         (λ is. let lt = All-contains (IsEarlier request) left e earlier there in let id = ap (λ (i : RequestId). i.0) is in omega (arith, lt, id));

@@ -3,7 +3,7 @@ use Rattle.std.proofs.Common.{Bool, true, false, ◌≡◌, ◌∙◌, ap, refl,
 use Rattle.adapter.specs.Device.{Device}
 use Rattle.server_history.specs.Server.{Server, IsSettled}
 use Rattle.server_history.specs.Stalled.{IsStalled}
-use Rattle.block_server.specs.Resetting.{HoldsBy}
+use Rattle.server_history.specs.Histories.{HoldsBy}
 use Rattle.block_server.specs.View.{ServerView, server_of}
 
 -- the field says what the view says

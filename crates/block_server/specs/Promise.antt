@@ -1,5 +1,5 @@
 -- What the calls of a list keep: a promise to clients, and one of the device (this project's own).
-use Rattle.std.specs.Prelude.{ℕ, true, false, ◌≡◌, ◌≢◌, List, [], ◌∷◌, ◌++◌, Contains, length, map}
+use Rattle.std.specs.Prelude.{ℕ, true, false, ◌≡◌, ◌≢◌, List, ◌++◌, Contains, length, map}
 use Rattle.ata_types.specs.declared.Port.{Port}
 use Rattle.ata_types.specs.declared.PortState.TheVariants.{Ready}
 use Rattle.ata_types.specs.declared.request.Outcome.{Outcome}

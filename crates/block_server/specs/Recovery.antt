@@ -16,8 +16,8 @@ use Rattle.request_queue.specs.declared.fate.Failed.{Failed}
 use Rattle.server_history.specs.Mended.{IsFailed, IsFoundOut, IsMended, MendsPort}
 use Rattle.server_history.specs.Served.{done_reply}
 use Rattle.server_history.specs.Server.{Server, IsKept, slots_at, state_of}
-use Rattle.server_history.specs.declared.Trouble.{Trouble}
-use Rattle.server_history.specs.declared.Trouble.TheVariants.{Broken, Failed as Fails, Lost}
+use Rattle.port_look.specs.declared.Trouble.{Trouble}
+use Rattle.port_look.specs.declared.Trouble.TheVariants.{Broken, Failed as Fails, Lost}
 use Rattle.slots.specs.Uses.{Uses as PortSlots}
 use Rattle.block_server.specs.Ports.{with_answers}
 

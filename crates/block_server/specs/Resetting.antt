@@ -1,5 +1,5 @@
 -- What a reset of the adapter makes of the server, and what is lent to what does it (this project's own).
-use Rattle.std.specs.Prelude.{ℕ, Bool, true, false, ◌≡◌, List, [], Option, Some, None, Ok, Err}
+use Rattle.std.specs.Prelude.{true, false, ◌≡◌, List, [], Option, Some, None, Ok, Err}
 use Rattle.std.specs.declared.result.Result.{Result}
 use Rattle.ata_types.specs.declared.request.Reply.{Reply}
 use Rattle.adapter.specs.Device.{Device}
@@ -12,16 +12,10 @@ use Rattle.host_boot.specs.declared.resetting.AdapterStuck.{AdapterStuck}
 use Rattle.identify.specs.declared.DiskInfo.{DiskInfo}
 use Rattle.request_queue.specs.Entries.{Held}
 use Rattle.server_history.specs.Resets.{MaySettle, ResetsServer}
-use Rattle.server_history.specs.Server.{Server, IsKept, IsSettled}
-use Rattle.server_history.specs.Stalled.{GetsStuck, IsStalled}
+use Rattle.server_history.specs.Server.{Server, IsKept}
+use Rattle.server_history.specs.Stalled.{GetsStuck}
 use Rattle.slots.specs.Uses.{Uses as PortSlots}
 use Rattle.block_server.specs.View.{ServerView, server_of}
-
--- What holds of a server between calls, by whether its last reset got stuck: its adapter is on, and each request is
--- issued that is due; or the adapter hasn't been seen to end that reset.
-abbrev pub HoldsBy : Bool → Server → Type 0
-HoldsBy false s = IsSettled s
-HoldsBy true s = IsStalled s
 
 -- The requests of the server may meet their fates, and it has these loans, this book, these loans that are kept, these
 -- disks remembered, and ports that were found so.

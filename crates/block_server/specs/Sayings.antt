@@ -1,5 +1,5 @@
 -- What the calls of a list said (this project's own).
-use Rattle.std.specs.Prelude.{◌≡◌, List, [], ◌∷◌, ◌++◌, Option, None, Some, Ok, Err}
+use Rattle.std.specs.Prelude.{List, [], ◌∷◌, ◌++◌, Option, None, Some, Ok, Err}
 use Rattle.ata_types.specs.declared.request.Reply.{Reply}
 use Rattle.block_server.specs.declared.sayings.Sayings.{Sayings}
 use Rattle.block_server.specs.declared.types.Said.{Said}

@@ -7,7 +7,7 @@ ghost use Rattle.server_history.specs.Server.{Server};
 ghost use Rattle.slots.specs.Uses.{use_at, with_use};
 ghost use Rattle.slots.specs.declared.Use.{Use as SlotUse};
 
-use ata_types::{Outcome, Replies, Reply, Slot};
+use ata_types::{MOST_UNANSWERED, Outcome, Replies, Reply, Slot};
 use dma_frames::FrameTable;
 use request_queue::Book;
 use request_queue::laws::{an_id_is_one_request, operations_change_one_request};
@@ -50,13 +50,13 @@ pub(crate) fn answer_done(
     replies: &mut Replies,
 )
     requires lends { (s : Server) × (port : Port) × LendsDone s table.old book.old slots.old port done }
-    requires room { length replies.old.items + length book.old ≤ 128 }
+    requires room { length replies.old.items + length book.old ≤ MOST_UNANSWERED }
     ensures answers { (s : Server) (port : Port) → LendsDone s table.old book.old slots.old port done
         → AnswersAll port done replies.old.items replies.new.items s
         (with_answers s table.new book.new slots.new port) }
     ensures lends { (s : Server) (port : Port) → LendsDone s table.old book.old slots.old port done
         → LendsDone (with_answers s table.new book.new slots.new port) table.new book.new slots.new port done }
-    ensures room { length replies.new.items + length book.new ≤ 128 }
+    ensures room { length replies.new.items + length book.new ≤ MOST_UNANSWERED }
 {
     a_used_slot_has_its_request();
     requests_keep();

@@ -6,7 +6,7 @@ ghost use Rattle.request_queue.specs.Entries.{Held, is_of};
 ghost use Rattle.request_queue.specs.Fates.{MeetFates, MeetsFate, fate_of};
 
 use super::kept::KeptLoans;
-use ata_types::{Port, Replies, Reply, RequestId};
+use ata_types::{MOST_UNANSWERED, Port, Replies, Reply, RequestId};
 use dma_frames::FrameTable;
 use request_queue::laws::{
     accepted_requests_stay, an_id_is_one_request, operations_change_one_request,
@@ -27,7 +27,7 @@ fn settle_one(
     requires sound { IsSound table.old book.old }
     requires here { (request : Held) × Contains book.old request × (request.entry.id ≡ id)
         × HasPlaces request kept.old }
-    requires room { length replies.old.items + length book.old ≤ 128 }
+    requires room { length replies.old.items + length book.old ≤ MOST_UNANSWERED }
     ensures meets { (request : Held) → Contains book.old request → request.entry.id ≡ id
         → (its : List Reply) × (replies.new.items ≡ replies.old.items ++ its)
         × MeetsFate request (fate_of failed.now prospect request.entry) its (holding book.old table.old kept.old)
@@ -36,7 +36,7 @@ fn settle_one(
     ensures places { (request : Held) (rest : List Held) → Contains book.old request → request.entry.id ≡ id
         → HavePlaces (request ∷ rest) kept.old → HavePlaces rest kept.new }
     ensures sound { IsSound table.new book.new }
-    ensures room { length replies.new.items + length book.new ≤ 128 }
+    ensures room { length replies.new.items + length book.new ≤ MOST_UNANSWERED }
 {
     an_id_is_one_request();
     accepted_requests_stay();
@@ -75,12 +75,12 @@ pub(crate) fn settle(
 )
     requires sound { IsSound table.old book.old }
     requires places { HavePlaces (filter (λ (e : Held). is_of port e.entry) book.old) kept.old }
-    requires room { length replies.old.items + length book.old ≤ 128 }
+    requires room { length replies.old.items + length book.old ≤ MOST_UNANSWERED }
     ensures meet { (its : List Reply) × (replies.new.items ≡ replies.old.items ++ its)
         × MeetFates (fate_of failed.now prospect) (filter (λ (e : Held). is_of port e.entry) book.old) its
         (holding book.old table.old kept.old) (holding book.new table.new kept.new) }
     ensures sound { IsSound table.new book.new }
-    ensures room { length replies.new.items + length book.new ≤ 128 }
+    ensures room { length replies.new.items + length book.new ≤ MOST_UNANSWERED }
 {
     let ids = book.ids_of(port);
     for place in 0..ids.len() {

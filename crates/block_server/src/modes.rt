@@ -9,8 +9,9 @@ ghost use Rattle.request_queue.specs.Entries.{is_among};
 ghost use Rattle.server_history.specs.Server.{mode_at, mode_found, slots_at, used_for};
 ghost use Rattle.server_history.specs.Turns.{is_ready};
 
+use ata_types::PORTS;
 use block_machine::Mode;
-use host_boot::{Found, Host, PORTS};
+use host_boot::{Found, Host};
 use slots::{SLOTS, Slots};
 
 /// One plain command at a time.

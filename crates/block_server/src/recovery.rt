@@ -22,7 +22,7 @@ ghost use Rattle.slots.specs.declared.Use.{Use as SlotUse};
 use super::answering::answer_done;
 use super::modes::{PLAIN, mode_of};
 use adapter::Adapter;
-use ata_types::{DRIVER_BYTES, Port, PortState, Replies};
+use ata_types::{DRIVER_BYTES, MOST_UNANSWERED, Port, PortState, READINGS, Replies};
 use block_machine::Mode;
 use dma_frames::FrameTable;
 use error_recovery::{Failure, Next, Recovered, give_up, recover};
@@ -30,9 +30,8 @@ use host_boot::{Booted, Found, boot_again, boot_if_there};
 use identify::{DiskInfo, Wanted};
 use ncq::done;
 use port_control::Stopped;
-use port_look::Look;
+use port_look::{Look, Trouble};
 use request_queue::{Book, Failed, Prospect};
-use server_history::Trouble;
 use server_history::laws::{a_troubled_port_may_be_mended, looks_keep};
 use slots::Slots;
 
@@ -85,12 +84,12 @@ pub(crate) fn mend_rest<A: Adapter>(
     replies: &mut Replies,
 ) -> (Option<Failed>, Next)
     requires lends { (s : Server) × LendsTroubled s (A.device adapter.old) table.old book.old slots.old port trouble }
-    requires room { length replies.old.items + length book.old ≤ 128 }
+    requires room { length replies.old.items + length book.old ≤ MOST_UNANSWERED }
     ensures on { IsOn (A.device adapter.new) }
     ensures mends { (s : Server) → LendsTroubled s (A.device adapter.old) table.old book.old slots.old port trouble
         → MendsRest port trouble replies.old.items replies.new.items result.0 result.1 s table.new book.new slots.new
         (A.device adapter.new) }
-    ensures room { length replies.new.items + length book.new ≤ 128 }
+    ensures room { length replies.new.items + length book.new ≤ MOST_UNANSWERED }
 {
     looks_keep();
     a_troubled_port_may_be_mended();
@@ -155,7 +154,7 @@ fn boot_after<A: Adapter>(
 ) -> Booted
     requires bootable { IsBootable stopped.port (A.device adapter.old) }
     requires stopped { IsStopped ((A.device adapter.old).port stopped.port.0) }
-    requires saw { ((A.device adapter.old).port stopped.port.0).notes.link_count ≡ 64 }
+    requires saw { ((A.device adapter.old).port stopped.port.0).notes.link_count ≡ READINGS }
     ensures on { IsOn (A.device adapter.new) }
     ensures boots { BootsAfter trouble wanted.now stopped.port result (A.device adapter.old) (A.device adapter.new) }
 {
@@ -180,7 +179,7 @@ pub(crate) fn find_after<A: Adapter>(
     requires bootable { (stopped : stopped_token.Stopped) → next ≡ Next.Restart stopped
         → IsBootable stopped.port (A.device adapter.old)
         × IsStopped ((A.device adapter.old).port stopped.port.0)
-        × (((A.device adapter.old).port stopped.port.0).notes.link_count ≡ 64) }
+        × (((A.device adapter.old).port stopped.port.0).notes.link_count ≡ READINGS) }
     ensures on { IsOn (A.device adapter.new) }
     ensures found { (port : Port) → ((stopped : stopped_token.Stopped) → next ≡ Next.Restart stopped
         → stopped.port ≡ port) → IsFoundAfter wanted.now port trouble was.now next (A.device adapter.old)

@@ -12,10 +12,10 @@ use super::kept::KeptLoans;
 use super::port::issue_due;
 use super::recovery::is_same_disk;
 use adapter::Adapter;
-use ata_types::{Port, PortState, Replies};
+use ata_types::{MOST_UNANSWERED, PORTS, Port, PortState, Replies};
 use block_machine::Mode;
 use dma_frames::FrameTable;
-use host_boot::{Found, PORTS};
+use host_boot::Found;
 use identify::DiskInfo;
 use request_queue::{Book, Prospect};
 use server_history::laws::requests_keep;
@@ -97,12 +97,12 @@ fn settle_port(
     requires small { port.0 < 4 }
     requires lends { (s : Server) × LendsBook s table.old book.old kept.old s.remembered s.ports
         × (remembered_at s.remembered port.0 ≡ was.now) × (found_of s.ports port.0 ≡ found.now) }
-    requires room { length replies.old.items + length book.old ≤ 128 }
+    requires room { length replies.old.items + length book.old ≤ MOST_UNANSWERED }
     ensures settles { (s : Server) → LendsBook s table.old book.old kept.old s.remembered s.ports
         → remembered_at s.remembered port.0 ≡ was.now → found_of s.ports port.0 ≡ found.now → (its : List Reply)
         × (replies.new.items ≡ replies.old.items ++ its)
         × SettlesPort port its s (with_book s table.new book.new kept.new) }
-    ensures room { length replies.new.items + length book.new ≤ 128 }
+    ensures room { length replies.new.items + length book.new ≤ MOST_UNANSWERED }
 {
     let prospect = prospect_anew(was, found);
     let kept = &mut kept[usize::from(port.0)];
@@ -120,7 +120,7 @@ pub(crate) fn settle_ports(
     replies: &mut Replies,
 )
     requires lends { (s : Server) × LendsBook s table.old book.old kept.old remembered.now ports.now }
-    requires room { length replies.old.items + length book.old ≤ 128 }
+    requires room { length replies.old.items + length book.old ≤ MOST_UNANSWERED }
     ensures settles { (s : Server) → LendsBook s table.old book.old kept.old remembered.now ports.now
         → (its : List Reply) × (replies.new.items ≡ replies.old.items ++ its)
         × SettlePorts 0 ports.now its s (with_book s table.new book.new kept.new) }

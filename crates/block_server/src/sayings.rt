@@ -25,7 +25,8 @@ fn said_with(told: Told, replies: Replies) -> Said
 }
 
 /// What calls said, one thing each, in their order. What the last one said stands apart from the list of those before
-/// it, with room for all replies of a call: so it is made in its place, and not moved until another call is made.
+/// it, with room for all replies of a call: so it is made in its place, and not moved until another call is made. (It
+/// has 3 KB, and a list of one call is what `play` makes for each line.)
 #[derive(Drop)]
 pub struct Sayings {
     earlier: Vec<Said>,

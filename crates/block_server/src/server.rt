@@ -13,21 +13,20 @@ use crate::resetting::{disk_of, disks_of, issue_ports, settle_ports, stuck_ports
 use crate::trying::{find_anew, finds_news};
 use adapter::{Adapter, DeviceStep, Stepped};
 use ata_types::{
-    ClientId, FRAME_BYTES, Frame, MemFault, Op, Port, PortState, Range, Refusal, Replies, Request,
-    RequestId,
+    ClientId, FRAME_BYTES, Frame, MOST_UNANSWERED, MemFault, Op, PORTS, Port, PortState, Range,
+    Refusal, Replies, Request, RequestId,
 };
 use block_machine::Mode;
 use configuration::Config;
 use dma_frames::FrameTable;
 use grants::{Grants, decide};
-use host_boot::{AdapterStuck, Found, PORTS, reset, take_over};
+use host_boot::{AdapterStuck, Found, reset, take_over};
 use identify::{DiskInfo, Wanted};
 use ncq::done;
 use plan::Plan;
-use port_look::look_at;
+use port_look::{Trouble, look_at};
 use request_queue::laws::the_book_stays_in_order;
 use request_queue::{Book, Entry};
-use server_history::Trouble;
 use server_history::laws::{
     a_finished_port_settles, a_hung_port_is_restarted, a_mended_port_goes_on,
     a_new_server_has_begun, a_port_is_served, acceptances_add, an_unready_port_is_tried,
@@ -36,8 +35,8 @@ use server_history::laws::{
 };
 use server_history::resets::{a_reset_server_goes_on, resets_add};
 use server_history::stalled::{
-    a_server_is_booked, booked_loans_are_lent, stalled_bytes_add, stalled_device_steps_add,
-    stalled_refusals_add, stalled_services_add, stalled_ticks_add, stuck_resets_add,
+    a_server_is_booked, booked_loans_are_lent, stalled_servers_admit_none, stalled_services_add,
+    stalled_ticks_add, stuck_resets_add,
 };
 use slots::Slots;
 use std::alloc::Global;
@@ -68,7 +67,7 @@ pub struct Server<A: Adapter> {
 
 impl<A: Adapter> Model for Server<A> {
     ghost use Rattle.block_server.specs.Seen.{seen};
-    ghost use Rattle.block_server.specs.Resetting.{HoldsBy};
+    ghost use Rattle.server_history.specs.Histories.{HoldsBy};
     ghost use Rattle.block_server.specs.View.{ServerView, server_of};
 
     ghost Value = { ServerView A };
@@ -185,7 +184,6 @@ impl<A: Adapter> Server<A> {
             (Shown result) }
     {
         refusals_add();
-        stalled_refusals_add();
         let _ = &self.adapter;
         match self.found(port) {
             Found::Unserved => PortState::Absent,
@@ -301,7 +299,7 @@ impl<A: Adapter> Server<A> {
             (Submitted result) }
     {
         refusals_add();
-        stalled_refusals_add();
+        stalled_servers_admit_none();
         let _ = &self.adapter;
         let port = self.admit(r)?;
         Ok(self.accept(r, port))
@@ -314,13 +312,13 @@ impl<A: Adapter> Server<A> {
         requires ready { state_of (found_of self.old.ports port.0) ≡ Ready }
         requires over { (slot : ℕ) → slot < 32 → bit done slot ≡ true → IsOver ((A.device self.old.adapter).port port.0)
             slot }
-        requires room { length replies.old.items + length self.old.book ≤ 128 }
+        requires room { length replies.old.items + length self.old.book ≤ MOST_UNANSWERED }
         ensures on { self.new.stuck ≡ false }
         ensures finishes { (its : List Reply) × (replies.new.items ≡ replies.old.items ++ its)
             × AnswersDone port done its (server_of A.device self.old) (server_of A.device self.new) }
         ensures settled { IsSettled (server_of A.device self.new) }
         ensures ports { self.new.ports ≡ self.old.ports }
-        ensures room { length replies.new.items + length self.new.book ≤ 128 }
+        ensures room { length replies.new.items + length self.new.book ≤ MOST_UNANSWERED }
     {
         a_finished_port_settles();
         let mode = self.mode(port);
@@ -340,7 +338,7 @@ impl<A: Adapter> Server<A> {
         requires sees { (before : Device) × SeesTrouble (record (server_of A.device self.old) { device = before }) port
             trouble (A.device self.old.adapter)
             × IsSettled (record (server_of A.device self.old) { device = before }) }
-        requires room { length replies.old.items + length self.old.book ≤ 128 }
+        requires room { length replies.old.items + length self.old.book ≤ MOST_UNANSWERED }
         ensures on { self.new.stuck ≡ false }
         ensures mends { (before : Device) → SeesTrouble (record (server_of A.device self.old) { device = before }) port
             trouble (A.device self.old.adapter)
@@ -350,7 +348,7 @@ impl<A: Adapter> Server<A> {
             (server_of A.device self.new) }
         ensures settled { IsSettled (server_of A.device self.new) }
         ensures ports { (q : ℕ) → q ≢ port.0 → found_of self.new.ports q ≡ found_of self.old.ports q }
-        ensures room { length replies.new.items + length self.new.book ≤ 128 }
+        ensures room { length replies.new.items + length self.new.book ≤ MOST_UNANSWERED }
     {
         a_mended_port_goes_on();
         a_port_is_served();
@@ -395,13 +393,13 @@ impl<A: Adapter> Server<A> {
     fn serve_port(&mut self, port: Port, replies: &mut Replies)
         requires on { self.old.stuck ≡ false }
         requires ready { state_of (found_of self.old.ports port.0) ≡ Ready }
-        requires room { length replies.old.items + length self.old.book ≤ 128 }
+        requires room { length replies.old.items + length self.old.book ≤ MOST_UNANSWERED }
         ensures on { self.new.stuck ≡ false }
         ensures serves { (its : List Reply) × (replies.new.items ≡ replies.old.items ++ its)
             × ServesPort port its (server_of A.device self.old) (server_of A.device self.new) }
         ensures settled { IsSettled (server_of A.device self.new) }
         ensures ports { (q : ℕ) → q ≢ port.0 → found_of self.new.ports q ≡ found_of self.old.ports q }
-        ensures room { length replies.new.items + length self.new.book ≤ 128 }
+        ensures room { length replies.new.items + length self.new.book ≤ MOST_UNANSWERED }
     {
         looks_keep();
         a_port_is_served();
@@ -544,14 +542,14 @@ impl<A: Adapter> Server<A> {
     fn tick_port(&mut self, port: Port, was: DiskInfo, is_overdue: bool, replies: &mut Replies)
         requires on { self.old.stuck ≡ false }
         requires ready { found_of self.old.ports port.0 ≡ Found.Ready was }
-        requires room { length replies.old.items + length self.old.book ≤ 128 }
+        requires room { length replies.old.items + length self.old.book ≤ MOST_UNANSWERED }
         ensures on { self.new.stuck ≡ false }
         ensures ticks { (book : List Held) → (IsTrue is_overdue ↔ IsOverdue port book) → (its : List Reply)
             × (replies.new.items ≡ replies.old.items ++ its) × TicksPort book port its (server_of A.device self.old)
             (server_of A.device self.new) }
         ensures settled { IsSettled (server_of A.device self.new) }
         ensures ports { (q : ℕ) → q ≢ port.0 → found_of self.new.ports q ≡ found_of self.old.ports q }
-        ensures room { length replies.new.items + length self.new.book ≤ 128 }
+        ensures room { length replies.new.items + length self.new.book ≤ MOST_UNANSWERED }
     {
         looks_keep();
         a_hung_port_is_restarted();
@@ -722,9 +720,8 @@ impl<A: Adapter> Server<A> {
             (StoreAt client frame offset bytes.now) (store_said result) }
     {
         refusals_add();
-        stalled_refusals_add();
+        a_server_is_booked();
         open_bytes_are_free();
-        stalled_bytes_add();
         client_bytes_add();
         let address = self.open(client, frame, offset, bytes.len())?;
         self.adapter.store(address, bytes);
@@ -744,9 +741,8 @@ impl<A: Adapter> Server<A> {
             (LoadAt client frame offset (length out.old)) (load_said result out.new) }
     {
         refusals_add();
-        stalled_refusals_add();
+        a_server_is_booked();
         open_bytes_are_free();
-        stalled_bytes_add();
         client_bytes_add();
         let address = self.open(client, frame, offset, out.len())?;
         self.adapter.load(address, out);
@@ -793,7 +789,6 @@ impl<A: Stepped> Server<A> {
             (Stepped result) }
     {
         device_steps_add();
-        stalled_device_steps_add();
         self.adapter.step(step)
     }
 }

@@ -1,4 +1,6 @@
 -- A table and a header that stand in memory say their command.
+use Rattle.ata_types.specs.declared.memory.TheConstants.{LONGEST_TABLE, PRD_BYTES, TABLE_HEAD}
+use Rattle.ata_types.specs.declared.limits.TheConstants.{MOST_REQUEST_FRAMES}
 use Rattle.std.proofs.Common.{ℕ, suc, ◌≡◌, ◌+◌, ◌*◌, ◌<◌, ◌≤◌, Bool, List, [], ◌∷◌, length, take, drop, refl, sym, ◌∙◌, ap, subst, arith, slice_index, slice_index_or, length-drop}
 use Rattle.std.proofs.lemmas.List.{get_or-take, get_or-drop, length-take}
 use Rattle.adapter.specs.Commands.{Meaning, command_of, reads_memory}
@@ -40,13 +42,13 @@ prds_stand memory (e ∷ es) at each =
     )
 
 -- a table of 640 bytes, of which memory holds the front with FIS and PRDs, and a header
-module _ (memory : ℕ → ℕ) (list slot at : ℕ) (prds : List Prd) (table header : List ℕ) (few : length prds ≤ 32) (size : length table ≡ 640)
-    (here : bytes_at memory at (128 + 16 * length prds) ≡ take (128 + 16 * length prds) table) (head : bytes_at memory (list + 32 * slot) 32 ≡ header)
+module _ (memory : ℕ → ℕ) (list slot at : ℕ) (prds : List Prd) (table header : List ℕ) (few : length prds ≤ MOST_REQUEST_FRAMES) (size : length table ≡ LONGEST_TABLE)
+    (here : bytes_at memory at (TABLE_HEAD + PRD_BYTES * length prds) ≡ take (TABLE_HEAD + PRD_BYTES * length prds) table) (head : bytes_at memory (list + 32 * slot) 32 ≡ header)
     (writes : Bool) (command : Command) (direction : (o : Operation) (s first count : ℕ) → command ≡ command_of o s first count → writes ≡ reads_memory o) (fis : SpellsCommand (part table 0 20) command)
-    (each : (i : ℕ) (d : Prd) → i < length prds → SpellsPrd (part table (128 + 16 * i) 16) (slice_index_or prds i d))
+    (each : (i : ℕ) (d : Prd) → i < length prds → SpellsPrd (part table (TABLE_HEAD + PRD_BYTES * i) 16) (slice_index_or prds i d))
     (heads : SpellsHeader header writes (length prds) at) where
-  part_here : (i k : ℕ) → i + k ≤ 128 + 16 * length prds → bytes_at memory (at + i) k ≡ part table i k
-  part_here i k fits = part_at memory at (128 + 16 * length prds) table i k here (omega (arith, size, few)) fits
+  part_here : (i k : ℕ) → i + k ≤ TABLE_HEAD + PRD_BYTES * length prds → bytes_at memory (at + i) k ≡ part table i k
+  part_here i k fits = part_at memory at (TABLE_HEAD + PRD_BYTES * length prds) table i k here (omega (arith, size, few)) fits
 
   fis_here : bytes_at memory at 20 ≡ part table 0 20
   fis_here = let same : at + 0 ≡ at = omega arith in ap (λ (a : ℕ). bytes_at memory a 20) (sym same) ∙ part_here 0 20 (omega arith)
@@ -66,8 +68,8 @@ module _ (memory : ℕ → ℕ) (list slot at : ℕ) (prds : List Prd) (table he
           meaning = is.meaning;
           stand = prds_stand memory prds (at + 128) (λ i d lt.
               let P : List ℕ → Type 0 = λ bytes. SpellsPrd bytes (slice_index_or prds i d) in
-              let place : at + (128 + 16 * i) ≡ at + 128 + 16 * i = omega arith in
-              subst P (sym (part_here (128 + 16 * i) 16 (omega arith)) ∙ ap (λ (a : ℕ). bytes_at memory a 16) place) (each i d lt));
+              let place : at + (TABLE_HEAD + PRD_BYTES * i) ≡ at + TABLE_HEAD + PRD_BYTES * i = omega arith in
+              subst P (sym (part_here (TABLE_HEAD + PRD_BYTES * i) 16 (omega arith)) ∙ ap (λ (a : ℕ). bytes_at memory a 16) place) (each i d lt));
           few = omega arith;
           whole = is.whole;
           in_order = is.in_order;

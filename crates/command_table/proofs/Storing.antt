@@ -3,6 +3,8 @@ use Rattle.std.proofs.Common.{ℕ, ◌≡◌, ◌⊎◌, ◌+◌, ◌*◌, ◌%�
 use Rattle.byteorder.specs.Endian.{little_from}
 use Rattle.std.specs.List.{All}
 use Rattle.ata_types.specs.declared.Port.{Port}
+use Rattle.ata_types.specs.declared.memory.TheConstants.{DRIVER_BYTES, LONGEST_TABLE, PRD_BYTES, TABLE_BYTES, TABLE_HEAD}
+use Rattle.ata_types.specs.declared.limits.TheConstants.{MOST_REQUEST_FRAMES}
 use Rattle.hba_regs.specs.declared.reg.Reg.{Reg}
 use Rattle.adapter.specs.Access.{Access, Stores}
 use Rattle.adapter.specs.Access.Access.{Reading, Writing, Loading, Storing}
@@ -21,12 +23,12 @@ use Rattle.agreement.specs.Links.{SameAdapter}
 use Rattle.agreement.specs.Driver.{LeavesFree, MayStore, MissesTable}
 use Rattle.agreement.specs.Places.{list_of, scratch_of, table_of}
 use Rattle.agreement.specs.Slots.{Uses, Told}
-use Rattle.agreement.proofs.Controlled.{agreed_on}
-use Rattle.agreement.proofs.Driven.{driven_as, followed_as, followed_store, followed_then}
-use Rattle.agreement.proofs.Keeping.{told_is_left}
-use Rattle.agreement.proofs.Lasting.{access_on, access_same}
-use Rattle.agreement.proofs.Leaving.{stores_leave, told_beside}
-use Rattle.agreement.proofs.Permitting.{stores_are_free}
+use Rattle.agreement.proofs.driver.PortAccesses.{agreed_on}
+use Rattle.agreement.proofs.driver.Stretches.{driven_as, followed_as, followed_store, followed_then}
+use Rattle.agreement.proofs.steps.UnusedSlots.{told_is_left}
+use Rattle.agreement.proofs.device.AdapterOverAccesses.{access_on, access_same}
+use Rattle.agreement.proofs.driver.UnusedOverCalls.{stores_leave, told_beside}
+use Rattle.agreement.proofs.driver.PermittedAccesses.{stores_are_free}
 use Rattle.command_table.specs.Bytes.{part}
 use Rattle.command_table.specs.Written.{IsTableFor, IsHeader, IsInTable, IsStoreWithBlock, IsTableStore, IsUnused}
 use Rattle.command_table.specs.Places.{places_of}
@@ -37,12 +39,12 @@ may_store : (uses : Uses) (port slot at : ℕ) (bytes : List ℕ) → port < 4 �
 may_store uses port slot at bytes below small free here = inl (record { port = port; slot = slot; below = below; slot_below = small; free = free; here = of here })
   where
     of : IsHeader port slot at bytes ⊎ IsInTable port slot at bytes →
-        ((list_of port + 32 * slot ≤ at) × (at + length bytes ≤ list_of port + 32 * slot + 32)) ⊎ ((table_of port slot ≤ at) × (at + length bytes ≤ table_of port slot + 1024))
+        ((list_of port + 32 * slot ≤ at) × (at + length bytes ≤ list_of port + 32 * slot + 32)) ⊎ ((table_of port slot ≤ at) × (at + length bytes ≤ table_of port slot + TABLE_BYTES))
     of (inl h) = let place = h.0 in let size = h.1 in inl (omega (arith, place), omega (arith, place, size))
     of (inr t) = inr t
 
 -- whatever the device does first
-pub store_free : (uses : Uses) (d : Device) (port slot at : ℕ) (bytes : List ℕ) → IsAgreed uses d → 163840 ≤ d.size → port < 4 → slot < 32 → IsUnused port slot uses → IsTableStore port slot (Storing at bytes) →
+pub store_free : (uses : Uses) (d : Device) (port slot at : ℕ) (bytes : List ℕ) → IsAgreed uses d → DRIVER_BYTES ≤ d.size → port < 4 → slot < 32 → IsUnused port slot uses → IsTableStore port slot (Storing at bytes) →
     Stays (IsFree at (length bytes)) d
 store_free uses d port slot at bytes a room below small free here =
     stores_are_free uses a.machine d a.reached a.knows.agrees at (length bytes)
@@ -87,12 +89,12 @@ module _ (port slot : ℕ) (below : port < 4) (small : slot < 32) (at : ℕ) (by
 -- ---- the table, and then the header
 
 module _ (port slot : ℕ) (below : port < 4) (small : slot < 32) (uses : Uses) (free : IsUnused port slot uses) (old mid new : Device) (on : IsOn old) (a : IsAgreed uses old)
-    (prds : List Prd) (table header : List ℕ) (few : length prds ≤ 32) (size : length table ≡ 640) (front : length (take (128 + 16 * length prds) table) ≡ 128 + 16 * length prds)
-    (first : Stores (table_of port slot) (take (128 + 16 * length prds) table) old mid) (second : Stores (list_of port + 32 * slot) header mid new)
+    (prds : List Prd) (table header : List ℕ) (few : length prds ≤ MOST_REQUEST_FRAMES) (size : length table ≡ LONGEST_TABLE) (front : length (take (TABLE_HEAD + PRD_BYTES * length prds) table) ≡ TABLE_HEAD + PRD_BYTES * length prds)
+    (first : Stores (table_of port slot) (take (TABLE_HEAD + PRD_BYTES * length prds) table) old mid) (second : Stores (list_of port + 32 * slot) header mid new)
     (writes : Bool) (command : Command) (direction : (o : Operation) (s first count : ℕ) → command ≡ command_of o s first count → writes ≡ reads_memory o) (fis : SpellsCommand (part table 0 20) command)
-    (each : (i : ℕ) (d : Prd) → i < length prds → SpellsPrd (part table (128 + 16 * i) 16) (slice_index_or prds i d))
+    (each : (i : ℕ) (d : Prd) → i < length prds → SpellsPrd (part table (TABLE_HEAD + PRD_BYTES * i) 16) (slice_index_or prds i d))
     (heads : SpellsHeader header writes (length prds) (table_of port slot)) (none_moved : little_from 4 4 header ≡ 0) where
-  in_table : IsTableStore port slot (Storing (table_of port slot) (take (128 + 16 * length prds) table))
+  in_table : IsTableStore port slot (Storing (table_of port slot) (take (TABLE_HEAD + PRD_BYTES * length prds) table))
   in_table = inr (omega arith, omega (arith, front, few))
 
   in_header : IsTableStore port slot (Storing (list_of port + 32 * slot) header)
@@ -108,17 +110,17 @@ module _ (port slot : ℕ) (below : port < 4) (small : slot < 32) (uses : Uses) 
   abbrev stored : ℕ → ℕ
   stored = patched mid.memory (list_of port + 32 * slot) header
 
-  table_stays : (at : ℕ) → table_of port slot ≤ at → at < table_of port slot + (128 + 16 * length prds) → stored at ≡ patched old.memory (table_of port slot) (take (128 + 16 * length prds) table) at
+  table_stays : (at : ℕ) → table_of port slot ≤ at → at < table_of port slot + (TABLE_HEAD + PRD_BYTES * length prds) → stored at ≡ patched old.memory (table_of port slot) (take (TABLE_HEAD + PRD_BYTES * length prds) table) at
   table_stays at low high =
       patched_apart mid.memory (list_of port + 32 * slot) header at (λ from to. let h = heads.size in absurd (omega (arith, h, small, low, to)))
       ∙ (store_left port slot below small (table_of port slot) _ old mid in_table first on uses free a).tables port slot at below small
       (inr (inr (low, omega (arith, few))))
 
-  table_there : bytes_at stored (table_of port slot) (128 + 16 * length prds) ≡ take (128 + 16 * length prds) table
+  table_there : bytes_at stored (table_of port slot) (TABLE_HEAD + PRD_BYTES * length prds) ≡ take (TABLE_HEAD + PRD_BYTES * length prds) table
   table_there =
-      bytes_same (patched old.memory (table_of port slot) (take (128 + 16 * length prds) table)) stored (table_of port slot) (128 + 16 * length prds) table_stays
-      ∙ ap (bytes_at (patched old.memory (table_of port slot) (take (128 + 16 * length prds) table)) (table_of port slot)) (sym front)
-      ∙ patched_bytes old.memory (table_of port slot) (take (128 + 16 * length prds) table)
+      bytes_same (patched old.memory (table_of port slot) (take (TABLE_HEAD + PRD_BYTES * length prds) table)) stored (table_of port slot) (TABLE_HEAD + PRD_BYTES * length prds) table_stays
+      ∙ ap (bytes_at (patched old.memory (table_of port slot) (take (TABLE_HEAD + PRD_BYTES * length prds) table)) (table_of port slot)) (sym front)
+      ∙ patched_bytes old.memory (table_of port slot) (take (TABLE_HEAD + PRD_BYTES * length prds) table)
 
   header_there : bytes_at stored (list_of port + 32 * slot) 32 ≡ header
   header_there = ap (bytes_at stored (list_of port + 32 * slot)) (sym heads.size) ∙ patched_bytes mid.memory (list_of port + 32 * slot) header
@@ -142,7 +144,7 @@ block_misses port at n is place (inr (inr table)) from to = let t = table.1 in o
 may_store_block : (uses : Uses) (port at : ℕ) (block : List ℕ) → port < 4 → at ≡ scratch_of port → length block ≡ 512 → IsUnused port 0 uses → MayStore uses at (length block)
 may_store_block uses port at block below is size free = inr (record { port = port; below = below; free = free; from = omega (arith, is); to = omega (arith, is, size) })
 
-pub block_free : (uses : Uses) (d : Device) (port at : ℕ) (block : List ℕ) → IsAgreed uses d → 163840 ≤ d.size → port < 4 → at ≡ scratch_of port → length block ≡ 512 → IsUnused port 0 uses →
+pub block_free : (uses : Uses) (d : Device) (port at : ℕ) (block : List ℕ) → IsAgreed uses d → DRIVER_BYTES ≤ d.size → port < 4 → at ≡ scratch_of port → length block ≡ 512 → IsUnused port 0 uses →
     Stays (IsFree at (length block)) d
 block_free uses d port at block a room below is size free =
     stores_are_free uses a.machine d a.reached a.knows.agrees at (length block) (omega (arith, room, below, is, size)) (may_store_block uses port at block below is size free)

@@ -1,6 +1,6 @@
 -- What is stored for a slot's command (AHCI 1.3.1, 4.2.2 and 4.2.3), and what the stores may touch.
 use Rattle.std.specs.Prelude.{ℕ, ◌≡◌, ◌+◌, ◌*◌, ◌≤◌, ◌<◌, ◌⊎◌, List, length, slice_index_or, All}
-use Rattle.ata_types.specs.declared.memory.TheConstants.{HEADER_BYTES, TABLE_BYTES}
+use Rattle.ata_types.specs.declared.memory.TheConstants.{HEADER_BYTES, LONGEST_TABLE, PRD_BYTES, TABLE_BYTES, TABLE_HEAD}
 use Rattle.byteorder.specs.Endian.{little_from}
 use Rattle.adapter.specs.Access.{Access}
 use Rattle.adapter.specs.Access.Access.{Storing}
@@ -16,11 +16,12 @@ use Rattle.command_table.specs.Bytes.{part}
 -- A command table (AHCI 1.3.1, 4.2.3) with room for 32 PRDs: the FIS at 00h, the PRDs from 80h on, and zeros between
 -- them, where ACMD stands at 40h, and behind them.
 pub record IsTable (bytes : List ℕ) (command : Command) (prds : List Prd) : Type 0 where
-  pub size : length bytes ≡ 640
+  pub size : length bytes ≡ LONGEST_TABLE
   pub fis : SpellsCommand (part bytes 0 20) command
-  pub between : AreZero bytes 20 128
-  pub entries : (i : ℕ) (d : Prd) → i < length prds → SpellsPrd (part bytes (128 + 16 * i) 16) (slice_index_or prds i d)
-  pub behind : AreZero bytes (128 + 16 * length prds) 640
+  pub between : AreZero bytes 20 TABLE_HEAD
+  pub entries : (i : ℕ) (d : Prd) → i < length prds
+      → SpellsPrd (part bytes (TABLE_HEAD + PRD_BYTES * i) 16) (slice_index_or prds i d)
+  pub behind : AreZero bytes (TABLE_HEAD + PRD_BYTES * length prds) LONGEST_TABLE
 
 -- Command and PRDs are those of this meaning in the slot: the command has its fields, and the PRDs cut into its places,
 -- as many as it moves pieces.

@@ -28,8 +28,9 @@ use adapter::{Adapter, Command, Prd};
 use agreement::stretches::other_ports_are_left;
 use arrayvec::ArrayVec;
 use ata_types::{
-    DRIVER_BYTES, FRAME_BYTES, Frame, HEADER_BYTES, PORT_BYTES, PORT_FRAMES, Port, SCRATCH_FRAME,
-    Slot, TABLE_ALIGNMENT, TABLE_BYTES, TABLES,
+    DATA_SET_MANAGEMENT, DRIVER_BYTES, FRAME_BYTES, Frame, HEADER_BYTES, LONGEST_TABLE,
+    MOST_REQUEST_FRAMES, PORT_BYTES, PORT_FRAMES, PRD_BYTES, Port, SCRATCH_FRAME, Slot,
+    TABLE_ALIGNMENT, TABLE_BYTES, TABLE_HEAD, TABLES, WRITE_DMA_EXT, WRITE_FPDMA_QUEUED,
 };
 use fis::encode_h2d;
 
@@ -38,14 +39,6 @@ const FIS_DWORDS: u32 = 5;
 const WRITE_BIT: u32 = 1 << 6;
 
 const BLOCK_BYTES: u32 = 512;
-
-/// The commands by which the device reads memory: DATA SET MANAGEMENT, WRITE DMA EXT and WRITE FPDMA QUEUED (ACS-3;
-/// Serial ATA).
-const DATA_SET_MANAGEMENT: u8 = 0x06;
-
-const WRITE_DMA_EXT: u8 = 0x35;
-
-const WRITE_FPDMA_QUEUED: u8 = 0x61;
 
 /// Writes the bytes into the buffer, from a place on.
 fn store_at(buffer: &mut [u8], at: usize, bytes: &[u8])
@@ -87,8 +80,8 @@ fn prd_bytes(prd: &Prd) -> [u8; 16]
 
 /// The PRDs that cover the first bytes of the frames, in order: one for each longest run of frames whose numbers rise
 /// by one, so of 128 KiB at most (AHCI 1.3.1, 4.2.3.3, allows 4 MiB). The last one covers the rest of the bytes.
-pub fn prds(frames: &[Frame], bytes: u32) -> ArrayVec<Prd, 32>
-    requires room { length frames.now ≤ 32 }
+pub fn prds(frames: &[Frame], bytes: u32) -> ArrayVec<Prd, MOST_REQUEST_FRAMES>
+    requires room { length frames.now ≤ MOST_REQUEST_FRAMES }
     requires even { bytes % 2 ≡ 0 }
     requires within { bytes ≤ FRAME_BYTES * length frames.now }
     requires last { FRAME_BYTES * length frames.now < bytes + FRAME_BYTES }
@@ -129,17 +122,21 @@ fn run_length(frames: &[Frame], from: usize) -> usize
 }
 
 /// Turns zeros into a command table: the FIS at its head, the PRDs from byte 128 on, and zeros between and behind them.
-/// It is made where the caller has it, since 640 bytes would be copied else.
-fn fill_table(bytes: &mut [u8; 640], command: &Command, prds: &[Prd])
-    requires zeros { AreZero bytes.old 0 640 }
+/// It is made where the caller has it, since it would be copied else.
+fn fill_table(bytes: &mut [u8; LONGEST_TABLE], command: &Command, prds: &[Prd])
+    requires zeros { AreZero bytes.old 0 LONGEST_TABLE }
     requires lba { command.now.lba < 2 ^ 48 }
-    requires room { length prds.now ≤ 32 }
+    requires room { length prds.now ≤ MOST_REQUEST_FRAMES }
     requires allowed { All IsAllowed prds.now }
     ensures { IsTable bytes.new command.now prds.now }
 {
     store_at(bytes, 0, &encode_h2d(command));
     for (i, prd) in prds.iter().enumerate() {
-        store_at(bytes, 128 + 16 * i, &prd_bytes(prd));
+        store_at(
+            bytes,
+            TABLE_HEAD as usize + PRD_BYTES as usize * i,
+            &prd_bytes(prd),
+        );
     }
 }
 
@@ -170,7 +167,7 @@ pub fn write_table<A: Adapter>(
     requires port { port.0 < 4 }
     requires slot { slot.0 < 32 }
     requires lba { command.now.lba < 2 ^ 48 }
-    requires few { length prds.now ≤ 32 }
+    requires few { length prds.now ≤ MOST_REQUEST_FRAMES }
     requires allowed { All IsAllowed prds.now }
     ensures on { IsOn (A.device adapter.new) }
     ensures followed { IsFollowed (IsTableStore port.0 slot.0) (IsUnused port.0 slot.0) (A.device adapter.old)
@@ -182,9 +179,12 @@ pub fn write_table<A: Adapter>(
 {
     let list = PORT_BYTES * u32::from(port.0);
     let table = list + TABLES + TABLE_BYTES * u32::from(slot.0);
-    let mut bytes = [0; 640];
+    let mut bytes = [0; LONGEST_TABLE];
     fill_table(&mut bytes, command, prds);
-    adapter.store(table, &bytes[..128 + 16 * prds.len()]);
+    adapter.store(
+        table,
+        &bytes[..TABLE_HEAD as usize + PRD_BYTES as usize * prds.len()],
+    );
     let head = header(is_write(command), prds.len() as u16, table);
     adapter.store(list + HEADER_BYTES * u32::from(slot.0), &head);
 }

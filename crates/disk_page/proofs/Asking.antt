@@ -4,6 +4,8 @@ use Rattle.std.proofs.lemmas.Bool.{true≢false}
 use Rattle.std.proofs.lemmas.List.{length-append}
 use Rattle.std.specs.List.{All}
 use Rattle.ata_types.specs.declared.Port.{Port}
+use Rattle.ata_types.specs.declared.memory.TheConstants.{DRIVER_BYTES}
+use Rattle.ata_types.specs.declared.limits.TheConstants.{READINGS}
 use Rattle.hba_regs.specs.Bits.{bit}
 use Rattle.hba_regs.specs.declared.reg.Reg.{Reg}
 use Rattle.hba_regs.specs.declared.reg.Reg.TheVariants.{Ghc, Px}
@@ -57,7 +59,7 @@ pub record IsPending (port : Port) (start : Device) (n : ℕ) (d : Device) : Typ
   pub told : IsTold (AreInVain port n) (IsAsking port) AnyUse start d
   pub waiting : (o : Operation) (since : ℕ) (uses : Uses) (begun : Device) → IsWaiting port o since uses begun start → IsWaiting port o since uses begun d
   pub low : n ≤ (d.port port.0).notes.command_count
-  pub high : 0 < n → (d.port port.0).notes.command_count ≤ 64
+  pub high : 0 < n → (d.port port.0).notes.command_count ≤ READINGS
 
 -- and one without it
 pub record IsFoundOver (port : Port) (start d : Device) : Type 0 where
@@ -200,14 +202,14 @@ module _ (laws : Laws) where
   access_silent : (port : Port) (uses : Uses) (other : Operation) (access : Access) (old new : Device) → IsAgreed uses old → op_of other ≡ None → (uses port.0 0 ≡ Own other → ⊥) → Does access old new →
       SendsNone port.0 other old new
   access_silent port uses other access old new a page none x =
-      let g = laws.access_grows access old new x in
+      let g = laws.tape.access_grows access old new x in
       (g.0, g.1, laws.access_pages uses a.machine access old new port.0 other g.0 a.reached a.knows.agrees x g.1 page (λ is. absurd (none is)))
 
   -- slot 0 has another command
   other_own : (port : ℕ) (o other : Operation) (uses : Uses) → uses port 0 ≡ Own o → other ≢ o → uses port 0 ≡ Own other → ⊥
   other_own port o other uses own differs is = let both : Own other ≡ Own o = sym is ∙ own in let same : other ≡ o = cc in differs same
 
-  module _ (port : Port) (page : Page) (mid new : Device) (on : IsOn mid) (there : HasPort mid port.0) (room : 163840 ≤ mid.size) (may : MayAsk port.0 mid)
+  module _ (port : Port) (page : Page) (mid new : Device) (on : IsOn mid) (there : HasPort mid port.0) (room : DRIVER_BYTES ≤ mid.size) (may : MayAsk port.0 mid)
       (told : Told mid.memory (list_of port.0) port.0 0 (meaning_of page) (scratch_of port.0 ∷ [])) where
     o : Operation
     o = operation_of page
@@ -258,7 +260,7 @@ module _ (laws : Laws) where
       asked_waits start uses free a before = record {
         on = laws.access_on (Writing (Px port Ci) 1) mid new on (λ v e. absurd cc) call;
         room = let same = (laws.access_same (Writing (Px port Ci) 1) mid new call).size in omega (arith, same, room);
-        agreed = laws.agreed (Asking port) (λ uses. used uses port.0 0 (Own (operation_of page))) uses mid new free asked_to a;
+        agreed = laws.stretches.agreed (Asking port) (λ uses. used uses port.0 0 (Own (operation_of page))) uses mid new free asked_to a;
         awaits = laws.page_is_issued uses a.machine port (operation_of page) 1 mid new a.reached a.knows.agrees on.no_reset (prepared uses free) call;
         ends = λ alone. laws.halt_is_issued uses a.machine port (operation_of page) 1 mid new a.reached a.knows.agrees on.no_reset
             (λ slot other. sym (laws.put_others uses port.0 0 (Own (operation_of page)) port.0 slot (λ same here. other here)) ∙ alone slot other) (prepared uses free) call;
@@ -271,18 +273,18 @@ module _ (laws : Laws) where
   -- it is asked for after the stores
   pub stored_then : (port : Port) (next : Uses → Uses) (old mid new : Device) → IsFollowed (IsAsking port) (IsUnused port.0 0) old mid → IsFollowedTo (IsAsking port) (IsUnused port.0 0) next mid new →
       IsFollowedTo (IsAsking port) (IsUnused port.0 0) next old new
-  stored_then port next old mid new a b = (laws.both (Asking port) (Asking port) (λ uses. uses) next (λ access may. may) (λ uses free. free) old mid new a b).followed
+  stored_then port next old mid new a b = (laws.stretches.both (Asking port) (Asking port) (λ uses. uses) next (λ access may. may) (λ uses free. free) old mid new a b).followed
 
   -- what was asked for is awaited
   pub asked_then : (port : Port) (next : Uses → Uses) (old mid new : Device) → IsFollowedTo (IsAsking port) (IsUnused port.0 0) next old mid → IsFollowed (IsAsking port) AnyUse mid new →
       IsFollowedTo (IsAsking port) (IsUnused port.0 0) next old new
-  asked_then port next old mid new a b = (laws.both (Asking port) (Awaiting port) next (λ uses. uses) (λ access may. may) (λ uses free. tt) old mid new a b).followed
+  asked_then port next old mid new a b = (laws.stretches.both (Asking port) (Awaiting port) next (λ uses. uses) (λ access may. may) (λ uses free. tt) old mid new a b).followed
 
   -- in vain, as is told of the accesses
-  pub asked_in_vain : (port : Port) (next : Uses → Uses) (old mid new : Device) → IsFollowedTo (IsAsking port) (IsUnused port.0 0) next old mid → IsTold (AreInVain port 64) (IsAsking port) AnyUse mid new →
+  pub asked_in_vain : (port : Port) (next : Uses → Uses) (old mid new : Device) → IsFollowedTo (IsAsking port) (IsUnused port.0 0) next old mid → IsTold (AreInVain port READINGS) (IsAsking port) AnyUse mid new →
       IsToldTo (WaitsInVain port) (IsAsking port) (IsUnused port.0 0) next old new
   asked_in_vain port next old mid new a b =
-      let both = laws.both (Asking port) (Awaiting port) next (λ uses. uses) (λ access may. may) (λ uses free. tt) old mid new a b.followed in
+      let both = laws.stretches.both (Asking port) (Awaiting port) next (λ uses. uses) (λ access may. may) (λ uses free. tt) old mid new a b.followed in
       let early = a.driven.accesses in
       let waits = b.followed.driven.accesses in
       record {
@@ -292,12 +294,12 @@ module _ (laws : Laws) where
       }
 
   awaited_then : (port : Port) (old mid new : Device) → IsFollowed (IsAsking port) AnyUse old mid → IsFollowed (IsAsking port) AnyUse mid new → IsFollowed (IsAsking port) AnyUse old new
-  awaited_then port old mid new a b = (laws.both (Awaiting port) (Awaiting port) (λ uses. uses) (λ uses. uses) (λ access may. may) (λ uses any. tt) old mid new a b).followed
+  awaited_then port old mid new a b = (laws.stretches.both (Awaiting port) (Awaiting port) (λ uses. uses) (λ uses. uses) (λ access may. may) (λ uses any. tt) old mid new a b).followed
 
   -- a page that came leaves its slot
   pub asked_back : (port : Port) (o : Operation) (old new : Device) → IsOver (new.port port.0) 0 → IsFollowedTo (IsAsking port) (IsUnused port.0 0) (λ uses. used uses port.0 0 (Own o)) old new →
       IsFollowed (IsAsking port) (IsUnused port.0 0) old new
-  asked_back port o old new over a = (laws.over (Asking port) port o 1 old new (refl, refl) (λ uses free. free) over a).followed
+  asked_back port o old new over a = (laws.stretches.over (Asking port) port o 1 old new (refl, refl) (λ uses free. free) over a).followed
 
   -- ---- header and table are stored first
 
@@ -306,7 +308,7 @@ module _ (laws : Laws) where
     stores_leave = tables_leave port old mid on stores.driven
 
     pub stores_asking : IsFollowed (IsAsking port) (IsUnused port.0 0) old mid
-    stores_asking = (laws.wider (Stored port) (Asking port) (λ uses. uses) kind (λ uses free. free) old mid stores).followed
+    stores_asking = (laws.stretches.wider (Stored port) (Asking port) (λ uses. uses) kind (λ uses free. free) old mid stores).followed
       where
         kind : (access : Access) → IsTableStore port.0 0 access → IsAsking port access
         kind (Storing at bytes) here = here
@@ -315,16 +317,16 @@ module _ (laws : Laws) where
         kind (Loading at bytes) here = absurd here
 
     pub stores_agree : (uses : Uses) → IsUnused port.0 0 uses → IsAgreed uses old → IsAgreed uses mid
-    stores_agree uses free = laws.agreed (Stored port) (λ uses. uses) uses old mid free stores
+    stores_agree uses free = laws.stretches.agreed (Stored port) (λ uses. uses) uses old mid free stores
 
     pub stores_silent : (uses : Uses) (other : Operation) → IsUnused port.0 0 uses → IsAgreed uses old → op_of other ≡ None → SendsNone port.0 other old mid
-    stores_silent uses other free a page = laws.silent (Stored port) (λ uses. uses) uses port other old mid free (laws.stores_spare port.0 0 (Px port Ci)) (laws.stores_spare port.0 0 (Px port Sact)) page
+    stores_silent uses other free a page = laws.stretches.silent (Stored port) (λ uses. uses) uses port other old mid free (laws.stores_spare port.0 0 (Px port Ci)) (laws.stores_spare port.0 0 (Px port Sact)) page
         (λ is. let e : Free ≡ Own other = sym free ∙ is in absurd cc) stores a
 
     pub stores_there : HasPort old port.0 → HasPort mid port.0
     stores_there there = (there.0, ap (λ (pi : ℕ). bit pi port.0) stores_leave.same.pi ∙ there.1)
 
-    pub stores_room : 163840 ≤ old.size → 163840 ≤ mid.size
+    pub stores_room : DRIVER_BYTES ≤ old.size → DRIVER_BYTES ≤ mid.size
     stores_room room = let same = stores_leave.same.size in omega (arith, same, room)
 
   module _ (port : Port) (v : ℕ) (d e : Device) (on : IsOn d) (call : Reads (Px port Ci) v d e) where
@@ -332,7 +334,7 @@ module _ (laws : Laws) where
     reads_on = laws.access_on (Reading (Px port Ci) v) d e on (λ w f. absurd cc) call
 
     reads_followed : IsFollowed (IsAsking port) AnyUse d e
-    reads_followed = (laws.reads (Awaiting port) (Px port Ci) v d e refl call).followed
+    reads_followed = (laws.stretches.reads (Awaiting port) (Px port Ci) v d e refl call).followed
 
     -- the driver goes on to wait
     reads_wait : (o : Operation) (since : ℕ) (uses : Uses) (begun : Device) → IsWaiting port o since uses begun d → IsWaiting port o since uses begun e
@@ -341,7 +343,7 @@ module _ (laws : Laws) where
         record {
           on = reads_on;
           room = let same = (laws.access_same (Reading (Px port Ci) v) d e call).size in let room = w.room in omega (arith, same, room);
-          agreed = laws.agreed (Awaiting port) (λ uses. uses) uses d e tt reads_followed a;
+          agreed = laws.stretches.agreed (Awaiting port) (λ uses. uses) uses d e tt reads_followed a;
           awaits = laws.access_waits uses a.machine port o since (Reading (Px port Ci) v) d e a.reached a.knows.agrees (λ w f. absurd cc) reads_on.no_reset call w.awaits;
           ends = λ alone. laws.access_ends_halt uses a.machine port (Reading (Px port Ci) v) d e a.reached a.knows.agrees (λ w f. absurd cc) tt reads_on.no_reset call (w.ends alone);
           silent = λ other page differs. laws.silent_more port.0 other begun d e (w.silent other page differs)
@@ -371,7 +373,7 @@ module _ (laws : Laws) where
     on = on;
     there = there;
     det = det;
-    told = let none = laws.none (Awaiting port) d in
+    told = let none = laws.stretches.none (Awaiting port) d in
         record { followed = none.followed; tells = subst (AreInVain port 0) (sym none.tells) (refl, All-nil (ShowsIssued port)) };
     waiting = λ o since uses begun w. w;
     low = omega arith;
@@ -379,7 +381,7 @@ module _ (laws : Laws) where
   }
 
   -- one more reading with the bit
-  pub pending_again : (port : Port) (start : Device) (n : ℕ) (v : ℕ) (d e : Device) → n < 64 → IsPending port start n d → Reads (Px port Ci) v d e → bit v 0 ≡ true → IsPending port start (n + 1) e
+  pub pending_again : (port : Port) (start : Device) (n : ℕ) (v : ℕ) (d e : Device) → n < READINGS → IsPending port start n d → Reads (Px port Ci) v d e → bit v 0 ≡ true → IsPending port start (n + 1) e
   pending_again port start n v d e small p call set =
       let count : (e.port port.0).notes.command_count ≡ counted true (d.port port.0).notes.command_count =
       count_read port v d e p.on call p.det ∙ ap (λ (b : Bool). counted b (d.port port.0).notes.command_count) set in
@@ -389,8 +391,8 @@ module _ (laws : Laws) where
         there = reads_there port v d e p.on call p.there;
         det = reads_det port v d e p.on call p.det;
         told =
-            let more = laws.reads (Awaiting port) (Px port Ci) v d e refl call in
-            let both = laws.both (Awaiting port) (Awaiting port) (λ uses. uses) (λ uses. uses) (λ access may. may) (λ uses any. tt) start d e p.told.followed more.followed in
+            let more = laws.stretches.reads (Awaiting port) (Px port Ci) v d e refl call in
+            let both = laws.stretches.both (Awaiting port) (Awaiting port) (λ uses. uses) (λ uses. uses) (λ access may. may) (λ uses any. tt) start d e p.told.followed more.followed in
             record {
               followed = both.followed;
               tells = subst (AreInVain port (n + 1)) (sym both.tells) (vain_more port n v p.told.followed.driven.accesses more.followed.driven.accesses p.told.tells more.tells set);
@@ -443,7 +445,7 @@ module _ (laws : Laws) where
           record { brought = y.0; same = y.1; clear = load_clear }
 
       pub load_agrees : IsAgreed uses new
-      load_agrees = laws.agreed (Awaiting port) (λ uses. uses) uses old new tt load_followed w.agreed
+      load_agrees = laws.stretches.agreed (Awaiting port) (λ uses. uses) uses old new tt load_followed w.agreed
 
       pub load_running : ((slot : ℕ) → slot ≢ 0 → uses port.0 slot ≡ Free) → (new.port port.0).halt ≡ NotHalted
       load_running alone =

@@ -1,6 +1,7 @@
 -- Pages that a disk sends to the driver itself (ACS-3: IDENTIFY DEVICE, READ LOG EXT), and how they are asked for.
 use Rattle.std.specs.Prelude.{ℕ, true, false, ◌≡◌, ◌≢◌, ◌≤◌, ◌++◌, List, All, length, Option, None, Some}
 use Rattle.ata_types.specs.declared.Port.{Port}
+use Rattle.ata_types.specs.declared.limits.TheConstants.{READINGS}
 use Rattle.hba_regs.specs.Bits.{bit}
 use Rattle.hba_regs.specs.declared.reg.Reg.TheVariants.{Px}
 use Rattle.hba_regs.specs.declared.reg.PortReg.TheVariants.{Ci}
@@ -72,7 +73,7 @@ pub record WaitsInVain (port : Port) (accesses : List Access) : Type 0 where
   pub waits : List Access
   pub later : List Access
   pub here : accesses ≡ before ++ (waits ++ later)
-  pub vain : AreInVain port 64 waits
+  pub vain : AreInVain port READINGS waits
 
 -- What is said of the page: it is the last that the port's command of this operation has moved, the command came after
 -- the tape was so long, and it is over.
@@ -86,7 +87,7 @@ pub record Brings (port : ℕ) (o : Operation) (since : ℕ) (bytes : List ℕ) 
 abbrev pub Reads : Port → Operation → Option (List ℕ) → Device → Device → Type 0
 Reads port o (Some bytes) old new = Brings port.0 o (length old.tape) bytes new
     × IsFollowed (IsAsking port) (IsUnused port.0 0) old new
-Reads port o None old new = ((new.port port.0).notes.command_count ≡ 64)
+Reads port o None old new = ((new.port port.0).notes.command_count ≡ READINGS)
     × IsToldTo (WaitsInVain port) (IsAsking port) (IsUnused port.0 0) (λ uses. put uses port.0 0 (Own o)) old new
 
 -- Some machine agrees with the slots used as they were; or with the command in slot 0.

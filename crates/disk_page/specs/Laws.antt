@@ -2,8 +2,9 @@
 use Rattle.std.specs.Prelude.{ℕ, true, false, ◌≡◌, ◌≢◌, ◌+◌, ◌≤◌, ◌<◌, ◌++◌, List, [], ◌∷◌, All, None, length}
 use Rattle.ata_types.specs.declared.Port.{Port}
 use Rattle.adapter.specs.Access.{Access, Does, Loads, Reads, Writes}
+use Rattle.agreement.specs.Laws.{StretchLaws, TapeLaws}
 use Rattle.agreement.specs.Agrees.{Agrees}
-use Rattle.agreement.specs.Driven.{AnyAccess, AnyUse, Grows, IsAgreed, IsDrivenBy, IsFollowedTo, IsOf, IsTold, IsToldTo, LeavesPort, NoneWrites, SendsNone}
+use Rattle.agreement.specs.Driven.{AnyAccess, AnyUse, IsAgreed, IsDrivenBy, IsFollowedTo, IsOf, IsTold, LeavesPort, NoneWrites, SendsNone}
 use Rattle.agreement.specs.Awaits.{AwaitsPage}
 use Rattle.agreement.specs.Recovering.{EndsHalt}
 use Rattle.agreement.specs.Slots.{Brought, Free, IsMove, IsOver, Own, Use, Uses, op_of, put}
@@ -19,7 +20,7 @@ use Rattle.agreement.specs.Driver.{IsOwnPrepared}
 use Rattle.block_machine.specs.Histories.{IsReached}
 use Rattle.command_table.specs.Written.{IsTableStore, IsUnused}
 use Rattle.adapter.specs.Kept.{Keeps, KeepsControls}
-use Rattle.adapter.specs.Access.Access.{Loading, Reading, Writing}
+use Rattle.adapter.specs.Access.Access.{Loading, Writing}
 use Rattle.block_machine.specs.State.{Machine}
 use Rattle.adapter.specs.declared.command.Operation.{Operation}
 use Rattle.hba_regs.specs.declared.reg.PortReg.{PortReg}
@@ -110,7 +111,7 @@ pub record Laws : Type 0 where
   pub access_ends_halt : (uses : Uses) (m : Machine) (port : Port) (access : Access) (old new : Device) → IsReached m
       → Agrees uses m old → ClearsNoStart port access → SparesRegister (Px port Sact) access → new.hr ≡ false
       → Does access old new → EndsHalt uses port.0 old → EndsHalt uses port.0 new
-  pub access_grows : (access : Access) (old new : Device) → Does access old new → Grows old new
+  pub tape : TapeLaws
   pub access_pages : (uses : Uses) (m : Machine) (access : Access) (old new : Device) (port : ℕ) (o : Operation)
       (gained : List Entry) → IsReached m → Agrees uses m old → Does access old new → new.tape ≡ old.tape ++ gained
       → op_of o ≡ None → (uses port 0 ≡ Own o → IsOver (old.port port) 0) → All (λ e. IsMove port o e → ⊥) gained
@@ -120,34 +121,10 @@ pub record Laws : Type 0 where
       → (other_port ≡ port → other_slot ≡ slot → ⊥) → put uses port slot u other_port other_slot ≡ uses other_port
       other_slot
   -- this crate's kinds of accesses
-  pub none : (kind : Stretch) (d : Device) → IsTold (λ made. made ≡ []) (may_of kind) (fits_of kind) d d
-  pub reads : (kind : Stretch) (r : Reg) (v : ℕ) (old new : Device) → may_of kind (Reading r v) → Reads r v old new
-      → IsTold (λ made. made ≡ Reading r v ∷ []) (may_of kind) (fits_of kind) old new
+  pub stretches : StretchLaws Stretch may_of fits_of
   pub loads : (kind : Stretch) (at : ℕ) (bytes : List ℕ) (old new : Device) → may_of kind (Loading at bytes)
       → Loads at bytes old new → IsTold (λ made. made ≡ Loading at bytes ∷ []) (may_of kind) (fits_of kind) old new
   pub asks : (kind : Stretch) (port : Port) (o : Operation) (v : ℕ) (old new : Device)
       → may_of kind (Writing (Px port Ci) v) → old.hr ≡ false
       → ((uses : Uses) → fits_of kind uses → IsOwnPrepared uses old port.0 o v) → Writes (Px port Ci) v old new
       → IsFollowedTo (may_of kind) (fits_of kind) (λ uses. put uses port.0 0 (Own o)) old new
-  pub both : (kind then : Stretch) (first second : Uses → Uses)
-      → ((access : Access) → may_of then access → may_of kind access)
-      → ((uses : Uses) → fits_of kind uses → fits_of then (first uses)) → (old mid new : Device)
-      → (a : IsFollowedTo (may_of kind) (fits_of kind) first old mid)
-      → (b : IsFollowedTo (may_of then) (fits_of then) second mid new)
-      → IsToldTo (λ made. made ≡ a.driven.accesses ++ b.driven.accesses) (may_of kind) (fits_of kind)
-      (λ uses. second (first uses)) old new
-  pub wider : (kind more : Stretch) (next : Uses → Uses) → ((access : Access) → may_of kind access → may_of more access)
-      → ((uses : Uses) → fits_of more uses → fits_of kind uses) → (old new : Device)
-      → (a : IsFollowedTo (may_of kind) (fits_of kind) next old new)
-      → IsToldTo (λ made. made ≡ a.driven.accesses) (may_of more) (fits_of more) next old new
-  pub over : (kind : Stretch) (port : Port) (o : Operation) (v : ℕ) (old new : Device)
-      → may_of kind (Writing (Px port Ci) v) → ((uses : Uses) → fits_of kind uses → uses port.0 0 ≡ Free)
-      → IsOver (new.port port.0) 0
-      → (a : IsFollowedTo (may_of kind) (fits_of kind) (λ uses. put uses port.0 0 (Own o)) old new)
-      → IsTold (λ made. made ≡ a.driven.accesses) (may_of kind) (fits_of kind) old new
-  pub agreed : (kind : Stretch) (next : Uses → Uses) (uses : Uses) (old new : Device) → fits_of kind uses
-      → IsFollowedTo (may_of kind) (fits_of kind) next old new → IsAgreed uses old → IsAgreed (next uses) new
-  pub silent : (kind : Stretch) (next : Uses → Uses) (uses : Uses) (port : Port) (o : Operation) (old new : Device)
-      → fits_of kind uses → NoneWrites (may_of kind) (Px port Ci) → NoneWrites (may_of kind) (Px port Sact)
-      → op_of o ≡ None → (uses port.0 0 ≡ Own o → ⊥) → IsFollowedTo (may_of kind) (fits_of kind) next old new
-      → IsAgreed uses old → SendsNone port.0 o old new

@@ -3,15 +3,13 @@ ghost use Rattle.disk_page.specs.Laws.{Laws, Stretch, fits_of, may_of};
 
 use adapter::laws::{controls_are_kept, port_registers_are_accessed, steps_keep};
 use agreement::facts::{adapter_stays, faults_are_recorded, over_stays, page_is_awaited};
-use agreement::kinds::{
-    Kinds, accesses_are_followed, followed_stretches_give, stretches_are_followed,
-};
+use agreement::kinds::{Kinds, accesses_are_followed, stretch_laws_hold};
 use agreement::laws::{
     own_issuing_is_permitted, pages_are_free, pages_come_when_asked, putting_is_of_one_slot,
 };
 use agreement::recovering::halt_is_ended;
 use agreement::stretches::{
-    agreeing_goes_on, other_ports_are_left, tapes_grow, unused_slots_are_silent,
+    agreeing_goes_on, other_ports_are_left, tape_laws_hold, unused_slots_are_silent,
 };
 use command_table::laws::stores_are_of_one_port;
 
@@ -38,14 +36,13 @@ pub fn laws_hold()
     over_stays();
     page_is_awaited();
     accesses_are_followed::<Pages>();
-    followed_stretches_give::<Pages>();
-    stretches_are_followed::<Pages>();
+    stretch_laws_hold::<Pages>();
     own_issuing_is_permitted();
     pages_are_free();
     pages_come_when_asked();
     putting_is_of_one_slot();
     halt_is_ended();
-    tapes_grow();
+    tape_laws_hold();
     unused_slots_are_silent();
     agreeing_goes_on();
     other_ports_are_left();

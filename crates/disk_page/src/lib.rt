@@ -23,19 +23,13 @@ mod lawful;
 pub mod laws;
 
 use adapter::{Adapter, Command};
-use ata_types::{DRIVER_BYTES, FRAME_BYTES, Frame, PORT_FRAMES, Port, SCRATCH_FRAME, Slot};
+use ata_types::{
+    DRIVER_BYTES, FRAME_BYTES, Frame, IDENTIFY_DEVICE, PORT_FRAMES, Port, READ_LOG_EXT, READINGS,
+    SCRATCH_FRAME, Slot,
+};
 use command_table::{prds, write_table};
 use hba_regs::{PortReg, Reg, is_set};
 use lawful::laws_hold;
-
-/// Readings of PxCI in one wait.
-const READINGS: u32 = 64;
-
-/// IDENTIFY DEVICE (ACS-3, 7.12).
-const IDENTIFY_DEVICE: u8 = 0xec;
-
-/// READ LOG EXT (ACS-3, 7.24).
-const READ_LOG_EXT: u8 = 0x2f;
 
 /// The log of errors of queued commands (ACS-3, 9.14; Serial ATA).
 const QUEUED_ERROR_LOG: u64 = 0x10;
@@ -104,8 +98,8 @@ fn wait<A: Adapter>(adapter: &mut A, port: Port) -> bool
         → IsWaiting port o since uses start (A.device adapter.new) }
     ensures over { result ≡ true → (o : Operation) (since : ℕ) (uses : Uses) (start : Device)
         → IsWaiting port o since uses start (A.device adapter.old) → IsClear ((A.device adapter.new).port port.0) 0 }
-    ensures still { result ≡ false → ((A.device adapter.new).port port.0).notes.command_count ≡ 64 }
-    ensures vain { result ≡ false → IsTold (AreInVain port 64) (IsAsking port) AnyUse (A.device adapter.old)
+    ensures still { result ≡ false → ((A.device adapter.new).port port.0).notes.command_count ≡ READINGS }
+    ensures vain { result ≡ false → IsTold (AreInVain port READINGS) (IsAsking port) AnyUse (A.device adapter.old)
         (A.device adapter.new) }
 {
     laws_hold();

@@ -112,7 +112,7 @@ module _ (laws : Laws) (port : Port) where
   accesses_show [] old new on same spares clears kind = subst (AreShown kind port.0 old) (sym same) (shown_none kind port.0 old)
   accesses_show (access ∷ accesses) old new on (mid, does, rest) spares clears kind =
       let on_mid = laws.on_all (access ∷ []) old mid on (All-cons (SparesRegister Ghc) access [] (All-head (SparesRegister Ghc) access accesses spares) (All-nil (SparesRegister Ghc))) (mid, does, refl) in
-      shown_more kind port.0 old mid new (laws.grows_access access old mid does) (grows_over laws port accesses mid new rest)
+      shown_more kind port.0 old mid new (laws.tape.access_grows access old mid does) (grows_over laws port accesses mid new rest)
       (one_shows kind access old mid on.no_reset (All-head (ClearsNone port) access accesses clears) does)
       (accesses_show accesses mid new on_mid rest (All-tail (SparesRegister Ghc) access accesses spares) (All-tail (ClearsNone port) access accesses clears) kind)
 

@@ -117,10 +117,10 @@ module _ (laws : Laws) (port : Port) where
   pub errors_more : (old mid new : Device) → Grows old mid → Grows mid new → ChangesByErrors port.0 old mid → ChangesByErrors port.0 mid new → ChangesByErrors port.0 old new
   errors_more old mid new first last a b = record {
     fatal = λ none place low high is.
-        let parts = laws.fatal_parts port.0 old mid new first.0 last.0 first.1 last.1 none in
+        let parts = laws.tape.fatal_parts port.0 old mid new first.0 last.0 first.1 last.1 none in
         b.fatal parts.1 place low high (a.fatal parts.0 place low high is);
     fault = λ none is.
-        let parts = laws.fails_parts port.0 old mid new first.0 last.0 first.1 last.1 none in
+        let parts = laws.tape.fails_parts port.0 old mid new first.0 last.0 first.1 last.1 none in
         b.fault parts.1 (a.fault parts.0 is);
   }
 
@@ -130,10 +130,10 @@ module _ (laws : Laws) (port : Port) where
       record {
         on = laws.on other old new on driven;
         leaves = laws.left other port.0 old new apart on driven;
-        grows = laws.grows_access access old new does;
+        grows = laws.tape.access_grows access old new does;
         errors = laws.errors port access old new does;
-        undue = λ undue. laws.undue port access old new on.no_reset undue (laws.spares other port Sctl apart access of) does;
-        disks = λ undue. laws.disks port access old new on.no_reset undue does;
+        undue = λ undue. laws.tape.access_undue port access old new on.no_reset undue (laws.spares other port Sctl apart access of) does;
+        disks = λ undue. laws.tape.access_change port access old new on.no_reset undue does;
         shows = λ undue none. ⊎_elim
             (λ (same : SameLink (old.port port.0) (new.port port.0)). same.det)
             (λ (up : ComesUp (old.port port.0) (new.port port.0)). absurd (false≢true (sym undue ∙ up.due)))
@@ -153,10 +153,10 @@ module _ (laws : Laws) (port : Port) where
   others_leave [] old new on same of = subst (IsLeft old) (sym same) (record {
     on = on;
     leaves = laws.left_none (old.port port.0);
-    grows = laws.grows_none old;
+    grows = laws.tape.grows_none old;
     errors = errors_none old;
     undue = λ undue. undue;
-    disks = λ undue. laws.disks_none port.0 old;
+    disks = λ undue. laws.tape.change_none port.0 old;
     shows = λ undue none. refl;
     shown = λ none shows. shows;
     fresh = λ undue none. refl;
@@ -168,18 +168,18 @@ module _ (laws : Laws) (port : Port) where
       record {
         on = b.on;
         leaves = laws.left_more (old.port port.0) (mid.port port.0) (new.port port.0) a.leaves b.leaves;
-        grows = laws.grows_more old mid new a.grows b.grows;
+        grows = laws.tape.grows_more old mid new a.grows b.grows;
         errors = errors_more old mid new a.grows b.grows a.errors b.errors;
         undue = λ undue. b.undue (a.undue undue);
-        disks = λ undue. laws.disks_more port.0 old mid new a.grows b.grows (a.disks undue) (b.disks (a.undue undue));
+        disks = λ undue. laws.tape.change_more port.0 old mid new a.grows b.grows (a.disks undue) (b.disks (a.undue undue));
         shows = λ undue none.
-            let parts = laws.plugs_parts port.0 old mid new a.grows.0 b.grows.0 a.grows.1 b.grows.1 none in
+            let parts = laws.tape.plugs_parts port.0 old mid new a.grows.0 b.grows.0 a.grows.1 b.grows.1 none in
             b.shows (a.undue undue) parts.1 ∙ a.shows undue parts.0;
         shown = λ none shows.
-            let parts = laws.plugs_parts port.0 old mid new a.grows.0 b.grows.0 a.grows.1 b.grows.1 none in
+            let parts = laws.tape.plugs_parts port.0 old mid new a.grows.0 b.grows.0 a.grows.1 b.grows.1 none in
             b.shown parts.1 (a.shown parts.0 shows);
         fresh = λ undue none.
-            let parts = laws.plugs_parts port.0 old mid new a.grows.0 b.grows.0 a.grows.1 b.grows.1 none in
+            let parts = laws.tape.plugs_parts port.0 old mid new a.grows.0 b.grows.0 a.grows.1 b.grows.1 none in
             b.fresh (a.undue undue) parts.1 ∙ a.fresh undue parts.0;
         trouble_shown = λ kind. shown_more kind port.0 old mid new a.grows b.grows (a.trouble_shown kind) (b.trouble_shown kind);
       }
@@ -191,8 +191,8 @@ module _ (laws : Laws) (port : Port) where
 
   -- the tape gains over accesses
   pub grows_over : (accesses : List Access) (old new : Device) → DoesAll accesses old new → Grows old new
-  grows_over [] old new same = subst (Grows old) (sym same) (laws.grows_none old)
-  grows_over (access ∷ accesses) old new (mid, does, rest) = laws.grows_more old mid new (laws.grows_access access old mid does) (grows_over accesses mid new rest)
+  grows_over [] old new same = subst (Grows old) (sym same) (laws.tape.grows_none old)
+  grows_over (access ∷ accesses) old new (mid, does, rest) = laws.tape.grows_more old mid new (laws.tape.access_grows access old mid does) (grows_over accesses mid new rest)
 
   -- ---- a turn in a call
 
@@ -201,8 +201,8 @@ module _ (laws : Laws) (port : Port) where
   loss_then old new on undue t loss = ⊎_elim
       (λ change. inl (change_still port.0 old t.start first.trouble_shown change))
       (λ missing.
-      let a = laws.comes_parts port.0 old t.start new first.grows.0 since.0 first.grows.1 since.1 missing.1 in
-      let b = laws.comes_parts port.0 t.start t.end new middle.0 last.0 middle.1 last.1 a.1 in
+      let a = laws.tape.comes_parts port.0 old t.start new first.grows.0 since.0 first.grows.1 since.1 missing.1 in
+      let b = laws.tape.comes_parts port.0 t.start t.end new middle.0 last.0 middle.1 last.1 a.1 in
       inr ((λ there. missing.0 ((first.disks undue).det a.0 there).0), b.0))
       loss
     where
@@ -216,7 +216,7 @@ module _ (laws : Laws) (port : Port) where
       last = grows_over t.later t.end new t.last
 
       since : Grows t.start new
-      since = laws.grows_more t.start t.end new middle last
+      since = laws.tape.grows_more t.start t.end new middle last
 
   module _ (old : Instant Device) (begun : Moment) (ended ports : Ports) (new : Device) (turn call : Evidence) (ask : Ask DeviceStep) (said : Said)
       (on : IsOn old.device) (linked : (old.moment.ports.state port ≡ Ready) ⊎ Contains turn.lost port → (old.device.port port.0).link_due ≡ false) (t : HasTurnIn port old.device new) (on_then : IsOn t.end)
@@ -229,14 +229,14 @@ module _ (laws : Laws) (port : Port) where
     last = others_leave t.later t.end new on_then t.last t.others_later
 
     since : Grows t.start new
-    since = laws.grows_more t.start t.end new (grows_over t.turn t.start t.end t.then) last.grows
+    since = laws.tape.grows_more t.start t.end new (grows_over t.turn t.start t.end t.then) last.grows
 
     -- what the turn gained, and what was gained before it, the call gained
     within : (Is : Entry → Type 0) → Gains Is t.start t.end → Gains Is old.device new
     within Is = gains_within Is old.device t.start t.end new first.grows last.grows
 
     before : (Is : Entry → Type 0) → Gains Is old.device t.start → Gains Is old.device new
-    before Is = gains_within Is old.device old.device t.start new (laws.grows_none old.device) since
+    before Is = gains_within Is old.device old.device t.start new (laws.tape.grows_none old.device) since
 
     -- a disk went or came before the turn, or none did
     plugged : Gains (IsPlugging port.0) old.device t.start ⊎ PlugsNone port.0 old.device t.start
@@ -250,7 +250,7 @@ module _ (laws : Laws) (port : Port) where
         n none is = ⊎_elim (λ set. inl set) (λ clear. absurd (false≢true (sym ((first.disks undue).serr_n none clear) ∙ is))) (cases_Bool (old.device.port port.0).serr_n)
 
         x : PlugsNone port.0 old.device t.start → (t.start.port port.0).serr_x ≡ true → ShowsChange (old.device.port port.0)
-        x none is = ⊎_elim (λ set. inr set) (λ clear. absurd (false≢true (sym ((first.disks undue).serr_x (laws.plugs_come port.0 old.device t.start none) clear) ∙ is)))
+        x none is = ⊎_elim (λ set. inr set) (λ clear. absurd (false≢true (sym ((first.disks undue).serr_x (laws.tape.plugs_come port.0 old.device t.start none) clear) ∙ is)))
             (cases_Bool (old.device.port port.0).serr_x)
 
     missing : (old.device.port port.0).link_due ≡ false → (t.start.port port.0).ssts_det ≢ 3 → ((old.device.port port.0).ssts_det ≢ 3) ⊎ Gains (IsPlugging port.0) old.device new

@@ -70,5 +70,5 @@ module _ (laws : Laws) (port : ℕ) (old mid new : Device) (early : Grows old mi
 
   pub calm_since : PlugsNone port old new → (GainsRunning (IsFaultOf port) port old new → ⊥) → (GainsRunning (IsFatalOf port) port old new → ⊥) → Undisturbed port mid new
   calm_since none unfailed unbroken =
-      let after = (laws.plugs_parts port old mid new early.0 late.0 early.1 late.1 none).1 in
+      let after = (laws.tape.plugs_parts port old mid new early.0 late.0 early.1 late.1 none).1 in
       record { gained = after.gained; tape = after.tape; calm = all_calm unfailed unbroken [] after.gained after.tape after.none }

@@ -2,7 +2,7 @@
 use Rattle.std.proofs.Common.{◌≡◌, true, List, [], ◌∷◌, refl, ap, ◌∙◌, subst}
 use Rattle.adapter.specs.Device.{Device}
 use Rattle.adapter.specs.declared.access.DeviceStep.{DeviceStep}
-use Rattle.agreement.proofs.Following.{told_append}
+use Rattle.agreement.proofs.steps.FollowedSteps.{told_append}
 use Rattle.block_machine.specs.Events.{Moment, IsRun, EveryReadHolds, steps_of}
 use Rattle.block_machine.specs.Histories.{Instant, Happening, IsHistory, now, events_of}
 use Rattle.block_machine.specs.Left.{after, AllTold}

@@ -53,9 +53,9 @@ module _ (laws : Laws) (port : Port) where
       → (accesses : List Access) (old new : Device) → DoesAll accesses old new → NoneComes port.0 old new → P (old.port port.0) → P (new.port port.0)
   stays_over P one [] old new same none so = subst (λ (d : Device). P (d.port port.0)) (sym same) so
   stays_over P one (access ∷ accesses) old new (mid, does, rest) none so =
-      let early = laws.grows_access access old mid does in
+      let early = laws.tape.access_grows access old mid does in
       let late = grows_over laws port accesses mid new rest in
-      let parts = laws.comes_parts port.0 old mid new early.0 late.0 early.1 late.1 none in
+      let parts = laws.tape.comes_parts port.0 old mid new early.0 late.0 early.1 late.1 none in
       stays_over P one accesses mid new rest parts.1 (one access old mid parts.0 does so)
 
   -- where none was shown, and none came, none is shown
@@ -79,7 +79,7 @@ module _ (laws : Laws) (port : Port) where
     middle = grows_over laws port t.turn t.start t.end t.then
 
     since : Grows t.start new
-    since = laws.grows_more t.start t.end new middle last.grows
+    since = laws.tape.grows_more t.start t.end new middle last.grows
 
     abbrev began : Instant Device
     began = record { device = t.start; moment = begun }
@@ -88,8 +88,8 @@ module _ (laws : Laws) (port : Port) where
 
     plug_parts : PlugsNone port.0 old.device new → PlugsNone port.0 old.device t.start × PlugsNone port.0 t.start t.end
     plug_parts none =
-        let a = laws.plugs_parts port.0 old.device t.start new first.grows.0 since.0 first.grows.1 since.1 none in
-        (a.0, (laws.plugs_parts port.0 t.start t.end new middle.0 last.grows.0 middle.1 last.grows.1 a.1).0)
+        let a = laws.tape.plugs_parts port.0 old.device t.start new first.grows.0 since.0 first.grows.1 since.1 none in
+        (a.0, (laws.tape.plugs_parts port.0 t.start t.end new middle.0 last.grows.0 middle.1 last.grows.1 a.1).0)
 
     -- ---- and what was done then was done in the whole
 
@@ -133,8 +133,8 @@ module _ (laws : Laws) (port : Port) where
       -- no disk came in the parts
       comes : NoneComes port.0 old.device new → NoneComes port.0 old.device t.start × NoneComes port.0 t.start t.end × NoneComes port.0 t.end new
       comes none =
-          let a = laws.comes_parts port.0 old.device t.start new first.grows.0 since.0 first.grows.1 since.1 none in
-          let b = laws.comes_parts port.0 t.start t.end new middle.0 last.grows.0 middle.1 last.grows.1 a.1 in
+          let a = laws.tape.comes_parts port.0 old.device t.start new first.grows.0 since.0 first.grows.1 since.1 none in
+          let b = laws.tape.comes_parts port.0 t.start t.end new middle.0 last.grows.0 middle.1 last.grows.1 a.1 in
           (a.0, b.0, b.1)
 
       bad_then : SamePort old.moment.ports begun.ports port → IsUnfitOrForeign old.moment.ports port → IsUnfitOrForeign begun.ports port
@@ -160,7 +160,7 @@ module _ (laws : Laws) (port : Port) where
           → (NoneComes port.0 t.start t.end → TriesDisk t.turn began ended t.end port) → NoneComes port.0 old.device new → TriesDisk (all_of t) old ports new port
       tries_are_the_calls was there linked tried none = record {
         shown = λ absent shows. ⊎_elim
-            (λ gained. inr (inr (gains_within (IsPlugging port.0) old.device old.device t.start new (laws.grows_none old.device) since gained)))
+            (λ gained. inr (inr (gains_within (IsPlugging port.0) old.device old.device t.start new (laws.tape.grows_none old.device) since gained)))
             (λ still. ⊎_elim
             (λ dead. inl (stays.1 ∙ dead))
             (λ rest. inr (⊎_elim (λ r. inl (reset_in_call r)) (λ gained. inr (gains_within (IsPlugging port.0) old.device t.start t.end new first.grows last.grows gained)) rest))
@@ -307,7 +307,7 @@ module _ (laws : Laws) (port : Port) where
             (All-weaker (IsOfOther port) (SparesRegister Ghc) (λ access x. laws.spares_host x.0 access x.2) t.later t.others_later)
             (spares_other t.later t.others_later)
             (All-weaker (IsOfOther port) (SparesRegister (Px port Cmd)) (λ access x. laws.spares x.0 port Cmd x.1 access x.2) t.later t.others_later))
-            (calm_since laws port.0 old.device t.end new (laws.grows_more old.device t.start t.end first.grows middle) last.grows (omega (arith, same, small)) plugs unfailed unbroken)
+            (calm_since laws port.0 old.device t.end new (laws.tape.grows_more old.device t.start t.end first.grows middle) last.grows (omega (arith, same, small)) plugs unfailed unbroken)
             (its (unnamed i) is_ready parts.1
             (λ g. unfailed (running_in_part (IsFaultOf port.0) port.0 old.device t.start t.end new first.grows last.grows same g))
             (λ g. unbroken (running_in_part (IsFatalOf port.0) port.0 old.device t.start t.end new first.grows last.grows same g))
@@ -327,7 +327,7 @@ module _ (laws : Laws) (port : Port) (old : Instant Device) (begun : Moment) (ne
   unchanged : ShowsChange (t.start.port port.0) → ⊥
   unchanged shown = alone.shows.change (⊎_elim
       (λ n. inl (⊎_elim (λ set. set) (λ clear. absurd (false≢true (sym ((first_left.disks undue).serr_n parts.0 clear) ∙ n))) (cases_Bool (old.device.port port.0).serr_n)))
-      (λ x. inr (⊎_elim (λ set. set) (λ clear. absurd (false≢true (sym ((first_left.disks undue).serr_x (laws.plugs_come port.0 old.device t.start parts.0) clear) ∙ x))) (cases_Bool (old.device.port port.0).serr_x)))
+      (λ x. inr (⊎_elim (λ set. set) (λ clear. absurd (false≢true (sym ((first_left.disks undue).serr_x (laws.tape.plugs_come port.0 old.device t.start parts.0) clear) ∙ x))) (cases_Bool (old.device.port port.0).serr_x)))
       shown)
 
   -- where TFES alone is shown, with no other trouble in the call, so it is in its turn
@@ -335,8 +335,8 @@ module _ (laws : Laws) (port : Port) (old : Instant Device) (begun : Moment) (ne
   alone_then =
       let middle = grows_over laws port t.turn t.start t.end t.then in
       let last = grows_over laws port t.later t.end new t.last in
-      let since = laws.grows_more t.start t.end new middle last in
-      let a = laws.fatal_parts port.0 old.device t.start new first_left.grows.0 since.0 first_left.grows.1 since.1 alone.fatal in
+      let since = laws.tape.grows_more t.start t.end new middle last in
+      let a = laws.tape.fatal_parts port.0 old.device t.start new first_left.grows.0 since.0 first_left.grows.1 since.1 alone.fatal in
       record {
         ready = ready_then;
         shows = record {
@@ -345,6 +345,6 @@ module _ (laws : Laws) (port : Port) (old : Instant Device) (begun : Moment) (ne
           change = unchanged;
           device = first_left.shows undue parts.0 ∙ alone.shows.device;
         };
-        fatal = (laws.fatal_parts port.0 t.start t.end new middle.0 last.0 middle.1 last.1 a.1).0;
+        fatal = (laws.tape.fatal_parts port.0 t.start t.end new middle.0 last.0 middle.1 last.1 a.1).0;
         plugged = parts.1;
       }

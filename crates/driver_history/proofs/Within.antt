@@ -139,14 +139,14 @@ module _ (laws : Laws) (port : Port) where
       written v x = ⊎_elim
           (λ (set : bit v 0 ≡ true). ⊎_elim
           (λ (off : (old.port port.0).st ≡ false).
-          let grown = laws.grows_access (Writing (Px port Cmd) v) old new x in
+          let grown = laws.tape.access_grows (Writing (Px port Cmd) v) old new x in
           let whole = ap (λ (tape : List Entry). length tape) grown.1 ∙ length-append old.tape grown.0 in
           let at = (laws.start port v old new off set x).1 in
           inr (omega (arith, long, whole, at)))
           (λ (since : least ≤ (old.port port.0).notes.st_set_at). ⊎_elim
           (λ (runs : (old.port port.0).st ≡ true). inr (subst (λ (n : ℕ). least ≤ n) (sym (stays_set v old new on runs set x)) since))
           (λ (off : (old.port port.0).st ≡ false).
-          let grown = laws.grows_access (Writing (Px port Cmd) v) old new x in
+          let grown = laws.tape.access_grows (Writing (Px port Cmd) v) old new x in
           let whole = ap (λ (tape : List Entry). length tape) grown.1 ∙ length-append old.tape grown.0 in
           let at = (laws.start port v old new off set x).1 in
           inr (omega (arith, long, whole, at)))
@@ -161,7 +161,7 @@ module _ (laws : Laws) (port : Port) where
 
   longer : (least : ℕ) (access : Access) (old mid : Device) → least ≤ length old.tape → Does access old mid → least ≤ length mid.tape
   longer least access old mid long does =
-      let grown = laws.grows_access access old mid does in
+      let grown = laws.tape.access_grows access old mid does in
       let whole = ap (λ (tape : List Entry). length tape) grown.1 ∙ length-append old.tape grown.0 in
       omega (arith, long, whole)
 

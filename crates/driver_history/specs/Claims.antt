@@ -4,6 +4,7 @@ use Rattle.ata_types.specs.declared.Port.{Port}
 use Rattle.ata_types.specs.declared.PortState.TheVariants.{Ready, Dead}
 use Rattle.ata_types.specs.declared.request.Outcome.{Outcome}
 use Rattle.ata_types.specs.declared.request.Outcome.TheVariants as outcome
+use Rattle.ata_types.specs.declared.limits.TheConstants.{READINGS}
 use Rattle.adapter.specs.Access.{Access}
 use Rattle.adapter.specs.Device.{Device}
 use Rattle.adapter.specs.Rules.{IsOn}
@@ -41,7 +42,7 @@ AnswerRests old h accesses e (outcome.DeviceError status error) =
 AnswerRests old h accesses e outcome.Aborted = (e.issues ≡ 4) × (h.event.ports.state e.request.port ≡ Ready)
 AnswerRests old h accesses e outcome.Unplugged = IsLost e.request.port old h.event.ports h.device
 AnswerRests old h accesses e outcome.PortDead = (h.event.ports.state e.request.port ≡ Dead)
-    × (((h.device.port e.request.port.0).notes.engine_count ≡ 64) ⊎ (IsOn h.device → ⊥))
+    × (((h.device.port e.request.port.0).notes.engine_count ≡ READINGS) ⊎ (IsOn h.device → ⊥))
 
 -- ---- healthy calls
 

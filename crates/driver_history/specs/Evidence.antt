@@ -3,6 +3,7 @@
 use Rattle.std.specs.Prelude.{ℕ, true, false, ◌≡◌, ◌≢◌, ◌⊎◌, ◌++◌, List, All, Contains, Some, None}
 use Rattle.ata_types.specs.declared.Port.{Port}
 use Rattle.ata_types.specs.declared.PortState.TheVariants.{Ready, Dead}
+use Rattle.ata_types.specs.declared.limits.TheConstants.{READINGS}
 use Rattle.adapter.specs.Access.{Access}
 use Rattle.adapter.specs.Commands.{is_queued}
 use Rattle.adapter.specs.Device.{PortState, Device}
@@ -146,7 +147,7 @@ pub record IsEvidencedOf (ask : Ask DeviceStep) (said : Said) (accesses : List A
   pub stopped_only : Contains evidence.stopped port → Stops port accesses
       ⊎ (IsEndedReset ask said × (old.moment.ports.served port ≡ true))
   pub stuck_only : Contains evidence.stuck port
-      → (Sticks port accesses × ((new.port port.0).notes.engine_count ≡ 64))
+      → (Sticks port accesses × ((new.port port.0).notes.engine_count ≡ READINGS))
       ⊎ (IsStuckReset ask said × (old.moment.ports.served port ≡ true))
 
 -- Each fault that is named was told by the device, and so it is with each port.

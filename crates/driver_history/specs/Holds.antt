@@ -4,6 +4,7 @@ use Rattle.ata_types.specs.declared.Port.{Port}
 use Rattle.ata_types.specs.declared.PortState.{PortState}
 use Rattle.ata_types.specs.declared.PortState.TheVariants.{Absent, Ready, Foreign, Unfit, Dead}
 use Rattle.ata_types.specs.declared.request.RequestId.{RequestId}
+use Rattle.ata_types.specs.declared.limits.TheConstants.{READINGS}
 use Rattle.hba_regs.specs.Bits.{bit}
 use Rattle.adapter.specs.Commands.{Meaning, is_queued}
 use Rattle.adapter.specs.Device.{Device}
@@ -52,7 +53,7 @@ pub record Runs (port : ℕ) (d : Device) : Type 0 where
   pub cr : (d.port port).cr ≡ true
   pub fre : (d.port port).fre ≡ true
   pub bases : (d.port port).bases ≡ programmed port
-  pub saw : (d.port port).notes.link_count ≡ 64
+  pub saw : (d.port port).notes.link_count ≡ READINGS
   pub recorded : HasFaults d.tape (d.port port) port
 
 -- the slot is free, or serves a client's request

@@ -10,9 +10,9 @@ use Rattle.adapter.specs.Device.{PortState, Device}
 use Rattle.adapter.specs.Kept.{Keeps}
 use Rattle.adapter.specs.Rules.{IsOn}
 use Rattle.adapter.specs.Steps.{Steps}
-use Rattle.adapter.specs.declared.tape.Entry.{Entry}
-use Rattle.agreement.specs.Driven.{Grows, IsDrivenBy, IsOf, LeavesPort}
-use Rattle.agreement.specs.Errors.{ChangesByDisks, ChangesByErrors, KeepsErrors, NoneComes, NoneFails, NoneFatal}
+use Rattle.agreement.specs.Laws.{TapeLaws}
+use Rattle.agreement.specs.Driven.{IsDrivenBy, IsOf, LeavesPort}
+use Rattle.agreement.specs.Errors.{ChangesByErrors, KeepsErrors, NoneComes, NoneFails, NoneFatal}
 use Rattle.agreement.specs.Facts.{RunsWell, Undisturbed}
 use Rattle.agreement.specs.Links.{LeavesControls, LeavesLink, PlugsNone, SparesRegister}
 use Rattle.agreement.specs.Vacant.{IsFreshIfShown, IsVacant}
@@ -28,26 +28,8 @@ pub record Laws : Type 0 where
   pub spares : (port q : Port) (r : PortReg) → q.0 ≢ port.0 → (access : Access) → IsOf port access
       → SparesRegister (Px q r) access
   pub on : (port : Port) (old new : Device) → IsOn old → IsDrivenBy (IsOf port) old new → IsOn new
-  pub grows_none : (d : Device) → Grows d d
-  pub grows_access : (access : Access) (old new : Device) → Does access old new → Grows old new
-  pub grows_more : (old mid new : Device) → Grows old mid → Grows mid new → Grows old new
-  pub disks : (port : Port) (access : Access) (old new : Device) → old.hr ≡ false → (old.port port.0).link_due ≡ false
-      → Does access old new → ChangesByDisks port.0 old new
-  pub disks_none : (port : ℕ) (d : Device) → ChangesByDisks port d d
-  pub disks_more : (port : ℕ) (old mid new : Device) → Grows old mid → Grows mid new → ChangesByDisks port old mid
-      → ChangesByDisks port mid new → ChangesByDisks port old new
-  pub undue : (port : Port) (access : Access) (old new : Device) → old.hr ≡ false → (old.port port.0).link_due ≡ false
-      → SparesRegister (Px port Sctl) access → Does access old new → (new.port port.0).link_due ≡ false
+  pub tape : TapeLaws
   pub errors : (port : Port) (access : Access) (old new : Device) → Does access old new → ChangesByErrors port.0 old new
-  pub fatal_parts : (port : ℕ) (old mid new : Device) (early late : List Entry) → mid.tape ≡ old.tape ++ early
-      → new.tape ≡ mid.tape ++ late → NoneFatal port old new → NoneFatal port old mid × NoneFatal port mid new
-  pub fails_parts : (port : ℕ) (old mid new : Device) (early late : List Entry) → mid.tape ≡ old.tape ++ early
-      → new.tape ≡ mid.tape ++ late → NoneFails port old new → NoneFails port old mid × NoneFails port mid new
-  pub comes_parts : (port : ℕ) (old mid new : Device) (early late : List Entry) → mid.tape ≡ old.tape ++ early
-      → new.tape ≡ mid.tape ++ late → NoneComes port old new → NoneComes port old mid × NoneComes port mid new
-  pub plugs_parts : (port : ℕ) (old mid new : Device) (early late : List Entry) → mid.tape ≡ old.tape ++ early
-      → new.tape ≡ mid.tape ++ late → PlugsNone port old new → PlugsNone port old mid × PlugsNone port mid new
-  pub plugs_come : (port : ℕ) (old new : Device) → PlugsNone port old new → NoneComes port old new
   pub link : (port : Port) (access : Access) (old new : Device) → old.hr ≡ false → SparesRegister (Px port Sctl) access
       → Does access old new → PlugsNone port.0 old new → LeavesLink (old.port port.0) (new.port port.0)
   pub falls_then : (early late : List Access) (start running : ℕ) (port : Port) → Falls start running port early
@@ -95,8 +77,6 @@ pub record Laws : Type 0 where
   pub start : (port : Port) (v : ℕ) (old new : Device) → (old.port port.0).st ≡ false → bit v 0 ≡ true
       → Writes (Px port Cmd) v old new → ((new.port port.0).cr ≡ true)
       × ((new.port port.0).notes.st_set_at ≡ length new.tape)
-  pub calm_parts : (port : ℕ) (old mid new : Device) (early late : List Entry) → mid.tape ≡ old.tape ++ early
-      → new.tape ≡ mid.tape ++ late → Undisturbed port old new → Undisturbed port old mid × Undisturbed port mid new
   pub vacant : (port : Port) (access : Access) (old new : Device) → NoneComes port.0 old new → Does access old new
       → IsVacant (old.port port.0) → IsVacant (new.port port.0)
   pub fresh : (port : Port) (access : Access) (old new : Device) → NoneComes port.0 old new → Does access old new

@@ -4,11 +4,10 @@ ghost use Rattle.driver_history.specs.Laws.{Laws};
 use adapter::laws::{accesses_compose, steps_keep};
 use agreement::disks::none_comes_in;
 use agreement::facts::{
-    adapter_stays, calm_composes, cleared_stays, coming_composes, controls_are_set, controls_stay,
-    errors_are_kept, errors_are_shown, errors_rise_by_disks, fatal_errors_compose, faults_compose,
-    link_stays, plugging_composes, plugging_is_found,
+    adapter_stays, cleared_stays, controls_are_set, controls_stay, errors_are_kept,
+    errors_are_shown, link_stays, plugging_is_found,
 };
-use agreement::stretches::{other_ports_are_left, tapes_grow};
+use agreement::stretches::{other_ports_are_left, tape_laws_hold};
 use error_recovery::laws::fatal_errors_show_unless_clear;
 use port_boot::laws::a_port_runs_on;
 use port_control::laws::what_is_told_of_engines_stays;
@@ -20,22 +19,16 @@ pub fn laws_hold()
     accesses_compose();
     steps_keep();
     adapter_stays();
-    calm_composes();
     cleared_stays();
-    coming_composes();
     controls_are_set();
     controls_stay();
     errors_are_kept();
     errors_are_shown();
-    errors_rise_by_disks();
-    fatal_errors_compose();
     fatal_errors_show_unless_clear();
-    faults_compose();
     link_stays();
-    plugging_composes();
     plugging_is_found();
     other_ports_are_left();
-    tapes_grow();
+    tape_laws_hold();
     none_comes_in();
     a_port_runs_on();
     what_is_told_of_engines_stays();

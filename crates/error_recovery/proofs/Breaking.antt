@@ -118,13 +118,13 @@ module _ (laws : Laws)
     kind = Controlling Commanding AnyUses (port_at 0)
 
     found : Commands (Reading (Px (port_at 0) Cmd) 0xc011 ∷ []) seen commanded
-    found = laws.reads kind (Px (port_at 0) Cmd) 0xc011 seen commanded refl finds
+    found = laws.stretches.reads kind (Px (port_at 0) Cmd) 0xc011 seen commanded refl finds
 
     cleared : Commands (Writing (Px (port_at 0) Cmd) 0xc010 ∷ []) commanded stopping
-    cleared = laws.writes kind (Px (port_at 0) Cmd) 0xc010 commanded stopping (refl, refl) may_stop (λ uses fits. leaves uses) stops
+    cleared = laws.stretches.writes kind (Px (port_at 0) Cmd) 0xc010 commanded stopping (refl, refl) may_stop (λ uses fits. leaves uses) stops
 
     fell : Commands (Reading (Px (port_at 0) Cmd) 0x4010 ∷ []) stopping stopped
-    fell = laws.reads kind (Px (port_at 0) Cmd) 0x4010 stopping stopped refl falls
+    fell = laws.stretches.reads kind (Px (port_at 0) Cmd) 0x4010 stopping stopped refl falls
 
     began : Commands stop_list seen stopping
     began = told_both laws (λ made. made ≡ Reading (Px (port_at 0) Cmd) 0xc011 ∷ []) (λ made. made ≡ Writing (Px (port_at 0) Cmd) 0xc010 ∷ []) (λ made. made ≡ stop_list)
@@ -152,7 +152,7 @@ module _ (laws : Laws)
     }
 
     agreed : IsAgreed first_uses first_read → IsAgreed first_uses seen
-    agreed a = laws.agreed kind (λ uses. uses) first_uses first_read seen tt (laws.reads kind (Px (port_at 0) Ssts) 3 first_read seen refl sees).followed a
+    agreed a = laws.stretches.agreed kind (λ uses. uses) first_uses first_read seen tt (laws.stretches.reads kind (Px (port_at 0) Ssts) 3 first_read seen refl sees).followed a
 
     pub may_be_given_up : ((uses : Uses) (port slot : ℕ) (u : Use) → put uses port slot u port slot ≡ u) → FirstIsKnown → MayBeGivenUp
     may_be_given_up here k = record {

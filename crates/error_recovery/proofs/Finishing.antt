@@ -109,7 +109,7 @@ module _ (laws : Laws) where
           enabled = went.enabled;
           silent = g.silent;
           others = λ q o apart own (uses, none, agreed).
-              laws.silent (Recovering AnyUses port) (λ uses. uses) uses q o old new tt (spares_other laws port q Ci apart) (spares_other laws port q Sact apart) own none g.told.followed agreed;
+              laws.stretches.silent (Recovering AnyUses port) (λ uses. uses) uses q o old new tt (spares_other laws port q Ci apart) (spares_other laws port q Sact apart) own none g.told.followed agreed;
         };
       }
 
@@ -278,7 +278,7 @@ module _ (laws : Laws) where
 
         module _ (new : Device) where
           page_free : IsFollowed (IsAsking port) (IsUnused port.0 0) start log → AgreesWith (λ uses. AllFree uses port.0) log
-          page_free a = let g = s.agreed in (g.0, g.1, laws.agreed (Asking port) (λ uses. uses) g.0 start log (g.1 0) a g.2)
+          page_free a = let g = s.agreed in (g.0, g.1, laws.stretches.agreed (Asking port) (λ uses. uses) g.0 start log (g.1 0) a g.2)
 
           -- no page of IDENTIFY DEVICE comes meanwhile
           stop_silent : (uses : Uses) → IsAgreed uses log → (uses port.0 0 ≡ Own Identify → ⊥) → IsFollowed (IsControl WritesCommand port) AnyUse log new →
@@ -293,7 +293,7 @@ module _ (laws : Laws) where
               AgreesWith (λ uses. uses port.0 0 ≡ Own Identify → ⊥) old → SendsNone port.0 Identify old new
           vain_silent a c =
               let g = s.agreed in
-              let agreed = laws.agreed (Asking port) (λ uses. put uses port.0 0 (Own ReadLog)) g.0 start log (g.1 0) a g.2 in
+              let agreed = laws.stretches.agreed (Asking port) (λ uses. put uses port.0 0 (Own ReadLog)) g.0 start log (g.1 0) a g.2 in
               stop_silent (put g.0 port.0 0 (Own ReadLog)) agreed (λ own. let e : Own ReadLog ≡ Own Identify = sym (laws.put_here g.0 port.0 0 ReadLog) ∙ own in absurd cc) c
 
           -- the page that came is the last one still
@@ -343,7 +343,7 @@ module _ (laws : Laws) where
           restarts token names has halts (inl (count, a)) =
               let t = told_both laws (WaitsInVain port) (Stops port) (WaitsInVain port) (λ early late w is. laws.vain_then port early late w) (Recovering PortUnused port) (Controlling Commanding AnyUses port)
               (λ uses. put uses port.0 0 (Own ReadLog)) (λ uses. uses) (commands_recover laws port) (λ uses free. tt) r.quiets.stopped log new (b_vain a) halts.told in
-              let o = laws.over (Recovering PortUnused port) port ReadLog 1 r.quiets.stopped new (inr (refl, refl)) (λ uses free. free 0)
+              let o = laws.stretches.over (Recovering PortUnused port) port ReadLog 1 r.quiets.stopped new (inr (refl, refl)) (λ uses free. free 0)
               (record { issued = halts.stopped.halted.ci 0; free = halts.stopped.halted.taken 0 }) t.followed in
               let b = o.followed in
               stopped token names b halts

@@ -64,7 +64,7 @@ module _ (laws : Laws) (port : Port) (outstanding : ℕ) (queued : Bool) (old ne
         enabled = went.enabled;
         silent = λ (uses, none, agreed). commands_silent laws port uses old new halts.told.followed agreed none;
         others = λ q o apart own (uses, none, agreed).
-            laws.silent (Recovering AnyUses port) (λ uses. uses) uses q o old new tt (spares_other laws port q Ci apart) (spares_other laws port q Sact apart) own none t.followed agreed;
+            laws.stretches.silent (Recovering AnyUses port) (λ uses. uses) uses q o old new tt (spares_other laws port q Ci apart) (spares_other laws port q Sact apart) own none t.followed agreed;
       };
     };
     only = All-append (IsControl WritesCommand port) t.followed.driven.accesses rest.followed.driven.accesses (only_commands laws (Stops port) AnyUses port old new halts.told)
@@ -77,7 +77,7 @@ module _ (laws : Laws) (port : Port) (outstanding : ℕ) (queued : Bool) (old ne
       t = told_commands laws (Stops port) AnyUses port old new halts.told
 
       rest : IsTold (λ made. made ≡ []) (IsRecovering port) (λ uses. AllFree uses port.0) new new
-      rest = laws.none (Recovering PortUnused port) new
+      rest = laws.stretches.none (Recovering PortUnused port) new
 
       went : Goes port old new
       went = goes_over laws port t.followed.driven.accesses old new on t.followed.driven.only t.followed.driven.all

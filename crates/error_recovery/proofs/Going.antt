@@ -3,6 +3,7 @@ use Rattle.std.proofs.Common.{ℕ, ◌≡◌, ◌≢◌, ◌≤◌, ◌<◌, ◌
 use Rattle.std.specs.Prelude.{All}
 use Rattle.std.proofs.lemmas.List.Elements.{All-head, All-tail}
 use Rattle.ata_types.specs.declared.Port.{Port}
+use Rattle.ata_types.specs.declared.memory.TheConstants.{DRIVER_BYTES}
 use Rattle.hba_regs.specs.declared.reg.PortReg.{PortReg}
 use Rattle.hba_regs.specs.declared.reg.PortReg.TheVariants.{Ci, Cmd, Ie, Is, Sact, Sctl, Serr}
 use Rattle.hba_regs.specs.declared.reg.Reg.TheVariants.{Ghc, Px}
@@ -47,12 +48,12 @@ not_active (inr (inr e)) = absurd (let k : Sact ≡ Is = e in cc)
 -- ---- what is loaded and stored
 
 -- the page is in the port's scratch frame
-pub loads_inside : (port : Port) (at : ℕ) (bytes : List ℕ) → port.0 < 4 → IsRecovering port (Loading at bytes) → at + length bytes ≤ 163840
+pub loads_inside : (port : Port) (at : ℕ) (bytes : List ℕ) → port.0 < 4 → IsRecovering port (Loading at bytes) → at + length bytes ≤ DRIVER_BYTES
 loads_inside port at bytes small (inl is) = absurd is
 loads_inside port at bytes small (inr (place, size)) = omega (arith, small, place, size)
 
 -- header and table of slot 0 are in its list and its tables
-pub stores_inside : (port : Port) (at : ℕ) (bytes : List ℕ) → port.0 < 4 → IsRecovering port (Storing at bytes) → at + length bytes ≤ 163840
+pub stores_inside : (port : Port) (at : ℕ) (bytes : List ℕ) → port.0 < 4 → IsRecovering port (Storing at bytes) → at + length bytes ≤ DRIVER_BYTES
 stores_inside port at bytes small (inl is) = absurd is
 stores_inside port at bytes small (inr (inl (place, size, zero_count))) = omega (arith, small, place, size)
 stores_inside port at bytes small (inr (inr (from, to))) = omega (arith, small, to)
@@ -108,32 +109,32 @@ module _ (laws : Laws) where
   on_after port access old new on is does = laws.access_on access old new on (λ v e. absurd (subst (SparesRegister Ghc) e (laws.of_spares_ghc port access is) refl)) does
 
   pub plugs_in_parts : (port : ℕ) (old mid new : Device) → Grows old mid → Grows mid new → PlugsNone port old new → PlugsNone port old mid × PlugsNone port mid new
-  plugs_in_parts port old mid new early late none = laws.plugs_parts port old mid new early.0 late.0 early.1 late.1 none
+  plugs_in_parts port old mid new early late none = laws.tape.plugs_parts port old mid new early.0 late.0 early.1 late.1 none
 
   pub fatal_in_parts : (port : ℕ) (old mid new : Device) → Grows old mid → Grows mid new → NoneFatal port old new → NoneFatal port old mid × NoneFatal port mid new
-  fatal_in_parts port old mid new early late none = laws.fatal_parts port old mid new early.0 late.0 early.1 late.1 none
+  fatal_in_parts port old mid new early late none = laws.tape.fatal_parts port old mid new early.0 late.0 early.1 late.1 none
 
   goes_none : (port : Port) (d : Device) → IsOn d → Goes port d d
   goes_none port d on = record {
     on = on;
-    grows = laws.grows_none d;
+    grows = laws.tape.grows_none d;
     det = refl;
     written = refl;
     enabled = refl;
     undue = λ h. h;
-    changes = λ h. laws.change_none port.0 d;
+    changes = λ h. laws.tape.change_none port.0 d;
     linked = λ none h. h;
   }
 
   pub goes_more : (port : Port) (a b c : Device) → Goes port a b → Goes port b c → Goes port a c
   goes_more port a b c x y = record {
     on = y.on;
-    grows = laws.grows_more a b c x.grows y.grows;
+    grows = laws.tape.grows_more a b c x.grows y.grows;
     det = y.det ∙ x.det;
     written = y.written ∙ x.written;
     enabled = y.enabled ∙ x.enabled;
     undue = λ h. y.undue (x.undue h);
-    changes = λ h. laws.change_more port.0 a b c x.grows y.grows (x.changes h) (y.changes (x.undue h));
+    changes = λ h. laws.tape.change_more port.0 a b c x.grows y.grows (x.changes h) (y.changes (x.undue h));
     linked = λ none h. let n = plugs_in_parts port.0 a b c x.grows y.grows none in y.linked n.1 (x.linked n.0 h);
   }
 
@@ -144,12 +145,12 @@ module _ (laws : Laws) where
       let c = laws.access_controls port access old new on.no_reset does in
       record {
         on = on_after port access old new on (recovering_is_of port access is) does;
-        grows = laws.access_grows access old new does;
+        grows = laws.tape.access_grows access old new does;
         det = (c.control link).0;
         written = (c.control link).1;
         enabled = c.interrupts enabled;
-        undue = λ h. laws.access_undue port access old new on.no_reset h link does;
-        changes = λ h. laws.access_change port access old new on.no_reset h does;
+        undue = λ h. laws.tape.access_undue port access old new on.no_reset h link does;
+        changes = λ h. laws.tape.access_change port access old new on.no_reset h does;
         linked = λ none h. laws.access_linked port access old new on.no_reset link none does h;
       }
 
@@ -163,21 +164,21 @@ module _ (laws : Laws) where
 
   asks_none : (port : Port) (d : Device) → Asks port d d
   asks_none port d = record {
-    grows = laws.grows_none d;
+    grows = laws.tape.grows_none d;
     raises = λ none h. h;
-    fault = λ h. (h, laws.fails_none port.0 d);
-    fatal = λ h. (h, laws.fatal_none port.0 d);
-    disk = λ h. (h, laws.plugs_none port.0 d);
+    fault = λ h. (h, laws.tape.fails_none port.0 d);
+    fatal = λ h. (h, laws.tape.fatal_none port.0 d);
+    disk = λ h. (h, laws.tape.plugs_none port.0 d);
     runs = λ none calm h. h;
   }
 
   asks_more : (port : Port) (a b c : Device) → Asks port a b → Asks port b c → Asks port a c
   asks_more port a b c x y = record {
-    grows = laws.grows_more a b c x.grows y.grows;
+    grows = laws.tape.grows_more a b c x.grows y.grows;
     raises = λ none h. let n = fatal_in_parts port.0 a b c x.grows y.grows none in y.raises n.1 (x.raises n.0 h);
-    fault = λ h. let late = y.fault h in let early = x.fault late.0 in (early.0, laws.fails_more port.0 a b c early.1 late.1);
-    fatal = λ h. let late = y.fatal h in let early = x.fatal late.0 in (early.0, laws.fatal_more port.0 a b c early.1 late.1);
-    disk = λ h. let late = y.disk h in let early = x.disk late.0 in (early.0, laws.plugs_more port.0 a b c early.1 late.1);
+    fault = λ h. let late = y.fault h in let early = x.fault late.0 in (early.0, laws.tape.fails_more port.0 a b c early.1 late.1);
+    fatal = λ h. let late = y.fatal h in let early = x.fatal late.0 in (early.0, laws.tape.fatal_more port.0 a b c early.1 late.1);
+    disk = λ h. let late = y.disk h in let early = x.disk late.0 in (early.0, laws.tape.plugs_more port.0 a b c early.1 late.1);
     runs = λ none calm h.
         let n = plugs_in_parts port.0 a b c x.grows y.grows none in
         let m = fatal_in_parts port.0 a b c x.grows y.grows calm in
@@ -192,7 +193,7 @@ module _ (laws : Laws) where
       let command = asking_spares port Cmd (λ e. absurd (let k : Cmd ≡ Ci = e in cc)) access is in
       let starts : ClearsNoStart port access = λ v e. absurd (subst (SparesRegister (Px port Cmd)) e command refl) in
       record {
-        grows = laws.access_grows access old new does;
+        grows = laws.tape.access_grows access old new does;
         raises = λ none h place from to. (laws.access_raises port access old new does).fatal none place from to (h place from to);
         fault = λ h. laws.access_shows_fault port access old new on.no_reset causes does h;
         fatal = λ h. laws.access_shows_fatal port access old new on.no_reset causes does h;

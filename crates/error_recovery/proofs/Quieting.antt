@@ -42,7 +42,7 @@ module _ (laws : Laws) where
   -- PxCMD alone is written, and no page comes by a command that isn't there
   pub commands_silent : (port : Port) (uses : Uses) (old new : Device) → IsFollowed (IsControl WritesCommand port) AnyUse old new → IsAgreed uses old → (uses port.0 0 ≡ Own Identify → ⊥) → SendsNone port.0 Identify old new
   commands_silent port uses old new a agreed none =
-      laws.silent (Controlling Commanding AnyUses port) (λ uses. uses) uses port Identify old new tt (commanding_issues port) (commanding_arms port) refl none a agreed
+      laws.stretches.silent (Controlling Commanding AnyUses port) (λ uses. uses) uses port Identify old new tt (commanding_issues port) (commanding_arms port) refl none a agreed
 
   clearing_issues : (port : Port) → NoneWrites (IsControl IsClearing port) (Px port Ci)
   clearing_issues port = laws.control_spares Clearing port Ci no_issue
@@ -57,7 +57,7 @@ module _ (laws : Laws) where
 
   clears_silent : (port : Port) (uses : Uses) (old new : Device) → IsFollowed (IsControl IsClearing port) AnyUse old new → IsAgreed uses old → (uses port.0 0 ≡ Own Identify → ⊥) → SendsNone port.0 Identify old new
   clears_silent port uses old new a agreed none =
-      laws.silent (Controlling Clearing AnyUses port) (λ uses. uses) uses port Identify old new tt
+      laws.stretches.silent (Controlling Clearing AnyUses port) (λ uses. uses) uses port Identify old new tt
       (clearing_issues port) (laws.control_spares Clearing port Sact no_arm) refl none a agreed
     where
       no_arm : IsClearing Sact → ⊥
@@ -77,12 +77,12 @@ module _ (laws : Laws) where
   pub starting_silent : (port : Port) (old new : Device) → IsFollowed (IsControl WritesCommand port) (λ uses. AllFree uses port.0) old new → AgreesWith (λ uses. AllFree uses port.0) old →
       SendsNone port.0 Identify old new
   starting_silent port old new a (uses, free, agreed) =
-      laws.silent (Controlling Commanding PortUnused port) (λ uses. uses) uses port Identify old new free (commanding_issues port) (commanding_arms port) refl
+      laws.stretches.silent (Controlling Commanding PortUnused port) (λ uses. uses) uses port Identify old new free (commanding_issues port) (commanding_arms port) refl
       (λ own. let e : Free ≡ Own Identify = sym (free 0) ∙ own in absurd cc) a agreed
 
   module _ (port : Port) (v : ℕ) (old at : Device) (room : HasRoom port.0 old) (may : MayRecover port.0 old) (agreed : AgreesWith AnyUse old) (read : Reads (Px port Tfd) v old at) where
     reading : IsTold (λ made. made ≡ Reading (Px port Tfd) v ∷ []) (IsControl WritesCommand port) AnyUse old at
-    reading = laws.reads (Controlling Commanding AnyUses port) (Px port Tfd) v old at refl read
+    reading = laws.stretches.reads (Controlling Commanding AnyUses port) (Px port Tfd) v old at refl read
 
     wide : IsTold (λ made. made ≡ Reading (Px port Tfd) v ∷ []) (IsRecovering port) AnyUse old at
     wide = told_commands laws (λ made. made ≡ Reading (Px port Tfd) v ∷ []) AnyUses port old at reading
@@ -94,7 +94,7 @@ module _ (laws : Laws) where
     read_room = room_after laws (IsRecovering port) port.0 old at wide.followed.driven goes.on room
 
     pub read_agreed : AgreesWith AnyUse at
-    read_agreed = (agreed.0, tt, laws.agreed (Recovering AnyUses port) (λ uses. uses) agreed.0 old at tt wide.followed agreed.2)
+    read_agreed = (agreed.0, tt, laws.stretches.agreed (Recovering AnyUses port) (λ uses. uses) agreed.0 old at tt wide.followed agreed.2)
 
     -- what the reading left of the notes on the link
     same_link : ((at.port port.0).notes.last_ssts ≡ (old.port port.0).notes.last_ssts) × ((at.port port.0).notes.link_count ≡ (old.port port.0).notes.link_count)
@@ -135,7 +135,7 @@ module _ (laws : Laws) where
       stopped_room = room_after laws (IsRecovering port) port.0 old mid stops.followed.driven goes_mid.on room
 
       stopped_uses : IsAgreed agreed.0 mid
-      stopped_uses = laws.agreed (Recovering AnyUses port) (λ uses. uses) agreed.0 old mid tt stops.followed agreed.2
+      stopped_uses = laws.stretches.agreed (Recovering AnyUses port) (λ uses. uses) agreed.0 old mid tt stops.followed agreed.2
 
       pub stopped_agreed : AgreesWith AnyUse mid
       stopped_agreed = (agreed.0, tt, stopped_uses)
@@ -166,7 +166,7 @@ module _ (laws : Laws) where
         free : AgreesWith (λ uses. (slot : ℕ) → uses port.0 slot ≡ Free) new
         free =
             let g = agreed_free laws agreed.0 port.0 mid halts.stopped.halted stopped_uses in
-            (g.0, g.1, laws.agreed (Recovering AnyUses port) (λ uses. uses) g.0 mid new tt forgets.followed g.2)
+            (g.0, g.1, laws.stretches.agreed (Recovering AnyUses port) (λ uses. uses) g.0 mid new tt forgets.followed g.2)
 
         pub quiets : Quiets port v after old new
         quiets = record {
@@ -183,12 +183,12 @@ module _ (laws : Laws) where
           calm = f.calm;
           clear = record {
             serr_n = λ none. f.clear.serr_n (plugs_in_parts laws port.0 old mid new goes_mid.grows goes_new.grows none).1;
-            serr_x = λ none. f.clear.serr_x (laws.comes_parts port.0 old mid new goes_mid.grows.0 goes_new.grows.0 goes_mid.grows.1 goes_new.grows.1 none).1;
+            serr_x = λ none. f.clear.serr_x (laws.tape.comes_parts port.0 old mid new goes_mid.grows.0 goes_new.grows.0 goes_mid.grows.1 goes_new.grows.1 none).1;
           };
           quiet = f.quiet;
           agreed = free;
           plain = λ plain. plain_over port agreed.0 mid new forgets.followed stopped_uses (plain_over port agreed.0 old mid stops.followed agreed.2 plain);
           silent = λ (uses, none, here).
               laws.silent_more port.0 Identify old mid new (commands_silent port uses old mid stopping.followed here none)
-              (clears_silent port uses mid new followed (laws.agreed (Recovering AnyUses port) (λ uses. uses) uses old mid tt stops.followed here) none);
+              (clears_silent port uses mid new followed (laws.stretches.agreed (Recovering AnyUses port) (λ uses. uses) uses old mid tt stops.followed here) none);
         }

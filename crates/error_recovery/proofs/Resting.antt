@@ -63,8 +63,8 @@ module _ (laws : Laws) (port : Port) (outstanding : ℕ) (queued : Bool) (before
       let set = ((laws.access_controls port (Reading (Px port Tfd) before) old at off read).command tt).2 in
       let F : ℕ → Type 0 = λ n. Contains (drop n at.tape) (entry.Fault s.0.fault) in
       let E : List Entry → Type 0 = λ es. Contains es (entry.Fault s.0.fault) in
-      let followed = (laws.reads (Recovering AnyUses port) (Px port Tfd) before old at (inl refl) read).followed in
-      let a = laws.agreed (Recovering AnyUses port) (λ uses. uses) r.agreed.0 old at tt followed r.agreed.2 in
+      let followed = (laws.stretches.reads (Recovering AnyUses port) (Px port Tfd) before old at (inl refl) read).followed in
+      let a = laws.stretches.agreed (Recovering AnyUses port) (λ uses. uses) r.agreed.0 old at tt followed r.agreed.2 in
       record {
         fault = s.0.fault;
         has_failed = record {

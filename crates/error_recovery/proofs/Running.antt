@@ -138,7 +138,7 @@ module _ (laws : Laws) (port : Port) (outstanding : ℕ) (queued : Bool) (before
           laws.well_of (new.port port.0) (s.well up n.1)
           (record {
             serr_n = s.changes.serr_n n.1 (r.quiets.clear.serr_n n.0);
-            serr_x = s.changes.serr_x (laws.plugs_come port.0 d new n.1) (r.quiets.clear.serr_x (laws.plugs_come port.0 old d n.0));
+            serr_x = s.changes.serr_x (laws.tape.plugs_come port.0 d new n.1) (r.quiets.clear.serr_x (laws.tape.plugs_come port.0 old d n.0));
             quiet = λ place from to. s.calm place (r.quiets.calm place (omega (arith, to)));
           });
     }
@@ -175,23 +175,23 @@ module _ (laws : Laws) (port : Port) (outstanding : ℕ) (queued : Bool) (before
     runs_queued is = record {
       runs = runs;
       recorded = recorded;
-      since = since_set port old start new (laws.grows_more old d start first.grows then.grows) (ap (λ (n : Notes). n.st_set_at) l.notes ∙ s.set);
+      since = since_set port old start new (laws.tape.grows_more old d start first.grows then.grows) (ap (λ (n : Notes). n.st_set_at) l.notes ∙ s.set);
       count = ap (λ (n : Notes). n.link_count) l.notes ∙ (ap (λ (n : Notes). n.link_count) s.same.1 ∙ r.quiets.count);
       ended = λ _. running;
       plain = λ off. absurd (true≢false (sym is ∙ off));
       unhalted = λ plain log. let e : LogOnly ≡ NotHalted = sym log ∙ running in absurd cc;
       shows = shows_trouble port old start new (ap (λ (n : Notes). n.st_set_at) l.notes ∙ s.set) a;
       well = λ none calm linked plain.
-          let n = plugs_in_parts laws port.0 old d new first.grows (laws.grows_more d start new then.grows later.grows) none in
+          let n = plugs_in_parts laws port.0 old d new first.grows (laws.tape.grows_more d start new then.grows later.grows) none in
           let m = plugs_in_parts laws port.0 d start new then.grows later.grows n.1 in
           let unbroken : NoneFatal port.0 start new = record {
             gained = later.grows.0;
             tape = later.grows.1;
-            none = none_since (IsFatalOf port.0) port.0 old start new (laws.grows_more old d start first.grows then.grows) (ap (λ (n : Notes). n.st_set_at) l.notes ∙ s.set) calm [] later.grows.0 later.grows.1;
+            none = none_since (IsFatalOf port.0) port.0 old start new (laws.tape.grows_more old d start first.grows then.grows) (ap (λ (n : Notes). n.st_set_at) l.notes ∙ s.set) calm [] later.grows.0 later.grows.1;
           } in
           let c = later.changes (then.undue undue) in
           laws.runs_well (new.port port.0) (a.runs m.1 unbroken (s.linked (first.linked n.0 linked) m.0)) running unflagged
           (c.serr_n m.1 (s.changes.serr_n m.0 (r.quiets.clear.serr_n n.0)))
-          (c.serr_x (laws.plugs_come port.0 start new m.1) (s.changes.serr_x (laws.plugs_come port.0 d start m.0) (r.quiets.clear.serr_x (laws.plugs_come port.0 old d n.0))))
+          (c.serr_x (laws.tape.plugs_come port.0 start new m.1) (s.changes.serr_x (laws.tape.plugs_come port.0 d start m.0) (r.quiets.clear.serr_x (laws.tape.plugs_come port.0 old d n.0))))
           (a.raises unbroken (λ place from to. s.calm place (r.quiets.calm place (omega (arith, to)))));
     }

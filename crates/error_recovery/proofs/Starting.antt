@@ -51,5 +51,5 @@ module _ (laws : Laws) where
         recorded = s.recorded s.runs.st;
         calm = s.calm;
         changes = s.changes;
-        agreed = (a.0, a.1, laws.agreed (Controlling Commanding PortUnused port) (λ uses. uses) a.0 old new a.1 s.starts a.2);
+        agreed = (a.0, a.1, laws.stretches.agreed (Controlling Commanding PortUnused port) (λ uses. uses) a.0 old new a.1 s.starts a.2);
       }

@@ -31,7 +31,7 @@ module _ (laws : Laws) where
   pub told_wider : (Tells : List Access → Type 0) (kind more : Stretch) (next : Uses → Uses) (old new : Device) → ((access : Access) → may_of kind access → may_of more access) →
       ((uses : Uses) → fits_of more uses → fits_of kind uses) → IsToldTo Tells (may_of kind) (fits_of kind) next old new → IsToldTo Tells (may_of more) (fits_of more) next old new
   told_wider Tells kind more next old new wider fits a =
-      let f = laws.wider kind more next wider fits old new a.followed in
+      let f = laws.stretches.wider kind more next wider fits old new a.followed in
       record { followed = f.followed; tells = subst Tells (sym f.tells) a.tells }
 
   -- of two, one after another
@@ -40,7 +40,7 @@ module _ (laws : Laws) where
       (old mid new : Device) → IsToldTo First (may_of kind) (fits_of kind) first old mid → IsToldTo Second (may_of more) (fits_of more) second mid new →
       IsToldTo Tells (may_of kind) (fits_of kind) (λ uses. second (first uses)) old new
   told_both First Second Tells join kind more first second wider on old mid new a b =
-      let f = laws.both kind more first second wider on old mid new a.followed b.followed in
+      let f = laws.stretches.both kind more first second wider on old mid new a.followed b.followed in
       record { followed = f.followed; tells = subst Tells (sym f.tells) (join a.followed.driven.accesses b.followed.driven.accesses a.tells b.tells) }
 
   -- ---- of the kind of recovery
@@ -67,7 +67,7 @@ module _ (laws : Laws) where
       All (IsControl WritesCommand port) (told_commands Tells fitting port old new a).followed.driven.accesses
   unfolding told_commands told_wider
   only_commands Tells fitting port old new a =
-      let f = laws.wider (Controlling Commanding fitting port) (Recovering fitting port) (λ uses. uses) (commands_recover port) (λ uses fits. fits) old new a.followed in
+      let f = laws.stretches.wider (Controlling Commanding fitting port) (Recovering fitting port) (λ uses. uses) (commands_recover port) (λ uses fits. fits) old new a.followed in
       subst (All (IsControl WritesCommand port)) (sym f.tells) a.followed.driven.only
 
   pub followed_commands : (fitting : Fitting) (port : Port) (old new : Device) → IsFollowed (IsControl WritesCommand port) (uses_of fitting port) old new → IsFollowed (IsRecovering port) (uses_of fitting port) old new

@@ -45,7 +45,7 @@ module _ (laws : Laws) (port : Port) (outstanding : ℕ) (queued : Bool) (before
 
   -- it was started
   pub started : (new : Device) → GoesOn port d new → IsFollowed (IsRecovering port) (λ uses. AllFree uses port.0) r.quiets.stopped new
-  started new s = (laws.both (Recovering PortUnused port) (Recovering PortUnused port) (λ uses. uses) (λ uses. uses) (λ access is. is) (λ uses free. free) r.quiets.stopped d new quieted
+  started new s = (laws.stretches.both (Recovering PortUnused port) (Recovering PortUnused port) (λ uses. uses) (λ uses. uses) (λ access is. is) (λ uses free. free) r.quiets.stopped d new quieted
       (followed_commands laws PortUnused port d new s.starts)).followed
 
   -- and asked for the log
@@ -82,11 +82,11 @@ module _ (laws : Laws) (port : Port) (outstanding : ℕ) (queued : Bool) (before
     -- another port's disk sends no page for a command that its slot 0 hasn't
     pub silent_others : (q : Port) (o : Operation) → q.0 ≢ port.0 → op_of o ≡ None → AgreesWith (λ uses. uses q.0 0 ≡ Own o → ⊥) old → SendsNone q.0 o old new
     silent_others q o apart own (uses, none, agreed) =
-        let stopped = laws.agreed (Recovering AnyUses port) (λ uses. uses) uses old r.quiets.stopped tt r.quiets.stops.followed agreed in
+        let stopped = laws.stretches.agreed (Recovering AnyUses port) (λ uses. uses) uses old r.quiets.stopped tt r.quiets.stops.followed agreed in
         let k : Known = known uses stopped.parked r.quiets.stopped in
         let left : (parking_all k port.0).uses q.0 ≡ uses q.0 = (laws.given_up_others k port.0 q.0 apart).0 in
         laws.silent_more q.0 o old r.quiets.stopped new
-        (laws.silent (Recovering AnyUses port) (λ uses. uses) uses q o old r.quiets.stopped tt (spares_other laws port q Ci apart) (spares_other laws port q Sact apart) own none r.quiets.stops.followed agreed)
-        (laws.silent (Recovering PortUnused port) next (parking_all k port.0).uses q o r.quiets.stopped new (laws.given_up_free k port.0) (spares_other laws port q Ci apart) (spares_other laws port q Sact apart) own
+        (laws.stretches.silent (Recovering AnyUses port) (λ uses. uses) uses q o old r.quiets.stopped tt (spares_other laws port q Ci apart) (spares_other laws port q Sact apart) own none r.quiets.stops.followed agreed)
+        (laws.stretches.silent (Recovering PortUnused port) next (parking_all k port.0).uses q o r.quiets.stopped new (laws.given_up_free k port.0) (spares_other laws port q Ci apart) (spares_other laws port q Sact apart) own
         (λ is. none (ap (λ (slots : ℕ → Use). slots 0) (sym left) ∙ is)) b
         (record { machine = stopped.machine; parked = (parking_all k port.0).parked; reached = stopped.reached; knows = laws.given_up_halted k stopped.machine port.0 stopped.knows r.quiets.stands }))

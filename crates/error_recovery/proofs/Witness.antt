@@ -41,13 +41,13 @@ record RunsPlaced (d : Device) : Type 0 where
 module _ (laws : Laws) (old : Device) (slot : ℕ) (halt : Halt) (runs : RunsPlaced old) (f : FaultIsSeen old slot halt) where
   seen_room : HasRoom 0 f.seen
   seen_room =
-      let a = (laws.reads (Recovering AnyUses (port_at 0)) (Px (port_at 0) Ssts) 3 old f.seen (inl refl) f.sees).followed.driven in
+      let a = (laws.stretches.reads (Recovering AnyUses (port_at 0)) (Px (port_at 0) Ssts) 3 old f.seen (inl refl) f.sees).followed.driven in
       room_after laws (IsRecovering (port_at 0)) 0 old f.seen a (goes_over laws (port_at 0) a.accesses old f.seen runs.room.on a.only a.all).on runs.room
 
   seen_agreed : (uses : Uses) → IsAgreed uses old → IsAgreed uses f.seen
   seen_agreed uses agreed =
-      laws.agreed (Recovering AnyUses (port_at 0)) (λ uses. uses) uses old f.seen tt
-      (laws.reads (Recovering AnyUses (port_at 0)) (Px (port_at 0) Ssts) 3 old f.seen (inl refl) f.sees).followed agreed
+      laws.stretches.agreed (Recovering AnyUses (port_at 0)) (λ uses. uses) uses old f.seen tt
+      (laws.stretches.reads (Recovering AnyUses (port_at 0)) (Px (port_at 0) Ssts) 3 old f.seen (inl refl) f.sees).followed agreed
 
   seen_may : IsFaulted halt → MayRecover 0 f.seen
   seen_may faulted =

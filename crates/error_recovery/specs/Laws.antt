@@ -1,31 +1,32 @@
 -- What laws of the crates below say of accesses, with the kinds of accesses of this crate: its proofs rest on them.
-use Rattle.std.specs.Prelude.{ℕ, None, true, false, ◌≡◌, ◌≢◌, ◌/◌, ◌%◌, ◌≤◌, ◌++◌, List, [], ◌∷◌, drop}
+use Rattle.std.specs.Prelude.{ℕ, true, false, ◌≡◌, ◌≢◌, ◌/◌, ◌%◌, ◌≤◌, ◌++◌, List, drop}
 use Rattle.ata_types.specs.declared.Port.{Port}
 use Rattle.hba_regs.specs.Bits.{bit}
 use Rattle.hba_regs.specs.declared.reg.PortReg.{PortReg}
 use Rattle.hba_regs.specs.declared.reg.PortReg.TheVariants.{Ci, Is, Sact, Sctl, Serr, Tfd}
 use Rattle.hba_regs.specs.declared.reg.Reg.{Reg}
 use Rattle.hba_regs.specs.declared.reg.Reg.TheVariants.{Ghc, Px}
-use Rattle.adapter.specs.Access.{Access, Does, Reads, Writes}
-use Rattle.adapter.specs.Access.Access.{Reading, Writing}
+use Rattle.adapter.specs.Access.{Access, Does, Reads}
+use Rattle.adapter.specs.Access.Access.{Writing}
 use Rattle.adapter.specs.Device.{Device, PortState}
 use Rattle.adapter.specs.Device.Halt.{NotHalted}
-use Rattle.adapter.specs.Rules.{IsOn, MayWrite, Stays}
+use Rattle.adapter.specs.Rules.{IsOn}
 use Rattle.adapter.specs.Seen.{SeenAt}
 use Rattle.adapter.specs.declared.command.Operation.{Operation}
 use Rattle.adapter.specs.declared.tape.Entry.{Entry}
 use Rattle.block_machine.specs.State.{Machine}
+use Rattle.agreement.specs.Laws.{StretchLaws, TapeLaws}
 use Rattle.agreement.specs.Acts.{ByDeviceAlone, Performs}
 use Rattle.agreement.specs.Agrees.{Agrees}
-use Rattle.agreement.specs.Driven.{AnyAccess, AnyUse, Grows, HasNoCommand, IsAgreed, IsControl, IsDrivenBy, IsFollowed, IsFollowedTo, IsOf, IsTold, IsToldTo, NoneWrites, SendsNone}
-use Rattle.agreement.specs.Driver.{AllFree, Known, Knows, LeavesUses}
-use Rattle.agreement.specs.Errors.{ChangesByDisks, ChangesByErrors, NoneComes, NoneFails, NoneFatal}
+use Rattle.agreement.specs.Driven.{AnyAccess, AnyUse, HasNoCommand, IsAgreed, IsControl, IsDrivenBy, IsFollowed, IsFollowedTo, IsOf, NoneWrites, SendsNone}
+use Rattle.agreement.specs.Driver.{AllFree, Known, Knows}
+use Rattle.agreement.specs.Errors.{ChangesByErrors, NoneFails, NoneFatal}
 use Rattle.agreement.specs.Facts.{IsFaulted, IsHalted, IsRecorded, RunsWell, ShowsFault, ShowsNoTrouble}
 use Rattle.agreement.specs.GivingUp.{given_up, parking_all}
 use Rattle.agreement.specs.Links.{LeavesControls, PlugsNone, SameAdapter, SparesRegister}
 use Rattle.agreement.specs.Noted.{LeavesNotes}
 use Rattle.agreement.specs.Recovering.{IsLinked, RunsLinked, WorksPlainly}
-use Rattle.agreement.specs.Slots.{Free, IsOver, Own, Uses, op_of, put}
+use Rattle.agreement.specs.Slots.{Free, IsOver, Own, Uses, put}
 use Rattle.agreement.specs.Started.{ClearsNoStart, IsStarted, IsUp}
 use Rattle.command_table.specs.Written.{IsUnused}
 use Rattle.disk_page.specs.Asking.{IsAsking, LeavesRunning, WaitsInVain}
@@ -81,9 +82,7 @@ pub record Laws : Type 0 where
       → ((v : ℕ) → access ≡ Writing Ghc v → (bit v 31 ≡ true) × (bit v 0 ≡ false)) → Does access old new → IsOn new
   pub seen : (port : Port) (r : PortReg) (v : ℕ) (old new : Device) → Reads (Px port r) v old new → old.hr ≡ false
       → SeenAt port.0 r v old new
-  pub access_grows : (access : Access) (old new : Device) → Does access old new → Grows old new
-  pub grows_none : (d : Device) → Grows d d
-  pub grows_more : (old mid new : Device) → Grows old mid → Grows mid new → Grows old new
+  pub tape : TapeLaws
   pub access_controls : (port : Port) (access : Access) (old new : Device) → old.hr ≡ false → Does access old new
       → LeavesControls access port (old.port port.0) (new.port port.0)
   pub access_notes : (port : Port) (access : Access) (old new : Device) → Does access old new
@@ -91,14 +90,6 @@ pub record Laws : Type 0 where
   pub access_recorded : (port : ℕ) (r : Reg) (v : ℕ) (old new : Device) → Reads r v old new
       → IsRecorded old.tape (old.port port) port → IsRecorded new.tape (new.port port) port
   -- errors
-  pub access_change : (port : Port) (access : Access) (old new : Device) → old.hr ≡ false
-      → (old.port port.0).link_due ≡ false → Does access old new → ChangesByDisks port.0 old new
-  pub access_undue : (port : Port) (access : Access) (old new : Device) → old.hr ≡ false
-      → (old.port port.0).link_due ≡ false → SparesRegister (Px port Sctl) access → Does access old new
-      → (new.port port.0).link_due ≡ false
-  pub change_none : (port : ℕ) (d : Device) → ChangesByDisks port d d
-  pub change_more : (port : ℕ) (old mid new : Device) → Grows old mid → Grows mid new → ChangesByDisks port old mid
-      → ChangesByDisks port mid new → ChangesByDisks port old new
   pub access_raises : (port : Port) (access : Access) (old new : Device) → Does access old new
       → ChangesByErrors port.0 old new
   pub access_shows_fault : (port : Port) (access : Access) (old new : Device) → old.hr ≡ false
@@ -122,23 +113,6 @@ pub record Laws : Type 0 where
   pub well_of : (p : PortState) → IsStarted p → ShowsNoTrouble p → RunsWell p
   pub runs_well : (p : PortState) → RunsLinked p → p.halt ≡ NotHalted → p.is 30 ≡ false → p.serr_n ≡ false
       → p.serr_x ≡ false → ((place : ℕ) → 27 ≤ place → place ≤ 29 → p.is place ≡ false) → RunsWell p
-  -- what the tape tells
-  pub comes_parts : (port : ℕ) (old mid new : Device) (early late : List Entry) → mid.tape ≡ old.tape ++ early
-      → new.tape ≡ mid.tape ++ late → NoneComes port old new → NoneComes port old mid × NoneComes port mid new
-  pub plugs_come : (port : ℕ) (old new : Device) → PlugsNone port old new → NoneComes port old new
-  pub plugs_none : (port : ℕ) (d : Device) → PlugsNone port d d
-  pub plugs_more : (port : ℕ) (old mid new : Device) → PlugsNone port old mid → PlugsNone port mid new
-      → PlugsNone port old new
-  pub plugs_parts : (port : ℕ) (old mid new : Device) (early late : List Entry) → mid.tape ≡ old.tape ++ early
-      → new.tape ≡ mid.tape ++ late → PlugsNone port old new → PlugsNone port old mid × PlugsNone port mid new
-  pub fatal_none : (port : ℕ) (d : Device) → NoneFatal port d d
-  pub fatal_more : (port : ℕ) (old mid new : Device) → NoneFatal port old mid → NoneFatal port mid new
-      → NoneFatal port old new
-  pub fatal_parts : (port : ℕ) (old mid new : Device) (early late : List Entry) → mid.tape ≡ old.tape ++ early
-      → new.tape ≡ mid.tape ++ late → NoneFatal port old new → NoneFatal port old mid × NoneFatal port mid new
-  pub fails_none : (port : ℕ) (d : Device) → NoneFails port d d
-  pub fails_more : (port : ℕ) (old mid new : Device) → NoneFails port old mid → NoneFails port mid new
-      → NoneFails port old new
   -- the fault
   pub fault_shown : (port : Port) (v : ℕ) (old new : Device) → old.hr ≡ false → (old.port port.0).st ≡ true
       → IsRecorded old.tape (old.port port.0) port.0 → IsFaulted (old.port port.0).halt → Reads (Px port Tfd) v old new
@@ -184,34 +158,7 @@ pub record Laws : Type 0 where
   pub control_wider : (set more : RegisterSet) (port : Port)
       → ((r : PortReg) → registers_of set r → registers_of more r) → (access : Access)
       → IsControl (registers_of set) port access → IsControl (registers_of more) port access
-  pub none : (kind : Stretch) (d : Device) → IsTold (λ made. made ≡ []) (may_of kind) (fits_of kind) d d
-  pub reads : (kind : Stretch) (r : Reg) (v : ℕ) (old new : Device) → may_of kind (Reading r v) → Reads r v old new
-      → IsTold (λ made. made ≡ Reading r v ∷ []) (may_of kind) (fits_of kind) old new
-  pub writes : (kind : Stretch) (r : Reg) (v : ℕ) (old new : Device) → may_of kind (Writing r v)
-      → Stays (MayWrite r v) old → ((uses : Uses) → fits_of kind uses → LeavesUses uses r v old) → Writes r v old new
-      → IsTold (λ made. made ≡ Writing r v ∷ []) (may_of kind) (fits_of kind) old new
-  pub both : (kind then : Stretch) (first second : Uses → Uses)
-      → ((access : Access) → may_of then access → may_of kind access)
-      → ((uses : Uses) → fits_of kind uses → fits_of then (first uses)) → (old mid new : Device)
-      → (a : IsFollowedTo (may_of kind) (fits_of kind) first old mid)
-      → (b : IsFollowedTo (may_of then) (fits_of then) second mid new)
-      → IsToldTo (λ made. made ≡ a.driven.accesses ++ b.driven.accesses) (may_of kind) (fits_of kind)
-      (λ uses. second (first uses)) old new
-  pub wider : (kind more : Stretch) (next : Uses → Uses) → ((access : Access) → may_of kind access → may_of more access)
-      → ((uses : Uses) → fits_of more uses → fits_of kind uses) → (old new : Device)
-      → (a : IsFollowedTo (may_of kind) (fits_of kind) next old new)
-      → IsToldTo (λ made. made ≡ a.driven.accesses) (may_of more) (fits_of more) next old new
-  pub over : (kind : Stretch) (port : Port) (o : Operation) (v : ℕ) (old new : Device)
-      → may_of kind (Writing (Px port Ci) v) → ((uses : Uses) → fits_of kind uses → uses port.0 0 ≡ Free)
-      → IsOver (new.port port.0) 0
-      → (a : IsFollowedTo (may_of kind) (fits_of kind) (λ uses. put uses port.0 0 (Own o)) old new)
-      → IsTold (λ made. made ≡ a.driven.accesses) (may_of kind) (fits_of kind) old new
-  pub agreed : (kind : Stretch) (next : Uses → Uses) (uses : Uses) (old new : Device) → fits_of kind uses
-      → IsFollowedTo (may_of kind) (fits_of kind) next old new → IsAgreed uses old → IsAgreed (next uses) new
-  pub silent : (kind : Stretch) (next : Uses → Uses) (uses : Uses) (port : Port) (o : Operation) (old new : Device)
-      → fits_of kind uses → NoneWrites (may_of kind) (Px port Ci) → NoneWrites (may_of kind) (Px port Sact)
-      → op_of o ≡ None → (uses port.0 0 ≡ Own o → ⊥) → IsFollowedTo (may_of kind) (fits_of kind) next old new
-      → IsAgreed uses old → SendsNone port.0 o old new
+  pub stretches : StretchLaws Stretch may_of fits_of
   pub plain : (kind : Stretch) (next : Uses → Uses) (uses : Uses) (port : Port) (old new : Device) → fits_of kind uses
       → NoneWrites (may_of kind) (Px port Sact) → IsFollowedTo (may_of kind) (fits_of kind) next old new
       → IsAgreed uses old → WorksPlainly (old.port port.0) → WorksPlainly (new.port port.0)

@@ -3,20 +3,19 @@ ghost use Rattle.error_recovery.specs.Laws.{Laws, RegisterSet, Stretch, fits_of,
 
 use adapter::laws::port_registers_are_accessed;
 use agreement::facts::{
-    adapter_stays, cleared_stays, coming_composes, controls_stay, errors_are_shown,
-    errors_rise_by_disks, fatal_errors_compose, fault_is_found, faults_are_recorded,
-    faults_compose, notes_stay, plugging_composes, plugging_is_found, running_well_is_found,
+    adapter_stays, cleared_stays, controls_stay, errors_are_shown, fault_is_found,
+    faults_are_recorded, notes_stay, plugging_is_found, running_well_is_found,
 };
 use agreement::giving_up::{fault_is_outstanding, slots_are_given_up};
 use agreement::kinds::{
-    Kinds, Registers, accesses_are_followed, controls_are_of_a_port, followed_stretches_give,
-    stretches_are_followed, stretches_are_parts,
+    Kinds, Registers, controls_are_of_a_port, followed_stretches_give, stretch_laws_hold,
+    stretches_are_parts,
 };
 use agreement::laws::putting_is_of_one_slot;
 use agreement::recovering::{
     faults_are_plain, faults_show_before_the_end, link_is_kept, running_goes_on,
 };
-use agreement::stretches::{other_ports_are_left, tapes_grow, unused_slots_are_silent};
+use agreement::stretches::{other_ports_are_left, tape_laws_hold, unused_slots_are_silent};
 use disk_page::laws::{asking_is_of_one_port, what_is_told_of_waits_stays};
 use port_control::laws::what_is_told_of_engines_stays;
 
@@ -44,24 +43,18 @@ pub fn laws_hold()
     port_registers_are_accessed();
     adapter_stays();
     cleared_stays();
-    coming_composes();
     controls_stay();
     errors_are_shown();
-    errors_rise_by_disks();
-    fatal_errors_compose();
     fault_is_found();
     faults_are_recorded();
-    faults_compose();
     notes_stay();
-    plugging_composes();
     plugging_is_found();
     running_well_is_found();
     fault_is_outstanding();
     slots_are_given_up();
-    accesses_are_followed::<Recoveries>();
+    stretch_laws_hold::<Recoveries>();
     controls_are_of_a_port::<Recoveries>();
     followed_stretches_give::<Recoveries>();
-    stretches_are_followed::<Recoveries>();
     stretches_are_parts::<Recoveries>();
     putting_is_of_one_slot();
     faults_are_plain();
@@ -69,7 +62,7 @@ pub fn laws_hold()
     link_is_kept();
     running_goes_on();
     other_ports_are_left();
-    tapes_grow();
+    tape_laws_hold();
     unused_slots_are_silent();
     asking_is_of_one_port();
     what_is_told_of_waits_stays();

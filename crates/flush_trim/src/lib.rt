@@ -21,17 +21,11 @@ ghost use Rattle.flush_trim.specs.Block.{IsCut, entry_first, entry_length, first
 ghost use Rattle.flush_trim.specs.Tasks.{flush_of, trim_of};
 
 use adapter::{Adapter, Command};
-use ata_types::{DRIVER_BYTES, Port, Range, Slot};
+use ata_types::{DATA_SET_MANAGEMENT, DRIVER_BYTES, FLUSH_CACHE_EXT, Port, Range, Slot};
 use command_table::{write_table, write_table_with_block};
 use hba_regs::{PortReg, Reg};
 use ncq::bit_of;
 use ncq::laws::writing_issues;
-
-/// FLUSH CACHE EXT (ACS-3).
-const FLUSH_CACHE_EXT: u8 = 0xea;
-
-/// DATA SET MANAGEMENT (ACS-3).
-const DATA_SET_MANAGEMENT: u8 = 0x06;
 
 /// Bit 0 of the features of DATA SET MANAGEMENT: TRIM (ACS-3).
 const TRIM: u16 = 1;

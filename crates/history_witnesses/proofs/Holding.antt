@@ -9,6 +9,7 @@ use Rattle.std.specs.List.{Contains, All}
 use Rattle.ata_types.specs.declared.Port.{Port}
 use Rattle.ata_types.specs.declared.PortState.TheVariants.{Absent, Foreign, Ready, Unfit}
 use Rattle.ata_types.specs.declared.request.RequestId.{RequestId}
+use Rattle.ata_types.specs.declared.limits.TheConstants.{READINGS}
 use Rattle.adapter.specs.Access.{Access}
 use Rattle.adapter.specs.Device.{PortState, Device}
 use Rattle.adapter.specs.Device.Halt.{NotHalted, HaltedPlain, HaltedQueued}
@@ -77,7 +78,7 @@ unfaulted : IsFaulted NotHalted → ⊥
 unfaulted f = ⊎_elim (λ a. let x : NotHalted ≡ HaltedPlain = a in cc) (λ a. let x : NotHalted ≡ HaltedQueued = a in cc) f
 
 -- a port runs on which no fault is on record
-pub runs_on : (port : ℕ) (d : Device) → (d.port port).st ≡ true → (d.port port).cr ≡ true → (d.port port).fre ≡ true → (d.port port).bases ≡ programmed port → (d.port port).notes.link_count ≡ 64
+pub runs_on : (port : ℕ) (d : Device) → (d.port port).st ≡ true → (d.port port).cr ≡ true → (d.port port).fre ≡ true → (d.port port).bases ≡ programmed port → (d.port port).notes.link_count ≡ READINGS
     → (d.port port).notes.st_set_at ≤ length d.tape → (d.port port).link_due ≡ false → (d.port port).is 30 ≡ false → (d.port port).halt ≡ NotHalted → Runs port d
 runs_on port d st cr fre bases saw known linked calm whole = record {
   st = st;

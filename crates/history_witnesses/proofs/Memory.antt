@@ -2,7 +2,7 @@
 use Rattle.std.proofs.Common.{ℕ, length, ◌≡◌, ◌≢◌, ◌+◌, ◌*◌, ◌<◌, ◌≤◌, ◌∙◌, List, slice_index, ⊎_elim, sym, ap, arith}
 use Rattle.std.proofs.lemmas.Bool.{cases_eq, cases_lt}
 use Rattle.std.proofs.lemmas.List.{get_or-replicate, length-replicate}
-use Rattle.ata_types.specs.declared.memory.TheConstants.{DRIVER_BYTES}
+use Rattle.ata_types.specs.declared.memory.TheConstants.{DRIVER_BYTES, DRIVER_FRAMES}
 use Rattle.ata_types.specs.declared.request.Frame.{Frame}
 use Rattle.adapter.specs.FirstRead.{header_bytes, sector_of}
 use Rattle.adapter.specs.Memory.{bytes_at, patched}
@@ -18,11 +18,11 @@ unfolding sector_of
 tells k b low = get_or-replicate 512 b k 0 low
 
 -- bytes of the driver's frames are none of clients'
-pub spares : (memory : ℕ → ℕ) (at : ℕ) (bytes : List ℕ) → at + length bytes ≤ DRIVER_BYTES → (f : Frame) (b : ℕ) → 40 ≤ f.0 → patched memory at bytes (4096 * f.0 + b) ≡ memory (4096 * f.0 + b)
+pub spares : (memory : ℕ → ℕ) (at : ℕ) (bytes : List ℕ) → at + length bytes ≤ DRIVER_BYTES → (f : Frame) (b : ℕ) → DRIVER_FRAMES ≤ f.0 → patched memory at bytes (4096 * f.0 + b) ≡ memory (4096 * f.0 + b)
 spares memory at bytes room f b from = patched_past memory at bytes (4096 * f.0 + b) (omega (arith, room, from))
 
 -- frames of clients are zeros when the read is issued
-pub past_driver : (f : Frame) (b : ℕ) → 40 ≤ f.0 → read_memory (4096 * f.0 + b) ≡ 0
+pub past_driver : (f : Frame) (b : ℕ) → DRIVER_FRAMES ≤ f.0 → read_memory (4096 * f.0 + b) ≡ 0
 unfolding read_memory
 past_driver f b from =
     spares (patched (patched zeros 0 header_bytes) 0x1000 read_bytes) 0x1080 place_bytes (omega arith) f b from
@@ -38,8 +38,8 @@ abbrev frame : ℕ → Frame
 frame n = record { 0 = n }
 
 -- A sector is moved into the first bytes of a frame, and the machine's frames held what memory did: so they do then.
-pub moved_alike : (memory : ℕ → ℕ) (frames : Frame → ℕ → ℕ) (n k : ℕ) → ((f : Frame) (b : ℕ) → 40 ≤ f.0 → b < 4096 → memory (4096 * f.0 + b) ≡ frames f b)
-    → (f : Frame) (b : ℕ) → 40 ≤ f.0 → b < 4096 → patched memory (4096 * n) (sector_of k) (4096 * f.0 + b) ≡ put_bytes (frame n) 0 512 (slice_index (sector_of k)) frames f b
+pub moved_alike : (memory : ℕ → ℕ) (frames : Frame → ℕ → ℕ) (n k : ℕ) → ((f : Frame) (b : ℕ) → DRIVER_FRAMES ≤ f.0 → b < 4096 → memory (4096 * f.0 + b) ≡ frames f b)
+    → (f : Frame) (b : ℕ) → DRIVER_FRAMES ≤ f.0 → b < 4096 → patched memory (4096 * n) (sector_of k) (4096 * f.0 + b) ≡ put_bytes (frame n) 0 512 (slice_index (sector_of k)) frames f b
 moved_alike memory frames n k alike f b from small = ⊎_elim
     (λ (e : f.0 ≡ n). ⊎_elim
     (λ (low : b < 512). inside e low)
@@ -71,6 +71,6 @@ moved_alike memory frames n k alike f b from small = ⊎_elim
         ∙ sym (put_other (frame n) f 0 b 512 (slice_index (sector_of k)) frames (λ same low high. out (sym (ap (λ (x : Frame). x.0) same)) high))
 
 -- so it is when the read is done
-pub moved_in_place : (f : Frame) (b : ℕ) → 40 ≤ f.0 → b < 4096 → memory_done (4096 * f.0 + b) ≡ put_bytes (frame 40) 0 512 (slice_index (sector_of 100)) (λ f b. 0) f b
+pub moved_in_place : (f : Frame) (b : ℕ) → DRIVER_FRAMES ≤ f.0 → b < 4096 → memory_done (4096 * f.0 + b) ≡ put_bytes (frame 40) 0 512 (slice_index (sector_of 100)) (λ f b. 0) f b
 unfolding memory_done
 moved_in_place = moved_alike read_memory (λ f b. 0) 40 100 (λ f b from small. past_driver f b from)

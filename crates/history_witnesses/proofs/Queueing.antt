@@ -4,6 +4,7 @@ use Rattle.std.specs.List.{All}
 use Rattle.std.proofs.lemmas.List.Elements.{All-from_recursion}
 use Rattle.std.proofs.lemmas.Nat.Bits.{bit_at-suc}
 use Rattle.ata_types.specs.declared.request.Frame.{Frame}
+use Rattle.ata_types.specs.declared.memory.TheConstants.{DRIVER_FRAMES}
 use Rattle.hba_regs.specs.Bits.{bit}
 use Rattle.hba_regs.specs.declared.reg.Reg.TheVariants.{Px}
 use Rattle.hba_regs.specs.declared.reg.PortReg.TheVariants.{Sact, Ci}
@@ -50,13 +51,13 @@ unfolding two_memory one_memory patched bytes_at
 second_told = told_queued two_memory 1 101 0x14 0x90 (omega arith) refl refl refl refl refl refl
 
 -- frames of clients are zeros then
-pub one_zeros : (f : Frame) (b : ℕ) → 40 ≤ f.0 → one_memory (4096 * f.0 + b) ≡ 0
+pub one_zeros : (f : Frame) (b : ℕ) → DRIVER_FRAMES ≤ f.0 → one_memory (4096 * f.0 + b) ≡ 0
 unfolding one_memory
 one_zeros f b from =
     spares (patched (patched zeros 0 (header_to 0x10)) 0x1000 (queued_bytes 0 100)) 0x1080 (place_from 0x80) (omega arith) f b from
     ∙ (spares (patched zeros 0 (header_to 0x10)) 0x1000 (queued_bytes 0 100) (omega arith) f b from ∙ spares zeros 0 (header_to 0x10) (omega arith) f b from)
 
-pub two_zeros : (f : Frame) (b : ℕ) → 40 ≤ f.0 → two_memory (4096 * f.0 + b) ≡ 0
+pub two_zeros : (f : Frame) (b : ℕ) → DRIVER_FRAMES ≤ f.0 → two_memory (4096 * f.0 + b) ≡ 0
 unfolding two_memory
 two_zeros f b from =
     spares (patched (patched one_memory 32 (header_to 0x14)) 0x1400 (queued_bytes 1 101)) 0x1480 (place_from 0x90) (omega arith) f b from

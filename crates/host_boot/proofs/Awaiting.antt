@@ -1,4 +1,5 @@
 -- The adapter is reset, and GHC is read until the reset is done.
+use Rattle.ata_types.specs.declared.limits.TheConstants.{READINGS}
 use Rattle.std.proofs.Common.{ℕ, Bool, true, false, ◌≡◌, ◌+◌, ◌<◌, ◌≤◌, ◌++◌, List, [], ◌∷◌, refl, ◌∙◌, ap, arith}
 use Rattle.std.specs.Prelude.{All, length}
 use Rattle.std.proofs.lemmas.List.{length-append}
@@ -40,7 +41,7 @@ module _ (n v : ℕ) (early late : List Access) (a : AsksAgain n early) (is : la
   asks_shown : (hr : Bool) → bit v 0 ≡ hr → AwaitsHr hr (early ++ late)
   asks_shown hr shows = record { asked = a.asked; shown = v; here = joined; only = a.only; pending = shows }
 
-  asked_few : n < 64 → length (early ++ late) ≤ 65
+  asked_few : n < READINGS → length (early ++ late) ≤ READINGS + 1
   asked_few few =
       let here = ap length joined in let long = a.long in let more = length-append a.asked (Reading Ghc v ∷ []) in
       omega (arith, few, here, long, more)
@@ -59,7 +60,7 @@ module _ (laws : Laws) (start : Device) where
   pub resetting_begins : (d : Device) → Writes Ghc 0x80000001 start d → IsResetting start 0 d
   resetting_begins d call = record {
     told = told_more (λ accesses. accesses ≡ Writing Ghc 0x80000001 ∷ []) (AsksAgain 0) IsOfReset AnyUse (λ uses. uses) start d asks_none
-        (laws.writes Resetting Ghc 0x80000001 start d refl (λ mid steps. tt) (λ uses is. tt) call);
+        (laws.stretches.writes Resetting Ghc 0x80000001 start d refl (λ mid steps. tt) (λ uses is. tt) call);
     pending = laws.hr_begins 0x80000001 start d refl call;
     same = laws.access_same (Writing Ghc 0x80000001) start d call;
   }
@@ -72,7 +73,7 @@ module _ (laws : Laws) (start : Device) where
     with_reading : (Tells : List Access → Type 0) → ((early late : List Access) → AsksAgain n early → late ≡ Reading Ghc v ∷ [] → Tells (early ++ late)) → IsTold Tells IsOfReset AnyUse start e
     with_reading Tells join =
         told_both laws (AsksAgain n) (λ accesses. accesses ≡ Reading Ghc v ∷ []) Tells join Resetting Resetting (λ uses. uses) (λ uses. uses) (λ access may. may) (λ uses any. tt) start d e w.told
-        (laws.reads Resetting Ghc v d e tt call)
+        (laws.stretches.reads Resetting Ghc v d e tt call)
 
     pub resetting_goes_on : bit v 0 ≡ true → IsResetting start (n + 1) e
     resetting_goes_on shows = record {
@@ -81,14 +82,14 @@ module _ (laws : Laws) (start : Device) where
       same = same;
     }
 
-    pub resetting_ends : n < 64 → bit v 0 ≡ false → Resets start e
+    pub resetting_ends : n < READINGS → bit v 0 ≡ false → Resets start e
     resetting_ends few clear =
         let told = with_reading (λ accesses. AwaitsHr false accesses × (length accesses ≤ 65))
         (λ early late a is. (asks_shown n v early late a is false clear, asked_few n v early late a is few)) in
         record { followed = told.followed; awaited = told.tells.0; often = told.tells.1; idle = laws.reset_idle v d e w.pending call clear; same = same }
 
   -- it was read 64 times
-  pub resetting_sticks : (n : ℕ) (d : Device) → n ≡ 64 → IsResetting start n d → StaysReset start d
+  pub resetting_sticks : (n : ℕ) (d : Device) → n ≡ READINGS → IsResetting start n d → StaysReset start d
   resetting_sticks n d all w = record {
     followed = w.told.followed;
     awaited = w.told.tells.last (omega (arith, all));

@@ -106,7 +106,7 @@ module _ (laws : Laws) where
 
   module _ (v : ℕ) (old asked : Device) (asks : Reads Cap v old asked) where
     asked_followed : IsFollowed IsSurvey AnyUse old asked
-    asked_followed = (laws.reads Surveying Cap v old asked tt asks).followed
+    asked_followed = (laws.stretches.reads Surveying Cap v old asked tt asks).followed
 
     -- what was read is what the adapter is capable of, whatever is done then
     pub asked_cap : (May : Access → Type 0) (new : Device) → IsDrivenBy May asked new → v ≡ new.cap
@@ -114,7 +114,7 @@ module _ (laws : Laws) where
 
     module _ (port : Port) where
       pub asked_starts : IsFollowed (IsOfStart port) (λ uses. AllFree uses port.0) old asked
-      asked_starts = (laws.wider Surveying (Starting port) (λ uses. uses) (λ access is. inl is) (λ uses free. tt) old asked asked_followed).followed
+      asked_starts = (laws.stretches.wider Surveying (Starting port) (λ uses. uses) (λ access is. inl is) (λ uses free. tt) old asked asked_followed).followed
 
       pub asked_bootable : IsBootable port old → IsBootable port asked
       asked_bootable b = bootable_over laws Surveying port old asked (λ uses free. tt) asked_followed b.there b.room b.agreed (cap_on laws v old asked b.on asks)
@@ -130,7 +130,7 @@ module _ (laws : Laws) where
       -- and then the port is looked at
       module _ (seen : Device) (looks : IsFollowed (IsControl IsClearing port) AnyUse asked seen) where
         pub seen_starts : IsFollowed (IsOfStart port) (λ uses. AllFree uses port.0) old seen
-        seen_starts = (laws.both (Starting port) (Clearing port) (λ uses. uses) (λ uses. uses) (clearing_of_start port) (λ uses free. tt) old asked seen asked_starts looks).followed
+        seen_starts = (laws.stretches.both (Starting port) (Clearing port) (λ uses. uses) (λ uses. uses) (clearing_of_start port) (λ uses free. tt) old asked seen asked_starts looks).followed
 
         pub seen_bootable : IsOn seen → IsBootable port asked → IsBootable port seen
         seen_bootable on b = bootable_over laws (Clearing port) port asked seen (λ uses free. tt) looks b.there b.room b.agreed on

@@ -16,18 +16,18 @@ pi_is w old new call = call.shows ∙ sym (ap (λ (d : Device). d.pi) call.effec
 
 module _ (laws : Laws) where
   pub ghc_followed : (v : ℕ) (old new : Device) → IsOfHost (Writing Ghc v) → Writes Ghc v old new → IsFollowed IsOfHost AnyUse old new
-  ghc_followed v old new kind call = (laws.writes Hosting Ghc v old new kind (λ mid steps. tt) (λ uses is. tt) call).followed
+  ghc_followed v old new kind call = (laws.stretches.writes Hosting Ghc v old new kind (λ mid steps. tt) (λ uses is. tt) call).followed
 
   -- and another after it
   pub hosted_then : (old mid new : Device) → IsFollowed IsOfHost AnyUse old mid → IsFollowed IsOfHost AnyUse mid new → IsFollowed IsOfHost AnyUse old new
-  hosted_then old mid new a b = (laws.both Hosting Hosting (λ uses. uses) (λ uses. uses) (λ access may. may) (λ uses any. tt) old mid new a b).followed
+  hosted_then old mid new a b = (laws.stretches.both Hosting Hosting (λ uses. uses) (λ uses. uses) (λ access may. may) (λ uses any. tt) old mid new a b).followed
 
   -- a reading of CAP or PI
   pub cap_followed : (v : ℕ) (old new : Device) → Reads Cap v old new → IsFollowed IsOfHost AnyUse old new
-  cap_followed v old new call = (laws.reads Hosting Cap v old new tt call).followed
+  cap_followed v old new call = (laws.stretches.reads Hosting Cap v old new tt call).followed
 
   pub pi_followed : (v : ℕ) (old new : Device) → Reads Pi v old new → IsFollowed IsOfHost AnyUse old new
-  pi_followed v old new call = (laws.reads Hosting Pi v old new tt call).followed
+  pi_followed v old new call = (laws.stretches.reads Hosting Pi v old new tt call).followed
 
   pub cap_on : (v : ℕ) (old new : Device) → IsOn old → Reads Cap v old new → IsOn new
   cap_on v old new on call = laws.access_on (Reading Cap v) old new on (λ k e. absurd cc) call

@@ -121,11 +121,11 @@ module _ (laws : Laws) where
       let surveyed : IsOn way.surveyed = on_over laws IsSurvey way.switched way.surveyed way.surveys survey_spares_ghc on in
       let driven = go_driven 0 0 ports way.surveyed way.booted (omega arith) way.boots in
       let booted : IsOn way.booted = on_over laws (IsOfFrom 0) way.surveyed way.booted driven (from_spares_ghc 0) surveyed in
-      let before : Grows old way.surveyed = laws.grows_more old way.switched way.surveyed (laws.access_grows (Writing Ghc 0x80000000) old way.switched way.switches) (tape_over laws IsSurvey way.switched way.surveyed way.surveys) in
+      let before : Grows old way.surveyed = laws.tape.grows_more old way.switched way.surveyed (laws.tape.access_grows (Writing Ghc 0x80000000) old way.switched way.switches) (tape_over laws IsSurvey way.switched way.surveyed way.surveys) in
       let boots : Grows way.surveyed way.booted = tape_over laws (IsOfFrom 0) way.surveyed way.booted driven in
       let last : RunsOn port.0 way.booted new = laws.runs_over port (Writing Ghc 0x80000002) way.booted new booted (λ (e : Ghc ≡ Px port Sctl). absurd cc) (λ (e : Ghc ≡ Px port Cmd). absurd cc) way.enables in
-      let ending : Grows way.booted new = laws.access_grows (Writing Ghc 0x80000002) way.booted new way.enables in
-      let parts = calm_in_parts laws port.0 old way.booted new (laws.grows_more old way.surveyed way.booted before boots) ending calm in
+      let ending : Grows way.booted new = laws.tape.access_grows (Writing Ghc 0x80000002) way.booted new way.enables in
+      let parts = calm_in_parts laws port.0 old way.booted new (laws.tape.grows_more old way.surveyed way.booted before boots) ending calm in
       let within = calm_in_parts laws port.0 old way.surveyed way.booted before boots parts.0 in
       laws.well_on port.0 way.booted new last parts.1 (go_well port info 0 ports port.0 way.surveyed way.booted (omega arith) is surveyed way.boots within.1)
 

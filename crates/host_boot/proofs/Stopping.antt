@@ -4,6 +4,7 @@ use Rattle.std.proofs.lemmas.List.{length-append}
 use Rattle.ata_types.specs.declared.Port.{Port}
 use Rattle.ata_types.specs.declared.PortState.{PortState}
 use Rattle.ata_types.specs.declared.PortState.TheVariants.{Absent, Ready as ReadyState, Foreign, Unfit, Dead}
+use Rattle.ata_types.specs.declared.memory.TheConstants.{DRIVER_BYTES}
 use Rattle.hba_regs.specs.Bits.{bit}
 use Rattle.adapter.specs.Access.{Access}
 use Rattle.adapter.specs.Device.{Device}
@@ -35,14 +36,14 @@ boot_sticks Tells port old new (inr b) = record { driven = b.followed.driven; st
 module _ (laws : Laws) where
   -- a port may be booted after accesses that leave its slots as they are
   pub bootable_over : (kind : Stretch) (port : Port) (old new : Device) → ((uses : Uses) → AllFree uses port.0 → fits_of kind uses) → IsFollowed (may_of kind) (fits_of kind) old new →
-      HasPort old port.0 → 163840 ≤ old.size → AgreesWith (λ uses. AllFree uses port.0) old → IsOn new → IsBootable port new
+      HasPort old port.0 → DRIVER_BYTES ≤ old.size → AgreesWith (λ uses. AllFree uses port.0) old → IsOn new → IsBootable port new
   bootable_over kind port old new fits f there room a on =
       let same = same_over laws (may_of kind) old new f.driven in
       record {
         on = on;
         there = still_there port old new same there;
         room = let size = same.size in omega (arith, size, room);
-        agreed = (a.0, a.1, laws.agreed kind (λ uses. uses) a.0 old new (fits a.0 a.1) f a.2);
+        agreed = (a.0, a.1, laws.stretches.agreed kind (λ uses. uses) a.0 old new (fits a.0 a.1) f a.2);
       }
 
   stop_boots : (Tells : List Access → Type 0) (port : Port) (old mid : Device) → IsTold Tells (IsControl WritesCommand port) AnyUse old mid → IsBoot Tells port old mid
@@ -53,7 +54,7 @@ module _ (laws : Laws) where
   stuck_boots port old mid f = told_more (FailsToStop port) (Sticks port) (IsOfBoot port) (λ uses. AllFree uses port.0) (λ uses. uses) old mid (laws.failing_sticks port) (stop_boots (FailsToStop port) port old mid f)
 
   module _ (port : Port) (old mid : Device) (stops : IsTold (Stops port) (IsControl WritesCommand port) AnyUse old mid) where
-    pub bootable : HasPort old port.0 → 163840 ≤ old.size → AgreesWith (λ uses. AllFree uses port.0) old → IsOn mid → IsBootable port mid
+    pub bootable : HasPort old port.0 → DRIVER_BYTES ≤ old.size → AgreesWith (λ uses. AllFree uses port.0) old → IsOn mid → IsBootable port mid
     bootable there room agreed on = bootable_over (Commanding port) port old mid (λ uses free. tt) stops.followed there room agreed on
 
     pub since_stop : (since : ℕ) → length mid.tape ≤ since → length old.tape ≤ since

@@ -55,7 +55,7 @@ module _ (laws : Laws) where
     on_over spares on = laws.on_all driven.accesses old new on (All-weaker May (SparesRegister Ghc) spares driven.accesses driven.only) driven.all
 
   pub calm_in_parts : (port : ℕ) (old mid new : Device) → Grows old mid → Grows mid new → Undisturbed port old new → Undisturbed port old mid × Undisturbed port mid new
-  calm_in_parts port old mid new early late calm = laws.undisturbed_parts port old mid new early.0 late.0 early.1 late.1 calm
+  calm_in_parts port old mid new early late calm = laws.tape.calm_parts port old mid new early.0 late.0 early.1 late.1 calm
 
   -- those that stop a port, or put its areas into their places, are of the port
   pub stop_driven : (port : Port) (old new : Device) → IsDrivenBy (IsControl WritesCommand port) old new → IsDrivenBy (IsOf port) old new
@@ -70,7 +70,7 @@ module _ (laws : Laws) where
   pub told_wider : (Tells : List Access → Type 0) (kind more : Stretch) (next : Uses → Uses) (old new : Device) → ((access : Access) → may_of kind access → may_of more access) →
       ((uses : Uses) → fits_of more uses → fits_of kind uses) → IsToldTo Tells (may_of kind) (fits_of kind) next old new → IsToldTo Tells (may_of more) (fits_of more) next old new
   told_wider Tells kind more next old new wider fits a =
-      let f = laws.wider kind more next wider fits old new a.followed in
+      let f = laws.stretches.wider kind more next wider fits old new a.followed in
       record { followed = f.followed; tells = subst Tells (sym f.tells) a.tells }
 
   -- of two, one after another
@@ -79,5 +79,5 @@ module _ (laws : Laws) where
         (old mid new : Device) → IsToldTo First (may_of kind) (fits_of kind) first old mid → IsToldTo Second (may_of then) (fits_of then) second mid new →
         IsToldTo Tells (may_of kind) (fits_of kind) (λ uses. second (first uses)) old new
     told_both kind then first second wider on old mid new a b =
-        let f = laws.both kind then first second wider on old mid new a.followed b.followed in
+        let f = laws.stretches.both kind then first second wider on old mid new a.followed b.followed in
         record { followed = f.followed; tells = subst Tells (sym f.tells) (join a.followed.driven.accesses b.followed.driven.accesses a.tells b.tells) }

@@ -244,7 +244,7 @@ module _ (laws : Laws) where
         let f : IsFollowed (IsOfBoot port) (λ uses. AllFree uses port.0) old new = told.followed in
         let quiet : (q : Port) → q.0 ≢ port.0 → (u.uses q.0 0 ≡ Own Identify → ⊥) → SendsNone q.0 Identify old new =
         λ (q : Port) (other : q.0 ≢ port.0) (not : u.uses q.0 0 ≡ Own Identify → ⊥).
-        laws.silent (Booting port) (λ uses. uses) u.uses q Identify old new unused_here (λ access may. laws.of_spares port q Ci other access (laws.of_boot port access may))
+        laws.stretches.silent (Booting port) (λ uses. uses) u.uses q Identify old new unused_here (λ access may. laws.of_spares port q Ci other access (laws.of_boot port access may))
         (λ access may. laws.of_spares port q Sact other access (laws.of_boot port access may)) refl not f u.agreed in
         record {
           on = on;
@@ -259,7 +259,7 @@ module _ (laws : Laws) where
           told = then_told wanted unused (TellsFirst ports port.0) (TellsEngines port found) (TellsFirst (slice_set ports port.0 found) (port.0 + 1)) later_engines (PortUnused port) (λ uses. uses)
               u.uses start old new unused_here u.told
               (told_wider laws (TellsEngines port found) (Booting port) (Taking wanted (PortUnused port)) (λ uses. uses) old new (taking f.driven quiet served) (λ uses free. free) told);
-          agreed = laws.agreed (Booting port) (λ uses. uses) u.uses old new unused_here f u.agreed;
+          agreed = laws.stretches.agreed (Booting port) (λ uses. uses) u.uses old new unused_here f u.agreed;
           stands = later_stands f.driven quiet;
           halts = later_halts (λ uses. uses) f (later_stands f.driven quiet);
           reset = later_reset f.driven quiet;
@@ -277,7 +277,7 @@ module _ (laws : Laws) where
         let served : found ≢ Unserved = λ (e : found ≡ Unserved). absurd (let k : Unready Dead ≡ Unserved = sym dead ∙ e in cc) in
         let quiet : (q : Port) → q.0 ≢ port.0 → (u.uses q.0 0 ≡ Own Identify → ⊥) → SendsNone q.0 Identify old new =
         λ (q : Port) (other : q.0 ≢ port.0) (not : u.uses q.0 0 ≡ Own Identify → ⊥).
-        laws.silent (Booting port) Asked u.uses q Identify old new unused_here (λ access may. laws.of_spares port q Ci other access (laws.of_boot port access may))
+        laws.stretches.silent (Booting port) Asked u.uses q Identify old new unused_here (λ access may. laws.of_spares port q Ci other access (laws.of_boot port access may))
         (λ access may. laws.of_spares port q Sact other access (laws.of_boot port access may)) refl not f u.agreed in
         let stays : (q : ℕ) (o : Operation) → u.uses q 0 ≡ Own o → Asked u.uses q 0 ≡ Own o =
         λ (q : ℕ) (o : Operation) (e : u.uses q 0 ≡ Own o).
@@ -305,7 +305,7 @@ module _ (laws : Laws) where
           told = then_told wanted unused (TellsFirst ports port.0) (TellsEngines port found) (TellsFirst (slice_set ports port.0 found) (port.0 + 1)) later_engines (PortUnused port) Asked
               u.uses start old new unused_here u.told
               (told_wider laws (TellsEngines port found) (Booting port) (Taking wanted (PortUnused port)) Asked old new (taking f.driven quiet served) (λ uses free. free) told);
-          agreed = laws.agreed (Booting port) Asked u.uses old new unused_here f u.agreed;
+          agreed = laws.stretches.agreed (Booting port) Asked u.uses old new unused_here f u.agreed;
           stands = later_stands f.driven quiet;
           halts = later_halts Asked f (later_stands f.driven quiet);
           reset = later_reset f.driven quiet;
@@ -387,7 +387,7 @@ module _ (laws : Laws) where
   boots_same port old new (Unready state) f = same_over laws (IsOfBoot port) old new (laws.stops_driven port state old new f)
 
   hosting : (wanted : List Wanted) (old new : Device) → IsFollowed IsOfHost AnyUse old new → IsFollowed (IsOfTaking wanted) AnyUse old new
-  hosting wanted old new f = (laws.wider Hosting (Taking wanted AnyUses) (λ uses. uses) (λ access may. inl may) (λ uses is. is) old new f).followed
+  hosting wanted old new f = (laws.stretches.wider Hosting (Taking wanted AnyUses) (λ uses. uses) (λ access may. inl may) (λ uses is. is) old new f).followed
 
   module _ (wanted : List Wanted) (start : Device) where
     -- no port was booted yet
@@ -401,7 +401,7 @@ module _ (laws : Laws) where
       left = λ port slot. inl refl;
       free = λ port slot more. refl;
       told = record { followed = goes_on wanted unused start d (hosting wanted start d f); tells = λ port less. absurd (omega (arith, less)) };
-      agreed = laws.agreed Hosting (λ uses. uses) unused start d tt f agreed;
+      agreed = laws.stretches.agreed Hosting (λ uses. uses) unused start d tt f agreed;
       stands = λ port less. absurd (omega (arith, less));
       reset = λ port less. absurd (omega (arith, less));
       halts = λ port less. absurd (omega (arith, less));
@@ -414,7 +414,7 @@ module _ (laws : Laws) where
       Silent port = SendsNone port Identify d new
 
       silent : (port : ℕ) → found_of ports port ≢ Unready Dead → Silent port
-      silent port alive = laws.silent Hosting (λ uses. uses) u.uses (port_at port) Identify d new tt (host_spares (port_at port) Ci) (host_spares (port_at port) Sact) refl
+      silent port alive = laws.stretches.silent Hosting (λ uses. uses) u.uses (port_at port) Identify d new tt (host_spares (port_at port) Ci) (host_spares (port_at port) Sact) refl
           (λ own. elim (u.left port 0) [
             | inl free ↦ absurd (let e : Own Identify ≡ Free = sym own ∙ free in cc)
             | inr (head, is, dead) ↦ alive dead
@@ -446,5 +446,5 @@ module _ (laws : Laws) where
         left = λ port slot. let P : List Found → Type 0 = λ ps. IsLeft ps u.uses port slot in subst P (sym is) (u.left port slot);
         followed = all_told.followed;
         engines = let P : List Found → Type 0 = λ ps. TellsFirst ps 4 all_told.followed.driven.accesses in subst P (sym is) all_told.tells;
-        agreed = laws.agreed Hosting (λ uses. uses) u.uses d new tt f u.agreed;
+        agreed = laws.stretches.agreed Hosting (λ uses. uses) u.uses d new tt f u.agreed;
       }

@@ -1,18 +1,19 @@
 -- What laws of the crates below say of accesses, with the kinds of accesses of this crate: its proofs rest on them.
-use Rattle.std.specs.Prelude.{ℕ, true, false, ◌≡◌, ◌≢◌, ◌%◌, ◌++◌, List, [], ◌∷◌, None, All, Option}
+use Rattle.std.specs.Prelude.{ℕ, true, false, ◌≡◌, ◌≢◌, ◌%◌, ◌++◌, List, All, Option}
 use Rattle.ata_types.specs.declared.Port.{Port}
 use Rattle.ata_types.specs.declared.PortState.{PortState as ShownState}
 use Rattle.adapter.specs.Access.{Access, Does, DoesAll, Reads, Writes}
-use Rattle.agreement.specs.Driver.{AllFree, Known, Knows, LeavesUses}
-use Rattle.agreement.specs.Driven.{AnyAccess, AnyUse, Grows, IsAgreed, IsControl, IsDrivenBy, IsFollowedTo, IsOf, IsTold, IsToldTo, IsUse, LeavesPort, NoneWrites, SendsNone}
-use Rattle.hba_regs.specs.declared.reg.PortReg.TheVariants.{Ci, Cmd, Sact, Sctl, Ssts}
+use Rattle.agreement.specs.Laws.{StretchLaws, TapeLaws}
+use Rattle.agreement.specs.Driver.{AllFree, Known, Knows}
+use Rattle.agreement.specs.Driven.{AnyAccess, AnyUse, IsAgreed, IsControl, IsDrivenBy, IsOf, IsUse, LeavesPort, SendsNone}
+use Rattle.hba_regs.specs.declared.reg.PortReg.TheVariants.{Cmd, Sctl, Ssts}
 use Rattle.ata_types.specs.declared.PortState.TheVariants.{Dead}
 use Rattle.adapter.specs.Device.{Device, PortState}
 use Rattle.identify.specs.declared.DiskInfo.{DiskInfo}
 use Rattle.port_boot.specs.States.{EndsAs, GetsReady, HasFitDisk, IsBootTo, IsOfBoot, IsReady, RunsOn, ShowsOwnDisk, StopsOnWay}
 use Rattle.adapter.specs.declared.tape.Entry.{Entry}
 use Rattle.port_control.specs.Engines.{FailsToStop, Falls, Sticks, StopsBoth}
-use Rattle.agreement.specs.Slots.{Free, Own, Use, Uses, op_of, put}
+use Rattle.agreement.specs.Slots.{Free, Use, Uses, put}
 use Rattle.hba_regs.specs.declared.reg.Reg.TheVariants.{Ghc, Px}
 use Rattle.agreement.specs.Acts.{Act, AreDone, accesses_of}
 use Rattle.agreement.specs.Halting.{IsHaltedAsTaken}
@@ -24,13 +25,11 @@ use Rattle.adapter.specs.Idle.{IsIdle, TellsDisks}
 use Rattle.host_boot.specs.Again.{IsOfStart}
 use Rattle.host_boot.specs.Resets.{IsOfReset}
 use Rattle.host_boot.specs.Taken.{IsOfHost, IsOfTaking, IsSurvey}
-use Rattle.adapter.specs.Rules.{IsOn, MayWrite, Stays}
+use Rattle.adapter.specs.Rules.{IsOn}
 use Rattle.port_control.specs.Ports.{IsClearing, IsPlacing, WritesCommand}
 use Rattle.adapter.specs.Kept.{Keeps}
-use Rattle.adapter.specs.declared.command.Operation.{Operation}
 use Rattle.hba_regs.specs.declared.reg.PortReg.{PortReg}
-use Rattle.adapter.specs.Access.Access.{Reading, Writing}
-use Rattle.hba_regs.specs.declared.reg.Reg.{Reg}
+use Rattle.adapter.specs.Access.Access.{Writing}
 use Rattle.agreement.specs.Facts.{RunsWell, Undisturbed}
 use Rattle.adapter.specs.Steps.{Steps}
 use Rattle.identify.specs.declared.wanted.Wanted.{Wanted}
@@ -104,7 +103,7 @@ pub record Laws : Type 0 where
   pub access_on : (access : Access) (old new : Device) → IsOn old
       → ((v : ℕ) → access ≡ Writing Ghc v → (bit v 31 ≡ true) × (bit v 0 ≡ false)) → Does access old new → IsOn new
   pub access_same : (access : Access) (old new : Device) → Does access old new → SameAdapter old new
-  pub access_grows : (access : Access) (old new : Device) → Does access old new → Grows old new
+  pub tape : TapeLaws
   pub switches_on : (v : ℕ) (old new : Device) → old.hr ≡ false → bit v 31 ≡ true → bit v 0 ≡ false
       → Writes Ghc v old new → IsOn new
   pub hr_begins : (v : ℕ) (old new : Device) → bit v 0 ≡ true → Writes Ghc v old new → new.hr ≡ true
@@ -123,9 +122,6 @@ pub record Laws : Type 0 where
   -- stretches
   pub does_append : (early late : List Access) (old mid new : Device) → DoesAll early old mid → DoesAll late mid new
       → DoesAll (early ++ late) old new
-  pub grows_more : (old mid new : Device) → Grows old mid → Grows mid new → Grows old new
-  pub undisturbed_parts : (port : ℕ) (old mid new : Device) (early late : List Entry) → mid.tape ≡ old.tape ++ early
-      → new.tape ≡ mid.tape ++ late → Undisturbed port old new → Undisturbed port old mid × Undisturbed port mid new
   pub same_refl : (d : Device) → SameAdapter d d
   pub same_more : (old mid new : Device) → SameAdapter old mid → SameAdapter mid new → SameAdapter old new
   pub on_all : (accesses : List Access) (old new : Device) → IsOn old → All (SparesRegister Ghc) accesses
@@ -173,25 +169,4 @@ pub record Laws : Type 0 where
       → AreDone acts k m later → All (SparesRegister (Px port Cmd)) (accesses_of acts)
       → IsHaltedAsTaken (k.device.port port.0) → IsHaltedAsTaken (later.device.port port.0)
   -- this crate's kinds of accesses
-  pub reads : (kind : Stretch) (r : Reg) (v : ℕ) (old new : Device) → may_of kind (Reading r v) → Reads r v old new
-      → IsTold (λ made. made ≡ Reading r v ∷ []) (may_of kind) (fits_of kind) old new
-  pub writes : (kind : Stretch) (r : Reg) (v : ℕ) (old new : Device) → may_of kind (Writing r v)
-      → Stays (MayWrite r v) old → ((uses : Uses) → fits_of kind uses → LeavesUses uses r v old) → Writes r v old new
-      → IsTold (λ made. made ≡ Writing r v ∷ []) (may_of kind) (fits_of kind) old new
-  pub both : (kind then : Stretch) (first second : Uses → Uses)
-      → ((access : Access) → may_of then access → may_of kind access)
-      → ((uses : Uses) → fits_of kind uses → fits_of then (first uses)) → (old mid new : Device)
-      → (a : IsFollowedTo (may_of kind) (fits_of kind) first old mid)
-      → (b : IsFollowedTo (may_of then) (fits_of then) second mid new)
-      → IsToldTo (λ made. made ≡ a.driven.accesses ++ b.driven.accesses) (may_of kind) (fits_of kind)
-      (λ uses. second (first uses)) old new
-  pub wider : (kind more : Stretch) (next : Uses → Uses) → ((access : Access) → may_of kind access → may_of more access)
-      → ((uses : Uses) → fits_of more uses → fits_of kind uses) → (old new : Device)
-      → (a : IsFollowedTo (may_of kind) (fits_of kind) next old new)
-      → IsToldTo (λ made. made ≡ a.driven.accesses) (may_of more) (fits_of more) next old new
-  pub agreed : (kind : Stretch) (next : Uses → Uses) (uses : Uses) (old new : Device) → fits_of kind uses
-      → IsFollowedTo (may_of kind) (fits_of kind) next old new → IsAgreed uses old → IsAgreed (next uses) new
-  pub silent : (kind : Stretch) (next : Uses → Uses) (uses : Uses) (port : Port) (o : Operation) (old new : Device)
-      → fits_of kind uses → NoneWrites (may_of kind) (Px port Ci) → NoneWrites (may_of kind) (Px port Sact)
-      → op_of o ≡ None → (uses port.0 0 ≡ Own o → ⊥) → IsFollowedTo (may_of kind) (fits_of kind) next old new
-      → IsAgreed uses old → SendsNone port.0 o old new
+  pub stretches : StretchLaws Stretch may_of fits_of

@@ -3,15 +3,11 @@ ghost use Rattle.host_boot.specs.Laws.{Laws, Stretch, fits_of, may_of};
 
 use adapter::laws::{accesses_compose, steps_keep};
 use agreement::disks::{none_comes_in, reset_is_idle};
-use agreement::facts::{
-    adapter_stays, calm_composes, device_or_none_stays, reset_is_found, switching_on,
-};
-use agreement::kinds::{
-    Kinds, accesses_are_followed, followed_stretches_give, stretches_are_followed,
-};
+use agreement::facts::{adapter_stays, device_or_none_stays, reset_is_found, switching_on};
+use agreement::kinds::{Kinds, stretch_laws_hold};
 use agreement::laws::putting_is_of_one_slot;
 use agreement::recovering::halts_are_of_taken_commands;
-use agreement::stretches::{agreeing_goes_on, other_ports_are_left, tapes_grow};
+use agreement::stretches::{agreeing_goes_on, other_ports_are_left, tape_laws_hold};
 use port_boot::laws::{
     a_boot_is_of_its_port, a_disk_is_in_where_one_shows, a_port_runs_on, boots_are_driven,
     what_was_found_goes_on,
@@ -37,19 +33,16 @@ pub fn laws_hold()
     steps_keep();
     none_comes_in();
     adapter_stays();
-    calm_composes();
     device_or_none_stays();
     reset_is_found();
     reset_is_idle();
     switching_on();
-    accesses_are_followed::<Boots>();
-    followed_stretches_give::<Boots>();
-    stretches_are_followed::<Boots>();
+    stretch_laws_hold::<Boots>();
     putting_is_of_one_slot();
     halts_are_of_taken_commands();
     agreeing_goes_on();
     other_ports_are_left();
-    tapes_grow();
+    tape_laws_hold();
     a_boot_is_of_its_port();
     a_disk_is_in_where_one_shows();
     a_port_runs_on();

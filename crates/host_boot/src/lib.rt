@@ -23,7 +23,7 @@ ghost use Rattle.host_boot.specs.Again.{BootsAgain, BootsIfThere, BootsStopped};
 ghost use Rattle.host_boot.specs.Taken.{Boots, HaltsFound, WroteControl, StandsBehind, GoesThrough, IsOfHost, IsSurvey, LeavesPorts, TakesOver};
 
 use adapter::Adapter;
-use ata_types::{DRIVER_BYTES, Port, PortState};
+use ata_types::{DRIVER_BYTES, PORTS, Port, PortState, READINGS};
 use hba_regs::{Capabilities, GlobalControl, Reg, is_set};
 use identify::{DiskInfo, Wanted};
 use lawful::laws_hold;
@@ -35,9 +35,6 @@ pub mod laws;
 mod resetting;
 
 pub use resetting::{AdapterStuck, reset};
-
-/// How many ports the driver has memory for.
-pub const PORTS: usize = 4;
 
 /// What a port was found to be.
 #[derive(Clone, Copy, PartialEq, Eq, Debug)]
@@ -198,7 +195,7 @@ pub fn boot_again<A: Adapter>(adapter: &mut A, stopped: Stopped, wanted: &Wanted
 pub fn boot_if_there<A: Adapter>(adapter: &mut A, stopped: Stopped, wanted: &Wanted) -> Booted
     requires bootable { IsBootable stopped.port (A.device adapter.old) }
     requires stopped { IsStopped ((A.device adapter.old).port stopped.port.0) }
-    requires saw { ((A.device adapter.old).port stopped.port.0).notes.link_count ≡ 64 }
+    requires saw { ((A.device adapter.old).port stopped.port.0).notes.link_count ≡ READINGS }
     ensures on { IsOn (A.device adapter.new) }
     ensures boots { BootsIfThere wanted.now stopped.port result (A.device adapter.old) (A.device adapter.new) }
 {

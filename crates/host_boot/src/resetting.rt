@@ -4,8 +4,8 @@ ghost use Rattle.host_boot.specs.Resets.{Resets, StaysReset};
 
 use super::lawful::laws_hold;
 use adapter::Adapter;
+use ata_types::READINGS;
 use hba_regs::{GlobalControl, Reg};
-use port_control::READINGS;
 
 /// The adapter didn't end its reset.
 #[derive(Clone, Copy, PartialEq, Eq, Debug)]

@@ -9,6 +9,7 @@ use Rattle.ata_types.specs.declared.range.Sector.{Sector}
 use Rattle.ata_types.specs.declared.request.Frame.{Frame}
 use Rattle.ata_types.specs.declared.request.Op.{Op}
 use Rattle.ata_types.specs.declared.request.Op.TheVariants.{Read, Write, Trim, Flush}
+use Rattle.ata_types.specs.declared.limits.TheConstants.{MOST_REQUEST_SECTORS}
 use Rattle.adapter.specs.Device.{Device}
 use Rattle.adapter.specs.Trim.{consecutive}
 use Rattle.adapter.specs.Commands.{command_of, is_queued, is_ranged, pieces_moved}
@@ -68,7 +69,7 @@ no_block range port memory = of_transfer (λ op. HasBlockOf op range port memory
 as_many : (frames : List Frame) (count : ℕ) → length (places_of frames count) ≡ count
 as_many frames count = length-map-range_with_len (place_of frames) 0 count
 
-pub table_says : (r : Task) (frames : List Frame) (port slot : ℕ) → IsTransfer r.op → 1 ≤ r.range.count → r.range.count ≤ 256 → r.range.first.0 < 2 ^ 48 → (command : Command) (prds : List Prd) →
+pub table_says : (r : Task) (frames : List Frame) (port slot : ℕ) → IsTransfer r.op → 1 ≤ r.range.count → r.range.count ≤ MOST_REQUEST_SECTORS → r.range.first.0 < 2 ^ 48 → (command : Command) (prds : List Prd) →
     command ≡ command_of (operation_of r.queued r.op) slot r.range.first.0 r.range.count → All IsWhole prds → pieces prds ≡ places_of frames r.range.count →
     IsTableFor slot command prds (meaning_of r) (addresses_of port r.op r.range.count frames)
 table_says r frames port slot transfers some few first command prds fields whole places =

@@ -7,6 +7,7 @@ use Rattle.ata_types.specs.declared.request.Frame.{Frame}
 use Rattle.ata_types.specs.declared.request.Op.{Op}
 use Rattle.ata_types.specs.declared.request.Op.TheVariants.{Read, Write, Trim, Flush}
 use Rattle.ata_types.specs.declared.request.RequestId.{RequestId}
+use Rattle.ata_types.specs.declared.limits.TheConstants.{MOST_REQUEST_SECTORS}
 use Rattle.hba_regs.specs.declared.reg.Reg.TheVariants.{Px}
 use Rattle.hba_regs.specs.declared.reg.PortReg.TheVariants.{Ci, Sact}
 use Rattle.adapter.specs.Access.{Access, Writes}
@@ -41,7 +42,7 @@ IsTransfer op = (op ≡ Read) ⊎ (op ≡ Write)
 pub record IsFit (r : Task) (frames : List Frame) : Type 0 where
   pub transfers : IsTransfer r.op
   pub some : 1 ≤ r.range.count
-  pub few : r.range.count ≤ 256
+  pub few : r.range.count ≤ MOST_REQUEST_SECTORS
   pub first : r.range.first.0 < 2 ^ 48
   pub number : length frames ≡ (r.range.count + 7) / 8
 

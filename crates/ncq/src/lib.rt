@@ -26,24 +26,15 @@ pub mod laws;
 use adapter::{Adapter, Command};
 use agreement::facts::adapter_stays;
 use agreement::laws::writing_is_permitted;
-use ata_types::{DRIVER_BYTES, Frame, Op, Port, Range, Slot};
+use ata_types::{
+    DRIVER_BYTES, Frame, MOST_REQUEST_SECTORS, Op, Port, READ_DMA_EXT, READ_FPDMA_QUEUED, Range,
+    Slot, WRITE_DMA_EXT, WRITE_FPDMA_QUEUED,
+};
 use command_table::{prds, write_table};
 use finding::reading_finds_done;
 use hba_regs::{PortReg, Reg, with_bit};
 use issuing::stores_leave_the_port;
 use laws::writing_issues;
-
-/// READ DMA EXT (ACS-3).
-const READ_DMA_EXT: u8 = 0x25;
-
-/// WRITE DMA EXT (ACS-3).
-const WRITE_DMA_EXT: u8 = 0x35;
-
-/// READ FPDMA QUEUED (ACS-3).
-const READ_FPDMA_QUEUED: u8 = 0x60;
-
-/// WRITE FPDMA QUEUED (ACS-3).
-const WRITE_FPDMA_QUEUED: u8 = 0x61;
 
 /// Where a queued command has its tag, which is its slot: bits 7:3 of the count field (ACS-3).
 const TAG_FACTOR: u16 = 8;
@@ -67,7 +58,7 @@ pub struct Task {
 /// field the tag.
 fn command(transfer: &Task, slot: Slot) -> Command
     requires transfers { IsTransfer transfer.now.op }
-    requires few { transfer.now.range.count ≤ 256 }
+    requires few { transfer.now.range.count ≤ MOST_REQUEST_SECTORS }
     requires slot { slot.0 < 32 }
     ensures { result ≡ command_of (operation_of transfer.now.queued transfer.now.op) slot.0 transfer.now.range.first.0
         transfer.now.range.count }

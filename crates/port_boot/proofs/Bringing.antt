@@ -94,7 +94,7 @@ module _ (laws : Laws) where
           on = stays_on laws set port old new f.driven b.on;
           there = there_after s b.there;
           room = let same = s.size in let room = b.room in omega (arith, same, room);
-          agreed = (b.agreed.0, b.agreed.1, laws.agreed (Controlling set fitting port) (λ uses. uses) b.agreed.0 old new (fits b.agreed.0 b.agreed.1) f b.agreed.2);
+          agreed = (b.agreed.0, b.agreed.1, laws.stretches.agreed (Controlling set fitting port) (λ uses. uses) b.agreed.0 old new (fits b.agreed.0 b.agreed.1) f b.agreed.2);
         }
 
   -- it is a part of the boot, and as much is told of it
@@ -183,9 +183,9 @@ module _ (laws : Laws) where
             way = record { placed = mid; places = first.followed.driven; found = reset; resets = f.resets; starts = third.driven; set = s.set };
             calm = λ place small. s.calm place (found.calm place small);
             clear = record {
-              serr_n = λ none. let parts = plugs_in_parts laws port.0 old reset new (laws.grows_more old mid reset early late) last none in changes.serr_n parts.1 (found.clear.serr_n parts.0);
-              serr_x = λ none. let parts = comes_in_parts laws port.0 old reset new (laws.grows_more old mid reset early late) last none in changes.serr_x parts.1 (found.clear.serr_x parts.0);
+              serr_n = λ none. let parts = plugs_in_parts laws port.0 old reset new (laws.tape.grows_more old mid reset early late) last none in changes.serr_n parts.1 (found.clear.serr_n parts.0);
+              serr_x = λ none. let parts = comes_in_parts laws port.0 old reset new (laws.tape.grows_more old mid reset early late) last none in changes.serr_x parts.1 (found.clear.serr_x parts.0);
             };
             recorded = s.recorded quiet;
-            well = λ none. let parts = plugs_in_parts laws port.0 old reset new (laws.grows_more old mid reset early late) last none in s.well (found.up parts.0) parts.1;
+            well = λ none. let parts = plugs_in_parts laws port.0 old reset new (laws.tape.grows_more old mid reset early late) last none in s.well (found.up parts.0) parts.1;
           }

@@ -34,37 +34,37 @@ module _ (laws : Laws) where
   pub errors_more : (port : ℕ) (old mid new : Device) → Grows old mid → Grows mid new → ChangesByErrors port old mid → ChangesByErrors port mid new → ChangesByErrors port old new
   errors_more port old mid new early late a b = record {
     fatal = λ none place low high clear.
-        let parts = laws.fatal_parts port old mid new early.0 late.0 early.1 late.1 none in
+        let parts = laws.tape.fatal_parts port old mid new early.0 late.0 early.1 late.1 none in
         b.fatal parts.1 place low high (a.fatal parts.0 place low high clear);
     fault = λ none clear.
-        let parts = laws.fails_parts port old mid new early.0 late.0 early.1 late.1 none in
+        let parts = laws.tape.fails_parts port old mid new early.0 late.0 early.1 late.1 none in
         b.fault parts.1 (a.fault parts.0 clear);
   }
 
   pub goes_more : (port : ℕ) (old mid new : Device) → Grows old mid → Grows mid new → HasCauses port old mid → HasCauses port mid new → HasCauses port old new
   goes_more port old mid new early late a b = record {
     undue = λ h. b.undue (a.undue h);
-    disks = λ h. laws.change_more port old mid new early late (a.disks h) (b.disks (a.undue h));
+    disks = λ h. laws.tape.change_more port old mid new early late (a.disks h) (b.disks (a.undue h));
     errors = errors_more port old mid new early late a.errors b.errors;
   }
 
   goes_none : (port : ℕ) (d : Device) → HasCauses port d d
   goes_none port d = record {
     undue = λ h. h;
-    disks = λ h. laws.change_none port d;
+    disks = λ h. laws.tape.change_none port d;
     errors = record { fatal = λ none place low high clear. clear; fault = λ none clear. clear };
   }
 
   pub endures_more : (port : ℕ) (a b c : Device) → Endures port a b → Endures port b c → Endures port a c
   endures_more port a b c x y = record {
-    grows = laws.grows_more a b c x.grows y.grows;
+    grows = laws.tape.grows_more a b c x.grows y.grows;
     goes = goes_more port a b c x.grows y.grows x.goes y.goes;
     up = λ calm h. let parts = calm_in_parts laws port a b c x.grows y.grows calm in y.up parts.1 (x.up parts.0 h);
   }
 
   pub lasts_more : (port : ℕ) (a b c : Device) → Lasts port a b → Lasts port b c → Lasts port a c
   lasts_more port a b c x y = record {
-    grows = laws.grows_more a b c x.grows y.grows;
+    grows = laws.tape.grows_more a b c x.grows y.grows;
     runs = record {
       goes = goes_more port a b c x.grows y.grows x.runs.goes y.runs.goes;
       started = λ calm h. let parts = calm_in_parts laws port a b c x.grows y.grows calm in y.runs.started parts.1 (x.runs.started parts.0 h);
@@ -77,21 +77,21 @@ module _ (laws : Laws) where
   module _ (port : Port) (access : Access) (old new : Device) (on : IsOn old) (control : SparesRegister (Px port Sctl) access) (does : Does access old new) where
     goes_access : HasCauses port.0 old new
     goes_access = record {
-      undue = λ h. laws.access_undue port access old new on.no_reset h control does;
-      disks = λ h. laws.access_change port access old new on.no_reset h does;
+      undue = λ h. laws.tape.access_undue port access old new on.no_reset h control does;
+      disks = λ h. laws.tape.access_change port access old new on.no_reset h does;
       errors = laws.access_raises port access old new does;
     }
 
     pub endures_access : Endures port.0 old new
     endures_access = record {
-      grows = laws.access_grows access old new does;
+      grows = laws.tape.access_grows access old new does;
       goes = goes_access;
       up = λ calm h. laws.access_stays_up port access old new on.no_reset control calm does h;
     }
 
     pub lasts_access : SparesRegister (Px port Cmd) access → Lasts port.0 old new
     lasts_access command = record {
-      grows = laws.access_grows access old new does;
+      grows = laws.tape.access_grows access old new does;
       runs = record {
         goes = goes_access;
         started = λ calm h. laws.access_started port access old new on.no_reset
@@ -106,7 +106,7 @@ module _ (laws : Laws) where
   later access old new on spares does = laws.access_on access old new on (λ v is. absurd (subst (SparesRegister Ghc) is spares refl)) does
 
   pub endures : (port : Port) (accesses : List Access) (old new : Device) → IsOn old → DoesAll accesses old new → All (SparesRegister Ghc) accesses → All (SparesRegister (Px port Sctl)) accesses → Endures port.0 old new
-  endures port [] old new on is host control = subst (Endures port.0 old) (sym is) (record { grows = laws.grows_none old; goes = goes_none port.0 old; up = λ calm h. h })
+  endures port [] old new on is host control = subst (Endures port.0 old) (sym is) (record { grows = laws.tape.grows_none old; goes = goes_none port.0 old; up = λ calm h. h })
   endures port (access ∷ accesses) old new on (mid, does, rest) host control =
       endures_more port.0 old mid new (endures_access port access old mid on (All-head (SparesRegister (Px port Sctl)) access accesses control) does)
       (endures port accesses mid new (later access old mid on (All-head (SparesRegister Ghc) access accesses host) does) rest (All-tail (SparesRegister Ghc) access accesses host)
@@ -115,7 +115,7 @@ module _ (laws : Laws) where
   pub lasts : (port : Port) (accesses : List Access) (old new : Device) → IsOn old → DoesAll accesses old new → All (SparesRegister Ghc) accesses → All (SparesRegister (Px port Sctl)) accesses →
       All (SparesRegister (Px port Cmd)) accesses → Lasts port.0 old new
   lasts port [] old new on is host control command =
-      subst (Lasts port.0 old) (sym is) (record { grows = laws.grows_none old; runs = record { goes = goes_none port.0 old; started = λ calm h. h; recorded = λ h. h } })
+      subst (Lasts port.0 old) (sym is) (record { grows = laws.tape.grows_none old; runs = record { goes = goes_none port.0 old; started = λ calm h. h; recorded = λ h. h } })
   lasts port (access ∷ accesses) old new on (mid, does, rest) host control command =
       lasts_more port.0 old mid new
       (lasts_access port access old mid on (All-head (SparesRegister (Px port Sctl)) access accesses control) does (All-head (SparesRegister (Px port Cmd)) access accesses command))
@@ -129,7 +129,7 @@ module _ (laws : Laws) where
       let disks = runs.goes.disks well.linked in
       laws.well_of (new.port port) (runs.started calm (laws.started_well (old.port port) well)) (record {
         serr_n = disks.serr_n none well.quiet.serr_n;
-        serr_x = disks.serr_x (laws.plugs_come port old new none) well.quiet.serr_x;
+        serr_x = disks.serr_x (laws.tape.plugs_come port old new none) well.quiet.serr_x;
         quiet = λ place low high. elim (cases_eq place 30) [
           | inl e ↦
               let P : ℕ → Type 0 = λ k. (new.port port).is k ≡ false in

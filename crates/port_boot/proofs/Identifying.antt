@@ -5,6 +5,7 @@ use Rattle.std.proofs.lemmas.List.Elements.{All-append}
 use Rattle.ata_types.specs.declared.Port.{Port}
 use Rattle.ata_types.specs.declared.PortState.{PortState}
 use Rattle.ata_types.specs.declared.PortState.TheVariants.{Absent, Ready, Foreign, Unfit, Dead}
+use Rattle.ata_types.specs.declared.memory.TheConstants.{DRIVER_BYTES}
 use Rattle.hba_regs.specs.declared.reg.PortReg.TheVariants.{Ci, Cmd, Ie}
 use Rattle.hba_regs.specs.declared.reg.Reg.TheVariants.{Px}
 use Rattle.adapter.specs.Access.{Access, Writes, port_written}
@@ -140,7 +141,7 @@ module _ (laws : Laws) where
       pub asked_there : HasPort mid port.0
       asked_there = there_after (asking_adapter port old mid driven) up.bootable.there
 
-      pub asked_room : 163840 ≤ mid.size
+      pub asked_room : DRIVER_BYTES ≤ mid.size
       asked_room = let same = (asking_adapter port old mid driven).size in let room = up.bootable.room in omega (arith, same, room)
 
   -- where it didn't stop, its engine is stuck
@@ -172,7 +173,7 @@ module _ (laws : Laws) where
 
         stopped_boots : IsOver (new.port port.0) 0 → IsBoot Tells port old new
         stopped_boots over = told_wider laws Tells (Booting HeadUnused port) (Booting PortUnused port) (λ uses. uses) old new (λ access may. may) (unused port)
-            (let f = laws.over (Booting HeadUnused port) port Identify 1 old new (inr (refl, refl)) (λ uses free. free) over given.followed in
+            (let f = laws.stretches.over (Booting HeadUnused port) port Identify 1 old new (inr (refl, refl)) (λ uses free. free) over given.followed in
             record { followed = f.followed; tells = subst Tells (sym f.tells) given.tells })
 
       pub unasked_ends : (wanted : Option (List ℕ)) (result : PortState) → IsHaltedAs port (Unfit 9) result mid new → EndsAs wanted result port.0 new
@@ -270,7 +271,7 @@ module _ (laws : Laws) where
 
       pub enabled_boots : IsFollowed (IsOfBoot port) (λ uses. AllFree uses port.0) old new
       enabled_boots = followed_then laws (Booting PortUnused port) old mid new asked_boots
-          (laws.writes (Booting PortUnused port) (Px port Ie) v mid new (inl (refl, inr (inr refl))) (enabling port v mid identified.bootable) (λ uses free. tt) call).followed
+          (laws.stretches.writes (Booting PortUnused port) (Px port Ie) v mid new (inl (refl, inr (inr refl))) (enabling port v mid identified.bootable) (λ uses free. tt) call).followed
 
     -- or the port is stopped, of which so much is told
     halted_as : (Tells : List Access → Type 0) → ((early late : List Access) → Tells late → Tells (early ++ late)) → (new : Device) → IsTold Tells (IsControl WritesCommand port) AnyUse mid new → IsBoot Tells port old new

@@ -106,10 +106,10 @@ module _ (laws : Laws) where
 
     fatal_since : HasCauses port.0 old new → NoneFatal port.0 start new → (place : ℕ) → 27 ≤ place → place ≤ 29 → (new.port port.0).is place ≡ false
     fatal_since goes none place low high =
-        goes.errors.fatal (laws.fatal_parts port.0 start old new early.0 late.0 early.1 late.1 none).1 place low high (up.calm place (omega (arith, high)))
+        goes.errors.fatal (laws.tape.fatal_parts port.0 start old new early.0 late.0 early.1 late.1 none).1 place low high (up.calm place (omega (arith, high)))
 
     fault_since : HasCauses port.0 old new → NoneFails port.0 start new → (new.port port.0).is 30 ≡ false
-    fault_since goes none = goes.errors.fault (laws.fails_parts port.0 start old new early.0 late.0 early.1 late.1 none).1 (up.calm 30 (omega arith))
+    fault_since goes none = goes.errors.fault (laws.tape.fails_parts port.0 start old new early.0 late.0 early.1 late.1 none).1 (up.calm 30 (omega arith))
 
     -- where no disk went or came, and nothing else went wrong since the port was up
     no_trouble : HasCauses port.0 old new → PlugsNone port.0 start new → Undisturbed port.0 old new → ShowsNoTrouble (new.port port.0)
@@ -117,7 +117,7 @@ module _ (laws : Laws) where
         let clear = clear_since goes in
         record {
           serr_n = clear.serr_n plugs;
-          serr_x = clear.serr_x (laws.plugs_come port.0 start new plugs);
+          serr_x = clear.serr_x (laws.tape.plugs_come port.0 start new plugs);
           quiet = λ place low high. elim (cases_eq place 30) [
             | inl e ↦ let P : ℕ → Type 0 = λ k. (new.port port.0).is k ≡ false in subst P (sym e) (goes.errors.fault (laws.undisturbed_fails port.0 old new calm) (up.calm 30 (omega arith)))
             | inr ne ↦ goes.errors.fatal (laws.undisturbed_fatal port.0 old new calm) place low (omega (arith, high, ne)) (up.calm place (omega (arith, high)))

@@ -45,13 +45,13 @@ module _ (laws : Laws) where
 
   module _ (port : ℕ) (old mid new : Device) (early : Grows old mid) (late : Grows mid new) where
     pub comes_in_parts : NoneComes port old new → NoneComes port old mid × NoneComes port mid new
-    comes_in_parts none = laws.comes_parts port old mid new early.0 late.0 early.1 late.1 none
+    comes_in_parts none = laws.tape.comes_parts port old mid new early.0 late.0 early.1 late.1 none
 
     pub plugs_in_parts : PlugsNone port old new → PlugsNone port old mid × PlugsNone port mid new
-    plugs_in_parts none = laws.plugs_parts port old mid new early.0 late.0 early.1 late.1 none
+    plugs_in_parts none = laws.tape.plugs_parts port old mid new early.0 late.0 early.1 late.1 none
 
     pub calm_in_parts : Undisturbed port old new → Undisturbed port old mid × Undisturbed port mid new
-    calm_in_parts calm = laws.undisturbed_parts port old mid new early.0 late.0 early.1 late.1 calm
+    calm_in_parts calm = laws.tape.calm_parts port old mid new early.0 late.0 early.1 late.1 calm
 
   -- ---- stretches that are followed
 
@@ -59,12 +59,12 @@ module _ (laws : Laws) where
   pub told_wider : (Tells : List Access → Type 0) (kind more : Stretch) (next : Uses → Uses) (old new : Device) → ((access : Access) → may_of kind access → may_of more access) →
       ((uses : Uses) → fits_of more uses → fits_of kind uses) → IsToldTo Tells (may_of kind) (fits_of kind) next old new → IsToldTo Tells (may_of more) (fits_of more) next old new
   told_wider Tells kind more next old new wider fits a =
-      let f = laws.wider kind more next wider fits old new a.followed in
+      let f = laws.stretches.wider kind more next wider fits old new a.followed in
       record { followed = f.followed; tells = subst Tells (sym f.tells) a.tells }
 
   pub followed_wider : (kind more : Stretch) (next : Uses → Uses) (old new : Device) → ((access : Access) → may_of kind access → may_of more access) →
       ((uses : Uses) → fits_of more uses → fits_of kind uses) → IsFollowedTo (may_of kind) (fits_of kind) next old new → IsFollowedTo (may_of more) (fits_of more) next old new
-  followed_wider kind more next old new wider fits a = (laws.wider kind more next wider fits old new a).followed
+  followed_wider kind more next old new wider fits a = (laws.stretches.wider kind more next wider fits old new a).followed
 
   -- of two, one after another
   module _ (First Second Tells : List Access → Type 0) (join : (early late : List Access) → First early → Second late → Tells (early ++ late)) where
@@ -72,7 +72,7 @@ module _ (laws : Laws) where
         (old mid new : Device) → IsToldTo First (may_of kind) (fits_of kind) first old mid → IsToldTo Second (may_of then) (fits_of then) second mid new →
         IsToldTo Tells (may_of kind) (fits_of kind) (λ uses. second (first uses)) old new
     told_both kind then first second wider on old mid new a b =
-        let f = laws.both kind then first second wider on old mid new a.followed b.followed in
+        let f = laws.stretches.both kind then first second wider on old mid new a.followed b.followed in
         record { followed = f.followed; tells = subst Tells (sym f.tells) (join a.followed.driven.accesses b.followed.driven.accesses a.tells b.tells) }
 
   -- of one that goes on, or that was begun before
@@ -88,4 +88,4 @@ module _ (laws : Laws) where
         (record { followed = a; tells = tt }) b
 
   pub followed_then : (kind : Stretch) (old mid new : Device) → IsFollowed (may_of kind) (fits_of kind) old mid → IsFollowed (may_of kind) (fits_of kind) mid new → IsFollowed (may_of kind) (fits_of kind) old new
-  followed_then kind old mid new a b = (laws.both kind kind (λ uses. uses) (λ uses. uses) (λ access may. may) (λ uses fits. fits) old mid new a b).followed
+  followed_then kind old mid new a b = (laws.stretches.both kind kind (λ uses. uses) (λ uses. uses) (λ access may. may) (λ uses fits. fits) old mid new a b).followed

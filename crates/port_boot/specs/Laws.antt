@@ -1,10 +1,11 @@
 -- What laws of the crates below say of accesses, with the kinds of accesses of this crate: its proofs rest on them.
-use Rattle.std.specs.Prelude.{ℕ, true, false, ◌≡◌, ◌≢◌, ◌++◌, List, [], ◌∷◌}
+use Rattle.std.specs.Prelude.{ℕ, true, false, ◌≡◌, ◌≢◌, ◌++◌, List}
 use Rattle.ata_types.specs.declared.Port.{Port}
 use Rattle.adapter.specs.Access.{Access, Does, Writes}
-use Rattle.agreement.specs.Driver.{AllFree, LeavesUses}
-use Rattle.agreement.specs.Driven.{AnyAccess, AnyUse, Grows, HasNoCommand, IsAgreed, IsControl, IsDrivenBy, IsFollowedTo, IsOf, IsTold, IsToldTo, SendsNone}
-use Rattle.agreement.specs.Errors.{ChangesByDisks, ChangesByErrors, NoneComes, NoneFails, NoneFatal}
+use Rattle.agreement.specs.Laws.{StretchLaws, TapeLaws}
+use Rattle.agreement.specs.Driver.{AllFree}
+use Rattle.agreement.specs.Driven.{AnyAccess, AnyUse, HasNoCommand, IsControl, IsDrivenBy, IsOf, SendsNone}
+use Rattle.agreement.specs.Errors.{ChangesByErrors, NoneFails, NoneFatal}
 use Rattle.hba_regs.specs.declared.reg.PortReg.TheVariants.{Ci, Cmd, Sctl}
 use Rattle.agreement.specs.Started.{ClearsNoStart, IsStarted, IsUp}
 use Rattle.adapter.specs.Device.{Device, PortState}
@@ -15,7 +16,7 @@ use Rattle.block_machine.specs.Histories.{IsReached}
 use Rattle.block_machine.specs.State.{Machine}
 use Rattle.adapter.specs.declared.tape.Entry.{Entry}
 use Rattle.port_control.specs.Engines.{FailsToStop, FailsToStopReceiving, Falls, Sticks}
-use Rattle.agreement.specs.Slots.{Free, IsOver, Own, Uses, put}
+use Rattle.agreement.specs.Slots.{IsOver, Uses}
 use Rattle.hba_regs.specs.declared.reg.Reg.TheVariants.{Ghc, Px}
 use Rattle.disk_page.specs.Asking.{IsAsking, LeavesRunning}
 use Rattle.port_boot.specs.States.{IsBooting, IsOfBoot}
@@ -85,23 +86,13 @@ pub record Laws : Type 0 where
       → ((v : ℕ) → access ≡ Writing Ghc v → (bit v 31 ≡ true) × (bit v 0 ≡ false)) → Does access old new → IsOn new
   pub write_stays : (r : Reg) (v : ℕ) (d : Device) → ((port : Port) → r ≢ Px port Ci) → MayWrite r v d
       → Stays (MayWrite r v) d
-  pub access_grows : (access : Access) (old new : Device) → Does access old new → Grows old new
-  pub grows_none : (d : Device) → Grows d d
-  pub grows_more : (old mid new : Device) → Grows old mid → Grows mid new → Grows old new
+  pub tape : TapeLaws
   pub access_unmoving : (port : ℕ) (o : Operation) (access : Access) (old new : Device) → HasNoCommand (old.port port)
       → Does access old new → SendsNone port o old new
   pub controls_unmoving : (port : Port) (o : Operation) (old new : Device)
       → IsDrivenBy (IsControl (λ r. r ≢ Ci) port) old new → HasNoCommand (old.port port.0) → SendsNone port.0 o old new
       × HasNoCommand (new.port port.0)
   -- what goes on
-  pub access_change : (port : Port) (access : Access) (old new : Device) → old.hr ≡ false
-      → (old.port port.0).link_due ≡ false → Does access old new → ChangesByDisks port.0 old new
-  pub access_undue : (port : Port) (access : Access) (old new : Device) → old.hr ≡ false
-      → (old.port port.0).link_due ≡ false → SparesRegister (Px port Sctl) access → Does access old new
-      → (new.port port.0).link_due ≡ false
-  pub change_none : (port : ℕ) (d : Device) → ChangesByDisks port d d
-  pub change_more : (port : ℕ) (old mid new : Device) → Grows old mid → Grows mid new → ChangesByDisks port old mid
-      → ChangesByDisks port mid new → ChangesByDisks port old new
   pub access_raises : (port : Port) (access : Access) (old new : Device) → Does access old new
       → ChangesByErrors port.0 old new
   pub access_stays_up : (port : Port) (access : Access) (old new : Device) → old.hr ≡ false
@@ -121,20 +112,9 @@ pub record Laws : Type 0 where
   pub well_of : (p : PortState) → IsStarted p → ShowsNoTrouble p → RunsWell p
   pub started_well : (p : PortState) → RunsWell p → IsStarted p
   -- what the tape tells
-  pub comes_parts : (port : ℕ) (old mid new : Device) (early late : List Entry) → mid.tape ≡ old.tape ++ early
-      → new.tape ≡ mid.tape ++ late → NoneComes port old new → NoneComes port old mid × NoneComes port mid new
-  pub plugs_come : (port : ℕ) (old new : Device) → PlugsNone port old new → NoneComes port old new
-  pub plugs_parts : (port : ℕ) (old mid new : Device) (early late : List Entry) → mid.tape ≡ old.tape ++ early
-      → new.tape ≡ mid.tape ++ late → PlugsNone port old new → PlugsNone port old mid × PlugsNone port mid new
   pub undisturbed_plugs : (port : ℕ) (old new : Device) → Undisturbed port old new → PlugsNone port old new
-  pub fatal_parts : (port : ℕ) (old mid new : Device) (early late : List Entry) → mid.tape ≡ old.tape ++ early
-      → new.tape ≡ mid.tape ++ late → NoneFatal port old new → NoneFatal port old mid × NoneFatal port mid new
   pub undisturbed_fatal : (port : ℕ) (old new : Device) → Undisturbed port old new → NoneFatal port old new
-  pub fails_parts : (port : ℕ) (old mid new : Device) (early late : List Entry) → mid.tape ≡ old.tape ++ early
-      → new.tape ≡ mid.tape ++ late → NoneFails port old new → NoneFails port old mid × NoneFails port mid new
   pub undisturbed_fails : (port : ℕ) (old new : Device) → Undisturbed port old new → NoneFails port old new
-  pub undisturbed_parts : (port : ℕ) (old mid new : Device) (early late : List Entry) → mid.tape ≡ old.tape ++ early
-      → new.tape ≡ mid.tape ++ late → Undisturbed port old new → Undisturbed port old mid × Undisturbed port mid new
   -- stretches
   pub of_on : (port : Port) (old new : Device) → IsOn old → IsDrivenBy (IsOf port) old new → IsOn new
   pub same_any : (old new : Device) → IsDrivenBy AnyAccess old new → SameAdapter old new
@@ -161,24 +141,4 @@ pub record Laws : Type 0 where
   pub control_wider : (set more : RegisterSet) (port : Port)
       → ((r : PortReg) → registers_of set r → registers_of more r) → (access : Access)
       → IsControl (registers_of set) port access → IsControl (registers_of more) port access
-  pub writes : (kind : Stretch) (r : Reg) (v : ℕ) (old new : Device) → may_of kind (Writing r v)
-      → Stays (MayWrite r v) old → ((uses : Uses) → fits_of kind uses → LeavesUses uses r v old) → Writes r v old new
-      → IsTold (λ made. made ≡ Writing r v ∷ []) (may_of kind) (fits_of kind) old new
-  pub both : (kind then : Stretch) (first second : Uses → Uses)
-      → ((access : Access) → may_of then access → may_of kind access)
-      → ((uses : Uses) → fits_of kind uses → fits_of then (first uses)) → (old mid new : Device)
-      → (a : IsFollowedTo (may_of kind) (fits_of kind) first old mid)
-      → (b : IsFollowedTo (may_of then) (fits_of then) second mid new)
-      → IsToldTo (λ made. made ≡ a.driven.accesses ++ b.driven.accesses) (may_of kind) (fits_of kind)
-      (λ uses. second (first uses)) old new
-  pub wider : (kind more : Stretch) (next : Uses → Uses) → ((access : Access) → may_of kind access → may_of more access)
-      → ((uses : Uses) → fits_of more uses → fits_of kind uses) → (old new : Device)
-      → (a : IsFollowedTo (may_of kind) (fits_of kind) next old new)
-      → IsToldTo (λ made. made ≡ a.driven.accesses) (may_of more) (fits_of more) next old new
-  pub over : (kind : Stretch) (port : Port) (o : Operation) (v : ℕ) (old new : Device)
-      → may_of kind (Writing (Px port Ci) v) → ((uses : Uses) → fits_of kind uses → uses port.0 0 ≡ Free)
-      → IsOver (new.port port.0) 0
-      → (a : IsFollowedTo (may_of kind) (fits_of kind) (λ uses. put uses port.0 0 (Own o)) old new)
-      → IsTold (λ made. made ≡ a.driven.accesses) (may_of kind) (fits_of kind) old new
-  pub agreed : (kind : Stretch) (next : Uses → Uses) (uses : Uses) (old new : Device) → fits_of kind uses
-      → IsFollowedTo (may_of kind) (fits_of kind) next old new → IsAgreed uses old → IsAgreed (next uses) new
+  pub stretches : StretchLaws Stretch may_of fits_of

@@ -3,17 +3,13 @@ ghost use Rattle.port_boot.specs.Laws.{Laws, RegisterSet, Stretch, fits_of, may_
 
 use adapter::laws::port_registers_are_accessed;
 use agreement::facts::{
-    adapter_stays, calm_composes, cleared_stays, coming_composes, errors_rise_by_disks,
-    fatal_errors_compose, faults_are_recorded, faults_compose, link_comes_up, plugging_composes,
-    running_well_is_found,
+    adapter_stays, cleared_stays, fatal_errors_compose, faults_are_recorded, faults_compose,
+    link_comes_up, plugging_composes, running_well_is_found,
 };
-use agreement::kinds::{
-    Kinds, Registers, accesses_are_followed, controls_are_of_a_port, followed_stretches_give,
-    stretches_are_followed,
-};
+use agreement::kinds::{Kinds, Registers, controls_are_of_a_port, stretch_laws_hold};
 use agreement::laws::writing_is_permitted;
 use agreement::recovering::halts_are_of_taken_commands;
-use agreement::stretches::{other_ports_are_left, tapes_grow, unused_slots_are_silent};
+use agreement::stretches::{other_ports_are_left, tape_laws_hold, unused_slots_are_silent};
 use disk_page::laws::asking_is_of_one_port;
 use port_control::laws::what_is_told_of_engines_stays;
 
@@ -40,24 +36,19 @@ pub fn laws_hold()
 {
     port_registers_are_accessed();
     adapter_stays();
-    calm_composes();
     cleared_stays();
-    coming_composes();
-    errors_rise_by_disks();
     fatal_errors_compose();
     faults_are_recorded();
     faults_compose();
     link_comes_up();
     plugging_composes();
     running_well_is_found();
-    accesses_are_followed::<Boots>();
+    stretch_laws_hold::<Boots>();
     controls_are_of_a_port::<Boots>();
-    followed_stretches_give::<Boots>();
-    stretches_are_followed::<Boots>();
     writing_is_permitted();
     halts_are_of_taken_commands();
     other_ports_are_left();
-    tapes_grow();
+    tape_laws_hold();
     unused_slots_are_silent();
     asking_is_of_one_port();
     what_is_told_of_engines_stays();

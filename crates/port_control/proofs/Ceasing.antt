@@ -2,6 +2,7 @@
 use Rattle.std.proofs.Common.{ℕ, ◌≡◌, ◌≢◌, ◌+◌, ◌<◌, ◌≤◌, ◌&&◌, ◌||◌, not, Bool, true, false, List, [], ◌∷◌, ◌++◌, refl, sym, ◌∙◌, ap, subst, arith, lit<}
 use Rattle.std.proofs.lemmas.Bool.{true≢false}
 use Rattle.ata_types.specs.declared.Port.{Port}
+use Rattle.ata_types.specs.declared.limits.TheConstants.{READINGS}
 use Rattle.hba_regs.specs.Bits.{bit}
 use Rattle.hba_regs.specs.declared.reg.PortReg.TheVariants.{Cmd, Sact}
 use Rattle.hba_regs.specs.declared.reg.Reg.TheVariants.{Px}
@@ -33,7 +34,7 @@ pub record IsFalling (port : Port) (start : Device) (n : ℕ) (d : Device) : Typ
   pub usable : IsUsable AnyUse port d
   pub has : HasStopped (start.port port.0) (d.port port.0)
   pub low : n ≤ (d.port port.0).notes.engine_count
-  pub high : 0 < n → (d.port port.0).notes.engine_count ≤ 64
+  pub high : 0 < n → (d.port port.0).notes.engine_count ≤ READINGS
 
 -- the port is stopped still, FRE is 0, and all else is as it was
 pub record HasEmptied (port : Port) (start d : Device) : Type 0 where
@@ -48,10 +49,10 @@ pub record IsEmptying (port : Port) (start : Device) (n : ℕ) (d : Device) : Ty
   pub told : IsTold (Awaits 4 14 port n) (IsControl WritesCommand port) AnyUse start d
   pub has : HasEmptied port start d
   pub low : n ≤ (d.port port.0).notes.engine_count
-  pub high : 0 < n → (d.port port.0).notes.engine_count ≤ 64
+  pub high : 0 < n → (d.port port.0).notes.engine_count ≤ READINGS
 
 -- one more reading that the wait goes on for
-pub counted_again : (again : Bool) (n count : ℕ) → again ≡ true → n ≤ count → n < 64 → (n + 1 ≤ counted again count) × (counted again count ≤ 64)
+pub counted_again : (again : Bool) (n count : ℕ) → again ≡ true → n ≤ count → n < READINGS → (n + 1 ≤ counted again count) × (counted again count ≤ READINGS)
 counted_again again n count on low small = rw on (omega arith, omega arith)
 
 or_true : (a b : Bool) → b ≡ true → a || b ≡ true
@@ -77,8 +78,8 @@ module _ (laws : Laws) where
     told_clears was v old mid new zero read may leaves write =
         told_both laws (λ accesses. accesses ≡ Reading (Px port Cmd) was ∷ []) (λ accesses. accesses ≡ Writing (Px port Cmd) v ∷ []) (Awaits start running port 0)
         (λ early late is then. awaits_none start running port v zero early late then) (Controlling Commanding port) old mid new
-        (laws.reads (Controlling Commanding port) (Px port Cmd) was old mid refl read)
-        (laws.writes (Controlling Commanding port) (Px port Cmd) v mid new (refl, refl) may leaves write)
+        (laws.stretches.reads (Controlling Commanding port) (Px port Cmd) was old mid refl read)
+        (laws.stretches.writes (Controlling Commanding port) (Px port Cmd) v mid new (refl, refl) may leaves write)
 
     module _ (n v : ℕ) (old mid new : Device) (a : IsTold (Awaits start running port n) (IsControl WritesCommand port) AnyUse old mid) (call : Reads (Px port Cmd) v mid new) where
       -- what is told of them, and of one more reading
@@ -87,7 +88,7 @@ module _ (laws : Laws) where
       with_reading Tells join =
           told_both laws (Awaits start running port n) (λ accesses. accesses ≡ Reading (Px port Cmd) v ∷ []) Tells join
           (Controlling Commanding port) old mid new a
-          (laws.reads (Controlling Commanding port) (Px port Cmd) v mid new refl call)
+          (laws.stretches.reads (Controlling Commanding port) (Px port Cmd) v mid new refl call)
 
       pub told_stuck : Hangs start running v → IsTold (Awaits start running port (n + 1)) (IsControl WritesCommand port) AnyUse old new
       told_stuck shows = with_reading (Awaits start running port (n + 1)) (λ early late a is. awaits_more start running port n v early late a is shows)
@@ -95,9 +96,9 @@ module _ (laws : Laws) where
       pub told_falls : bit v running ≡ false → IsTold (Falls start running port) (IsControl WritesCommand port) AnyUse old new
       told_falls zero = with_reading (Falls start running port) (λ early late a is. awaits_falls start running port n v early late a is zero)
 
-    -- after 64 of them
-    pub told_awaits : (n : ℕ) → n ≡ 64 → (old new : Device) → IsTold (Awaits start running port n) (IsControl WritesCommand port) AnyUse old new →
-        IsTold (Awaits start running port 64) (IsControl WritesCommand port) AnyUse old new
+    -- after all of them
+    pub told_awaits : (n : ℕ) → n ≡ READINGS → (old new : Device) → IsTold (Awaits start running port n) (IsControl WritesCommand port) AnyUse old new →
+        IsTold (Awaits start running port READINGS) (IsControl WritesCommand port) AnyUse old new
     told_awaits n all old new a = subst (λ (k : ℕ). IsTold (Awaits start running port k) (IsControl WritesCommand port) AnyUse old new) all a
 
   -- PxCMD is read, and written
@@ -251,7 +252,7 @@ module _ (laws : Laws) where
     awaited : bit v 15 ≡ true → not (d.port port.0).st && bit v 15 || not (d.port port.0).fre && bit v 14 ≡ true
     awaited set = ap (λ (st : Bool). not st && bit v 15 || not (d.port port.0).fre && bit v 14) w.has.st ∙ ap (λ (b : Bool). b || not (d.port port.0).fre && bit v 14) set
 
-    pub falls_still : n < 64 → bit v 15 ≡ true → IsFalling port start (n + 1) e
+    pub falls_still : n < READINGS → bit v 15 ≡ true → IsFalling port start (n + 1) e
     falls_still small set =
         let count = ap (λ (k : Notes). k.engine_count) (laws.notes_read port Cmd v d e off call) in
         let one = counted_again _ n (d.port port.0).notes.engine_count (awaited set) w.low small in
@@ -288,7 +289,7 @@ module _ (laws : Laws) where
     held : bit v 14 ≡ true → not (d.port port.0).st && bit v 15 || not (d.port port.0).fre && bit v 14 ≡ true
     held set = or_true _ _ (ap (λ (fre : Bool). not fre && bit v 14) w.has.fre ∙ set)
 
-    pub empties_still : n < 64 → bit v 14 ≡ true → IsEmptying port start (n + 1) e
+    pub empties_still : n < READINGS → bit v 14 ≡ true → IsEmptying port start (n + 1) e
     empties_still small set =
         let count = ap (λ (k : Notes). k.engine_count) (laws.notes_read port Cmd v d e quiet call) in
         let one = counted_again _ n (d.port port.0).notes.engine_count (held set) w.low small in

@@ -1,6 +1,7 @@
 -- The four registers of addresses are written.
 use Rattle.std.proofs.Common.{ℕ, ◌≡◌, ◌≢◌, ◌+◌, ◌≤◌, true, inl, inr, refl, sym, ◌∙◌, ap, subst, arith}
 use Rattle.ata_types.specs.declared.Port.{Port}
+use Rattle.ata_types.specs.declared.memory.TheConstants.{DRIVER_BYTES, RECEIVED}
 use Rattle.hba_regs.specs.declared.reg.PortReg.{PortReg}
 use Rattle.hba_regs.specs.declared.reg.PortReg.TheVariants.{Clb, Clbu, Fb, Fbu, Is, Cmd, Sctl}
 use Rattle.hba_regs.specs.declared.reg.Reg.TheVariants.{Px}
@@ -25,17 +26,17 @@ pub record IsPlacedBy (port : Port) (start d : Device) (b : Bases) : Type 0 wher
   pub followed : IsFollowed (IsControl IsPlacing port) AnyUse start d
   pub usable : IsUsable AnyUse port d
   pub quiet : IsAfterReset (d.port port.0)
-  pub room : 163840 ≤ d.size
+  pub room : DRIVER_BYTES ≤ d.size
   pub bases : (d.port port.0).bases ≡ b
   pub same : SameBeside (start.port port.0) (d.port port.0)
 
 -- all four
-pub programmed_by : (port list : ℕ) (b : Bases) → list ≡ list_of port → (record b { clb = list; fb = list + 1024; clb_set = true; clbu_set = true; fb_set = true; fbu_set = true }) ≡ programmed port
-programmed_by port list b is = ap (λ (n : ℕ). record b { clb = n; fb = n + 1024; clb_set = true; clbu_set = true; fb_set = true; fbu_set = true }) is
+pub programmed_by : (port list : ℕ) (b : Bases) → list ≡ list_of port → (record b { clb = list; fb = list + RECEIVED; clb_set = true; clbu_set = true; fb_set = true; fbu_set = true }) ≡ programmed port
+programmed_by port list b is = ap (λ (n : ℕ). record b { clb = n; fb = n + RECEIVED; clb_set = true; clbu_set = true; fb_set = true; fbu_set = true }) is
 
 module _ (laws : Laws) where
-  pub placed_first : (port : Port) (d : Device) → IsUsable AnyUse port d → IsAfterReset (d.port port.0) → 163840 ≤ d.size → IsPlacedBy port d d (d.port port.0).bases
-  placed_first port d u quiet room = record { followed = (laws.none (Controlling Placing port) d).followed; usable = u; quiet = quiet; room = room; bases = refl; same = beside_none (d.port port.0) }
+  pub placed_first : (port : Port) (d : Device) → IsUsable AnyUse port d → IsAfterReset (d.port port.0) → DRIVER_BYTES ≤ d.size → IsPlacedBy port d d (d.port port.0).bases
+  placed_first port d u quiet room = record { followed = (laws.stretches.none (Controlling Placing port) d).followed; usable = u; quiet = quiet; room = room; bases = refl; same = beside_none (d.port port.0) }
 
   module _ (port : Port) (start d e : Device) (b : Bases) (w : IsPlacedBy port start d b) where
     -- one more

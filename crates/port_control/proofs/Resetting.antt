@@ -2,6 +2,7 @@
 use Rattle.std.proofs.Common.{ℕ, ◌≡◌, false, ◌+◌, ◌<◌, ◌≤◌, ◌%◌, ◌⊎◌, length, inl, inr, refl, ◌∙◌, ap, subst, arith}
 use Rattle.std.proofs.lemmas.List.{length-append}
 use Rattle.ata_types.specs.declared.Port.{Port}
+use Rattle.ata_types.specs.declared.limits.TheConstants.{READINGS}
 use Rattle.hba_regs.specs.Bits.{bit}
 use Rattle.hba_regs.specs.declared.reg.PortReg.TheVariants.{Cmd, Tfd, Sig, Ssts, Sctl}
 use Rattle.hba_regs.specs.declared.reg.Reg.TheVariants.{Px}
@@ -49,7 +50,7 @@ module _ (port : Port) (Then : Device → Device → Type 0) (old mid new : Devi
 pub finds_link : (port : Port) {old seen new : Device} → ReadsUntil port Ssts HasLink old seen → ClearsErrors port seen new → FindsLink port old new
 finds_link port {old} {seen} {new} sees clears = record { seen = seen; sees = sees; clears = clears }
 
-pub finds_busy : (port : Port) {old linked new : Device} → FindsLink port old linked → ReadsWithout port Tfd ShowsIdle 64 linked new → FindsBusy port old new
+pub finds_busy : (port : Port) {old linked new : Device} → FindsLink port old linked → ReadsWithout port Tfd ShowsIdle READINGS linked new → FindsBusy port old new
 finds_busy port {old} {linked} {new} links waits = record { linked = linked; links = links; waits = waits }
 
 pub finds_signature : (port : Port) (signature : ℕ) {old linked idle new : Device} → FindsLink port old linked → ReadsUntil port Tfd ShowsIdle linked idle →
@@ -82,15 +83,15 @@ module _ (laws : Laws) where
       reset_receives = receiving_write laws port Sctl 0 sent new sending.on.no_reset (inl refl) zero receives_still
 
       early : Grows old sent
-      early = laws.access_grows (Writing (Px port Sctl) 1) old sent one
+      early = laws.tape.access_grows (Writing (Px port Sctl) 1) old sent one
 
       late : Grows sent new
-      late = laws.access_grows (Writing (Px port Sctl) 0) sent new zero
+      late = laws.tape.access_grows (Writing (Px port Sctl) 0) sent new zero
 
       pub was_reset : WasReset port (λ ended now. now ≡ ended) old new
       was_reset =
           let set = laws.control_set port 0 sent new zero in
-          let longer = grows_longer old new (laws.grows_more old sent new early late) in
+          let longer = grows_longer old new (laws.tape.grows_more old sent new early late) in
           let at = set.1 in
           record {
             sent = sent;
@@ -120,11 +121,11 @@ module _ (laws : Laws) where
   found_on port old mid new early late coming awaited finds = record {
     calm = finds.calm;
     clear = record {
-      serr_n = λ none. let parts = plugs_in_parts laws port old mid new early late none in (finds.clear (coming (laws.plugs_come port old mid parts.0))).serr_n parts.1;
+      serr_n = λ none. let parts = plugs_in_parts laws port old mid new early late none in (finds.clear (coming (laws.tape.plugs_come port old mid parts.0))).serr_n parts.1;
       serr_x = λ none. let parts = comes_in_parts laws port old mid new early late none in (finds.clear (coming parts.0)).serr_x parts.1;
     };
     undue = λ none. let parts = comes_in_parts laws port old mid new early late none in finds.undue parts.1 (coming parts.0);
-    up = λ none. let parts = plugs_in_parts laws port old mid new early late none in finds.up parts.1 (coming (laws.plugs_come port old mid parts.0));
+    up = λ none. let parts = plugs_in_parts laws port old mid new early late none in finds.up parts.1 (coming (laws.tape.plugs_come port old mid parts.0));
     quiet = finds.quiet awaited;
   }
 
@@ -160,10 +161,10 @@ module _ (laws : Laws) where
       (clear : (seen.port port.0).link_due ≡ false → HasClearErrors port.0 seen cleared)
       (quiet : IsAwaited (cleared.port port.0) → IsUnflagged (cleared.port port.0) → bit (new.port port.0).notes.last_tfd 3 ≡ false → IsQuiet (new.port port.0)) where
     early_half : Grows old cleared
-    early_half = laws.grows_more old seen cleared a.grows b.grows
+    early_half = laws.tape.grows_more old seen cleared a.grows b.grows
 
     late_half : Grows seen new
-    late_half = laws.grows_more seen cleared new b.grows c.grows
+    late_half = laws.tape.grows_more seen cleared new b.grows c.grows
 
     receives_seen : ReceivesFises port.0 (seen.port port.0)
     receives_seen = a.receiving receives
@@ -190,7 +191,7 @@ module _ (laws : Laws) where
       clear = λ coming. record {
         serr_n = λ none.
             let parts = plugs_in_parts laws port.0 old seen new a.grows late_half none in
-            (clear_since (undue_seen (laws.plugs_come port.0 old seen parts.0) coming)).serr_n parts.1;
+            (clear_since (undue_seen (laws.tape.plugs_come port.0 old seen parts.0) coming)).serr_n parts.1;
         serr_x = λ none.
             let parts = comes_in_parts laws port.0 old seen new a.grows late_half none in
             (clear_since (undue_seen parts.0 coming)).serr_x parts.1;
@@ -201,6 +202,6 @@ module _ (laws : Laws) where
       up = λ none coming.
           let parts = plugs_in_parts laws port.0 old cleared new early_half c.grows none in
           let first = plugs_in_parts laws port.0 old seen cleared a.grows b.grows parts.0 in
-          c.up parts.1 receives_cleared (b.up first.1 receives_seen (up (laws.plugs_come port.0 old seen first.0) coming));
+          c.up parts.1 receives_cleared (b.up first.1 receives_seen (up (laws.tape.plugs_come port.0 old seen first.0) coming));
       quiet = λ awaited. quiet (b.awaited (a.awaited awaited)) (receives_cleared.stopped.halted.cr, calm 30 (omega arith));
     }

@@ -50,14 +50,14 @@ module _ (laws : Laws) where
 
   module _ (port : ℕ) (old mid new : Device) (early : Grows old mid) (late : Grows mid new) where
     pub comes_in_parts : NoneComes port old new → NoneComes port old mid × NoneComes port mid new
-    comes_in_parts none = laws.comes_parts port old mid new early.0 late.0 early.1 late.1 none
+    comes_in_parts none = laws.tape.comes_parts port old mid new early.0 late.0 early.1 late.1 none
 
     pub plugs_in_parts : PlugsNone port old new → PlugsNone port old mid × PlugsNone port mid new
-    plugs_in_parts none = laws.plugs_parts port old mid new early.0 late.0 early.1 late.1 none
+    plugs_in_parts none = laws.tape.plugs_parts port old mid new early.0 late.0 early.1 late.1 none
 
   settles_none : (port : Port) (d : Device) → Settles port d d
   settles_none port d = record {
-    grows = laws.grows_none d;
+    grows = laws.tape.grows_none d;
     receiving = λ h. h;
     det = refl;
     written = refl;
@@ -67,12 +67,12 @@ module _ (laws : Laws) where
     awaited = λ h. h;
     quiet = λ h. h;
     undue = λ h. h;
-    change = λ h. laws.change_none port.0 d;
+    change = λ h. laws.tape.change_none port.0 d;
   }
 
   pub settles_more : (port : Port) (a b c : Device) → Settles port a b → Settles port b c → Settles port a c
   settles_more port a b c x y = record {
-    grows = laws.grows_more a b c x.grows y.grows;
+    grows = laws.tape.grows_more a b c x.grows y.grows;
     receiving = λ h. y.receiving (x.receiving h);
     det = y.det ∙ x.det;
     written = y.written ∙ x.written;
@@ -82,7 +82,7 @@ module _ (laws : Laws) where
     awaited = λ h. y.awaited (x.awaited h);
     quiet = λ h. y.quiet (x.quiet h);
     undue = λ h. y.undue (x.undue h);
-    change = λ h. laws.change_more port.0 a b c x.grows y.grows (x.change h) (y.change (x.undue h));
+    change = λ h. laws.tape.change_more port.0 a b c x.grows y.grows (x.change h) (y.change (x.undue h));
   }
 
   module _ (port : Port) (access : Access) (old new : Device) (on : IsOn old) (kind : IsControl IsClearing port access) (does : Does access old new) where
@@ -112,7 +112,7 @@ module _ (laws : Laws) where
         let up : PlugsNone port.0 old new → ReceivesFises port.0 (old.port port.0) → IsUp (old.port port.0) → IsUp (new.port port.0) =
         λ none r h. laws.access_up port access old new on.no_reset r.stopped.halted.cr command control none does h in
         record {
-          grows = laws.access_grows access old new does;
+          grows = laws.tape.access_grows access old new does;
           receiving = receives;
           det = (c.control control).0;
           written = (c.control control).1;
@@ -121,8 +121,8 @@ module _ (laws : Laws) where
           calm = λ r place h. laws.access_clear port place access old new r.stopped.halted.cr does h;
           awaited = λ h. laws.access_awaited port access old new (laws.control_spares Clearing port Cmd spares_command access kind) control does h;
           quiet = quiets;
-          undue = λ h. laws.access_undue port access old new on.no_reset h control does;
-          change = λ h. laws.access_change port access old new on.no_reset h does;
+          undue = λ h. laws.tape.access_undue port access old new on.no_reset h control does;
+          change = λ h. laws.tape.access_change port access old new on.no_reset h does;
         }
 
   -- over a stretch

@@ -96,7 +96,7 @@ module _ (laws : Laws) where
           (followed_write laws (Starting port) (Px port Cmd) v mid new (refl, refl) start_may start_leaves write)
 
       pub start_usable : IsUsable (NoneUsed port) port new
-      start_usable = usable_by laws Commanding port old new (NoneUsed port) start_followed.driven (λ uses free. laws.agreed (Starting port) (λ uses. uses) uses old new free start_followed) u
+      start_usable = usable_by laws Commanding port old new (NoneUsed port) start_followed.driven (λ uses free. laws.stretches.agreed (Starting port) (λ uses. uses) uses old new free start_followed) u
 
       started : ((new.port port.0).cr ≡ true) × ((new.port port.0).notes.st_set_at ≡ length new.tape)
       started = laws.start_set port v mid new still.stopped.halted.st one write
@@ -133,15 +133,15 @@ module _ (laws : Laws) where
       start_set_at = started.1
 
       early : Grows old mid
-      early = laws.access_grows (Reading (Px port Cmd) was) old mid read
+      early = laws.tape.access_grows (Reading (Px port Cmd) was) old mid read
 
       late : Grows mid new
-      late = laws.access_grows (Writing (Px port Cmd) v) mid new write
+      late = laws.tape.access_grows (Writing (Px port Cmd) v) mid new write
 
       pub start_marked : (old.port port.0).notes.sctl_written_at ≤ length old.tape → (new.port port.0).notes.sctl_written_at ≤ length new.tape
       start_marked low =
           let at = ap (λ (n : Notes). n.sctl_written_at) start_same.1 in
-          let longer = grows_longer old new (laws.grows_more old mid new early late) in
+          let longer = grows_longer old new (laws.tape.grows_more old mid new early late) in
           omega (arith, low, at, longer)
 
       pub start_well : IsUp (old.port port.0) → PlugsNone port.0 old new → IsStarted (new.port port.0)
@@ -165,15 +165,15 @@ module _ (laws : Laws) where
           (laws.access_clear port place (Reading (Px port Cmd) was) old mid receives.stopped.halted.cr read clear)
 
       undue_mid : (old.port port.0).link_due ≡ false → (mid.port port.0).link_due ≡ false
-      undue_mid undue = laws.access_undue port (Reading (Px port Cmd) was) old mid u.on.no_reset undue tt read
+      undue_mid undue = laws.tape.access_undue port (Reading (Px port Cmd) was) old mid u.on.no_reset undue tt read
 
       pub start_undue : (old.port port.0).link_due ≡ false → (new.port port.0).link_due ≡ false
-      start_undue undue = laws.access_undue port (Writing (Px port Cmd) v) mid new here.on.no_reset (undue_mid undue) (λ (e : Px port Cmd ≡ Px port Sctl). absurd (cc)) write
+      start_undue undue = laws.tape.access_undue port (Writing (Px port Cmd) v) mid new here.on.no_reset (undue_mid undue) (λ (e : Px port Cmd ≡ Px port Sctl). absurd (cc)) write
 
       pub start_changes : (old.port port.0).link_due ≡ false → ChangesByDisks port.0 old new
-      start_changes undue = laws.change_more port.0 old mid new early late
-          (laws.access_change port (Reading (Px port Cmd) was) old mid u.on.no_reset undue read)
-          (laws.access_change port (Writing (Px port Cmd) v) mid new here.on.no_reset (undue_mid undue) write)
+      start_changes undue = laws.tape.change_more port.0 old mid new early late
+          (laws.tape.access_change port (Reading (Px port Cmd) was) old mid u.on.no_reset undue read)
+          (laws.tape.access_change port (Writing (Px port Cmd) v) mid new here.on.no_reset (undue_mid undue) write)
 
       -- ST is set on a quiet port
       pub start_recorded : IsQuiet (old.port port.0) → IsRecorded new.tape (new.port port.0) port.0

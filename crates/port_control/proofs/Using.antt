@@ -2,6 +2,7 @@
 use Rattle.std.proofs.Common.{ℕ, ◌≡◌, ◌≢◌, ◌++◌, Bool, List, [], ◌∷◌, false, inl, inr, refl, sym, ◌∙◌, ap, subst, append_assoc, append-nil}
 use Rattle.std.proofs.lemmas.List.Elements.{All-weaker}
 use Rattle.ata_types.specs.declared.Port.{Port}
+use Rattle.ata_types.specs.declared.limits.TheConstants.{READINGS}
 use Rattle.hba_regs.specs.Bits.{bit}
 use Rattle.hba_regs.specs.declared.reg.PortReg.{PortReg}
 use Rattle.hba_regs.specs.declared.reg.PortReg.TheVariants.{Is, Cmd, Sctl, Sact}
@@ -70,7 +71,7 @@ module _ (port : ℕ) (v tape : ℕ) (p : PortState) (h : ReceivesFises port p) 
   written_receiving r (inr (inr e)) = subst (λ (z : PortReg). ReceivesFises port (port_written z v tape p)) (sym e) (same_receiving _ refl refl refl refl refl refl refl)
 
 -- an engine that was awaited for 64 readings is stuck
-awaits_sticks : (start running : ℕ) → ((v : ℕ) → Hangs start running v → ShowsStuck v) → (port : Port) (accesses : List Access) → Awaits start running port 64 accesses → Sticks port accesses
+awaits_sticks : (start running : ℕ) → ((v : ℕ) → Hangs start running v → ShowsStuck v) → (port : Port) (accesses : List Access) → Awaits start running port READINGS accesses → Sticks port accesses
 awaits_sticks start running shows port accesses a = record {
   before = a.before ++ Writing (Px port Cmd) a.cleared ∷ [];
   stuck = a.stuck;
@@ -171,13 +172,13 @@ module _ (laws : Laws) where
     }
 
     pub usable_after : IsUsable AnyUse port old → IsFollowed (IsControl (registers_of set) port) AnyUse old new → IsUsable AnyUse port new
-    usable_after u f = usable_by AnyUse f.driven (λ uses fits. laws.agreed (Controlling set port) (λ uses. uses) uses old new fits f) u
+    usable_after u f = usable_by AnyUse f.driven (λ uses fits. laws.stretches.agreed (Controlling set port) (λ uses. uses) uses old new fits f) u
 
   -- over a reading, whatever uses fit
   pub usable_read : (Fits : Uses → Type 0) (port : Port) (r : PortReg) (v : ℕ) (old new : Device) → IsUsable Fits port old → Reads (Px port r) v old new → IsUsable Fits port new
   usable_read Fits port r v old new u call =
       let f = followed_read laws (Controlling Commanding port) (Px port r) v old new refl call in
-      usable_by Commanding port old new Fits f.driven (λ uses fits. laws.agreed (Controlling Commanding port) (λ uses. uses) uses old new tt f) u
+      usable_by Commanding port old new Fits f.driven (λ uses fits. laws.stretches.agreed (Controlling Commanding port) (λ uses. uses) uses old new tt f) u
 
   -- PxCMD is read
   pub beside_read : (port : Port) (v : ℕ) (old new : Device) → old.hr ≡ false → Reads (Px port Cmd) v old new → SameBeside (old.port port.0) (new.port port.0)

@@ -1,11 +1,12 @@
 -- What laws of the crates below say of accesses, with the kinds of accesses of this crate: its proofs rest on them.
-use Rattle.std.specs.Prelude.{ℕ, true, false, ◌≡◌, ◌≢◌, ◌⊎◌, ◌+◌, ◌%◌, ◌≤◌, ◌++◌, List, [], ◌∷◌, length}
+use Rattle.std.specs.Prelude.{ℕ, true, false, ◌≡◌, ◌≢◌, ◌⊎◌, ◌+◌, ◌%◌, ◌≤◌, ◌++◌, List, length}
 use Rattle.ata_types.specs.declared.Port.{Port}
 use Rattle.adapter.specs.Access.{Access, Does, DoesAll, PortShows, Reads, Writes, note}
+use Rattle.agreement.specs.Laws.{StretchLaws, TapeLaws}
 use Rattle.agreement.specs.Agrees.{Agrees}
-use Rattle.agreement.specs.Driver.{AllFree, IsWrittenBack, LeavesUses}
-use Rattle.agreement.specs.Driven.{AnyAccess, AnyUse, Grows, IsAgreed, IsControl, IsDrivenBy, IsFollowedTo, IsOf, IsTold, IsToldTo}
-use Rattle.agreement.specs.Errors.{ChangesByDisks, NoneComes}
+use Rattle.agreement.specs.Driver.{AllFree, IsWrittenBack}
+use Rattle.agreement.specs.Driven.{AnyAccess, AnyUse, IsControl, IsDrivenBy, IsOf}
+use Rattle.agreement.specs.Errors.{NoneComes}
 use Rattle.hba_regs.specs.declared.reg.PortReg.TheVariants.{Ci, Clb, Clbu, Cmd, Fb, Fbu, Is, Sact, Sctl, Serr, Ssts, Tfd}
 use Rattle.adapter.specs.Device.{Device, PortState}
 use Rattle.adapter.specs.declared.tape.Entry.{Entry}
@@ -177,22 +178,7 @@ pub record Laws : Type 0 where
   pub reads_unflagged : (port : ℕ) (r : Reg) (v : ℕ) (old new : Device) → Reads r v old new
       → IsUnflagged (old.port port) → IsUnflagged (new.port port)
   -- what the tape tells
-  pub grows_none : (d : Device) → Grows d d
-  pub grows_more : (old mid new : Device) → Grows old mid → Grows mid new → Grows old new
-  pub access_grows : (access : Access) (old new : Device) → Does access old new → Grows old new
-  pub comes_parts : (port : ℕ) (old mid new : Device) (early late : List Entry) → mid.tape ≡ old.tape ++ early
-      → new.tape ≡ mid.tape ++ late → NoneComes port old new → NoneComes port old mid × NoneComes port mid new
-  pub plugs_come : (port : ℕ) (old new : Device) → PlugsNone port old new → NoneComes port old new
-  pub plugs_parts : (port : ℕ) (old mid new : Device) (early late : List Entry) → mid.tape ≡ old.tape ++ early
-      → new.tape ≡ mid.tape ++ late → PlugsNone port old new → PlugsNone port old mid × PlugsNone port mid new
-  pub change_none : (port : ℕ) (d : Device) → ChangesByDisks port d d
-  pub change_more : (port : ℕ) (old mid new : Device) → Grows old mid → Grows mid new → ChangesByDisks port old mid
-      → ChangesByDisks port mid new → ChangesByDisks port old new
-  pub access_change : (port : Port) (access : Access) (old new : Device) → old.hr ≡ false
-      → (old.port port.0).link_due ≡ false → Does access old new → ChangesByDisks port.0 old new
-  pub access_undue : (port : Port) (access : Access) (old new : Device) → old.hr ≡ false
-      → (old.port port.0).link_due ≡ false → SparesRegister (Px port Sctl) access → Does access old new
-      → (new.port port.0).link_due ≡ false
+  pub tape : TapeLaws
   pub stopped_recorded : (tape : List Entry) (p : PortState) (port : ℕ) → p.st ≡ false → IsRecorded tape p port
   pub writes_recorded : (port : ℕ) (r : Reg) (v : ℕ) (old new : Device) → Stays (MayWrite r v) old
       → Stays (KeepsRecord r v) old → Writes r v old new → IsRecorded old.tape (old.port port) port
@@ -214,22 +200,4 @@ pub record Laws : Type 0 where
   pub control_wider : (set more : RegisterSet) (port : Port)
       → ((r : PortReg) → registers_of set r → registers_of more r) → (access : Access)
       → IsControl (registers_of set) port access → IsControl (registers_of more) port access
-  pub none : (kind : Stretch) (d : Device) → IsTold (λ made. made ≡ []) (may_of kind) (fits_of kind) d d
-  pub reads : (kind : Stretch) (r : Reg) (v : ℕ) (old new : Device) → may_of kind (Reading r v) → Reads r v old new
-      → IsTold (λ made. made ≡ Reading r v ∷ []) (may_of kind) (fits_of kind) old new
-  pub writes : (kind : Stretch) (r : Reg) (v : ℕ) (old new : Device) → may_of kind (Writing r v)
-      → Stays (MayWrite r v) old → ((uses : Uses) → fits_of kind uses → LeavesUses uses r v old) → Writes r v old new
-      → IsTold (λ made. made ≡ Writing r v ∷ []) (may_of kind) (fits_of kind) old new
-  pub both : (kind then : Stretch) (first second : Uses → Uses)
-      → ((access : Access) → may_of then access → may_of kind access)
-      → ((uses : Uses) → fits_of kind uses → fits_of then (first uses)) → (old mid new : Device)
-      → (a : IsFollowedTo (may_of kind) (fits_of kind) first old mid)
-      → (b : IsFollowedTo (may_of then) (fits_of then) second mid new)
-      → IsToldTo (λ made. made ≡ a.driven.accesses ++ b.driven.accesses) (may_of kind) (fits_of kind)
-      (λ uses. second (first uses)) old new
-  pub wider : (kind more : Stretch) (next : Uses → Uses) → ((access : Access) → may_of kind access → may_of more access)
-      → ((uses : Uses) → fits_of more uses → fits_of kind uses) → (old new : Device)
-      → (a : IsFollowedTo (may_of kind) (fits_of kind) next old new)
-      → IsToldTo (λ made. made ≡ a.driven.accesses) (may_of more) (fits_of more) next old new
-  pub agreed : (kind : Stretch) (next : Uses → Uses) (uses : Uses) (old new : Device) → fits_of kind uses
-      → IsFollowedTo (may_of kind) (fits_of kind) next old new → IsAgreed uses old → IsAgreed (next uses) new
+  pub stretches : StretchLaws Stretch may_of fits_of

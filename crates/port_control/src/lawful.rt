@@ -3,23 +3,19 @@ ghost use Rattle.port_control.specs.Laws.{Laws, RegisterSet, Stretch, fits_of, m
 
 use adapter::laws::{accesses_compose, port_registers_are_accessed, steps_keep};
 use agreement::facts::{
-    adapter_stays, coming_composes, controls_are_set, controls_stay, errors_are_cleared,
-    errors_rise_by_disks, faults_are_recorded, halted_stays, link_comes_up, link_is_awaited,
-    notes_are_set, notes_stay, plugging_composes, quiet_is_found, reset_is_found,
-    running_well_is_found, stop_is_found,
+    adapter_stays, controls_are_set, controls_stay, errors_are_cleared, faults_are_recorded,
+    halted_stays, link_comes_up, link_is_awaited, notes_are_set, notes_stay, quiet_is_found,
+    reset_is_found, running_well_is_found, stop_is_found,
 };
 use agreement::giving_up::stopped_slots_tell;
-use agreement::kinds::{
-    Kinds, Registers, accesses_are_followed, controls_are_of_a_port, followed_stretches_give,
-    stretches_are_followed,
-};
+use agreement::kinds::{Kinds, Registers, controls_are_of_a_port, stretch_laws_hold};
 use agreement::laws::{
     arming_is_followed, clear_bits_stay, commanding_is_permitted, placing_is_permitted,
     writing_is_permitted,
 };
 use agreement::recovering::{link_is_kept, running_goes_on};
 use agreement::stretches::{
-    causes_stay_clear, other_ports_are_left, tapes_grow, written_notes_stay,
+    causes_stay_clear, other_ports_are_left, tape_laws_hold, written_notes_stay,
 };
 
 /// This crate's kinds of accesses.
@@ -47,27 +43,22 @@ pub fn laws_hold()
     port_registers_are_accessed();
     steps_keep();
     adapter_stays();
-    coming_composes();
     controls_are_set();
     controls_stay();
     errors_are_cleared();
-    errors_rise_by_disks();
     faults_are_recorded();
     halted_stays();
     link_comes_up();
     link_is_awaited();
     notes_are_set();
     notes_stay();
-    plugging_composes();
     quiet_is_found();
     reset_is_found();
     running_well_is_found();
     stop_is_found();
     stopped_slots_tell();
-    accesses_are_followed::<Controls>();
+    stretch_laws_hold::<Controls>();
     controls_are_of_a_port::<Controls>();
-    followed_stretches_give::<Controls>();
-    stretches_are_followed::<Controls>();
     arming_is_followed();
     clear_bits_stay();
     commanding_is_permitted();
@@ -77,6 +68,6 @@ pub fn laws_hold()
     running_goes_on();
     causes_stay_clear();
     other_ports_are_left();
-    tapes_grow();
+    tape_laws_hold();
     written_notes_stay();
 }

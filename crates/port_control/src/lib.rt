@@ -21,15 +21,12 @@ ghost use Rattle.port_control.specs.Engines.{FailsToStopReceiving, StopsReceivin
 ghost use Rattle.port_control.specs.Ports.{FailsToHalt, FailsToReceive, Halts, Receives, WritesCommand, IsPlacing, IsClearing, IsResetting, IsUsable, IsStopped, ReceivesFises, IsRunning, SawDevice, SawIdle, Shows, SameBeside, HasStopped, HasLink, ShowsIdle, ReadsWithout, ReadsUntil, ClearsErrors, FindsSignature, Looks, WasReset, HasClearErrors, FindsAwaited, IsFound, Forgets, ShowsSignature, SameButStart, programmed};
 
 use adapter::Adapter;
-use ata_types::{DRIVER_BYTES, PORT_BYTES, Port, RECEIVED};
+use ata_types::{DRIVER_BYTES, PORT_BYTES, Port, READINGS, RECEIVED};
 use hba_regs::{ATA_SIGNATURE, PortCommand, PortReg, Reg, SataControl, SataStatus, TaskFile};
 use lawful::laws_hold;
 
 mod lawful;
 pub mod laws;
-
-/// Readings of a register in one wait.
-pub const READINGS: u32 = 64;
 
 const ALL_ONES: u32 = 0xffff_ffff;
 
@@ -242,7 +239,7 @@ fn wait_for_device<A: Adapter>(adapter: &mut A, port: Port) -> bool
     ensures saw { result ≡ true → SawDevice ((A.device adapter.new).port port.0).notes }
     ensures missing { result ≡ false → Shows PortFault.NoDevice ((A.device adapter.new).port port.0).notes }
     ensures sees { result ≡ true → ReadsUntil port Ssts HasLink (A.device adapter.old) (A.device adapter.new) }
-    ensures misses { result ≡ false → ReadsWithout port Ssts HasLink 64 (A.device adapter.old)
+    ensures misses { result ≡ false → ReadsWithout port Ssts HasLink READINGS (A.device adapter.old)
         (A.device adapter.new) }
     ensures up { result ≡ true → NoneComes port.0 (A.device adapter.old) (A.device adapter.new)
         → IsComingUp ((A.device adapter.old).port port.0) → IsUp ((A.device adapter.new).port port.0) }
@@ -305,7 +302,7 @@ pub fn shows_device<A: Adapter>(adapter: &mut A, port: Port) -> bool
     ensures clear { ((A.device adapter.old).port port.0).link_due ≡ false → HasClearErrors port.0
         (A.device adapter.old) (A.device adapter.new) }
     ensures there { result ≡ true → ((A.device adapter.new).port port.0).ssts_det ≡ 3 }
-    ensures none { result ≡ false → ((A.device adapter.old).port port.0).notes.link_count ≡ 64
+    ensures none { result ≡ false → ((A.device adapter.old).port port.0).notes.link_count ≡ READINGS
         → Shows PortFault.NoDevice
         ((A.device adapter.new).port port.0).notes }
 {
@@ -325,7 +322,7 @@ fn wait_until_idle<A: Adapter>(adapter: &mut A, port: Port) -> bool
     ensures idle { result ≡ true → SawIdle ((A.device adapter.new).port port.0).notes }
     ensures busy { result ≡ false → Shows PortFault.Busy ((A.device adapter.new).port port.0).notes }
     ensures waits { result ≡ true → ReadsUntil port Tfd ShowsIdle (A.device adapter.old) (A.device adapter.new) }
-    ensures stays { result ≡ false → ReadsWithout port Tfd ShowsIdle 64 (A.device adapter.old)
+    ensures stays { result ≡ false → ReadsWithout port Tfd ShowsIdle READINGS (A.device adapter.old)
         (A.device adapter.new) }
     ensures quiet { IsAwaited ((A.device adapter.old).port port.0) → IsUnflagged ((A.device adapter.old).port port.0)
         → bit ((A.device adapter.new).port port.0).notes.last_tfd 3 ≡ false
@@ -389,7 +386,8 @@ pub fn keep_receiving<A: Adapter>(_adapter: &A, stopped: Stopped) -> Receiving
 /// the signature (AHCI 1.3.1, 10.1.2 and 10.4.2).
 ///
 /// `NoDevice` where 64 readings show no device with a link, `Busy` where 64 find BSY or DRQ, and `NotAta` for another
-/// signature. PxSCTL.DET is 0 afterwards, and the port receives FISes still.
+/// signature. PxSCTL.DET is 0 afterwards, and the port receives FISes still. What is told was read since this COMRESET.
+/// Where a disk goes or comes meanwhile, less is promised; the next look at the port tells.
 pub fn comreset<A: Adapter>(
     adapter: &mut A,
     receiving: Receiving,
@@ -435,7 +433,8 @@ pub fn comreset<A: Adapter>(
 /// device with a link, which was neither busy nor asked for a transfer; and no slot of the port is used. The other bits
 /// of PxCMD are written as they were read.
 ///
-/// It doesn't fail.
+/// It doesn't fail: all that could keep a port from starting is known before, by readings. It reads no PxSIG, since to
+/// set ST again after an error needs no COMRESET.
 pub fn start<A: Adapter>(
     adapter: &mut A,
     receiving: Receiving,

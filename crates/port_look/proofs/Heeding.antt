@@ -78,9 +78,9 @@ module _ (laws : Laws) where
 
   linked_more : (port : ℕ) (a b c : Device) → StaysLinked port a b → StaysLinked port b c → StaysLinked port a c
   linked_more port a b c p q = (
-    laws.grows_more a b c p.0 q.0,
+    laws.tape.grows_more a b c p.0 q.0,
     λ none undue det.
-        let parts = laws.plugs_parts port a b c p.0.0 q.0.0 p.0.1 q.0.1 none in
+        let parts = laws.tape.plugs_parts port a b c p.0.0 q.0.0 p.0.1 q.0.1 none in
         let x = p.1 parts.0 undue det in
         q.1 parts.1 x.0 x.1,
   )
@@ -88,9 +88,9 @@ module _ (laws : Laws) where
   service_linked : (port : Port) (access : Access) (old new : Device) → IsOn old → IsService access → Does access old new → StaysLinked port.0 old new
   service_linked port access old new on is does =
       let spares = spares_port port Sctl (λ e. cc) (λ e. cc) (λ e. cc) access is in (
-        laws.access_grows access old new does,
+        laws.tape.access_grows access old new does,
         λ none undue det. (
-          laws.access_undue port access old new on.no_reset undue spares does,
+          laws.tape.access_undue port access old new on.no_reset undue spares does,
           shows_still (old.port port.0) (new.port port.0) (laws.access_link port access old new on.no_reset spares does none) det,
         ),
       )
@@ -113,13 +113,13 @@ module _ (laws : Laws) where
   Change p = p.serr_n ≡ false
 
   pub ordinary_shows : (port : Port) (old new : Device) → IsOn old → IsDrivenBy (IsOrdinary port) old new → ShowsFaults port.0 old new
-  ordinary_shows port = ordinary_over laws Tfes NoneFails laws.fails_none laws.fails_more port (fault_over port)
+  ordinary_shows port = ordinary_over laws Tfes NoneFails laws.tape.fails_none laws.tape.fails_more port (fault_over port)
 
   pub ordinary_fatals : (port : Port) (old new : Device) → IsOn old → IsDrivenBy (IsOrdinary port) old new → ShowsFatals port.0 old new
-  ordinary_fatals port = ordinary_over laws ShowsNoFatal NoneFatal laws.fatal_none laws.fatal_more port (fatal_over port)
+  ordinary_fatals port = ordinary_over laws ShowsNoFatal NoneFatal laws.tape.fatal_none laws.tape.fatal_more port (fatal_over port)
 
   pub ordinary_disks : (port : Port) (old new : Device) → IsOn old → IsDrivenBy (IsOrdinary port) old new → ShowsDisks port.0 old new
-  ordinary_disks port = ordinary_over laws Change PlugsNone laws.plugs_none laws.plugs_more port (disk_over port)
+  ordinary_disks port = ordinary_over laws Change PlugsNone laws.tape.plugs_none laws.tape.plugs_more port (disk_over port)
 
   -- a bit that is clear after a write that leaves it was clear
   was_clear : (port : Port) (v place : ℕ) (old new : Device) → old.hr ≡ false → (w : Writes (Px port Is) v old new) → bit v place ≡ false → (new.port port.0).is place ≡ false → (w.mid.port port.0).is place ≡ false
@@ -136,22 +136,22 @@ module _ (laws : Laws) where
 
     pub unread_shows : bit l.causes 30 ≡ false → ShowsFaults port.0 old new
     unread_shows unread =
-        look_over laws Tfes NoneFails laws.fails_none laws.fails_more port (fault_over port) result old new l on
-        (write_over laws Tfes NoneFails laws.fails_none laws.fails_more port (laws.steps_unfailed port.0) l.causes l.seen l.cleared off l.clears
+        look_over laws Tfes NoneFails laws.tape.fails_none laws.tape.fails_more port (fault_over port) result old new l on
+        (write_over laws Tfes NoneFails laws.tape.fails_none laws.tape.fails_more port (laws.steps_unfailed port.0) l.causes l.seen l.cleared off l.clears
         (was_clear port l.causes 30 l.seen l.cleared off l.clears unread)
         (λ tape. record { gained = []; tape = sym tape ∙ sym (append-nil l.clears.mid.tape); none = All-nil (λ e. IsFaultOf port.0 e → ⊥) }))
 
     pub unread_fatals : ((place : ℕ) → 27 ≤ place → place ≤ 29 → bit l.causes place ≡ false) → ShowsFatals port.0 old new
     unread_fatals unread =
-        look_over laws ShowsNoFatal NoneFatal laws.fatal_none laws.fatal_more port (fatal_over port) result old new l on
-        (write_over laws ShowsNoFatal NoneFatal laws.fatal_none laws.fatal_more port (laws.steps_unbroken port.0) l.causes l.seen l.cleared off l.clears
+        look_over laws ShowsNoFatal NoneFatal laws.tape.fatal_none laws.tape.fatal_more port (fatal_over port) result old new l on
+        (write_over laws ShowsNoFatal NoneFatal laws.tape.fatal_none laws.tape.fatal_more port (laws.steps_unbroken port.0) l.causes l.seen l.cleared off l.clears
         (λ clear place from to. was_clear port l.causes place l.seen l.cleared off l.clears (unread place from to) (clear place from to))
         (λ tape. record { gained = []; tape = sym tape ∙ sym (append-nil l.clears.mid.tape); none = All-nil (λ e. IsFatalOf port.0 e → ⊥) }))
 
     -- the write of PxIS is none of PxSERR
     pub look_disks : ShowsDisks port.0 old new
     look_disks =
-        look_over laws Change PlugsNone laws.plugs_none laws.plugs_more port (disk_over port) result old new l on
+        look_over laws Change PlugsNone laws.tape.plugs_none laws.tape.plugs_more port (disk_over port) result old new l on
         (laws.access_undisturbed port (Writing (Px port Is) l.causes) l.seen l.cleared off (λ e. absurd (let z : Px port Is ≡ Px port Serr = e in cc)) l.clears)
 
     -- what comes before PxSSTS is read
@@ -172,27 +172,27 @@ module _ (laws : Laws) where
         (answered_lost l.causes l.status (sym l.tells ∙ is))
       where
         reading : Grows old l.seen
-        reading = laws.access_grows (Reading (Px port Is) l.causes) old l.seen l.reads
+        reading = laws.tape.access_grows (Reading (Px port Is) l.causes) old l.seen l.reads
 
         showing : Grows l.acknowledged new
-        showing = laws.access_grows (Reading (Px port Ssts) l.status) l.acknowledged new l.shows
+        showing = laws.tape.access_grows (Reading (Px port Ssts) l.status) l.acknowledged new l.shows
 
         later : Grows l.seen new
         later =
-            laws.grows_more l.seen l.cleared new (laws.access_grows (Writing (Px port Is) l.causes) l.seen l.cleared l.clears)
-            (laws.grows_more l.cleared l.acknowledged new (laws.access_grows (Writing reg.Is l.own) l.cleared l.acknowledged l.acknowledges) showing)
+            laws.tape.grows_more l.seen l.cleared new (laws.tape.access_grows (Writing (Px port Is) l.causes) l.seen l.cleared l.clears)
+            (laws.tape.grows_more l.cleared l.acknowledged new (laws.tape.access_grows (Writing reg.Is l.own) l.cleared l.acknowledged l.acknowledges) showing)
 
         linked : StaysLinked port.0 old l.acknowledged × IsOn l.acknowledged
-        linked = services_keep laws (StaysLinked port.0) (λ d. (laws.grows_none d, λ none due det. (due, det))) (linked_more port.0) (λ access x y ready kind does. service_linked port access x y ready kind does)
+        linked = services_keep laws (StaysLinked port.0) (λ d. (laws.tape.grows_none d, λ none due det. (due, det))) (linked_more port.0) (λ access x y ready kind does. service_linked port access x y ready kind does)
             old l.acknowledged on early
 
         parts : PlugsNone port.0 old new → PlugsNone port.0 old l.acknowledged × PlugsNone port.0 l.acknowledged new
-        parts = laws.plugs_parts port.0 old l.acknowledged new linked.0.0.0 showing.0 linked.0.0.1 showing.1
+        parts = laws.tape.plugs_parts port.0 old l.acknowledged new linked.0.0.0 showing.0 linked.0.0.1 showing.1
 
         by_change : (bit l.causes 22 ≡ true) ⊎ (bit l.causes 6 ≡ true) → HasLoss port.0 old new
         by_change told = ⊎_elim
             (λ n. inl (inl n))
-            (λ more. ⊎_elim (λ x. inl (inr x)) (λ came. inr (inr (λ none. came (laws.plugs_parts port.0 old l.seen new reading.0 later.0 reading.1 later.1 none).0))) more)
+            (λ more. ⊎_elim (λ x. inl (inr x)) (λ came. inr (inr (λ none. came (laws.tape.plugs_parts port.0 old l.seen new reading.0 later.0 reading.1 later.1 none).0))) more)
             (laws.changes_lost port l.causes old l.seen on.no_reset undue l.reads told)
 
         by_link : l.status % 16 ≢ 3 → HasLoss port.0 old new

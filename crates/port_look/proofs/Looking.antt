@@ -38,7 +38,7 @@ bit_alone port place v same fits set others =
 module _ (laws : Laws) (port : Port) (d0 d1 : Device) (causes : ℕ) (on : IsOn d0) (there : HasPort d0 port.0) (first : Reads (Px port Is) causes d0 d1) where
   -- one stretch of the look after another
   then : (old mid new : Device) → IsFollowed (IsLooking port) AnyUse old mid → IsFollowed (IsLooking port) AnyUse mid new → IsFollowed (IsLooking port) AnyUse old new
-  then old mid new a b = (laws.both (Looking port) (Looking port) (λ uses. uses) (λ uses. uses) (λ access may. may) (λ uses fits. fits) old mid new a b).followed
+  then old mid new a b = (laws.stretches.both (Looking port) (Looking port) (λ uses. uses) (λ uses. uses) (λ access may. may) (λ uses fits. fits) old mid new a b).followed
 
   pub one_on : IsOn d1
   one_on = spared_on laws (Reading (Px port Is) causes) d0 d1 tt first on
@@ -53,8 +53,8 @@ module _ (laws : Laws) (port : Port) (d0 d1 : Device) (causes : ℕ) (on : IsOn 
 
     pub changing_followed : IsFollowed (IsLooking port) AnyUse d0 d2
     changing_followed =
-        then d0 d1 d2 (laws.reads (Looking port) (Px port Is) causes d0 d1 (inl refl) first).followed
-        (laws.reads (Looking port) (Px port Ssts) status d1 d2 (inr refl) second).followed
+        then d0 d1 d2 (laws.stretches.reads (Looking port) (Px port Is) causes d0 d1 (inl refl) first).followed
+        (laws.stretches.reads (Looking port) (Px port Ssts) status d1 d2 (inr refl) second).followed
 
   pub clearing_may : (v : ℕ) → Stays (MayWrite (Px port Is) v) d1
   clearing_may v = laws.write_stays (Px port Is) v d1 (λ p e. cc) (one_on, one_there, tt)
@@ -87,10 +87,10 @@ module _ (laws : Laws) (port : Port) (d0 d1 : Device) (causes : ℕ) (on : IsOn 
 
         pub looking_followed : IsFollowed (IsLooking port) AnyUse d0 d4
         looking_followed =
-            then d0 d1 d4 (laws.reads (Looking port) (Px port Is) causes d0 d1 (inl refl) first).followed
-            (then d1 d2 d4 (laws.writes (Looking port) (Px port Is) v d1 d2 (inl refl) (clearing_may v) (λ uses is. tt) second).followed
-            (then d2 d3 d4 (laws.writes (Looking port) reg.Is own d2 d3 (inr (refl, alone)) (acknowledging_may own alone) (λ uses is. tt) third).followed
-            (laws.reads (Looking port) (Px port Ssts) status d3 d4 (inr refl) fourth).followed))
+            then d0 d1 d4 (laws.stretches.reads (Looking port) (Px port Is) causes d0 d1 (inl refl) first).followed
+            (then d1 d2 d4 (laws.stretches.writes (Looking port) (Px port Is) v d1 d2 (inl refl) (clearing_may v) (λ uses is. tt) second).followed
+            (then d2 d3 d4 (laws.stretches.writes (Looking port) reg.Is own d2 d3 (inr (refl, alone)) (acknowledging_may own alone) (λ uses is. tt) third).followed
+            (laws.stretches.reads (Looking port) (Px port Ssts) status d3 d4 (inr refl) fourth).followed))
 
 -- where what was read is written back, it was a look
 pub looked : (port : Port) (result : Look) (d0 d1 d2 d3 d4 : Device) (causes own status : ℕ) → IsBitOf port.0 own → Reads (Px port Is) causes d0 d1 → Writes (Px port Is) causes d1 d2 →

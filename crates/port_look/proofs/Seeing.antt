@@ -64,25 +64,25 @@ module _ (laws : Laws) where
 
   unlinks_more : (port : ℕ) (a b c : Device) → Unlinks port a b → Unlinks port b c → Unlinks port a c
   unlinks_more port a b c p q = (
-    laws.grows_more a b c p.0 q.0,
+    laws.tape.grows_more a b c p.0 q.0,
     λ undue.
         let x = p.1 undue in
         let y = q.1 x.0 in
-        (y.0, λ none up. let parts = laws.comes_parts port a b c p.0.0 q.0.0 p.0.1 q.0.1 none in x.1 parts.0 (y.1 parts.1 up)),
+        (y.0, λ none up. let parts = laws.tape.comes_parts port a b c p.0.0 q.0.0 p.0.1 q.0.1 none in x.1 parts.0 (y.1 parts.1 up)),
   )
 
   service_unlinks : (port : Port) (access : Access) (old new : Device) → IsOn old → IsService access → Does access old new → Unlinks port.0 old new
   service_unlinks port access old new on is does = (
-    laws.access_grows access old new does,
+    laws.tape.access_grows access old new does,
     λ undue. (
-      laws.access_undue port access old new on.no_reset undue (spares_port port Sctl (λ e. cc) (λ e. cc) (λ e. cc) access is) does,
-      λ none up. ((laws.access_change port access old new on.no_reset undue does).det none up).0,
+      laws.tape.access_undue port access old new on.no_reset undue (spares_port port Sctl (λ e. cc) (λ e. cc) (λ e. cc) access is) does,
+      λ none up. ((laws.tape.access_change port access old new on.no_reset undue does).det none up).0,
     ),
   )
 
   unlinked_stays : (port : Port) (old new : Device) → IsOn old → IsDrivenBy IsService old new → Unlinks port.0 old new
   unlinked_stays port old new on a =
-      (services_keep laws (Unlinks port.0) (λ d. (laws.grows_none d, λ undue. (undue, λ none up. up))) (unlinks_more port.0) (λ access x y ready is does. service_unlinks port access x y ready is does) old new on a).0
+      (services_keep laws (Unlinks port.0) (λ d. (laws.tape.grows_none d, λ undue. (undue, λ none up. up))) (unlinks_more port.0) (λ access x y ready is does. service_unlinks port access x y ready is does) old new on a).0
 
   -- ---- a bit of PxIS that a write leaves set
 
@@ -132,11 +132,11 @@ module _ (laws : Laws) where
 
     pub seen_well : RunsWell (old.port port.0) → Undisturbed port.0 old new → (result ≡ look.Undisturbed) × RunsWell (new.port port.0)
     seen_well well calm =
-        let early : Grows old l.seen = laws.access_grows (Reading (Px port Is) l.causes) old l.seen l.reads in
+        let early : Grows old l.seen = laws.tape.access_grows (Reading (Px port Is) l.causes) old l.seen l.reads in
         let late : Grows l.seen new =
-        laws.grows_more l.seen l.cleared new (laws.access_grows (Writing (Px port Is) l.causes) l.seen l.cleared l.clears)
-        (laws.grows_more l.cleared l.acknowledged new (laws.access_grows (Writing reg.Is l.own) l.cleared l.acknowledged l.acknowledges)
-        (laws.access_grows (Reading (Px port Ssts) l.status) l.acknowledged new l.shows)) in
+        laws.tape.grows_more l.seen l.cleared new (laws.tape.access_grows (Writing (Px port Is) l.causes) l.seen l.cleared l.clears)
+        (laws.tape.grows_more l.cleared l.acknowledged new (laws.tape.access_grows (Writing reg.Is l.own) l.cleared l.acknowledged l.acknowledges)
+        (laws.tape.access_grows (Reading (Px port Ssts) l.status) l.acknowledged new l.shows)) in
         let seen_so : RunsWell (l.seen.port port.0) = laws.healthy_reads port.0 (Px port Is) l.causes old l.seen on.no_reset l.reads (calm_parts laws port.0 old l.seen new early late calm).0 well in
         let still : RunsWell (new.port port.0) = services_well laws port old new on as_services calm well in
         (l.tells ∙ told_undisturbed l.causes l.status (laws.calm_told port l.causes old l.seen on.no_reset l.reads seen_so.quiet) (shown ∙ still.det), still)

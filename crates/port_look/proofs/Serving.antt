@@ -118,7 +118,7 @@ module _ (laws : Laws) where
 
   -- where nothing goes wrong in the whole, nothing does in the parts
   pub calm_parts : (port : ℕ) (a b c : Device) → Grows a b → Grows b c → Undisturbed port a c → Undisturbed port a b × Undisturbed port b c
-  calm_parts port a b c p q u = laws.calm_parts port a b c p.0 q.0 p.1 q.1 u
+  calm_parts port a b c p q u = laws.tape.calm_parts port a b c p.0 q.0 p.1 q.1 u
 
   service_well : (port : Port) (access : Access) (old new : Device) → IsOn old → IsService access → Does access old new → Undisturbed port.0 old new → RunsWell (old.port port.0) → RunsWell (new.port port.0)
   service_well port access old new on is does calm well =
@@ -129,15 +129,15 @@ module _ (laws : Laws) where
 
   pub services_well : (port : Port) (old new : Device) → IsOn old → IsDrivenBy IsService old new → Undisturbed port.0 old new → RunsWell (old.port port.0) → RunsWell (new.port port.0)
   services_well port old new on a =
-      (services_keep (StaysWell port.0) (λ d. (laws.grows_none d, λ calm well. well))
-      (λ x y z p q. (laws.grows_more x y z p.0 q.0, λ calm well. let parts = calm_parts port.0 x y z p.0 q.0 calm in q.1 parts.1 (p.1 parts.0 well)))
-      (λ access x y ready is does. (laws.access_grows access x y does, λ calm well. service_well port access x y ready is does calm well))
+      (services_keep (StaysWell port.0) (λ d. (laws.tape.grows_none d, λ calm well. well))
+      (λ x y z p q. (laws.tape.grows_more x y z p.0 q.0, λ calm well. let parts = calm_parts port.0 x y z p.0 q.0 calm in q.1 parts.1 (p.1 parts.0 well)))
+      (λ access x y ready is does. (laws.tape.access_grows access x y does, λ calm well. service_well port access x y ready is does calm well))
       old new on a).0.1
 
   -- ---- a machine agrees on
 
   pub services_agree : (uses : Uses) (old new : Device) → IsFollowed IsService (IsUse uses) old new → IsAgreed uses old → IsAgreed uses new
-  services_agree uses old new followed a = laws.agreed (Serving uses) (λ uses. uses) uses old new refl followed a
+  services_agree uses old new followed a = laws.stretches.agreed (Serving uses) (λ uses. uses) uses old new refl followed a
 
   -- ---- what tells of trouble
 

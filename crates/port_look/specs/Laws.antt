@@ -1,5 +1,5 @@
 -- What laws of the crates below say of accesses, with the kinds of accesses of this crate: its proofs rest on them.
-use Rattle.std.specs.Prelude.{ℕ, true, false, ◌≡◌, ◌≢◌, ◌⊎◌, ◌<◌, ◌%◌, ◌++◌, List, [], ◌∷◌}
+use Rattle.std.specs.Prelude.{ℕ, true, false, ◌≡◌, ◌≢◌, ◌⊎◌, ◌<◌, ◌%◌, List}
 use Rattle.ata_types.specs.declared.Port.{Port}
 use Rattle.hba_regs.specs.Bits.{bit}
 use Rattle.hba_regs.specs.declared.reg.PortReg.{PortReg}
@@ -8,16 +8,15 @@ use Rattle.hba_regs.specs.declared.reg.Reg.{Reg}
 use Rattle.hba_regs.specs.declared.reg.Reg.TheVariants as registers
 use Rattle.hba_regs.specs.declared.reg.Reg.TheVariants.{Ghc, Px}
 use Rattle.adapter.specs.Access.{Access, Does, PortShows, Reads, Stores, Writes}
-use Rattle.adapter.specs.Access.Access.{Reading, Writing}
+use Rattle.adapter.specs.Access.Access.{Writing}
 use Rattle.adapter.specs.Device.{PortState, Device}
 use Rattle.adapter.specs.Kept.{Keeps}
 use Rattle.adapter.specs.Rules.{IsOn, MayWrite, Stays}
 use Rattle.adapter.specs.Seen.{PutAt}
 use Rattle.adapter.specs.Steps.{Steps}
-use Rattle.adapter.specs.declared.tape.Entry.{Entry}
-use Rattle.agreement.specs.Driven.{AnyAccess, AnyUse, Grows, IsAgreed, IsDrivenBy, IsFollowedTo, IsOf, IsTold, IsToldTo, IsUse, LeavesPort}
-use Rattle.agreement.specs.Driver.{LeavesUses}
-use Rattle.agreement.specs.Errors.{ChangesByDisks, ChangesByErrors, NoneComes, NoneFails, NoneFatal, StaysClear}
+use Rattle.agreement.specs.Laws.{StretchLaws, TapeLaws}
+use Rattle.agreement.specs.Driven.{AnyAccess, AnyUse, IsDrivenBy, IsOf, IsUse, LeavesPort}
+use Rattle.agreement.specs.Errors.{ChangesByErrors, NoneFails, StaysClear}
 use Rattle.agreement.specs.Facts.{IsFaulted, IsRecorded, RunsWell, ShowsNoTrouble, TellsNoTrouble, Undisturbed}
 use Rattle.agreement.specs.Links.{LeavesControls, LeavesLink, PlugsNone, SameAdapter, SparesRegister}
 use Rattle.agreement.specs.Noted.{LeavesNotes}
@@ -97,11 +96,7 @@ pub record Laws : Type 0 where
       → SparesRegister (Px port Serr) access → Does access old new
       → ((old.port port.0).serr_n ≡ true → (new.port port.0).serr_n ≡ true)
       × ((old.port port.0).serr_x ≡ true → (new.port port.0).serr_x ≡ true)
-  pub access_change : (port : Port) (access : Access) (old new : Device) → old.hr ≡ false
-      → (old.port port.0).link_due ≡ false → Does access old new → ChangesByDisks port.0 old new
-  pub access_undue : (port : Port) (access : Access) (old new : Device) → old.hr ≡ false
-      → (old.port port.0).link_due ≡ false → SparesRegister (Px port Sctl) access → Does access old new
-      → (new.port port.0).link_due ≡ false
+  pub tape : TapeLaws
   pub access_recorded : (port : Port) (access : Access) (old new : Device) → SparesRegister (Px port Cmd) access
       → SparesRegister (Px port Sctl) access → Does access old new → IsRecorded old.tape (old.port port.0) port.0
       → IsRecorded new.tape (new.port port.0) port.0
@@ -127,12 +122,6 @@ pub record Laws : Type 0 where
       → SparesRegister (Px port Is) access → Does access old new → ShowsFatals port.0 old new
   pub access_undisturbed : (port : Port) (access : Access) (old new : Device) → old.hr ≡ false
       → SparesRegister (Px port Serr) access → Does access old new → ShowsDisks port.0 old new
-  pub fatal_none : (port : ℕ) (d : Device) → NoneFatal port d d
-  pub fatal_more : (port : ℕ) (old mid new : Device) → NoneFatal port old mid → NoneFatal port mid new
-      → NoneFatal port old new
-  pub plugs_none : (port : ℕ) (d : Device) → PlugsNone port d d
-  pub plugs_more : (port : ℕ) (old mid new : Device) → PlugsNone port old mid → PlugsNone port mid new
-      → PlugsNone port old new
   pub fault_told : (port : Port) (v : ℕ) (old new : Device) → old.hr ≡ false → (old.port port.0).st ≡ true
       → IsRecorded old.tape (old.port port.0) port.0 → Reads (Px port Is) v old new → bit v 30 ≡ true
       → IsFaulted (new.port port.0).halt
@@ -146,36 +135,8 @@ pub record Laws : Type 0 where
       → (new.port port.0).notes.last_ssts ≡ v
   pub access_notes : (port : Port) (access : Access) (old new : Device) → Does access old new
       → LeavesNotes access port (old.port port.0).notes (new.port port.0).notes
-  -- what the tape tells
-  pub grows_none : (d : Device) → Grows d d
-  pub grows_more : (old mid new : Device) → Grows old mid → Grows mid new → Grows old new
-  pub access_grows : (access : Access) (old new : Device) → Does access old new → Grows old new
-  pub calm_parts : (port : ℕ) (old mid new : Device) (early late : List Entry) → mid.tape ≡ old.tape ++ early
-      → new.tape ≡ mid.tape ++ late → Undisturbed port old new → Undisturbed port old mid × Undisturbed port mid new
-  pub comes_parts : (port : ℕ) (old mid new : Device) (early late : List Entry) → mid.tape ≡ old.tape ++ early
-      → new.tape ≡ mid.tape ++ late → NoneComes port old new → NoneComes port old mid × NoneComes port mid new
-  pub plugs_parts : (port : ℕ) (old mid new : Device) (early late : List Entry) → mid.tape ≡ old.tape ++ early
-      → new.tape ≡ mid.tape ++ late → PlugsNone port old new → PlugsNone port old mid × PlugsNone port mid new
-  pub fatal_parts : (port : ℕ) (old mid new : Device) (early late : List Entry) → mid.tape ≡ old.tape ++ early
-      → new.tape ≡ mid.tape ++ late → NoneFatal port old new → NoneFatal port old mid × NoneFatal port mid new
-  pub fails_none : (port : ℕ) (d : Device) → NoneFails port d d
-  pub fails_more : (port : ℕ) (old mid new : Device) → NoneFails port old mid → NoneFails port mid new
-      → NoneFails port old new
   -- stretches
   pub other_left : (port : Port) (q : ℕ) (old new : Device) → q ≢ port.0 → IsOn old → IsDrivenBy (IsOf port) old new
       → LeavesPort (old.port q) (new.port q)
   pub same_over : (old new : Device) → IsDrivenBy AnyAccess old new → SameAdapter old new
-  pub reads : (kind : Stretch) (r : Reg) (v : ℕ) (old new : Device) → may_of kind (Reading r v) → Reads r v old new
-      → IsTold (λ made. made ≡ Reading r v ∷ []) (may_of kind) (fits_of kind) old new
-  pub writes : (kind : Stretch) (r : Reg) (v : ℕ) (old new : Device) → may_of kind (Writing r v)
-      → Stays (MayWrite r v) old → ((uses : Uses) → fits_of kind uses → LeavesUses uses r v old) → Writes r v old new
-      → IsTold (λ made. made ≡ Writing r v ∷ []) (may_of kind) (fits_of kind) old new
-  pub both : (kind then : Stretch) (first second : Uses → Uses)
-      → ((access : Access) → may_of then access → may_of kind access)
-      → ((uses : Uses) → fits_of kind uses → fits_of then (first uses)) → (old mid new : Device)
-      → (a : IsFollowedTo (may_of kind) (fits_of kind) first old mid)
-      → (b : IsFollowedTo (may_of then) (fits_of then) second mid new)
-      → IsToldTo (λ made. made ≡ a.driven.accesses ++ b.driven.accesses) (may_of kind) (fits_of kind)
-      (λ uses. second (first uses)) old new
-  pub agreed : (kind : Stretch) (next : Uses → Uses) (uses : Uses) (old new : Device) → fits_of kind uses
-      → IsFollowedTo (may_of kind) (fits_of kind) next old new → IsAgreed uses old → IsAgreed (next uses) new
+  pub stretches : StretchLaws Stretch may_of fits_of

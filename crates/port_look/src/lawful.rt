@@ -5,17 +5,13 @@ ghost use Rattle.port_look.specs.Laws.{Laws, Stretch, fits_of, may_of};
 use adapter::laws::{port_registers_are_accessed, steps_compose, steps_keep};
 use agreement::disks::look_tells;
 use agreement::facts::{
-    adapter_stays, calm_composes, cleared_stays, coming_composes, controls_stay, errors_are_kept,
-    errors_are_shown, errors_rise_by_disks, fatal_errors_compose, fault_is_found,
-    faults_are_recorded, faults_compose, healthy_stays, link_stays, loads_and_stores_leave_ports,
-    notes_are_set, notes_stay, plugging_composes, plugging_is_found, running_well_is_found,
-    trouble_is_shown,
+    adapter_stays, cleared_stays, controls_stay, errors_are_kept, errors_are_shown, fault_is_found,
+    faults_are_recorded, healthy_stays, link_stays, loads_and_stores_leave_ports, notes_are_set,
+    notes_stay, plugging_is_found, running_well_is_found, trouble_is_shown,
 };
-use agreement::kinds::{
-    Kinds, accesses_are_followed, followed_stretches_give, stretches_are_followed,
-};
+use agreement::kinds::{Kinds, stretch_laws_hold};
 use agreement::laws::{acknowledging_is_permitted, clear_bits_stay, writing_is_permitted};
-use agreement::stretches::{other_ports_are_left, tapes_grow};
+use agreement::stretches::{other_ports_are_left, tape_laws_hold};
 
 /// This crate's kinds of accesses.
 enum Looks {}
@@ -37,32 +33,24 @@ pub fn laws_hold()
     steps_keep();
     look_tells();
     adapter_stays();
-    calm_composes();
     cleared_stays();
-    coming_composes();
     controls_stay();
     errors_are_kept();
     errors_are_shown();
-    errors_rise_by_disks();
-    fatal_errors_compose();
     fault_is_found();
     faults_are_recorded();
-    faults_compose();
     healthy_stays();
     link_stays();
     loads_and_stores_leave_ports();
     notes_are_set();
     notes_stay();
-    plugging_composes();
     plugging_is_found();
     running_well_is_found();
     trouble_is_shown();
-    accesses_are_followed::<Looks>();
-    followed_stretches_give::<Looks>();
-    stretches_are_followed::<Looks>();
+    stretch_laws_hold::<Looks>();
     acknowledging_is_permitted();
     clear_bits_stay();
     writing_is_permitted();
     other_ports_are_left();
-    tapes_grow();
+    tape_laws_hold();
 }

@@ -35,6 +35,19 @@ pub enum Look {
     Undisturbed,
 }
 
+/// Why a ready port is mended: what a look at it told, or that a request of it hangs.
+#[derive(Clone, Copy, Debug, PartialEq, Eq)]
+pub enum Trouble {
+    /// A command has failed: TFES of PxIS (AHCI 1.3.1, 6.2.2.2).
+    Failed,
+    /// A fatal error of its interface, or of the host's bus: IFS, HBDS or HBFS of PxIS (AHCI 1.3.1, 6.2.2.1).
+    Broken,
+    /// Its disk went, though one may be in again: PCS or PRCS of PxIS, or DET of PxSSTS other than 3.
+    Lost,
+    /// A request of it was issued three ticks ago, and hasn't ended.
+    Hung,
+}
+
 /// Whether a device with a link shows (AHCI 1.3.1, 3.3.10).
 fn shows_device(status: SataStatus) -> bool
     ensures { result ≡ (status.0 % 16 == 3) }

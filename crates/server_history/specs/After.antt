@@ -1,24 +1,23 @@
 -- What laws of the crates below say of a port that is recovered, and booted again, and of the others meanwhile.
-use Rattle.std.specs.Prelude.{ℕ, false, ◌≡◌, ◌≢◌, ◌<◌, ◌≤◌, ◌++◌, List, [], All, map}
+use Rattle.std.specs.Prelude.{ℕ, false, ◌≡◌, ◌≢◌, ◌<◌, ◌≤◌, List, [], All, map}
 use Rattle.ata_types.specs.declared.Port.{Port}
 use Rattle.ata_types.specs.declared.PortState.{PortState}
 use Rattle.ata_types.specs.declared.request.RequestId.{RequestId}
-use Rattle.hba_regs.specs.declared.reg.PortReg.TheVariants.{Cmd, Is, Sctl, Serr}
+use Rattle.hba_regs.specs.declared.reg.PortReg.TheVariants.{Cmd, Is, Serr}
 use Rattle.hba_regs.specs.declared.reg.Reg.TheVariants.{Px}
 use Rattle.adapter.specs.Access.{Access, Does, DoesAll}
 use Rattle.adapter.specs.Device.{Device}
 use Rattle.adapter.specs.Device.{PortState as PortOf}
 use Rattle.adapter.specs.Device.Halt.{NotHalted}
 use Rattle.adapter.specs.Rules.{IsOn}
-use Rattle.adapter.specs.declared.tape.Entry.{Entry}
 use Rattle.agreement.specs.Acts.{Act, AreDone, accesses_of}
 use Rattle.agreement.specs.Agrees.{Agrees, HaveSlots}
-use Rattle.agreement.specs.Driven.{AnyAccess, IsDrivenBy, IsOf}
+use Rattle.agreement.specs.Driven.{IsDrivenBy, IsOf}
 use Rattle.agreement.specs.Driver.{Goes, Known, Knows}
-use Rattle.agreement.specs.Errors.{NoneFails, NoneFatal}
+use Rattle.agreement.specs.Errors.{NoneFatal}
 use Rattle.agreement.specs.Facts.{IsRecorded, Undisturbed}
 use Rattle.agreement.specs.Halting.{HaltsAsTaken, IsHaltedAsTaken}
-use Rattle.agreement.specs.Links.{HasDeviceOrNone, LeavesDisk, LeavesLink, PlugsNone, SameAdapter, SparesRegister}
+use Rattle.agreement.specs.Links.{HasDeviceOrNone, LeavesDisk, PlugsNone, SparesRegister}
 use Rattle.agreement.specs.Recovering.{WorksPlainly}
 use Rattle.agreement.specs.Slots.{Serves, Use, Uses, put, serving_count}
 use Rattle.block_machine.specs.Due.{issued_count}
@@ -46,7 +45,6 @@ pub record RecoveryLaws : Type 0 where
       → (other_port ≡ port → other_slot ≡ slot → ⊥) → put uses port slot u other_port other_slot ≡ uses other_port
       other_slot
   -- what accesses leave
-  pub any_same : (old new : Device) → IsDrivenBy AnyAccess old new → SameAdapter old new
   pub own_on : (port : ℕ) (accesses : List Access) (old new : Device) → DoesAll accesses old new
       → ShowsOwnDisk (old.port port) → ShowsOwnDisk (new.port port)
   pub of_recorded : (port : Port) (q : ℕ) (old new : Device) → q ≢ port.0 → IsDrivenBy (IsOf port) old new
@@ -72,12 +70,9 @@ pub record RecoveryLaws : Type 0 where
       → BootsIfThere wanted port booted old new → FoundBadDisk state → booted.found ≡ Unready state
       → HasDeviceOrNone (new.port port.0)
 
--- What of a port's trouble is shown, and that stretches are of their parts.
+-- What of a port's trouble is shown.
 pub record TroubleLaws : Type 0 where
   -- each error, and each disk that goes or comes, is shown until it is cleared
-  pub shows_fault : (port : Port) (access : Access) (old new : Device) → old.hr ≡ false
-      → SparesRegister (Px port Is) access → Does access old new → (new.port port.0).is 30 ≡ false
-      → ((old.port port.0).is 30 ≡ false) × NoneFails port.0 old new
   pub shows_fatal : (port : Port) (access : Access) (old new : Device) → old.hr ≡ false
       → SparesRegister (Px port Is) access → Does access old new
       → ((place : ℕ) → 27 ≤ place → place ≤ 29 → (new.port port.0).is place ≡ false)
@@ -85,27 +80,12 @@ pub record TroubleLaws : Type 0 where
   pub shows_disk : (port : Port) (access : Access) (old new : Device) → old.hr ≡ false
       → SparesRegister (Px port Serr) access → Does access old new → (new.port port.0).serr_n ≡ false
       → ((old.port port.0).serr_n ≡ false) × PlugsNone port.0 old new
-  -- parts
-  pub fails_none : (port : ℕ) (d : Device) → NoneFails port d d
-  pub fails_more : (port : ℕ) (old mid new : Device) → NoneFails port old mid → NoneFails port mid new
-      → NoneFails port old new
-  pub fatal_none : (port : ℕ) (d : Device) → NoneFatal port d d
-  pub fatal_more : (port : ℕ) (old mid new : Device) → NoneFatal port old mid → NoneFatal port mid new
-      → NoneFatal port old new
-  pub plugs_none : (port : ℕ) (d : Device) → PlugsNone port d d
-  pub plugs_more : (port : ℕ) (old mid new : Device) → PlugsNone port old mid → PlugsNone port mid new
-      → PlugsNone port old new
-  pub plugs_parts : (port : ℕ) (old mid new : Device) (early late : List Entry) → mid.tape ≡ old.tape ++ early
-      → new.tape ≡ mid.tape ++ late → PlugsNone port old new → PlugsNone port old mid × PlugsNone port mid new
   -- where nothing disturbs a port
   pub calm_fatal : (port : ℕ) (old new : Device) → Undisturbed port old new → NoneFatal port old new
   pub calm_plugs : (port : ℕ) (old new : Device) → Undisturbed port old new → PlugsNone port old new
   -- its disk, and its link, stay
   pub disk_left : (port : ℕ) (access : Access) (old new : Device) → Does access old new → PlugsNone port old new
       → LeavesDisk (old.port port) (new.port port)
-  pub link_left : (port : Port) (access : Access) (old new : Device) → old.hr ≡ false
-      → SparesRegister (Px port Sctl) access → Does access old new → PlugsNone port.0 old new
-      → LeavesLink (old.port port.0) (new.port port.0)
   -- and a queued command that has halted it is taken still
   pub halts_acts : (port : Port) (acts : List Act) (k later : Known) (m : Machine) → IsReached m → Knows m k
       → AreDone acts k m later → All (SparesRegister (Px port Cmd)) (accesses_of acts)

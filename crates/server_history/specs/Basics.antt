@@ -17,18 +17,18 @@ use Rattle.agreement.specs.Readying.{IsStored, LeavesStored}
 use Rattle.adapter.specs.Access.{Access, Does, DoesAll}
 use Rattle.adapter.specs.Access.Access.{Storing}
 use Rattle.adapter.specs.Says.{Says}
-use Rattle.agreement.specs.Driver.{MissesTable, Forgets, Goes, HasNoSlot, Known, Knows}
+use Rattle.agreement.specs.Driver.{MissesTable, Forgets, Goes, HasNoSlot, Known, Knows, parking}
 use Rattle.agreement.specs.Links.{SparesRegister}
 use Rattle.agreement.specs.Started.{ClearsNoStart}
 use Rattle.hba_regs.specs.declared.reg.PortReg.TheVariants.{Clb}
 use Rattle.hba_regs.specs.declared.reg.Reg.TheVariants.{Px}
 use Rattle.agreement.specs.GivingUp.{parking_all, served_ids}
-use Rattle.agreement.specs.Slots.{Armed, Free, Own, Serves, Use, Uses, put}
+use Rattle.agreement.specs.Slots.{Armed, Free, IsOver, Own, Serves, Use, Uses, put}
 use Rattle.block_machine.specs.Due.{is_plain}
 use Rattle.block_machine.specs.State.{Accepted, Machine, Pending}
-use Rattle.block_machine.specs.Steps.{Step, Age, Again, Issue, Answer, IsLiving, May, after_step, stays}
+use Rattle.block_machine.specs.Steps.{Step, Accept, Age, Again, Issue, Answer, IsLiving, May, MayMove, after_step, stays}
 use Rattle.block_machine.specs.declared.due.Mode.{Mode}
-use Rattle.agreement.specs.Facts.{ShowsFault}
+use Rattle.agreement.specs.Facts.{EndedIn, IsClear, ShowsFault}
 use Rattle.ata_types.specs.declared.grant.GrantRow.{GrantRow}
 use Rattle.dma_frames.specs.Table.{Table}
 use Rattle.request_queue.specs.Entries.{Held, IsAccepted, IsInOrder, aged, asks_of}
@@ -68,6 +68,16 @@ pub record BasicLaws : Type 0 where
 
 -- what becomes of slots, and of the requests in them
 pub record SlotLaws : Type 0 where
+  -- a request is accepted
+  pub accepted_agrees : (k : Known) (m : Machine) (r : Accepted) → Knows m k → Knows (after_step m (Accept r)) k
+  -- a request is taken from its slot, once its command is over
+  pub parked_agrees : (k : Known) (m : Machine) → Knows m k → (port slot : ℕ) → IsOver (k.device.port port) slot
+      → (id : RequestId) → k.uses port slot ≡ Serves id → Knows m (parking k port slot id)
+  pub parked_frees : (k : Known) (port slot : ℕ) (id : RequestId) → AreApart k.uses → k.uses port slot ≡ Serves id
+      → HasNoSlot (parking k port slot id).uses id
+  pub ended_clear : (uses : Uses) (m : Machine) (d : Device) (port : Port) (slot : ℕ) (e : Pending) → IsReached m
+      → Agrees uses m d → MayMove m e → e.ended ≡ true → uses port.0 slot ≡ Serves e.request.id
+      → IsClear (d.port port.0) slot × EndedIn m port e.request.id
   -- what becomes of requests that no slot serves
   pub answered_agrees : (k : Known) (m : Machine) (e : Pending) (outcome : Outcome) (later : ℕ → List RequestId)
       → IsReached m → Knows m k → Contains m.book e → stays e outcome ≡ false → HasNoSlot k.uses e.request.id

@@ -1,9 +1,9 @@
 -- What laws of the crates below say of requests, of transfers, and of accesses that serve ports: the laws of this crate
 -- rest on them.
-use Rattle.std.specs.Prelude.{ℕ, true, false, ◌≡◌, ◌≢◌, ◌+◌, ◌%◌, ◌≤◌, ◌<◌, ◌↔◌, List, [], ◌∷◌, ◌++◌, map, Option, None, All, Contains, length}
+use Rattle.std.specs.Prelude.{ℕ, true, false, ◌≡◌, ◌≢◌, ◌+◌, ◌*◌, ◌%◌, ◌≤◌, ◌<◌, ◌↔◌, List, [], ◌∷◌, ◌++◌, map, Option, None, All, Contains, length}
 use Rattle.ata_types.specs.declared.Port.{Port}
 use Rattle.ata_types.specs.declared.grant.GrantRow.{GrantRow}
-use Rattle.ata_types.specs.declared.memory.TheConstants.{DRIVER_BYTES}
+use Rattle.ata_types.specs.declared.memory.TheConstants.{DRIVER_BYTES, FRAME_BYTES}
 use Rattle.ata_types.specs.declared.request.Frame.{Frame}
 use Rattle.ata_types.specs.declared.request.Outcome.{Outcome}
 use Rattle.ata_types.specs.declared.request.RequestId.{RequestId}
@@ -12,11 +12,9 @@ use Rattle.adapter.specs.declared.command.Operation.{Operation}
 use Rattle.adapter.specs.declared.command.Operation.TheVariants.{ReadLog}
 use Rattle.adapter.specs.declared.tape.Entry.{Entry as TapeEntry}
 use Rattle.adapter.specs.declared.tape.Fault.{Fault}
-use Rattle.adapter.specs.Kept.{Keeps}
-use Rattle.adapter.specs.Rules.{IsOn}
-use Rattle.adapter.specs.Steps.{Steps}
+use Rattle.adapter.specs.Rules.{IsFree, IsOn, Stays}
 use Rattle.agreement.specs.Acts.{InSlots, at as at_slots}
-use Rattle.adapter.specs.Access.{Access, Does, DoesAll, Writes}
+use Rattle.adapter.specs.Access.{Access, Does, DoesAll, Loads, Stores, Writes}
 use Rattle.adapter.specs.Access.Access.{Loading, Storing}
 use Rattle.agreement.specs.Links.{IsPlugging, SparesRegister}
 use Rattle.agreement.specs.Tape.{TellsAmong}
@@ -24,14 +22,16 @@ use Rattle.hba_regs.specs.Bits.{bit}
 use Rattle.hba_regs.specs.declared.reg.PortReg.{PortReg}
 use Rattle.hba_regs.specs.declared.reg.PortReg.TheVariants.{Cmd, Sctl}
 use Rattle.hba_regs.specs.declared.reg.Reg.TheVariants.{Ghc, Px}
-use Rattle.agreement.specs.Driven.{AnyUse, IsDrivenBy, IsFollowed, IsOf, LeavesPort, SendsNone, Grows}
-use Rattle.agreement.specs.Driver.{EndsWith, IsBacked, Knows}
-use Rattle.agreement.specs.Slots.{Own, op_of}
+use Rattle.agreement.specs.Driven.{AnyUse, IsDrivenBy, IsFollowed, IsOf, SendsNone, Grows}
+use Rattle.agreement.specs.Agrees.{Agrees}
+use Rattle.agreement.specs.Driver.{EndsWith, IsBacked, Known, Knows}
+use Rattle.agreement.specs.Slots.{Own, Uses, op_of}
 use Rattle.agreement.specs.Vacant.{IsFreshIfShown, IsVacant}
 use Rattle.block_machine.specs.Due.{AreDueInTurn, IsDue, IsInOrder as machine_in_order, due_of, of_port, with_issued, with_none, with_waiting}
 use Rattle.agreement.specs.Errors.{NoneComes}
 use Rattle.block_machine.specs.State.{Machine, Pending}
-use Rattle.block_machine.specs.Steps.{Step, Accept, Again, Issue, Answer, after_step, newly_accepted}
+use Rattle.block_machine.specs.Refusals.{IsOpen}
+use Rattle.block_machine.specs.Steps.{Step, Accept, Again, Issue, Answer, Load, May, Store, after_step, newly_accepted}
 use Rattle.block_machine.specs.State as machine
 use Rattle.block_machine.specs.Steps as steps
 use Rattle.ata_types.specs.declared.request.ClientId.{ClientId}
@@ -148,16 +148,25 @@ pub record LawsBelow : Type 0 where
   pub finding_followed : (port : Port) (mask done : ℕ) (old new : Device) → ReadsDone port mask done old new
       → IsFollowed (IsFinding port) AnyUse old new
   -- the adapter
-  pub steps_keep : (old new : Device) → Steps old new → Keeps old new
   pub switches_on : (v : ℕ) (old new : Device) → old.hr ≡ false → bit v 31 ≡ true → bit v 0 ≡ false
       → Writes Ghc v old new → IsOn new
   -- accesses of one port
   pub of_on : (port : Port) (old new : Device) → IsOn old → IsDrivenBy (IsOf port) old new → IsOn new
-  pub of_left : (port : Port) (q : ℕ) (old new : Device) → q ≢ port.0 → IsOn old → IsDrivenBy (IsOf port) old new
-      → LeavesPort (old.port q) (new.port q)
   pub of_spares : (port q : Port) (r : PortReg) → q.0 ≢ port.0 → (access : Access) → IsOf port access
       → SparesRegister (Px q r) access
   pub of_host : (port : Port) (access : Access) → IsOf port access → SparesRegister Ghc access
+  -- clients' bytes
+  pub client_stores : (k : Known) (m : Machine) (client : ClientId) (frame : Frame) (offset : ℕ) (bytes : List ℕ)
+      (new : Device) → IsReached m → Knows m k → May m (Store client frame offset bytes)
+      → Stores (FRAME_BYTES * frame.0 + offset) bytes k.device new
+      → EndsWith k m (Store client frame offset bytes) (record k { device = new })
+  pub client_loads : (k : Known) (m : Machine) (client : ClientId) (frame : Frame) (offset : ℕ) (bytes : List ℕ)
+      (new : Device) → IsReached m → Knows m k → IsOpen m.owner m.lent client frame offset (length bytes)
+      → Loads (FRAME_BYTES * frame.0 + offset) bytes k.device new
+      → EndsWith k m (Load client frame offset bytes) (record k { device = new })
+  pub client_bytes_free : (uses : Uses) (m : Machine) (d : Device) → IsReached m → Agrees uses m d → (client : ClientId)
+      (frame : Frame) (offset n : ℕ) → FRAME_BYTES * frame.0 + FRAME_BYTES ≤ d.size
+      → IsOpen m.owner m.lent client frame offset n → Stays (IsFree (FRAME_BYTES * frame.0 + offset) n) d
   -- a port that runs does so still
   pub runs_over : (port : Port) (access : Access) (old new : Device) → IsOn old → SparesRegister (Px port Sctl) access
       → SparesRegister (Px port Cmd) access → Does access old new → RunsOn port.0 old new

@@ -1,11 +1,7 @@
 -- What laws of the crates below say of an adapter that is taken over, and of the machine when it is reset: the laws of
 -- this crate rest on them.
-use Rattle.std.specs.Prelude.{List, Some, false, true, ℕ, ◌≡◌}
+use Rattle.std.specs.Prelude.{List, Some, ℕ, ◌≡◌}
 use Rattle.std.specs.List.{Contains}
-use Rattle.hba_regs.specs.Bits.{bit}
-use Rattle.hba_regs.specs.declared.reg.Reg.TheVariants.{Ghc}
-use Rattle.adapter.specs.Access.{Writes}
-use Rattle.adapter.specs.Rules.{IsOn}
 use Rattle.adapter.specs.Device.{Device}
 use Rattle.adapter.specs.Idle.{IsIdle}
 use Rattle.agreement.specs.Driver.{ForgetsKept, HasNoSlot, Known, Knows}
@@ -14,11 +10,10 @@ use Rattle.agreement.specs.Links.{HasDeviceOrNone}
 use Rattle.ata_types.specs.declared.PortState.{PortState}
 use Rattle.ata_types.specs.declared.request.Frame.{Frame}
 use Rattle.ata_types.specs.declared.request.RequestId.{RequestId}
-use Rattle.block_machine.specs.Confined.{HasFrame, WithinLimits}
+use Rattle.block_machine.specs.Confined.{HasFrame}
 use Rattle.block_machine.specs.Histories.{IsReached}
-use Rattle.block_machine.specs.Left.{IsLegal, IsStart, after}
 use Rattle.block_machine.specs.State.{Machine, Pending}
-use Rattle.block_machine.specs.Steps.{IsLiving, Release, Step, after_step}
+use Rattle.block_machine.specs.Steps.{IsLiving, Release, after_step}
 use Rattle.host_boot.specs.Taken.{FoundBadDisk, TakesOver, found_of}
 use Rattle.host_boot.specs.declared.Found.TheVariants.{Ready, Unready}
 use Rattle.host_boot.specs.declared.Host.{Host}
@@ -44,12 +39,8 @@ pub record TakenLaws : Type 0 where
 pub record ResetLaws : Type 0 where
   pub below : LawsBelow
   pub taken : TakenLaws
-  pub limits : (start : Machine) (history : List Step) → IsStart start → IsLegal start history
-      → WithinLimits (after start history)
   pub own_frame : (m : Machine) (frame : Frame) (e : Pending) → IsReached m → IsLiving m e
       → m.lent frame ≡ Some e.request.id → HasFrame e.request frame
   pub released : (k : Known) (m : Machine) (later : ℕ → List RequestId) → IsReached m → Knows m k
       → ((e : Pending) → Contains m.kept e → HasNoSlot k.uses e.request.id) → ForgetsKept m k.parked later
       → Knows (after_step m Release) (record k { parked = later })
-  pub switches_on : (v : ℕ) (old new : Device) → old.hr ≡ false → bit v 31 ≡ true → bit v 0 ≡ false
-      → Writes Ghc v old new → IsOn new

@@ -1,5 +1,5 @@
 -- Histories of a server of several ports, and what its calls add to them (this project's own).
-use Rattle.std.specs.Prelude.{ℕ, ◌≡◌, List, [], ◌∷◌, Some, None, Result, Ok, Err}
+use Rattle.std.specs.Prelude.{ℕ, Bool, true, false, ◌≡◌, List, [], ◌∷◌, Some, None, Result, Ok, Err}
 use Rattle.ata_types.specs.declared.refusal.MemFault.{MemFault}
 use Rattle.adapter.specs.Device.{Device}
 use Rattle.adapter.specs.declared.access.DeviceStep.{DeviceStep}
@@ -46,6 +46,16 @@ pub record Adds (old new : Server) (ask : Ask DeviceStep) (said : Said) : Type 0
 pub record AddsStalled (old new : Server) (ask : Ask DeviceStep) (said : Said) : Type 0 where
   pub stalled : IsStalled new
   pub adds : AddsEvent old new ask said
+
+-- What holds of a server between calls, by whether its last reset got stuck: its adapter is on, and each request is
+-- issued that is due; or the adapter hasn't been seen to end that reset.
+abbrev pub HoldsBy : Bool → Server → Type 0
+HoldsBy false s = IsSettled s
+HoldsBy true s = IsStalled s
+
+-- So it does, and it is for the new server as it was.
+abbrev pub AddsBy : Bool → Server → Server → Ask DeviceStep → Said → Type 0
+AddsBy stuck old new ask said = HoldsBy stuck new × AddsEvent old new ask said
 
 -- a history without calls leads to the server
 abbrev pub HasBegun : Server → Type 0

@@ -32,8 +32,8 @@ use Rattle.request_queue.specs.declared.fate.Prospect.TheVariants.{SameDisk, Dis
 use Rattle.slots.specs.Uses.{Uses as PortSlots, use_at}
 use Rattle.slots.specs.declared.Use.{Use as SlotUse}
 use Rattle.server_history.specs.Served.{AnswersEach, IsMaskOf, IssuesAll, done_reply}
-use Rattle.server_history.specs.declared.Trouble.{Trouble}
-use Rattle.server_history.specs.declared.Trouble.TheVariants.{Broken, Failed, Hung, Lost}
+use Rattle.port_look.specs.declared.Trouble.{Trouble}
+use Rattle.port_look.specs.declared.Trouble.TheVariants.{Broken, Failed, Hung, Lost}
 use Rattle.server_history.specs.Server.{Server, kept_at, mode_found, slots_at, used_for}
 
 -- ---- a port is mended

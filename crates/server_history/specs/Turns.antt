@@ -30,7 +30,7 @@ use Rattle.host_boot.specs.Taken.{found_of}
 use Rattle.host_boot.specs.declared.Found.{Found}
 use Rattle.host_boot.specs.declared.Found.TheVariants.{Ready, Unready, Unserved}
 use Rattle.request_queue.specs.Entries.{Held, IsOverdue, aged, asks_of}
-use Rattle.server_history.specs.declared.Trouble.TheVariants.{Hung}
+use Rattle.port_look.specs.declared.Trouble.TheVariants.{Hung}
 use Rattle.server_history.specs.Mended.{MendsPort}
 use Rattle.server_history.specs.Tried.{TriesPort}
 use Rattle.server_history.specs.Served.{AnswersTurn, HasTurn}

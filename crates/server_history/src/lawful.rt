@@ -11,14 +11,16 @@ use adapter::laws::{
 use agreement::acts::acts_give;
 use agreement::disks::none_comes_in;
 use agreement::facts::{
-    disk_stays, errors_are_shown, fatal_errors_compose, faults_compose, link_stays,
-    plugging_composes, plugging_is_found, switching_on,
+    disk_stays, ended_is_clear, errors_are_shown, fatal_errors_compose, plugging_composes,
+    plugging_is_found, switching_on,
 };
 use agreement::giving_up::{fault_is_outstanding, slots_are_given_up};
 use agreement::laws::{
-    answering_agrees, backing_composes, disks_are_told, due_finds_free_slot, going_again_agrees,
-    going_composes, keeping_agrees, own_steps_are_backed, putting_is_of_one_slot,
-    slots_are_counted, steps_spare_the_book, ticking_agrees, waiting_has_no_slot,
+    accepting_agrees, answering_agrees, backing_composes, client_bytes_are_free,
+    client_load_is_followed, client_store_is_followed, disks_are_told, due_finds_free_slot,
+    going_again_agrees, going_composes, keeping_agrees, own_steps_are_backed, parking_agrees,
+    parking_frees, putting_is_of_one_slot, slots_are_counted, steps_spare_the_book, ticking_agrees,
+    waiting_has_no_slot,
 };
 use agreement::readying::{readied_stays, stored_stays_over_acts};
 use agreement::recovering::halts_are_of_taken_commands;
@@ -79,6 +81,10 @@ pub fn living_laws_hold()
 fn slot_laws_hold()
     ensures { SlotLaws }
 {
+    accepting_agrees();
+    parking_agrees();
+    parking_frees();
+    ended_is_clear();
     answering_agrees();
     going_again_agrees();
     keeping_agrees();
@@ -137,11 +143,9 @@ fn trouble_laws_hold()
 {
     errors_are_shown();
     plugging_is_found();
-    faults_compose();
     fatal_errors_compose();
     plugging_composes();
     disk_stays();
-    link_stays();
     halts_are_of_taken_commands();
 }
 
@@ -188,7 +192,6 @@ pub fn the_laws_below_hold()
     issuing_performs();
     calls_are_of_one_port();
     finding_is_followed();
-    steps_keep();
     switching_on();
     other_ports_are_left();
     a_port_runs_on();
@@ -198,4 +201,7 @@ pub fn the_laws_below_hold()
     what_stands_behind_a_fault_stays();
     none_comes_in();
     disks_are_told();
+    client_store_is_followed();
+    client_load_is_followed();
+    client_bytes_are_free();
 }

@@ -41,11 +41,12 @@ ghost use Rattle.request_queue.specs.declared.fate.Prospect.{Prospect};
 ghost use Rattle.server_history.specs.Fates.{MayMeet, MeetsInMachine};
 ghost use Rattle.agreement.specs.Driver.{Known};
 ghost use Rattle.block_machine.specs.State.{Machine};
-ghost use Rattle.server_history.specs.Histories.{Adds, HasBegun, load_said, store_said};
+ghost use Rattle.server_history.specs.Histories.{Adds, AddsBy, AddsEvent, HasBegun, HoldsBy, load_said, store_said};
 ghost use Rattle.server_history.specs.Served.{Accepts, AnswersDone, AnswersOne, HasNone, IsMaskOf, IssuesAll, IssuesOne, accepting};
+ghost use Rattle.server_history.specs.Stalled.{KeepsBooks};
 ghost use Rattle.server_history.specs.Tried.{TriesPort};
 ghost use Rattle.server_history.specs.Turns.{HasPart, InRestart, ServePorts, ServesPort, Ticks, TriesUnready, a_tick_older};
-ghost use Rattle.server_history.specs.declared.Trouble.TheVariants.{Hung};
+ghost use Rattle.port_look.specs.declared.Trouble.TheVariants.{Hung};
 ghost use Rattle.server_history.specs.Server.{AreOfTwo, Server, mode_found, IsKept, IsLentOut, IsNewServer, IsSettled, kept_at, mode_in, ports_of, situation_of, slots_at, state_of, used_for};
 ghost use Rattle.slots.specs.Uses.{IsLowestFree, IsTaken};
 ghost use Rattle.slots.specs.declared.Use.{Use as SlotUse};
@@ -61,6 +62,7 @@ ghost use Rattle.port_control.specs.declared.Stopped.{Stopped};
 ghost use Rattle.server_history.specs.Mended.{AreQueued, IsMended, HasMetFates, MendsPort, requests_of};
 
 use super::lawful::{living_laws_hold, the_laws_below_hold};
+use ata_types::READINGS;
 use host_boot::laws::what_was_taken_over_may_be_served;
 
 /// A ready port of a new server runs well, if nothing went wrong on it since the adapter was idle.
@@ -80,50 +82,59 @@ pub fn a_new_server_has_begun()
     what_was_taken_over_may_be_served();
 }
 
-/// A device that does what it is told adds an event, and so does one that can't.
+/// A device that does what it is told adds an event, and so does one that can't. Where the adapter isn't on, it isn't
+/// switched on.
 pub fn device_steps_add()
-    ensures done { (s : Server) (new : Device) (step : DeviceStep) → IsSettled s → Asked step s.device new
-        → Steps s.device new → Adds s (record s { device = new }) (Told step) (Stepped true) }
-    ensures refused { (s : Server) (step : DeviceStep) → IsSettled s → Adds s s (Told step) (Stepped false) }
+    ensures done { (stuck : Bool) (s : Server) (new : Device) (step : DeviceStep) → HoldsBy stuck s
+        → Asked step s.device new → Steps s.device new
+        → AddsBy stuck s (record s { device = new }) (Told step) (Stepped true) }
+    ensures refused { (stuck : Bool) (s : Server) (step : DeviceStep) → HoldsBy stuck s
+        → AddsEvent s s (Told step) (Stepped false) }
 {
     the_laws_below_hold();
 }
 
-/// A call that is refused adds an event, and so does asking for a port's state: nothing changes.
+/// A call that is refused adds an event, and so does asking for a port's state, whether or not the adapter is on:
+/// nothing changes.
 pub fn refusals_add()
-    ensures submit { (s : Server) (r : Request) (refusal : Refusal) → IsSettled s
-        → IsFirstRefusal (situation_of s) r refusal → Adds s s (Submit r) (Submitted (Err refusal)) }
-    ensures store { (s : Server) (client : ClientId) (frame : Frame) (offset : ℕ) (bytes : List ℕ) (fault : MemFault)
-        → IsSettled s → IsFirstMemFault (owner_of s.table) (lent_to s.table) client frame offset (length bytes) fault
-        → Adds s s (StoreAt client frame offset bytes) (store_said (Err fault)) }
-    ensures load { (s : Server) (client : ClientId) (frame : Frame) (offset count : ℕ) (bytes : List ℕ)
-        (fault : MemFault) → IsSettled s
+    ensures submit { (stuck : Bool) (s : Server) (r : Request) (refusal : Refusal) → HoldsBy stuck s
+        → IsFirstRefusal (situation_of s) r refusal → AddsEvent s s (Submit r) (Submitted (Err refusal)) }
+    ensures store { (stuck : Bool) (s : Server) (client : ClientId) (frame : Frame) (offset : ℕ) (bytes : List ℕ)
+        (fault : MemFault) → HoldsBy stuck s
+        → IsFirstMemFault (owner_of s.table) (lent_to s.table) client frame offset (length bytes) fault
+        → AddsEvent s s (StoreAt client frame offset bytes) (store_said (Err fault)) }
+    ensures load { (stuck : Bool) (s : Server) (client : ClientId) (frame : Frame) (offset count : ℕ) (bytes : List ℕ)
+        (fault : MemFault) → HoldsBy stuck s
         → IsFirstMemFault (owner_of s.table) (lent_to s.table) client frame offset count fault
-        → Adds s s (LoadAt client frame offset count) (load_said (Err fault) bytes) }
-    ensures state { (s : Server) (port : Port) → IsSettled s → Adds s s (State port) (Shown ((ports_of s).state port)) }
+        → AddsEvent s s (LoadAt client frame offset count) (load_said (Err fault) bytes) }
+    ensures state { (stuck : Bool) (s : Server) (port : Port) → HoldsBy stuck s
+        → AddsEvent s s (State port) (Shown ((ports_of s).state port)) }
 {
     the_laws_below_hold();
 }
 
-/// Bytes of an open frame may be loaded and stored, whatever the device does first.
+/// Bytes of an open frame may be loaded and stored, whatever the device does first, and whether or not the adapter is
+/// on.
 pub fn open_bytes_are_free()
-    ensures { (s : Server) (client : ClientId) (frame : Frame) (offset count : ℕ) → IsKept s
+    ensures { (s : Server) (client : ClientId) (frame : Frame) (offset count : ℕ) → KeepsBooks s
         → IsOpen (owner_of s.table) (lent_to s.table) client frame offset count
         → Stays (IsFree (FRAME_BYTES * frame.0 + offset) count) s.device }
 {
     the_laws_below_hold();
 }
 
-/// Bytes of an open frame that a client stores or loads add an event.
+/// Bytes of an open frame that a client stores or loads add an event, whether or not the adapter is on.
 pub fn client_bytes_add()
-    ensures store { (s : Server) (new : Device) (client : ClientId) (frame : Frame) (offset : ℕ) (bytes : List ℕ)
-        → IsSettled s → IsOpen (owner_of s.table) (lent_to s.table) client frame offset (length bytes)
+    ensures store { (stuck : Bool) (s : Server) (new : Device) (client : ClientId) (frame : Frame) (offset : ℕ)
+        (bytes : List ℕ) → HoldsBy stuck s
+        → IsOpen (owner_of s.table) (lent_to s.table) client frame offset (length bytes)
         → Stores (FRAME_BYTES * frame.0 + offset) bytes s.device new
-        → Adds s (record s { device = new }) (StoreAt client frame offset bytes) (store_said (Ok tt)) }
-    ensures load { (s : Server) (new : Device) (client : ClientId) (frame : Frame) (offset count : ℕ) (bytes : List ℕ)
-        → IsSettled s → length bytes ≡ count → IsOpen (owner_of s.table) (lent_to s.table) client frame offset count
+        → AddsBy stuck s (record s { device = new }) (StoreAt client frame offset bytes) (store_said (Ok tt)) }
+    ensures load { (stuck : Bool) (s : Server) (new : Device) (client : ClientId) (frame : Frame) (offset count : ℕ)
+        (bytes : List ℕ) → HoldsBy stuck s → length bytes ≡ count
+        → IsOpen (owner_of s.table) (lent_to s.table) client frame offset count
         → Loads (FRAME_BYTES * frame.0 + offset) bytes s.device new
-        → Adds s (record s { device = new }) (LoadAt client frame offset count) (load_said (Ok tt) bytes) }
+        → AddsBy stuck s (record s { device = new }) (LoadAt client frame offset count) (load_said (Ok tt) bytes) }
 {
     the_laws_below_hold();
 }
@@ -153,21 +164,6 @@ pub fn a_used_slot_has_its_request()
         → (request : Held) × Contains s.book request × (request.entry.id ≡ used.id) × (request.entry.port ≡ port)
         × (request.entry.issued ≡ true) }
 {}
-
-/// What is kept may be given back: the frames of each kept loan are lent to its request, which isn't unanswered, and of
-/// which there is no other loan. A port that isn't dead has none.
-pub fn kept_loans_are_lent()
-    ensures none { (s : Server) (port : ℕ) → IsKept s → found_of s.ports port ≢ Unready Dead
-        → kept_at s.kept port ≡ [] }
-    ensures lent { (s : Server) (port : ℕ) → IsKept s → All (IsLentOut s.table) (kept_at s.kept port) }
-    ensures two { (s : Server) (port : ℕ) → IsKept s → AllPairs AreOfTwo (kept_at s.kept port) }
-    ensures one { (s : Server) (port other : ℕ) (a b : Lending) → IsKept s → Contains (kept_at s.kept port) a
-        → Contains (kept_at s.kept other) b → a.request ≡ b.request → (port ≡ other) × (a ≡ b) }
-    ensures answered { (s : Server) (port : ℕ) (loan : Lending) (e : Held) → IsKept s
-        → Contains (kept_at s.kept port) loan → Contains s.book e → e.entry.id ≢ loan.request }
-{
-    living_laws_hold();
-}
 
 /// A server goes on while requests are accepted, answered and issued.
 pub fn requests_keep()
@@ -274,7 +270,7 @@ pub fn a_mended_port_goes_on()
     ensures bootable { (s mid : Server) (device : Device) (port : Port) (token : Stopped) → IsKept s
         → state_of (found_of s.ports port.0) ≡ ReadyState → (r : IsMended port s mid device)
         → IsFollowed (IsLooking port) AnyUse s.device r.seen → r.result.next ≡ Restart token → IsBootable port device
-        × IsStopped (device.port port.0) × ((device.port port.0).notes.link_count ≡ 64) }
+        × IsStopped (device.port port.0) × ((device.port port.0).notes.link_count ≡ READINGS) }
     ensures mode { (s mid : Server) (device : Device) (port : Port) → IsKept s → state_of (found_of s.ports port.0)
         ≡ ReadyState
         → (r : IsMended port s mid device) → IsFollowed (IsLooking port) AnyUse s.device r.seen
@@ -286,17 +282,6 @@ pub fn a_mended_port_goes_on()
         → IsFollowed (IsLooking port) AnyUse s.device a.mended.seen → IsKept new }
     ensures undue { (s : Server) (port : Port) → IsKept s → ((info : DiskInfo) → found_of s.ports port.0 ≡ Ready info
         → ⊥) → due_ids (mode_in s port) port (asks_of s.book) ≡ [] }
-{
-    the_laws_below_hold();
-}
-
-/// The unanswered requests of a port that was stopped, or is dead, meet their fates in the machine, too.
-pub fn fates_are_met()
-    ensures { (port : Port) (failed : Option Failed) (prospect : Prospect) (requests : List Held) (replies : List Reply)
-        (old new : Holdings)
-        (rows : List GrantRow) (k : Known) (m : Machine) → MayMeet port (fate_of failed prospect) requests old rows k m
-        → MeetFates (fate_of failed prospect) requests replies old new
-        → MeetsInMachine port (fate_of failed prospect) requests replies old new k m }
 {
     the_laws_below_hold();
 }

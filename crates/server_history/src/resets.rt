@@ -9,9 +9,8 @@ ghost use Rattle.server_history.specs.Server.{IsKept, IsSettled, Server};
 ghost use Rattle.server_history.specs.Stalled.{KeepsBooks};
 
 use super::lawful::the_laws_below_hold;
-use agreement::facts::switching_on;
 use agreement::laws::releasing_agrees;
-use block_machine::laws::{lent_frame_is_its_own, limits_hold};
+use block_machine::laws::lent_frame_is_its_own;
 use host_boot::laws::what_was_taken_over_may_be_served;
 
 /// What the laws of a reset rest on.
@@ -20,10 +19,8 @@ fn reset_laws_hold()
 {
     the_laws_below_hold();
     what_was_taken_over_may_be_served();
-    limits_hold();
     lent_frame_is_its_own();
     releasing_agrees();
-    switching_on();
 }
 
 /// A server goes on once its adapter was taken over again and its requests met their fates; and once what is due was

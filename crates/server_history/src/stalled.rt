@@ -63,49 +63,9 @@ pub fn stuck_resets_add()
     the_laws_below_hold();
 }
 
-/// A request is refused while no port is ready, and none is acceptable then; so are accesses to frames as ever. A
-/// port's state may be asked. Nothing changes.
-pub fn stalled_refusals_add()
-    ensures submit { (s : Server) (r : Request) (refusal : Refusal) → IsStalled s
-        → IsFirstRefusal (situation_of s) r refusal → AddsEvent s s (Submit r) (Submitted (Err refusal)) }
-    ensures none { (s : Server) (r : Request) → IsStalled s → IsAcceptable (situation_of s) r → ⊥ }
-    ensures store { (s : Server) (client : ClientId) (frame : Frame) (offset : ℕ) (bytes : List ℕ) (fault : MemFault)
-        → IsStalled s → IsFirstMemFault (owner_of s.table) (lent_to s.table) client frame offset (length bytes) fault
-        → AddsEvent s s (StoreAt client frame offset bytes) (store_said (Err fault)) }
-    ensures load { (s : Server) (client : ClientId) (frame : Frame) (offset count : ℕ) (bytes : List ℕ)
-        (fault : MemFault) → IsStalled s
-        → IsFirstMemFault (owner_of s.table) (lent_to s.table) client frame offset count fault
-        → AddsEvent s s (LoadAt client frame offset count) (load_said (Err fault) bytes) }
-    ensures state { (s : Server) (port : Port) → IsStalled s
-        → AddsEvent s s (State port) (Shown ((ports_of s).state port)) }
-{
-    the_laws_below_hold();
-}
-
-/// A device that does what it is told adds an event while its adapter isn't on, and so does one that can't. It doesn't
-/// switch the adapter on.
-pub fn stalled_device_steps_add()
-    ensures done { (s : Server) (new : Device) (step : DeviceStep) → IsStalled s → Asked step s.device new
-        → Steps s.device new → AddsStalled s (record s { device = new }) (Told step) (Stepped true) }
-    ensures refused { (s : Server) (step : DeviceStep) → IsStalled s → AddsEvent s s (Told step) (Stepped false) }
-{
-    the_laws_below_hold();
-}
-
-/// Bytes of an open frame may be loaded and stored while the adapter isn't on, whatever the device does first; and that
-/// adds an event.
-pub fn stalled_bytes_add()
-    ensures open { (s : Server) (client : ClientId) (frame : Frame) (offset count : ℕ) → IsStalled s
-        → IsOpen (owner_of s.table) (lent_to s.table) client frame offset count
-        → Stays (IsFree (FRAME_BYTES * frame.0 + offset) count) s.device }
-    ensures store { (s : Server) (new : Device) (client : ClientId) (frame : Frame) (offset : ℕ) (bytes : List ℕ)
-        → IsStalled s → IsOpen (owner_of s.table) (lent_to s.table) client frame offset (length bytes)
-        → Stores (FRAME_BYTES * frame.0 + offset) bytes s.device new
-        → AddsStalled s (record s { device = new }) (StoreAt client frame offset bytes) (store_said (Ok tt)) }
-    ensures load { (s : Server) (new : Device) (client : ClientId) (frame : Frame) (offset count : ℕ) (bytes : List ℕ)
-        → IsStalled s → length bytes ≡ count → IsOpen (owner_of s.table) (lent_to s.table) client frame offset count
-        → Loads (FRAME_BYTES * frame.0 + offset) bytes s.device new
-        → AddsStalled s (record s { device = new }) (LoadAt client frame offset count) (load_said (Ok tt) bytes) }
+/// No request is acceptable while no port is ready.
+pub fn stalled_servers_admit_none()
+    ensures { (s : Server) (r : Request) → IsStalled s → IsAcceptable (situation_of s) r → ⊥ }
 {
     the_laws_below_hold();
 }

@@ -1,3 +1,4 @@
+use Rattle.ata_types.specs.declared.memory.TheConstants.{LONGEST_TABLE, PRD_BYTES, TABLE_HEAD}
 use Rattle.std.proofs.Common.{◌≡◌, ℕ, ◌+◌, ◌*◌, ◌<◌, length, slice_index_or}
 use Rattle.command_table.specs.Bytes.{part}
 use Rattle.adapter.specs.Spelling.{AreZero, SpellsCommand}
@@ -7,9 +8,9 @@ use Rattle.command_table.proofs.fill_table.Given as goal
 
 abbrev pub invariant-loop-i : goal.invariant-loop-i
 invariant-loop-i l = record {
-  size : length l.bytes ≡ 640;
+  size : length l.bytes ≡ LONGEST_TABLE;
   fis : SpellsCommand (part l.bytes 0 20) l.command;
   between : AreZero l.bytes 20 128;
-  entries : (k : ℕ) (d : Prd) → k < l.i → SpellsPrd (part l.bytes (128 + 16 * k) 16) (slice_index_or l.prds k d);
-  behind : AreZero l.bytes (128 + 16 * l.i) 640;
+  entries : (k : ℕ) (d : Prd) → k < l.i → SpellsPrd (part l.bytes (TABLE_HEAD + PRD_BYTES * k) 16) (slice_index_or l.prds k d);
+  behind : AreZero l.bytes (TABLE_HEAD + PRD_BYTES * l.i) LONGEST_TABLE;
 }

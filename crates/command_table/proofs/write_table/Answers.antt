@@ -1,3 +1,5 @@
+use Rattle.ata_types.specs.declared.memory.TheConstants.{DRIVER_BYTES, LONGEST_TABLE, PORT_BYTES, PRD_BYTES, TABLES, TABLE_BYTES, TABLE_HEAD}
+use Rattle.ata_types.specs.declared.limits.TheConstants.{MOST_REQUEST_FRAMES}
 use Rattle.std.proofs.Common.{ℕ, List, ◌≡◌, ◌+◌, ◌*◌, ◌≤◌, refl, ap, ◌∙◌, subst, sym, inl, inr, arith, length, take}
 use Rattle.byteorder.specs.Endian.{little_from}
 use Rattle.std.proofs.lemmas.List.{length-take}
@@ -11,7 +13,7 @@ use Rattle.agreement.specs.Places.{list_of, table_of}
 use Rattle.command_table.specs.Written.{IsTableStore, IsUnused}
 use Rattle.command_table.proofs.Zeros.{zero_of}
 use Rattle.command_table.proofs.Storing.{store_free, store_followed, store_on, store_size, store_there, store_agrees, stored_says}
-use Rattle.agreement.proofs.Driven.{followed_then}
+use Rattle.agreement.proofs.driver.Stretches.{followed_then}
 use Rattle.command_table.proofs.write_table.Goals as goal
 
 -- a number of the port and one of the slot stand for them
@@ -19,14 +21,14 @@ at_places : (P : ℕ → ℕ → Type 0) (port slot p s : ℕ) → p ≡ port �
 at_places P port slot p s here there h = let Q : ℕ → Type 0 = λ x. P x slot in subst Q here (let R : ℕ → Type 0 = λ x. P p x in subst R there h)
 
 -- bytes that were stored at the table's place, or at the header's
-table_stored : (port slot p t : ℕ) (bytes : List ℕ) (old new : Device) → p ≡ port → t ≡ slot → Stores (40960 * p + 4096 + 1024 * t) bytes old new → Stores (table_of port slot) bytes old new
-table_stored port slot p t bytes old new = at_places (λ a b. Stores (40960 * a + 4096 + 1024 * b) bytes old new) port slot p t
+table_stored : (port slot p t : ℕ) (bytes : List ℕ) (old new : Device) → p ≡ port → t ≡ slot → Stores (PORT_BYTES * p + TABLES + TABLE_BYTES * t) bytes old new → Stores (table_of port slot) bytes old new
+table_stored port slot p t bytes old new = at_places (λ a b. Stores (PORT_BYTES * a + TABLES + TABLE_BYTES * b) bytes old new) port slot p t
 
-header_stored : (port slot p t : ℕ) (bytes : List ℕ) (old new : Device) → p ≡ port → t ≡ slot → Stores (40960 * p + 32 * t) bytes old new → Stores (list_of port + 32 * slot) bytes old new
-header_stored port slot p t bytes old new = at_places (λ a b. Stores (40960 * a + 32 * b) bytes old new) port slot p t
+header_stored : (port slot p t : ℕ) (bytes : List ℕ) (old new : Device) → p ≡ port → t ≡ slot → Stores (PORT_BYTES * p + 32 * t) bytes old new → Stores (list_of port + 32 * slot) bytes old new
+header_stored port slot p t bytes old new = at_places (λ a b. Stores (PORT_BYTES * a + 32 * b) bytes old new) port slot p t
 
-table_bounds : (port slot n : ℕ) (table : List ℕ) → n ≤ 32 → IsTableStore port slot (Storing (table_of port slot) (take (128 + 16 * n) table))
-table_bounds port slot n table few = let size = length-take (128 + 16 * n) table in inr (omega arith, omega (arith, few, size))
+table_bounds : (port slot n : ℕ) (table : List ℕ) → n ≤ MOST_REQUEST_FRAMES → IsTableStore port slot (Storing (table_of port slot) (take (TABLE_HEAD + PRD_BYTES * n) table))
+table_bounds port slot n table few = let size = length-take (TABLE_HEAD + PRD_BYTES * n) table in inr (omega arith, omega (arith, few, size))
 
 header_bounds : (port slot : ℕ) (header : List ℕ) → length header ≡ 32 → little_from 4 4 header ≡ 0 → IsTableStore port slot (Storing (list_of port + 32 * slot) header)
 header_bounds port slot header size none = inl (refl, size, none)
@@ -34,7 +36,7 @@ header_bounds port slot header size none = inl (refl, size, none)
 pub store-requires : goal.store-requires
 store-requires g c =
     let r = c.requires in
-    let F : ℕ → ℕ → Type 0 = λ p s. Stays (IsFree (40960 * p + 4096 + 1024 * s) (length (take (128 + 16 * length c.args.prds.now) c.fill_table.new.bytes))) (g.A.Adapter.device c.args.adapter.now) in
+    let F : ℕ → ℕ → Type 0 = λ p s. Stays (IsFree (PORT_BYTES * p + TABLES + TABLE_BYTES * s) (length (take (TABLE_HEAD + PRD_BYTES * length c.args.prds.now) c.fill_table.new.bytes))) (g.A.Adapter.device c.args.adapter.now) in
     at_places F c.from-list.result c.from.result c.args.port.0 c.args.slot.0 (sym c.from-list.ensures) (sym c.from.ensures)
     (store_free r.agreed.0 _ c.args.port.0 c.args.slot.0 _ _ r.agreed.2 r.room r.port r.slot r.agreed.1 (table_bounds c.args.port.0 c.args.slot.0 (length c.args.prds.now) c.fill_table.new.bytes r.few))
 
@@ -44,8 +46,8 @@ store-requires-2 g c =
     let first = table_stored _ _ _ _ _ _ _ c.from-list.ensures c.from.ensures c.store.ensures in
     let here = table_bounds c.args.port.0 c.args.slot.0 (length c.args.prds.now) c.fill_table.new.bytes r.few in
     let size = store_size c.args.port.0 c.args.slot.0 r.port r.slot _ _ _ _ here first in
-    let room : 163840 ≤ (g.A.Adapter.device c.store.new.self).size = let had = r.room in omega (arith, size, had) in
-    let F : ℕ → ℕ → Type 0 = λ p s. Stays (IsFree (40960 * p + 32 * s) (length c.header-head.result)) (g.A.Adapter.device c.store.new.self) in
+    let room : DRIVER_BYTES ≤ (g.A.Adapter.device c.store.new.self).size = let had = r.room in omega (arith, size, had) in
+    let F : ℕ → ℕ → Type 0 = λ p s. Stays (IsFree (PORT_BYTES * p + 32 * s) (length c.header-head.result)) (g.A.Adapter.device c.store.new.self) in
     at_places F c.from-list.result c.from-2.result c.args.port.0 c.args.slot.0 (sym c.from-list.ensures) (sym c.from-2.ensures)
     (store_free r.agreed.0 _ c.args.port.0 c.args.slot.0 _ _ (store_agrees c.args.port.0 c.args.slot.0 r.port r.slot _ _ _ _ here first r.on r.agreed.0 r.agreed.1 r.agreed.2) room r.port r.slot r.agreed.1
     (header_bounds c.args.port.0 c.args.slot.0 c.header-head.result c.header-head.ensures.says.size c.header-head.ensures.none_moved))
@@ -77,8 +79,8 @@ returns-clause-says g c =
     let first = table_stored _ _ _ _ _ _ _ c.from-list.ensures c.from.ensures c.store.ensures in
     let second = header_stored _ _ _ _ _ _ _ c.from-list.ensures c.from-2.ensures c.store-2.ensures in
     let size = c.fill_table.ensures.size in
-    let cut = length-take (128 + 16 * length c.args.prds.now) c.fill_table.new.bytes in
-    let H : ℕ → ℕ → Type 0 = λ p s. SpellsHeader c.header-head.result c.is_write.result (length c.args.prds.now) (40960 * p + 4096 + 1024 * s) in
+    let cut = length-take (TABLE_HEAD + PRD_BYTES * length c.args.prds.now) c.fill_table.new.bytes in
+    let H : ℕ → ℕ → Type 0 = λ p s. SpellsHeader c.header-head.result c.is_write.result (length c.args.prds.now) (PORT_BYTES * p + TABLES + TABLE_BYTES * s) in
     let heads : SpellsHeader c.header-head.result c.is_write.result (length c.args.prds.now) (table_of c.args.port.0 c.args.slot.0) =
     at_places H c.args.port.0 c.args.slot.0 _ _ c.from-list.ensures c.from.ensures c.header-head.ensures.says in
     stored_says c.args.port.0 c.args.slot.0 r.port r.slot r.agreed.0 r.agreed.1 _ _ _ r.on r.agreed.2 c.args.prds.now c.fill_table.new.bytes c.header-head.result few size
@@ -96,4 +98,4 @@ returns-clause-none_moved g c =
     ap (little_from 4 4) same ∙ heads.none_moved
 
 pub fill_table-requires-clause-zeros : goal.fill_table-requires-clause-zeros
-fill_table-requires-clause-zeros g c = λ k _ _. zero_of 640 k
+fill_table-requires-clause-zeros g c = λ k _ _. zero_of LONGEST_TABLE k

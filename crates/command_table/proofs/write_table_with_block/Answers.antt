@@ -1,3 +1,4 @@
+use Rattle.ata_types.specs.declared.memory.TheConstants.{DRIVER_BYTES}
 use Rattle.std.proofs.Common.{ℕ, List, [], ◌∷◌, ◌≡◌, ◌+◌, ◌*◌, ◌≤◌, refl, subst, sym, arith}
 use Rattle.adapter.specs.declared.command.Prd.{Prd}
 use Rattle.agreement.specs.Places.{scratch_of}
@@ -14,7 +15,7 @@ store-requires g c =
     let r = c.requires in
     let had = r.room in
     let size = table_size c.other_ports_are_left.ensures.adapter c.args.port.0 _ _ c.write_table.ensures.followed in
-    let room : 163840 ≤ (g.A.Adapter.device c.write_table.new.adapter).size = omega (arith, size, had) in
+    let room : DRIVER_BYTES ≤ (g.A.Adapter.device c.write_table.new.adapter).size = omega (arith, size, had) in
     block_free r.agreed.0 _ c.args.port.0 _ c.args.block.now (table_agrees c.args.port.0 r.agreed.0 _ _ r.agreed.1 c.write_table.ensures.followed r.agreed.2) room r.port
     (at_scratch c.args.port.0 _ _ c.from.ensures c.from-2.ensures) c.told-block r.agreed.1
 

@@ -1,3 +1,4 @@
+use Rattle.ata_types.specs.declared.limits.TheConstants.{READINGS}
 use Rattle.std.proofs.Common.{ℕ, ◌≡◌, sym, ◌∙◌, subst, arith}
 use Rattle.agreement.specs.Driven.{AnyUse, IsTold}
 use Rattle.disk_page.specs.Asking.{AreInVain, IsAsking}
@@ -29,5 +30,5 @@ returns-then-not-is_set-clause-over g c = λ _.
 
 pub returns-clause-vain : goal.returns-clause-vain
 returns-clause-vain g c = λ _.
-    let all : c.loop-reading._reading ≡ 64 = omega arith in
+    let all : c.loop-reading._reading ≡ READINGS = omega arith in
     subst (λ (n : ℕ). IsTold (AreInVain c.args.port n) (IsAsking c.args.port) AnyUse (g.A.Adapter.device c.args.adapter.now) (g.A.Adapter.device c.loop-reading.adapter)) all c.loop-reading.invariant.told

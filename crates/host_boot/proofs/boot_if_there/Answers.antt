@@ -1,5 +1,6 @@
 use Rattle.std.proofs.Common.{ℕ, ◌≡◌, ◌+◌, ◌∙◌, sym, ap, subst}
 use Rattle.ata_types.specs.declared.Port.{Port}
+use Rattle.ata_types.specs.declared.limits.TheConstants.{READINGS}
 use Rattle.adapter.specs.Device.{Notes}
 use Rattle.adapter.specs.Rules.{HasPort}
 use Rattle.agreement.specs.Driven.{AnyUse, IsControl, IsFollowed}
@@ -59,7 +60,7 @@ returns-clause-boots g c =
       | else-shows_device w ↦
           let left = cap_leaves laws _ c.requires.bootable.on.no_reset port.0 _ _ c.read.ensures in
           let stays = subst (λ (p : Port). IsStopped (asked.port p.0) → IsStopped (seen.port p.0)) c.port.ensures c.shows_device.ensures.stopped in
-          let none = subst (λ (p : Port). (asked.port p.0).notes.link_count ≡ 64 → Shows NoDevice (seen.port p.0).notes) c.port.ensures (c.shows_device.ensures.none w.if-shows_device.false) in
+          let none = subst (λ (p : Port). (asked.port p.0).notes.link_count ≡ READINGS → Shows NoDevice (seen.port p.0).notes) c.port.ensures (c.shows_device.ensures.none w.if-shows_device.false) in
           let stopped = stays (asked_stopped laws _ _ _ c.read.ensures port left c.requires.stopped) in
           let full = ap (λ (n : Notes). n.link_count) left.notes ∙ c.requires.saw in
           seen_absent laws _ _ asked c.read.ensures port seen looks _ wanted _ (ap device w.adapter-is) w.found-is stopped (none full)

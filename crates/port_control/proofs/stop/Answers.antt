@@ -1,3 +1,4 @@
+use Rattle.ata_types.specs.declared.limits.TheConstants.{READINGS}
 use Rattle.std.proofs.Common.{◌≡◌, sym, ◌∙◌, arith}
 use Rattle.port_control.proofs.Using.{usable_after}
 use Rattle.port_control.proofs.Ceasing.{stop_may, stop_told, stop_has, falls, falling_on, has_still, fallen, falls_still, told_awaits}
@@ -36,7 +37,7 @@ loop-reading-preserved g c = falls_still c.laws_hold.ensures _ _ _ _ _ _ c.loop-
 pub returns-clause-fails : goal.returns-clause-fails
 returns-clause-fails g c =
     let w = c.loop-reading.invariant in
-    let all : c.loop-reading._reading ≡ 64 = omega arith in
+    let all : c.loop-reading._reading ≡ READINGS = omega arith in
     let low = w.low in
     let high = w.high (omega (arith, all)) in
     record { told = told_awaits c.laws_hold.ensures 0 15 c.args.port _ all _ _ w.told; stuck = omega (arith, all, low, high) }

@@ -1,3 +1,4 @@
+use Rattle.ata_types.specs.declared.limits.TheConstants.{READINGS}
 use Rattle.std.proofs.Common.{◌≡◌, sym, ◌∙◌, arith}
 use Rattle.port_control.proofs.Using.{usable_after}
 use Rattle.port_control.proofs.Ceasing.{empty_may, empty_begins, empties, emptied, empties_told, empties_still, told_awaits}
@@ -45,5 +46,5 @@ loop-reading-preserved g c = empties_still c.laws_hold.ensures _ _ _ _ _ _ c.loo
 
 pub returns-clause-sticks : goal.returns-clause-sticks
 returns-clause-sticks g c = λ _.
-    let all : c.loop-reading._reading ≡ 64 = omega arith in
+    let all : c.loop-reading._reading ≡ READINGS = omega arith in
     told_awaits c.laws_hold.ensures 4 14 c.args.port _ all _ _ c.loop-reading.invariant.told

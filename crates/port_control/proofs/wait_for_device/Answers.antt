@@ -1,3 +1,4 @@
+use Rattle.ata_types.specs.declared.limits.TheConstants.{READINGS}
 use Rattle.std.proofs.Common.{ℕ, ◌≡◌, subst, arith}
 use Rattle.hba_regs.specs.declared.reg.PortReg.TheVariants.{Ssts}
 use Rattle.port_control.proofs.Looking.{missing_followed, device_seen, device_up, sees_device, without_none, missing_still}
@@ -8,7 +9,7 @@ use Rattle.port_control.specs.Laws.Stretch.{Controlling}
 
 pub loop-reading-init : goal.loop-reading-init
 loop-reading-init g c = record {
-  followed = (c.laws_hold.ensures.none (Controlling Clearing c.args.port) _).followed;
+  followed = (c.laws_hold.ensures.stretches.none (Controlling Clearing c.args.port) _).followed;
   usable = c.requires.usable;
   on = c.requires.usable;
   det = c.requires.det;
@@ -35,5 +36,5 @@ loop-reading-preserved g c = missing_still c.laws_hold.ensures _ _ _ _ _ _ c.loo
 
 pub returns-clause-misses : goal.returns-clause-misses
 returns-clause-misses g c = λ _.
-    let all : c.loop-reading._reading ≡ 64 = omega arith in
+    let all : c.loop-reading._reading ≡ READINGS = omega arith in
     subst (λ (n : ℕ). ReadsWithout c.args.port Ssts HasLink n (g.A.Adapter.device c.args.adapter.now) (g.A.Adapter.device c.loop-reading.adapter)) all c.loop-reading.invariant.misses

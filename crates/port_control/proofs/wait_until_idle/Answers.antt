@@ -1,3 +1,4 @@
+use Rattle.ata_types.specs.declared.limits.TheConstants.{READINGS}
 use Rattle.std.proofs.Common.{ℕ, ◌≡◌, sym, ◌∙◌, subst, arith, rules}
 use Rattle.hba_regs.specs.declared.reg.PortReg.TheVariants.{Tfd}
 use Rattle.port_control.proofs.Looking.{busy_followed, busy_saw, busy_waits, busy_quiet, idle_seen, busy_still, without_none}
@@ -8,7 +9,7 @@ use Rattle.port_control.specs.Laws.Stretch.{Controlling}
 
 pub loop-reading-init : goal.loop-reading-init
 loop-reading-init g c = record {
-  followed = (c.laws_hold.ensures.none (Controlling Clearing c.args.port) _).followed;
+  followed = (c.laws_hold.ensures.stretches.none (Controlling Clearing c.args.port) _).followed;
   usable = c.requires.usable;
   det = c.requires.det;
   saw = c.requires.saw;
@@ -33,7 +34,7 @@ returns-then-not-is_occupied-clause-waits g c = λ _. busy_waits c.laws_hold.ens
 
 pub returns-clause-stays : goal.returns-clause-stays
 returns-clause-stays g c = λ _.
-    let all : c.loop-reading._reading ≡ 64 = omega arith in
+    let all : c.loop-reading._reading ≡ READINGS = omega arith in
     subst (λ (n : ℕ). ReadsWithout c.args.port Tfd ShowsIdle n (g.A.Adapter.device c.args.adapter.now) (g.A.Adapter.device c.loop-reading.adapter)) all c.loop-reading.invariant.stays
 
 pub returns-then-not-is_occupied-clause-quiet : goal.returns-then-not-is_occupied-clause-quiet

@@ -13,4 +13,4 @@ pub returns-clause-finds : goal.returns-clause-finds
 returns-clause-finds g c = record { status = c.read.result; reads = c.read.ensures; tells = c.shows_device.ensures }
 
 pub returns-clause-followed : goal.returns-clause-followed
-returns-clause-followed g c = (c.laws_hold.ensures.reads (Looking c.args.port) (Px c.args.port Ssts) c.read.result _ _ (inr refl) c.read.ensures).followed
+returns-clause-followed g c = (c.laws_hold.ensures.stretches.reads (Looking c.args.port) (Px c.args.port Ssts) c.read.result _ _ (inr refl) c.read.ensures).followed

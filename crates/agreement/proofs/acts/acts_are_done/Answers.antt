@@ -1,5 +1,5 @@
 use Rattle.std.proofs.Common.{refl, inl, inr}
-use Rattle.agreement.proofs.Composing.{goes_access, goes_ending, goes_own, goes_still}
+use Rattle.agreement.proofs.driver.ComposedMoves.{goes_access, goes_ending, goes_own, goes_still}
 use Rattle.agreement.proofs.acts.acts_are_done.Goals as goal
 
 pub returns-clause-access : goal.returns-clause-access

@@ -1,5 +1,5 @@
 use Rattle.std.proofs.Common.{refl}
-use Rattle.agreement.proofs.Parts.{accesses_append, steps_append, done_more}
+use Rattle.agreement.proofs.driver.ActParts.{accesses_append, steps_append, done_more}
 use Rattle.agreement.proofs.acts.acts_compose.Goals as goal
 
 pub returns-clause-none : goal.returns-clause-none

@@ -1,4 +1,4 @@
-use Rattle.agreement.proofs.Parts.{done_goes, done_does, done_silent, done_plain}
+use Rattle.agreement.proofs.driver.ActParts.{done_goes, done_does, done_silent, done_plain}
 use Rattle.agreement.proofs.acts.acts_give.Goals as goal
 
 pub returns-clause-goes : goal.returns-clause-goes

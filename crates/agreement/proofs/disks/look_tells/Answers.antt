@@ -1,4 +1,4 @@
-use Rattle.agreement.proofs.Looked.{causes_told, errors_told, lost_told, fault_told, unlinked_told}
+use Rattle.agreement.proofs.device.LookReadings.{causes_told, errors_told, lost_told, fault_told, unlinked_told}
 use Rattle.agreement.proofs.disks.look_tells.Goals as goal
 
 pub returns-clause-causes : goal.returns-clause-causes

@@ -1,4 +1,4 @@
-use Rattle.agreement.proofs.Vacated.{out_steps, out_access, vacant_steps, vacant_access, fresh_steps, fresh_access, vacant_reset, fresh_reset, fresh_comreset, device_shown}
+use Rattle.agreement.proofs.device.EmptyPort.{out_steps, out_access, vacant_steps, vacant_access, fresh_steps, fresh_access, vacant_reset, fresh_reset, fresh_comreset, device_shown}
 use Rattle.agreement.proofs.disks.none_comes_in.Goals as goal
 
 pub returns-clause-out_steps : goal.returns-clause-out_steps

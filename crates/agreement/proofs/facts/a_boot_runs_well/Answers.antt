@@ -1,4 +1,4 @@
-use Rattle.agreement.proofs.Booted.{boot_is_found}
+use Rattle.agreement.proofs.witnesses.Boot.{boot_is_found}
 use Rattle.agreement.proofs.facts.a_boot_runs_well.Goals as goal
 
 pub returns : goal.returns

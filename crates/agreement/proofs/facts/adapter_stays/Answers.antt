@@ -1,5 +1,5 @@
-use Rattle.agreement.proofs.Lasting.{access_same, access_on, same_more, same_refl}
-use Rattle.agreement.proofs.Controlled.{on_all}
+use Rattle.agreement.proofs.device.AdapterOverAccesses.{access_same, access_on, same_more, same_refl}
+use Rattle.agreement.proofs.driver.PortAccesses.{on_all}
 use Rattle.agreement.proofs.facts.adapter_stays.Goals as goal
 
 pub returns-clause-same : goal.returns-clause-same

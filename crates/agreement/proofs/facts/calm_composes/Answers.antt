@@ -1,4 +1,4 @@
-use Rattle.agreement.proofs.Healthy.{undisturbed_none, undisturbed_more, undisturbed_parts}
+use Rattle.agreement.proofs.device.HealthyPort.{undisturbed_none, undisturbed_more, undisturbed_parts}
 use Rattle.agreement.proofs.facts.calm_composes.Goals as goal
 
 pub returns-clause-none : goal.returns-clause-none

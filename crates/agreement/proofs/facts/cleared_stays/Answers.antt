@@ -1,5 +1,5 @@
-use Rattle.agreement.proofs.Raising.{steps_raise, access_raises}
-use Rattle.agreement.proofs.Running.{steps_clear, access_clear, shows_still}
+use Rattle.agreement.proofs.device.RaisedBits.{steps_raise, access_raises}
+use Rattle.agreement.proofs.device.RunningPort.{steps_clear, access_clear, shows_still}
 use Rattle.agreement.proofs.facts.cleared_stays.Goals as goal
 
 pub returns-clause-steps : goal.returns-clause-steps

@@ -1,4 +1,4 @@
-use Rattle.agreement.proofs.Erring.{comes_nothing, comes_more, comes_parts, plugs_come}
+use Rattle.agreement.proofs.device.ErrorBits.{comes_nothing, comes_more, comes_parts, plugs_come}
 use Rattle.agreement.proofs.facts.coming_composes.Goals as goal
 
 pub returns-clause-none : goal.returns-clause-none

@@ -1,4 +1,4 @@
-use Rattle.agreement.proofs.Setting.{command_set, start_set, control_set, interrupts_set, list_set, list_upper_set, received_set, received_upper_set}
+use Rattle.agreement.proofs.device.ControlWrites.{command_set, start_set, control_set, interrupts_set, list_set, list_upper_set, received_set, received_upper_set}
 use Rattle.agreement.proofs.facts.controls_are_set.Goals as goal
 
 pub returns-clause-command : goal.returns-clause-command

@@ -1,4 +1,4 @@
-use Rattle.agreement.proofs.Linking.{access_controls}
+use Rattle.agreement.proofs.device.PortControls.{access_controls}
 use Rattle.agreement.proofs.facts.controls_stay.Goals as goal
 
 pub returns : goal.returns

@@ -1,4 +1,4 @@
-use Rattle.agreement.proofs.Present.{steps_shown, access_shown}
+use Rattle.agreement.proofs.device.ShownDevice.{steps_shown, access_shown}
 use Rattle.agreement.proofs.facts.device_or_none_stays.Goals as goal
 
 pub returns-clause-steps : goal.returns-clause-steps

@@ -1,4 +1,4 @@
-use Rattle.agreement.proofs.Linking.{steps_disk, access_disk}
+use Rattle.agreement.proofs.device.PortControls.{steps_disk, access_disk}
 use Rattle.agreement.proofs.facts.disk_stays.Goals as goal
 
 pub returns-clause-steps : goal.returns-clause-steps

@@ -1,4 +1,4 @@
-use Rattle.agreement.proofs.Finding.{ended_is_clear, clear_is_ended}
+use Rattle.agreement.proofs.driver.EndedRequests.{ended_is_clear, clear_is_ended}
 use Rattle.block_machine.proofs.Started.{ended_issued}
 use Rattle.agreement.proofs.facts.ended_is_clear.Goals as goal
 

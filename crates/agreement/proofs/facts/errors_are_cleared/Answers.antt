@@ -1,4 +1,4 @@
-use Rattle.agreement.proofs.Resending.{errors_cleared, causes_cleared}
+use Rattle.agreement.proofs.device.ErrorWrites.{errors_cleared, causes_cleared}
 use Rattle.agreement.proofs.facts.errors_are_cleared.Goals as goal
 
 pub returns-clause-errors : goal.returns-clause-errors

@@ -1,4 +1,4 @@
-use Rattle.agreement.proofs.Erring.{steps_errors, access_causes, access_news}
+use Rattle.agreement.proofs.device.ErrorBits.{steps_errors, access_causes, access_news}
 use Rattle.agreement.proofs.facts.errors_are_kept.Goals as goal
 
 pub returns-clause-steps : goal.returns-clause-steps

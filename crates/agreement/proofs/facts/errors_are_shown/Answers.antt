@@ -1,4 +1,4 @@
-use Rattle.agreement.proofs.Erred.{steps_fault, access_fault, steps_fatal, access_fatal}
+use Rattle.agreement.proofs.device.ShownErrors.{steps_fault, access_fault, steps_fatal, access_fatal}
 use Rattle.agreement.proofs.facts.errors_are_shown.Goals as goal
 
 pub returns-clause-fault : goal.returns-clause-fault

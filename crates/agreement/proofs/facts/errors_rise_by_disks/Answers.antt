@@ -1,5 +1,5 @@
-use Rattle.agreement.proofs.Erring.{steps_change, access_change, steps_undue, access_undue}
-use Rattle.agreement.proofs.Erring.{change_more, change_none}
+use Rattle.agreement.proofs.device.ErrorBits.{steps_change, access_change, steps_undue, access_undue}
+use Rattle.agreement.proofs.device.ErrorBits.{change_more, change_none}
 use Rattle.agreement.proofs.facts.errors_rise_by_disks.Goals as goal
 
 pub returns-clause-steps : goal.returns-clause-steps

@@ -1,4 +1,4 @@
-use Rattle.agreement.proofs.Failing.{fatal_nothing, fatal_more, fatal_parts, undisturbed_fatal}
+use Rattle.agreement.proofs.device.FaultlessStretches.{fatal_nothing, fatal_more, fatal_parts, undisturbed_fatal}
 use Rattle.agreement.proofs.facts.fatal_errors_compose.Goals as goal
 
 pub returns-clause-none : goal.returns-clause-none

@@ -1,4 +1,4 @@
-use Rattle.agreement.proofs.Faulted.{tfes_tells, steps_faulted, reads_faulted, writes_faulted, fault_is_read, fault_has_a_use}
+use Rattle.agreement.proofs.device.FaultedPort.{tfes_tells, steps_faulted, reads_faulted, writes_faulted, fault_is_read, fault_has_a_use}
 use Rattle.agreement.proofs.facts.fault_is_found.Goals as goal
 
 pub returns-clause-told : goal.returns-clause-told

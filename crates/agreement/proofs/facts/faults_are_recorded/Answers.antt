@@ -1,8 +1,8 @@
-use Rattle.agreement.proofs.Allowing.{record_stays}
-use Rattle.agreement.proofs.Recording.{steps_recorded, stopped_recorded}
-use Rattle.agreement.proofs.Rewriting.{issues_recorded, reads_recorded, writes_recorded}
-use Rattle.agreement.proofs.Witnesses.{first_recorded, first_failed}
-use Rattle.agreement.proofs.Sustaining.{access_recorded}
+use Rattle.agreement.proofs.device.AllowedWrites.{record_stays}
+use Rattle.agreement.proofs.device.RecordedFaults.{steps_recorded, stopped_recorded}
+use Rattle.agreement.proofs.device.FaultsOverAccesses.{issues_recorded, reads_recorded, writes_recorded}
+use Rattle.agreement.proofs.witnesses.PortWitnesses.{first_recorded, first_failed}
+use Rattle.agreement.proofs.device.OrdinaryAccesses.{access_recorded}
 use Rattle.agreement.proofs.facts.faults_are_recorded.Goals as goal
 
 pub returns-clause-steps : goal.returns-clause-steps

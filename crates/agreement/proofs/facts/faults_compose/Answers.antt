@@ -1,4 +1,4 @@
-use Rattle.agreement.proofs.Failing.{fails_nothing, fails_more, fails_parts, undisturbed_fails}
+use Rattle.agreement.proofs.device.FaultlessStretches.{fails_nothing, fails_more, fails_parts, undisturbed_fails}
 use Rattle.agreement.proofs.facts.faults_compose.Goals as goal
 
 pub returns-clause-none : goal.returns-clause-none

@@ -1,4 +1,4 @@
-use Rattle.agreement.proofs.Stilling.{lent_is_still, unlent_is_still, served_once, idle_is_still, still_is_free}
+use Rattle.agreement.proofs.steps.StillFrames.{lent_is_still, unlent_is_still, served_once, idle_is_still, still_is_free}
 use Rattle.agreement.proofs.facts.frames_are_still.Goals as goal
 
 pub returns-clause-lent : goal.returns-clause-lent

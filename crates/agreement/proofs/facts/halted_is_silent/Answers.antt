@@ -1,4 +1,4 @@
-use Rattle.agreement.proofs.Silent.{steps_silent, access_silent, steps_hold, access_hold}
+use Rattle.agreement.proofs.device.SilentPort.{steps_silent, access_silent, steps_hold, access_hold}
 use Rattle.agreement.proofs.facts.halted_is_silent.Goals as goal
 
 pub returns-clause-steps : goal.returns-clause-steps

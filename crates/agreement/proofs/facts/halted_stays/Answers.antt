@@ -1,4 +1,4 @@
-use Rattle.agreement.proofs.Halting.{halted_stays, halted_reads, halted_writes, idle_halted}
+use Rattle.agreement.proofs.device.HaltedPort.{halted_stays, halted_reads, halted_writes, idle_halted}
 use Rattle.agreement.proofs.facts.halted_stays.Goals as goal
 
 pub returns-clause-steps : goal.returns-clause-steps

@@ -1,5 +1,5 @@
-use Rattle.agreement.proofs.Healthy.{first_healthy}
-use Rattle.agreement.proofs.Running.{healthy_stays, healthy_reads, healthy_writes}
+use Rattle.agreement.proofs.device.HealthyPort.{first_healthy}
+use Rattle.agreement.proofs.device.RunningPort.{healthy_stays, healthy_reads, healthy_writes}
 use Rattle.agreement.proofs.facts.healthy_stays.Goals as goal
 
 pub returns-clause-steps : goal.returns-clause-steps

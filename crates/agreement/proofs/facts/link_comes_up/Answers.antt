@@ -1,5 +1,5 @@
-use Rattle.agreement.proofs.Restarting.{steps_stay_up, access_stays_up}
-use Rattle.agreement.proofs.ComingUp.{comreset_comes, reset_comes, unlinked, steps_coming, access_coming, up_is_found, steps_up, access_up}
+use Rattle.agreement.proofs.device.RestartedPort.{steps_stay_up, access_stays_up}
+use Rattle.agreement.proofs.device.RisingLink.{comreset_comes, reset_comes, unlinked, steps_coming, access_coming, up_is_found, steps_up, access_up}
 use Rattle.agreement.proofs.facts.link_comes_up.Goals as goal
 
 pub returns-clause-comreset : goal.returns-clause-comreset

@@ -1,6 +1,6 @@
-use Rattle.agreement.proofs.Resetting.{reset_awaits, undue_awaited, first_awaited}
-use Rattle.agreement.proofs.Awaiting.{comreset_begins, steps_awaited, reads_awaited, writes_awaited}
-use Rattle.agreement.proofs.Sustaining.{access_awaited}
+use Rattle.agreement.proofs.device.AdapterReset.{reset_awaits, undue_awaited, first_awaited}
+use Rattle.agreement.proofs.device.AwaitedLink.{comreset_begins, steps_awaited, reads_awaited, writes_awaited}
+use Rattle.agreement.proofs.device.OrdinaryAccesses.{access_awaited}
 use Rattle.agreement.proofs.facts.link_is_awaited.Goals as goal
 
 pub returns-clause-begins : goal.returns-clause-begins

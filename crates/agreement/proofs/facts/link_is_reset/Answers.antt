@@ -1,4 +1,4 @@
-use Rattle.agreement.proofs.Resending.{comreset_shown, release_due, undue_written}
+use Rattle.agreement.proofs.device.ErrorWrites.{comreset_shown, release_due, undue_written}
 use Rattle.agreement.proofs.facts.link_is_reset.Goals as goal
 
 pub returns-clause-comreset : goal.returns-clause-comreset

@@ -1,4 +1,4 @@
-use Rattle.agreement.proofs.Linking.{steps_link, access_link}
+use Rattle.agreement.proofs.device.PortControls.{steps_link, access_link}
 use Rattle.agreement.proofs.facts.link_stays.Goals as goal
 
 pub returns-clause-steps : goal.returns-clause-steps

@@ -1,4 +1,4 @@
-use Rattle.agreement.proofs.Lasting.{store_leaves}
+use Rattle.agreement.proofs.device.AdapterOverAccesses.{store_leaves}
 use Rattle.agreement.proofs.facts.loads_and_stores_leave_ports.Goals as goal
 
 pub returns-clause-load : goal.returns-clause-load

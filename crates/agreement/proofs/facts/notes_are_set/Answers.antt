@@ -1,4 +1,4 @@
-use Rattle.agreement.proofs.Noting.{command_noted, link_noted, file_noted, issued_noted, active_noted, signature_noted, notes_read, shown_after}
+use Rattle.agreement.proofs.device.PortNotes.{command_noted, link_noted, file_noted, issued_noted, active_noted, signature_noted, notes_read, shown_after}
 use Rattle.agreement.proofs.facts.notes_are_set.Goals as goal
 
 pub returns-clause-command : goal.returns-clause-command

@@ -1,4 +1,4 @@
-use Rattle.agreement.proofs.Noting.{notes_stay, access_notes}
+use Rattle.agreement.proofs.device.PortNotes.{notes_stay, access_notes}
 use Rattle.agreement.proofs.facts.notes_stay.Goals as goal
 
 pub returns-clause-steps : goal.returns-clause-steps

@@ -1,5 +1,5 @@
-use Rattle.agreement.proofs.Finished.{steps_over, access_over, steps_clear, access_clear, ended_stays}
-use Rattle.agreement.proofs.Others.{stays_ended, ended_released}
+use Rattle.agreement.proofs.driver.FinishedCommand.{steps_over, access_over, steps_clear, access_clear, ended_stays}
+use Rattle.agreement.proofs.driver.OtherRequests.{stays_ended, ended_released}
 use Rattle.agreement.proofs.facts.over_stays.Goals as goal
 
 pub returns-clause-over : goal.returns-clause-over

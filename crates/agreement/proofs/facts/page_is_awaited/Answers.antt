@@ -1,4 +1,4 @@
-use Rattle.agreement.proofs.Pages.{page_is_issued, steps_wait, access_waits, page_is_awaited, awaited_is_loaded}
+use Rattle.agreement.proofs.driver.AwaitedPage.{page_is_issued, steps_wait, access_waits, page_is_awaited, awaited_is_loaded}
 use Rattle.agreement.proofs.facts.page_is_awaited.Goals as goal
 
 pub returns-clause-issued : goal.returns-clause-issued

@@ -1,4 +1,4 @@
-use Rattle.agreement.proofs.Linking.{plugs_nothing, plugs_more, plugs_parts, undisturbed_plugs}
+use Rattle.agreement.proofs.device.PortControls.{plugs_nothing, plugs_more, plugs_parts, undisturbed_plugs}
 use Rattle.agreement.proofs.facts.plugging_composes.Goals as goal
 
 pub returns-clause-none : goal.returns-clause-none

@@ -1,4 +1,4 @@
-use Rattle.agreement.proofs.Telling.{noted_plugs, access_plugs, read_plugs}
+use Rattle.agreement.proofs.device.PlugFlags.{noted_plugs, access_plugs, read_plugs}
 use Rattle.agreement.proofs.facts.plugging_is_found.Goals as goal
 
 pub returns-clause-steps : goal.returns-clause-steps

@@ -1,6 +1,6 @@
-use Rattle.agreement.proofs.Awaiting.{steps_unflagged}
-use Rattle.agreement.proofs.Starting.{clearing_unflags, reads_unflagged, writes_unflagged, quiet_is_found, steps_quiet, reads_quiet, writes_quiet}
-use Rattle.agreement.proofs.Witnesses.{second_quiet}
+use Rattle.agreement.proofs.device.AwaitedLink.{steps_unflagged}
+use Rattle.agreement.proofs.device.StartConditions.{clearing_unflags, reads_unflagged, writes_unflagged, quiet_is_found, steps_quiet, reads_quiet, writes_quiet}
+use Rattle.agreement.proofs.witnesses.PortWitnesses.{second_quiet}
 use Rattle.agreement.proofs.facts.quiet_is_found.Goals as goal
 
 pub returns-clause-cleared : goal.returns-clause-cleared

@@ -1,5 +1,5 @@
-use Rattle.agreement.proofs.Resetting.{reset_begins, ghc_told, reset_leaves, reset_clears}
-use Rattle.agreement.proofs.Halting.{reset_is_found, reset_stays, reset_reads, reset_writes, idle_reset, reset_idle}
+use Rattle.agreement.proofs.device.AdapterReset.{reset_begins, ghc_told, reset_leaves, reset_clears}
+use Rattle.agreement.proofs.device.HaltedPort.{reset_is_found, reset_stays, reset_reads, reset_writes, idle_reset, reset_idle}
 use Rattle.agreement.proofs.facts.reset_is_found.Goals as goal
 
 pub returns-clause-reset : goal.returns-clause-reset

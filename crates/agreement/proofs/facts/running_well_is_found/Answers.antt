@@ -1,6 +1,6 @@
-use Rattle.agreement.proofs.Restarting.{started_up}
-use Rattle.agreement.proofs.Running.{steps_started, access_started, well_of, started_well}
-use Rattle.agreement.proofs.Booting.{start_is_made, well_is_told, well_is_found}
+use Rattle.agreement.proofs.device.RestartedPort.{started_up}
+use Rattle.agreement.proofs.device.RunningPort.{steps_started, access_started, well_of, started_well}
+use Rattle.agreement.proofs.device.BootedPort.{start_is_made, well_is_told, well_is_found}
 use Rattle.agreement.proofs.facts.running_well_is_found.Goals as goal
 
 pub returns-clause-starts : goal.returns-clause-starts

@@ -1,4 +1,4 @@
-use Rattle.agreement.proofs.Halting.{stop_is_found}
+use Rattle.agreement.proofs.device.HaltedPort.{stop_is_found}
 use Rattle.agreement.proofs.facts.stop_is_found.Goals as goal
 
 pub returns : goal.returns

@@ -1,4 +1,4 @@
-use Rattle.agreement.proofs.Resetting.{switched_on}
+use Rattle.agreement.proofs.device.AdapterReset.{switched_on}
 use Rattle.agreement.proofs.facts.switching_on.Goals as goal
 
 pub returns : goal.returns

@@ -1,4 +1,4 @@
-use Rattle.agreement.proofs.Showing.{steps_show, reads_show, stores_show, writes_show, told_calm, calm_told, back_clears, healthy_shows, calm_is_found, pair_is_found}
+use Rattle.agreement.proofs.device.TroubleBits.{steps_show, reads_show, stores_show, writes_show, told_calm, calm_told, back_clears, healthy_shows, calm_is_found, pair_is_found}
 use Rattle.agreement.proofs.facts.trouble_is_shown.Goals as goal
 
 pub returns-clause-steps : goal.returns-clause-steps

@@ -1,4 +1,4 @@
-use Rattle.agreement.proofs.Outstanding.{used_outstanding, shown_outstanding, sole_fault}
+use Rattle.agreement.proofs.driver.OutstandingSlot.{used_outstanding, shown_outstanding, sole_fault}
 use Rattle.agreement.proofs.giving_up.fault_is_outstanding.Goals as goal
 
 pub returns-clause-used : goal.returns-clause-used

@@ -1,4 +1,4 @@
-use Rattle.agreement.proofs.GivingUp.{given_up_over, given_up_halted, all_free, others_same, parks_all, still_parked, ids_served, parking_frees_all, parking_leaves_all}
+use Rattle.agreement.proofs.driver.GivenUpSlots.{given_up_over, given_up_halted, all_free, others_same, parks_all, still_parked, ids_served, parking_frees_all, parking_leaves_all}
 use Rattle.agreement.proofs.giving_up.slots_are_given_up.Goals as goal
 
 pub returns-clause-over : goal.returns-clause-over

@@ -1,4 +1,4 @@
-use Rattle.agreement.proofs.Outstanding.{stopped_clear, over_decided}
+use Rattle.agreement.proofs.driver.OutstandingSlot.{stopped_clear, over_decided}
 use Rattle.agreement.proofs.giving_up.stopped_slots_tell.Goals as goal
 
 pub returns-clause-clear : goal.returns-clause-clear

@@ -1,7 +1,7 @@
 use Rattle.std.proofs.Common.{◌≡◌, [], ◌∷◌}
 use Rattle.adapter.specs.Access.Access.{Reading, Loading}
 use Rattle.agreement.specs.Driven.{AnyUse}
-use Rattle.agreement.proofs.Driven.{followed_asking, told_none, told_as, told_load, told_read, told_write}
+use Rattle.agreement.proofs.driver.Stretches.{followed_asking, told_none, told_as, told_load, told_read, told_write}
 use Rattle.agreement.proofs.kinds.accesses_are_followed.Goals as goal
 
 pub returns-clause-none : goal.returns-clause-none

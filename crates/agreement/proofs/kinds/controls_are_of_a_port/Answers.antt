@@ -1,4 +1,4 @@
-use Rattle.agreement.proofs.Controlled.{control_is_of, control_spares, control_wider, is_control}
+use Rattle.agreement.proofs.driver.PortAccesses.{control_is_of, control_spares, control_wider, is_control}
 use Rattle.agreement.proofs.kinds.controls_are_of_a_port.Goals as goal
 
 pub returns-clause-of : goal.returns-clause-of

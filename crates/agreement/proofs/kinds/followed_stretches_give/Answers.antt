@@ -1,5 +1,5 @@
-use Rattle.agreement.proofs.Controlled.{agreed_to}
-use Rattle.agreement.proofs.Driven.{followed_plain, followed_silent}
+use Rattle.agreement.proofs.driver.PortAccesses.{agreed_to}
+use Rattle.agreement.proofs.driver.Stretches.{followed_plain, followed_silent}
 use Rattle.agreement.proofs.kinds.followed_stretches_give.Goals as goal
 
 pub returns-clause-agreed : goal.returns-clause-agreed

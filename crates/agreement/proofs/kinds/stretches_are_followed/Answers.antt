@@ -1,6 +1,6 @@
 use Rattle.std.proofs.Common.{◌≡◌, refl}
-use Rattle.agreement.proofs.Driven.{told_as, told_joined}
-use Rattle.agreement.proofs.Released.{told_released}
+use Rattle.agreement.proofs.driver.Stretches.{told_as, told_joined}
+use Rattle.agreement.proofs.driver.ReleasedSlot.{told_released}
 use Rattle.agreement.proofs.kinds.stretches_are_followed.Goals as goal
 
 pub returns-clause-both : goal.returns-clause-both

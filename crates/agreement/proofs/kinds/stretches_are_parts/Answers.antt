@@ -1,4 +1,4 @@
-use Rattle.agreement.proofs.Performed.{performs_one, performs_giving_up}
+use Rattle.agreement.proofs.driver.PerformedStretches.{performs_one, performs_giving_up}
 use Rattle.agreement.proofs.kinds.stretches_are_parts.Goals as goal
 
 pub returns-clause-one : goal.returns-clause-one

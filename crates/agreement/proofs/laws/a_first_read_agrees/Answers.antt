@@ -1,4 +1,4 @@
-use Rattle.agreement.proofs.Witness.{first_is_known}
+use Rattle.agreement.proofs.witnesses.FirstRead.{first_is_known}
 use Rattle.agreement.proofs.laws.a_first_read_agrees.Goals as goal
 
 pub returns : goal.returns

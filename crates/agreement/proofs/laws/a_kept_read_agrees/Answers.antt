@@ -1,4 +1,4 @@
-use Rattle.agreement.proofs.Decided.{kept_is_known}
+use Rattle.agreement.proofs.witnesses.ParkedRead.{kept_is_known}
 use Rattle.agreement.proofs.laws.a_kept_read_agrees.Goals as goal
 
 pub returns : goal.returns

@@ -1,4 +1,4 @@
-use Rattle.agreement.proofs.Witness.{prepared_is_known}
+use Rattle.agreement.proofs.witnesses.FirstRead.{prepared_is_known}
 use Rattle.agreement.proofs.laws.a_prepared_read_agrees.Goals as goal
 
 pub returns : goal.returns

@@ -1,4 +1,4 @@
-use Rattle.agreement.proofs.Trimming.{trim_is_known}
+use Rattle.agreement.proofs.witnesses.Trim.{trim_is_known}
 use Rattle.agreement.proofs.laws.a_trim_agrees.Goals as goal
 
 pub returns : goal.returns

@@ -1,4 +1,4 @@
-use Rattle.agreement.proofs.Identified.{own_is_known}
+use Rattle.agreement.proofs.witnesses.IdentifyDevice.{own_is_known}
 use Rattle.agreement.proofs.laws.an_own_command_agrees.Goals as goal
 
 pub returns : goal.returns

@@ -1,4 +1,4 @@
-use Rattle.agreement.proofs.Deciding.{answer_knows}
+use Rattle.agreement.proofs.driver.OwnSteps.{answer_knows}
 use Rattle.agreement.proofs.laws.answering_agrees.Goals as goal
 
 pub returns : goal.returns

@@ -1,6 +1,6 @@
-use Rattle.agreement.proofs.Calling.{arming_adds}
-use Rattle.agreement.proofs.Deciding.{disarm_knows}
-use Rattle.agreement.proofs.Unarmed.{free_unarmed}
+use Rattle.agreement.proofs.driver.IssueWrite.{arming_adds}
+use Rattle.agreement.proofs.driver.OwnSteps.{disarm_knows}
+use Rattle.agreement.proofs.device.ClearSactBits.{free_unarmed}
 use Rattle.agreement.proofs.laws.arming_is_followed.Goals as goal
 
 pub returns-clause-armed : goal.returns-clause-armed

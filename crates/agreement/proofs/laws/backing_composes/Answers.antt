@@ -1,4 +1,4 @@
-use Rattle.agreement.proofs.Adding.{backed_then, told_then, nothing_backed}
+use Rattle.agreement.proofs.driver.AddedSteps.{backed_then, told_then, nothing_backed}
 use Rattle.agreement.proofs.laws.backing_composes.Goals as goal
 
 pub returns-clause-none : goal.returns-clause-none

@@ -1,4 +1,4 @@
-use Rattle.agreement.proofs.Unarmed.{steps_clear, reads_clear, writes_clear}
+use Rattle.agreement.proofs.device.ClearSactBits.{steps_clear, reads_clear, writes_clear}
 use Rattle.agreement.proofs.laws.clear_bits_stay.Goals as goal
 
 pub returns-clause-device : goal.returns-clause-device

@@ -1,4 +1,4 @@
-use Rattle.agreement.proofs.Allowing.{starting_may, stopping_may, receiving_may, no_receiving_may}
+use Rattle.agreement.proofs.device.AllowedWrites.{starting_may, stopping_may, receiving_may, no_receiving_may}
 use Rattle.agreement.proofs.laws.commanding_is_permitted.Goals as goal
 
 pub returns-clause-start : goal.returns-clause-start

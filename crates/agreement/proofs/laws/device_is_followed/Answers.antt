@@ -1,4 +1,4 @@
-use Rattle.agreement.proofs.Following.{steps_follow}
+use Rattle.agreement.proofs.steps.FollowedSteps.{steps_follow}
 use Rattle.agreement.proofs.laws.device_is_followed.Goals as goal
 
 pub returns : goal.returns

@@ -1,4 +1,4 @@
-use Rattle.agreement.proofs.Changing.{steps_told, entry_told, none_told}
+use Rattle.agreement.proofs.steps.DiskChanges.{steps_told, entry_told, none_told}
 use Rattle.agreement.proofs.laws.disks_are_told.Goals as goal
 
 pub returns-clause-steps : goal.returns-clause-steps

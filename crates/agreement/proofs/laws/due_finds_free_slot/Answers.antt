@@ -1,4 +1,4 @@
-use Rattle.agreement.proofs.Counting.{plain_finds_free, queued_finds_free}
+use Rattle.agreement.proofs.relation.ServedRequests.{plain_finds_free, queued_finds_free}
 use Rattle.agreement.proofs.laws.due_finds_free_slot.Goals as goal
 
 pub returns-clause-plain : goal.returns-clause-plain

@@ -1,4 +1,4 @@
-use Rattle.agreement.proofs.Waiting.{steps_may}
+use Rattle.agreement.proofs.steps.WaitingRequests.{steps_may}
 use Rattle.agreement.proofs.laws.due_stays.Goals as goal
 
 pub returns : goal.returns

@@ -1,5 +1,5 @@
-use Rattle.agreement.proofs.Keeping.{steps_leave}
-use Rattle.agreement.proofs.Leaving.{reads_leave, loads_leave, stores_leave, writes_leave}
+use Rattle.agreement.proofs.steps.UnusedSlots.{steps_leave}
+use Rattle.agreement.proofs.driver.UnusedOverCalls.{reads_leave, loads_leave, stores_leave, writes_leave}
 use Rattle.agreement.proofs.laws.free_slots_are_left.Goals as goal
 
 pub returns-clause-steps : goal.returns-clause-steps

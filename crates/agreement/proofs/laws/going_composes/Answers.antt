@@ -1,4 +1,4 @@
-use Rattle.agreement.proofs.Composing.{goes_none, goes_more, goes_still, goes_own, goes_device, goes_following, goes_ending, goes_access, goes_part, going_adds, going_reaches}
+use Rattle.agreement.proofs.driver.ComposedMoves.{goes_none, goes_more, goes_still, goes_own, goes_device, goes_following, goes_ending, goes_access, goes_part, going_adds, going_reaches}
 use Rattle.agreement.proofs.laws.going_composes.Goals as goal
 
 pub returns-clause-none : goal.returns-clause-none

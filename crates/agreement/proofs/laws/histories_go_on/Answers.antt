@@ -1,7 +1,7 @@
 use Rattle.block_machine.proofs.EventLemmas.{after-append}
 use Rattle.block_machine.proofs.HistoryLemmas.{may-append, reached_more}
-use Rattle.agreement.proofs.Following.{told_append}
-use Rattle.agreement.proofs.Waiting.{device_append}
+use Rattle.agreement.proofs.steps.FollowedSteps.{told_append}
+use Rattle.agreement.proofs.steps.WaitingRequests.{device_append}
 use Rattle.agreement.proofs.laws.histories_go_on.Goals as goal
 
 pub returns-clause-reached : goal.returns-clause-reached

@@ -1,4 +1,4 @@
-use Rattle.agreement.proofs.Deciding.{keeping_knows}
+use Rattle.agreement.proofs.driver.OwnSteps.{keeping_knows}
 use Rattle.agreement.proofs.laws.keeping_agrees.Goals as goal
 
 pub returns : goal.returns

@@ -1,4 +1,4 @@
-use Rattle.agreement.proofs.Paging.{pages_asked, access_pages_asked, pages_once, access_pages_once}
+use Rattle.agreement.proofs.driver.AskedPages.{pages_asked, access_pages_asked, pages_once, access_pages_once}
 use Rattle.agreement.proofs.laws.pages_come_when_asked.Goals as goal
 
 pub returns-clause-steps : goal.returns-clause-steps

@@ -1,4 +1,4 @@
-use Rattle.agreement.proofs.Parking.{parking_frees, parking_leaves, parking_parks}
+use Rattle.agreement.proofs.driver.ParkedSlot.{parking_frees, parking_leaves, parking_parks}
 use Rattle.agreement.proofs.laws.parking_frees.Goals as goal
 
 pub returns-clause-frees : goal.returns-clause-frees

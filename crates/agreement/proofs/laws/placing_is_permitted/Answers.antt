@@ -1,4 +1,4 @@
-use Rattle.agreement.proofs.Allowing.{list_may, list_upper_may, received_may, received_upper_may}
+use Rattle.agreement.proofs.device.AllowedWrites.{list_may, list_upper_may, received_may, received_upper_may}
 use Rattle.agreement.proofs.laws.placing_is_permitted.Goals as goal
 
 pub returns-clause-list : goal.returns-clause-list

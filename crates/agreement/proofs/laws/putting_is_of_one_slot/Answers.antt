@@ -1,5 +1,5 @@
-use Rattle.agreement.proofs.Putting.{put_same, put_other}
-use Rattle.agreement.proofs.Parking.{put_unserved}
+use Rattle.agreement.proofs.driver.PutSlot.{put_same, put_other}
+use Rattle.agreement.proofs.driver.ParkedSlot.{put_unserved}
 use Rattle.agreement.proofs.laws.putting_is_of_one_slot.Goals as goal
 
 pub returns-clause-here : goal.returns-clause-here

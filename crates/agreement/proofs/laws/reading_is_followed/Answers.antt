@@ -1,4 +1,4 @@
-use Rattle.agreement.proofs.Adding.{read_adds}
+use Rattle.agreement.proofs.driver.AddedSteps.{read_adds}
 use Rattle.agreement.proofs.laws.reading_is_followed.Goals as goal
 
 pub returns : goal.returns

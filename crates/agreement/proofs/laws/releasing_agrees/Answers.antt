@@ -1,4 +1,4 @@
-use Rattle.agreement.proofs.Deciding.{release_knows}
+use Rattle.agreement.proofs.driver.OwnSteps.{release_knows}
 use Rattle.agreement.proofs.laws.releasing_agrees.Goals as goal
 
 pub returns : goal.returns

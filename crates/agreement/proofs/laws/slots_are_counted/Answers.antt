@@ -1,4 +1,4 @@
-use Rattle.agreement.proofs.Counting.{serving_most, issued_one, serving_all}
+use Rattle.agreement.proofs.relation.ServedRequests.{serving_most, issued_one, serving_all}
 use Rattle.agreement.proofs.laws.slots_are_counted.Goals as goal
 
 pub returns-clause-most : goal.returns-clause-most

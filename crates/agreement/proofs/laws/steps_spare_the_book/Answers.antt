@@ -1,4 +1,4 @@
-use Rattle.agreement.proofs.Sparing.{steps_spare, spares_refl, spares_more, same_due, found_later, found_before, frames_stay, none_kept_after}
+use Rattle.agreement.proofs.steps.SparedBook.{steps_spare, spares_refl, spares_more, same_due, found_later, found_before, frames_stay, none_kept_after}
 use Rattle.agreement.proofs.laws.steps_spare_the_book.Goals as goal
 
 pub returns-clause-spares : goal.returns-clause-spares

@@ -1,4 +1,4 @@
-use Rattle.agreement.proofs.Putting.{waiting_unserved}
+use Rattle.agreement.proofs.driver.PutSlot.{waiting_unserved}
 use Rattle.agreement.proofs.laws.waiting_has_no_slot.Goals as goal
 
 pub returns : goal.returns

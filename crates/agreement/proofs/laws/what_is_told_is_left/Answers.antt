@@ -1,5 +1,5 @@
-use Rattle.agreement.proofs.Leaving.{told_beside, store_misses, block_beside, store_misses_scratch}
-use Rattle.agreement.proofs.Keeping.{told_is_left, block_is_left}
+use Rattle.agreement.proofs.driver.UnusedOverCalls.{told_beside, store_misses, block_beside, store_misses_scratch}
+use Rattle.agreement.proofs.steps.UnusedSlots.{told_is_left, block_is_left}
 use Rattle.agreement.proofs.laws.what_is_told_is_left.Goals as goal
 
 pub returns-clause-told : goal.returns-clause-told

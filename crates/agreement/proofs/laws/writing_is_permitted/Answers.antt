@@ -1,4 +1,4 @@
-use Rattle.agreement.proofs.Allowing.{write_stays, uses_stay}
+use Rattle.agreement.proofs.device.AllowedWrites.{write_stays, uses_stay}
 use Rattle.agreement.proofs.laws.writing_is_permitted.Goals as goal
 
 pub returns-clause-rules : goal.returns-clause-rules

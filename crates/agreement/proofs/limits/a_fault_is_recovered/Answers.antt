@@ -1,4 +1,4 @@
-use Rattle.agreement.proofs.Recovered.{recovery_is_found}
+use Rattle.agreement.proofs.witnesses.RecoveredFault.{recovery_is_found}
 use Rattle.agreement.proofs.limits.a_fault_is_recovered.Goals as goal
 
 pub returns : goal.returns

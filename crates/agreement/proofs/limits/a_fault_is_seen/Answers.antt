@@ -1,4 +1,4 @@
-use Rattle.agreement.proofs.Recovered.{fault_is_seen, queued_fault_is_seen}
+use Rattle.agreement.proofs.witnesses.RecoveredFault.{fault_is_seen, queued_fault_is_seen}
 use Rattle.agreement.proofs.limits.a_fault_is_seen.Goals as goal
 
 pub returns-clause-plain : goal.returns-clause-plain

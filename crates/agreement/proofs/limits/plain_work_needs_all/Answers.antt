@@ -1,4 +1,4 @@
-use Rattle.agreement.proofs.Needing.{needs_unarmed, needs_plain, needs_agreed}
+use Rattle.agreement.proofs.witnesses.PlainNeeds.{needs_unarmed, needs_plain, needs_agreed}
 use Rattle.agreement.proofs.limits.plain_work_needs_all.Goals as goal
 
 pub returns-clause-unarmed : goal.returns-clause-unarmed

@@ -1,4 +1,4 @@
-use Rattle.agreement.proofs.Readied.{readied_permitted, readied_prepared, prepared_readied}
+use Rattle.agreement.proofs.driver.ReadySlot.{readied_permitted, readied_prepared, prepared_readied}
 use Rattle.agreement.proofs.readying.readied_is_issued.Goals as goal
 
 pub returns-clause-permitted : goal.returns-clause-permitted

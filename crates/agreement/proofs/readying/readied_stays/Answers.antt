@@ -1,4 +1,4 @@
-use Rattle.agreement.proofs.Readied.{steps_stored, access_stored, arming_readies, plain_readied}
+use Rattle.agreement.proofs.driver.ReadySlot.{steps_stored, access_stored, arming_readies, plain_readied}
 use Rattle.agreement.proofs.readying.readied_stays.Goals as goal
 
 pub returns-clause-steps : goal.returns-clause-steps

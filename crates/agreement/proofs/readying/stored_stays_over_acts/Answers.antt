@@ -1,4 +1,4 @@
-use Rattle.agreement.proofs.StoredOver.{done_stored}
+use Rattle.agreement.proofs.driver.StoredCommand.{done_stored}
 use Rattle.agreement.proofs.readying.stored_stays_over_acts.Goals as goal
 
 pub returns : goal.returns

@@ -1,4 +1,4 @@
-use Rattle.agreement.proofs.Plainly.{steps_plain, access_plain, running_plainly, plainly_up, plainly_well}
+use Rattle.agreement.proofs.device.PlainPort.{steps_plain, access_plain, running_plainly, plainly_up, plainly_well}
 use Rattle.agreement.proofs.recovering.faults_are_plain.Goals as goal
 
 pub returns-clause-steps : goal.returns-clause-steps

@@ -1,4 +1,4 @@
-use Rattle.agreement.proofs.FailingOpenly.{start_opens, used_opens, steps_open, access_opens, unfailed, open_well}
+use Rattle.agreement.proofs.driver.ShownFault.{start_opens, used_opens, steps_open, access_opens, unfailed, open_well}
 use Rattle.agreement.proofs.recovering.faults_show_before_the_end.Goals as goal
 
 pub returns-clause-starts : goal.returns-clause-starts

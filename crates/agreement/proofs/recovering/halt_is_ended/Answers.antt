@@ -1,4 +1,4 @@
-use Rattle.agreement.proofs.EndingHalt.{issued_ends, steps_end, access_ends, halt_ended, ended_well}
+use Rattle.agreement.proofs.driver.EndedHalt.{issued_ends, steps_end, access_ends, halt_ended, ended_well}
 use Rattle.agreement.proofs.recovering.halt_is_ended.Goals as goal
 
 pub returns-clause-issued : goal.returns-clause-issued

@@ -1,4 +1,4 @@
-use Rattle.agreement.proofs.HaltsTaken.{access_halts, acts_halts, calm_halts, plain_halts, steps_halts}
+use Rattle.agreement.proofs.driver.HaltedCommand.{access_halts, acts_halts, calm_halts, plain_halts, steps_halts}
 use Rattle.agreement.proofs.recovering.halts_are_of_taken_commands.Goals as goal
 
 pub returns-clause-steps : goal.returns-clause-steps

@@ -1,4 +1,4 @@
-use Rattle.agreement.proofs.Linked.{steps_linked, access_linked, started_linked, up_linked}
+use Rattle.agreement.proofs.device.LinkOverFaults.{steps_linked, access_linked, started_linked, up_linked}
 use Rattle.agreement.proofs.recovering.link_is_kept.Goals as goal
 
 pub returns-clause-steps : goal.returns-clause-steps

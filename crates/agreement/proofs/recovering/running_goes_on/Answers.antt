@@ -1,4 +1,4 @@
-use Rattle.agreement.proofs.Linked.{start_runs, steps_run, access_runs, running_started}
+use Rattle.agreement.proofs.device.LinkOverFaults.{start_runs, steps_run, access_runs, running_started}
 use Rattle.agreement.proofs.recovering.running_goes_on.Goals as goal
 
 pub returns-clause-starts : goal.returns-clause-starts

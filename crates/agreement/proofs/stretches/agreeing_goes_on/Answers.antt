@@ -1,8 +1,8 @@
 use Rattle.std.proofs.Common.{refl}
 use Rattle.agreement.specs.Driven.{AnyAccess, IsUse}
-use Rattle.agreement.proofs.Controlled.{agreed_on}
-use Rattle.agreement.proofs.Idling.{idle_agrees}
-use Rattle.agreement.proofs.Released.{agrees_released}
+use Rattle.agreement.proofs.driver.PortAccesses.{agreed_on}
+use Rattle.agreement.proofs.relation.IdleAgreement.{idle_agrees}
+use Rattle.agreement.proofs.driver.ReleasedSlot.{agrees_released}
 use Rattle.agreement.proofs.stretches.agreeing_goes_on.Goals as goal
 
 pub returns-clause-followed : goal.returns-clause-followed

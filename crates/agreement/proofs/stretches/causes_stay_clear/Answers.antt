@@ -1,4 +1,4 @@
-use Rattle.agreement.proofs.Causing.{steps_clear, access_clear}
+use Rattle.agreement.proofs.device.ClearCauses.{steps_clear, access_clear}
 use Rattle.agreement.proofs.stretches.causes_stay_clear.Goals as goal
 
 pub returns-clause-steps : goal.returns-clause-steps

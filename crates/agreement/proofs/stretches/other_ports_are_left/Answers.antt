@@ -1,8 +1,8 @@
 use Rattle.std.proofs.Common.{refl}
 use Rattle.hba_regs.specs.declared.reg.PortReg.TheVariants.{Sact, Ci}
 use Rattle.agreement.specs.Driven.{AnyAccess, IsOf}
-use Rattle.agreement.proofs.Controlled.{leaves_none, leaves_more, other_left, other_recorded, of_spares_ghc, of_spares_others, on_over, same_over, tape_over}
-use Rattle.agreement.proofs.Driven.{followed_silent}
+use Rattle.agreement.proofs.driver.PortAccesses.{leaves_none, leaves_more, other_left, other_recorded, of_spares_ghc, of_spares_others, on_over, same_over, tape_over}
+use Rattle.agreement.proofs.driver.Stretches.{followed_silent}
 use Rattle.agreement.proofs.stretches.other_ports_are_left.Goals as goal
 
 pub returns-clause-left : goal.returns-clause-left

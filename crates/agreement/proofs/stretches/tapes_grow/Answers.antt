@@ -1,4 +1,4 @@
-use Rattle.agreement.proofs.Controlled.{access_grows, grows_more, grows_none}
+use Rattle.agreement.proofs.driver.PortAccesses.{access_grows, grows_more, grows_none}
 use Rattle.agreement.proofs.stretches.tapes_grow.Goals as goal
 
 pub returns-clause-none : goal.returns-clause-none

@@ -1,8 +1,8 @@
 use Rattle.hba_regs.specs.declared.reg.PortReg.TheVariants.{Ci}
 use Rattle.std.proofs.Common.{◌≢◌, refl}
 use Rattle.agreement.specs.Slots.{IsMove}
-use Rattle.agreement.proofs.Gaining.{gains_more}
-use Rattle.agreement.proofs.Unmoving.{steps_unmoving, access_unmoving, controls_unmoving}
+use Rattle.agreement.proofs.device.TapeGains.{gains_more}
+use Rattle.agreement.proofs.driver.UnmovingPort.{steps_unmoving, access_unmoving, controls_unmoving}
 use Rattle.agreement.proofs.stretches.unused_slots_are_silent.Goals as goal
 
 pub returns-clause-steps : goal.returns-clause-steps

@@ -1,4 +1,4 @@
-use Rattle.agreement.proofs.Causing.{written_notes, command_written_notes}
+use Rattle.agreement.proofs.device.ClearCauses.{written_notes, command_written_notes}
 use Rattle.agreement.proofs.stretches.written_notes_stay.Goals as goal
 
 pub returns-clause-others : goal.returns-clause-others

@@ -1,6 +1,6 @@
 use Rattle.std.proofs.Common.{sym, subst}
 use Rattle.server_history.specs.Mended.{BootsAfter}
-use Rattle.server_history.specs.declared.Trouble.{Trouble}
+use Rattle.port_look.specs.declared.Trouble.{Trouble}
 use Rattle.block_server.proofs.Restoring.{boots_other}
 use Rattle.block_server.proofs.recovery.boot_after.Goals as goal
 

@@ -4,8 +4,8 @@ use Rattle.adapter.specs.Access.{Access}
 use Rattle.adapter.specs.Device.{Device}
 use Rattle.error_recovery.specs.declared.Recovered.{Recovered}
 use Rattle.server_history.specs.Mended.{EndsGivenUp, TellsMending}
-use Rattle.server_history.specs.declared.Trouble.{Trouble}
-use Rattle.server_history.specs.declared.Trouble.TheVariants.{Broken, Failed, Hung, Lost}
+use Rattle.port_look.specs.declared.Trouble.{Trouble}
+use Rattle.port_look.specs.declared.Trouble.TheVariants.{Broken, Failed, Hung, Lost}
 use Rattle.block_server.proofs.recovery.mend.Goals as goal
 
 -- what is told of a port that was given up

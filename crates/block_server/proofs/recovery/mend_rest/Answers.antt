@@ -1,184 +1,139 @@
-use Rattle.block_server.proofs.Lent.{FailureLaws, agreed, alike, alone, lends_done, may, mid_kept, mends_rest, mid_there, named, places, seen_kept, seen_there}
+use Rattle.server_history.specs.Server.{Server}
+use Rattle.block_server.specs.Recovery.{LendsTroubled}
+use Rattle.block_server.proofs.Lent.{Answered, FoundDone, Troubled, Waiting, agreed, alike, alone, lends_done, may, mid_kept, mends_rest, mid_there, named, places, seen_kept, seen_there}
+use Rattle.block_server.proofs.recovery.mend_rest.Given.{Over}
 use Rattle.block_server.proofs.recovery.mend_rest.Goals as goal
+use Rattle.block_server.proofs.recovery.mend_rest.Goals.{After-answer_done-arg-4-1, After-done-arg-1, After-mend-arg-1, After-taken-outstanding}
+
+-- a server of which so much is lent
+abbrev Lends : (g : Over) (c : After-done-arg-1 g) → Type 0
+Lends g c = (s : Server) × LendsTroubled s (g.A.Adapter.device c.args.adapter.now) c.args.table.now c.args.book.now c.args.slots.now c.args.port c.args.trouble
+
+abbrev troubled : (g : Over) (c : After-done-arg-1 g) → Lends g c → Troubled
+troubled g c l = record {
+  laws = record {
+    looking = c.looks_keep.ensures.looking;
+    finding = c.looks_keep.ensures.finding;
+    over = c.looks_keep.ensures.found;
+    may = c.a_troubled_port_may_be_mended.ensures.may;
+    agreed = c.a_troubled_port_may_be_mended.ensures.agreed;
+    alike = c.a_troubled_port_may_be_mended.ensures.alike;
+    alone = c.a_troubled_port_may_be_mended.ensures.alone;
+  };
+  s = l.0;
+  device = g.A.Adapter.device c.args.adapter.now;
+  table = c.args.table.now;
+  book = c.args.book.now;
+  slots = c.args.slots.now;
+  port = c.args.port;
+  trouble = c.args.trouble;
+  lends = l.1;
+}
+
+abbrev at_taking : (g : Over) (c : After-answer_done-arg-4-1 g) → After-done-arg-1 g
+at_taking g c = (goal.at.answer_done-requires-clause-lends g c).After-done-arg-1
+
+abbrev found_done : (g : Over) (c : After-answer_done-arg-4-1 g) (l : Lends g (at_taking g c)) → FoundDone (troubled g (at_taking g c) l)
+found_done g c l = record {
+  mask = c.taken-used.result;
+  exact = c.taken-used.ensures;
+  done = c.done-finished.result;
+  found = g.A.Adapter.device c.done-finished.new.adapter;
+  reads = c.done-finished.ensures.finds;
+}
+
+abbrev at_done : (g : Over) (c : After-taken-outstanding g) → After-answer_done-arg-4-1 g
+at_done g c = (goal.at.are_queued-queued-requires g c).After-answer_done-arg-4-1
+
+-- both, once what is done was answered
+abbrev its_trouble : (g : Over) (c : After-taken-outstanding g) → Lends g (at_taking g (at_done g c)) → Troubled
+its_trouble g c l = troubled g (at_taking g (at_done g c)) l
+
+abbrev its_done : (g : Over) (c : After-taken-outstanding g) (l : Lends g (at_taking g (at_done g c))) → FoundDone (its_trouble g c l)
+its_done g c l = found_done g (at_done g c) l
+
+abbrev answered : (g : Over) (c : After-taken-outstanding g) (l : Lends g (at_taking g (at_done g c))) → Answered (its_trouble g c l) (its_done g c l)
+answered g c l =
+    let f = its_done g c l in
+    let from = record l.0 { device = f.found } in
+    let done = lends_done (its_trouble g c l) f in
+    record {
+      before = c.args.replies.now.items;
+      after = c.answer_done.new.replies.items;
+      t = c.answer_done.new.table;
+      b = c.answer_done.new.book;
+      u = c.answer_done.new.slots;
+      answers = c.answer_done.ensures.answers from c.args.port done;
+      lent = c.answer_done.ensures.lends from c.args.port done;
+    }
+
+abbrev at_answer : (g : Over) (c : After-mend-arg-1 g) → After-taken-outstanding g
+at_answer g c = (goal.at.mend-recovered-requires-clause-there g c).After-taken-outstanding
+
+abbrev waiting : (g : Over) (c : After-mend-arg-1 g) (l : Lends g (at_taking g (at_done g (at_answer g c)))) → Waiting (its_trouble g (at_answer g c) l) (its_done g (at_answer g c) l) (answered g (at_answer g c) l)
+waiting g c l = record {
+  outstanding = c.taken-outstanding.result;
+  left = c.taken-outstanding.ensures;
+  queued = c.are_queued-queued.result;
+  kinds = c.are_queued-queued.ensures;
+}
 
 pub done-finished-requires-clause-on : goal.done-finished-requires-clause-on
-done-finished-requires-clause-on g c =
-    let laws : FailureLaws = record {
-      looking = c.looks_keep.ensures.looking;
-      finding = c.looks_keep.ensures.finding;
-      over = c.looks_keep.ensures.found;
-      may = c.a_troubled_port_may_be_mended.ensures.may;
-      agreed = c.a_troubled_port_may_be_mended.ensures.agreed;
-      alike = c.a_troubled_port_may_be_mended.ensures.alike;
-      alone = c.a_troubled_port_may_be_mended.ensures.alone;
-    } in
-    let l = c.requires.lends in
-    (seen_kept laws l.0 (g.A.Adapter.device c.args.adapter.now) c.args.table.now c.args.book.now c.args.slots.now c.args.port c.args.trouble l.1).on
+done-finished-requires-clause-on g c = (seen_kept (troubled g c c.requires.lends)).on
 
 pub done-finished-requires-clause-there : goal.done-finished-requires-clause-there
-done-finished-requires-clause-there g c =
-    let laws : FailureLaws = record {
-      looking = c.looks_keep.ensures.looking;
-      finding = c.looks_keep.ensures.finding;
-      over = c.looks_keep.ensures.found;
-      may = c.a_troubled_port_may_be_mended.ensures.may;
-      agreed = c.a_troubled_port_may_be_mended.ensures.agreed;
-      alike = c.a_troubled_port_may_be_mended.ensures.alike;
-      alone = c.a_troubled_port_may_be_mended.ensures.alone;
-    } in
-    let l = c.requires.lends in
-    seen_there laws l.0 (g.A.Adapter.device c.args.adapter.now) c.args.table.now c.args.book.now c.args.slots.now c.args.port c.args.trouble l.1
+done-finished-requires-clause-there g c = seen_there (troubled g c c.requires.lends)
 
 pub answer_done-requires-clause-lends : goal.answer_done-requires-clause-lends
 answer_done-requires-clause-lends g c =
-    let laws : FailureLaws = record {
-      looking = c.looks_keep.ensures.looking;
-      finding = c.looks_keep.ensures.finding;
-      over = c.looks_keep.ensures.found;
-      may = c.a_troubled_port_may_be_mended.ensures.may;
-      agreed = c.a_troubled_port_may_be_mended.ensures.agreed;
-      alike = c.a_troubled_port_may_be_mended.ensures.alike;
-      alone = c.a_troubled_port_may_be_mended.ensures.alone;
-    } in
-    let l = c.requires.lends in
-    (record l.0 { device = g.A.Adapter.device c.done-finished.new.adapter }, c.args.port, lends_done laws l.0 (g.A.Adapter.device c.args.adapter.now) c.args.table.now c.args.book.now c.args.slots.now c.args.port c.args.trouble l.1 c.taken-used.result c.taken-used.ensures c.done-finished.result (g.A.Adapter.device c.done-finished.new.adapter) c.done-finished.ensures.finds)
+    let f = found_done g c c.requires.lends in
+    (record c.requires.lends.0 { device = f.found }, c.args.port, lends_done (troubled g (at_taking g c) c.requires.lends) f)
 
 pub are_queued-queued-requires : goal.are_queued-queued-requires
 are_queued-queued-requires g c =
-    let laws : FailureLaws = record {
-      looking = c.looks_keep.ensures.looking;
-      finding = c.looks_keep.ensures.finding;
-      over = c.looks_keep.ensures.found;
-      may = c.a_troubled_port_may_be_mended.ensures.may;
-      agreed = c.a_troubled_port_may_be_mended.ensures.agreed;
-      alike = c.a_troubled_port_may_be_mended.ensures.alike;
-      alone = c.a_troubled_port_may_be_mended.ensures.alone;
-    } in
     let l = c.requires.lends in
-    let done = lends_done laws l.0 (g.A.Adapter.device c.args.adapter.now) c.args.table.now c.args.book.now c.args.slots.now c.args.port c.args.trouble l.1 c.taken-used.result c.taken-used.ensures c.done-finished.result (g.A.Adapter.device c.done-finished.new.adapter) c.done-finished.ensures.finds in
-    let from = record l.0 { device = g.A.Adapter.device c.done-finished.new.adapter } in
-    let answers = c.answer_done.ensures.answers from c.args.port done in
-    let lent = c.answer_done.ensures.lends from c.args.port done in
-    record { alike = alike laws l.0 (g.A.Adapter.device c.args.adapter.now) c.args.table.now c.args.book.now c.args.slots.now c.args.port c.args.trouble l.1 c.taken-used.result c.taken-used.ensures c.done-finished.result (g.A.Adapter.device c.done-finished.new.adapter) c.done-finished.ensures.finds c.args.replies.now.items c.answer_done.new.replies.items c.answer_done.new.table c.answer_done.new.book c.answer_done.new.slots answers lent; places = places laws l.0 (g.A.Adapter.device c.args.adapter.now) c.args.table.now c.args.book.now c.args.slots.now c.args.port c.args.trouble l.1 c.taken-used.result c.taken-used.ensures c.done-finished.result (g.A.Adapter.device c.done-finished.new.adapter) c.done-finished.ensures.finds c.args.replies.now.items c.answer_done.new.replies.items c.answer_done.new.table c.answer_done.new.book c.answer_done.new.slots answers lent }
+    record { alike = alike (its_trouble g c l) (its_done g c l) (answered g c l); places = places (its_trouble g c l) (its_done g c l) (answered g c l) }
 
 pub mend-recovered-requires-clause-there : goal.mend-recovered-requires-clause-there
 mend-recovered-requires-clause-there g c =
-    let laws : FailureLaws = record {
-      looking = c.looks_keep.ensures.looking;
-      finding = c.looks_keep.ensures.finding;
-      over = c.looks_keep.ensures.found;
-      may = c.a_troubled_port_may_be_mended.ensures.may;
-      agreed = c.a_troubled_port_may_be_mended.ensures.agreed;
-      alike = c.a_troubled_port_may_be_mended.ensures.alike;
-      alone = c.a_troubled_port_may_be_mended.ensures.alone;
-    } in
     let l = c.requires.lends in
-    let done = lends_done laws l.0 (g.A.Adapter.device c.args.adapter.now) c.args.table.now c.args.book.now c.args.slots.now c.args.port c.args.trouble l.1 c.taken-used.result c.taken-used.ensures c.done-finished.result (g.A.Adapter.device c.done-finished.new.adapter) c.done-finished.ensures.finds in
-    let from = record l.0 { device = g.A.Adapter.device c.done-finished.new.adapter } in
-    let answers = c.answer_done.ensures.answers from c.args.port done in
-    let lent = c.answer_done.ensures.lends from c.args.port done in
-    mid_there laws l.0 (g.A.Adapter.device c.args.adapter.now) c.args.table.now c.args.book.now c.args.slots.now c.args.port c.args.trouble l.1 c.taken-used.result c.taken-used.ensures c.done-finished.result (g.A.Adapter.device c.done-finished.new.adapter) c.done-finished.ensures.finds c.args.replies.now.items c.answer_done.new.replies.items c.answer_done.new.table c.answer_done.new.book c.answer_done.new.slots answers lent
+    let a = at_answer g c in
+    mid_there (its_trouble g a l) (its_done g a l) (answered g a l)
 
 pub mend-recovered-requires-clause-room : goal.mend-recovered-requires-clause-room
 mend-recovered-requires-clause-room g c =
-    let laws : FailureLaws = record {
-      looking = c.looks_keep.ensures.looking;
-      finding = c.looks_keep.ensures.finding;
-      over = c.looks_keep.ensures.found;
-      may = c.a_troubled_port_may_be_mended.ensures.may;
-      agreed = c.a_troubled_port_may_be_mended.ensures.agreed;
-      alike = c.a_troubled_port_may_be_mended.ensures.alike;
-      alone = c.a_troubled_port_may_be_mended.ensures.alone;
-    } in
     let l = c.requires.lends in
-    let done = lends_done laws l.0 (g.A.Adapter.device c.args.adapter.now) c.args.table.now c.args.book.now c.args.slots.now c.args.port c.args.trouble l.1 c.taken-used.result c.taken-used.ensures c.done-finished.result (g.A.Adapter.device c.done-finished.new.adapter) c.done-finished.ensures.finds in
-    let from = record l.0 { device = g.A.Adapter.device c.done-finished.new.adapter } in
-    let answers = c.answer_done.ensures.answers from c.args.port done in
-    let lent = c.answer_done.ensures.lends from c.args.port done in
-    (mid_kept laws l.0 (g.A.Adapter.device c.args.adapter.now) c.args.table.now c.args.book.now c.args.slots.now c.args.port c.args.trouble l.1 c.taken-used.result c.taken-used.ensures c.done-finished.result (g.A.Adapter.device c.done-finished.new.adapter) c.done-finished.ensures.finds c.args.replies.now.items c.answer_done.new.replies.items c.answer_done.new.table c.answer_done.new.book c.answer_done.new.slots answers lent).room
+    let a = at_answer g c in
+    (mid_kept (its_trouble g a l) (its_done g a l) (answered g a l)).room
 
 pub mend-recovered-requires-clause-agreed : goal.mend-recovered-requires-clause-agreed
 mend-recovered-requires-clause-agreed g c =
-    let laws : FailureLaws = record {
-      looking = c.looks_keep.ensures.looking;
-      finding = c.looks_keep.ensures.finding;
-      over = c.looks_keep.ensures.found;
-      may = c.a_troubled_port_may_be_mended.ensures.may;
-      agreed = c.a_troubled_port_may_be_mended.ensures.agreed;
-      alike = c.a_troubled_port_may_be_mended.ensures.alike;
-      alone = c.a_troubled_port_may_be_mended.ensures.alone;
-    } in
     let l = c.requires.lends in
-    let done = lends_done laws l.0 (g.A.Adapter.device c.args.adapter.now) c.args.table.now c.args.book.now c.args.slots.now c.args.port c.args.trouble l.1 c.taken-used.result c.taken-used.ensures c.done-finished.result (g.A.Adapter.device c.done-finished.new.adapter) c.done-finished.ensures.finds in
-    let from = record l.0 { device = g.A.Adapter.device c.done-finished.new.adapter } in
-    let answers = c.answer_done.ensures.answers from c.args.port done in
-    let lent = c.answer_done.ensures.lends from c.args.port done in
-    agreed laws l.0 (g.A.Adapter.device c.args.adapter.now) c.args.table.now c.args.book.now c.args.slots.now c.args.port c.args.trouble l.1 c.taken-used.result c.taken-used.ensures c.done-finished.result (g.A.Adapter.device c.done-finished.new.adapter) c.done-finished.ensures.finds c.args.replies.now.items c.answer_done.new.replies.items c.answer_done.new.table c.answer_done.new.book c.answer_done.new.slots answers lent c.taken-outstanding.result c.taken-outstanding.ensures c.are_queued-queued.result c.are_queued-queued.ensures
+    let a = at_answer g c in
+    agreed (its_trouble g a l) (its_done g a l) (answered g a l) (waiting g c l)
 
 pub mend-recovered-requires-clause-may : goal.mend-recovered-requires-clause-may
 mend-recovered-requires-clause-may g c =
-    let laws : FailureLaws = record {
-      looking = c.looks_keep.ensures.looking;
-      finding = c.looks_keep.ensures.finding;
-      over = c.looks_keep.ensures.found;
-      may = c.a_troubled_port_may_be_mended.ensures.may;
-      agreed = c.a_troubled_port_may_be_mended.ensures.agreed;
-      alike = c.a_troubled_port_may_be_mended.ensures.alike;
-      alone = c.a_troubled_port_may_be_mended.ensures.alone;
-    } in
     let l = c.requires.lends in
-    may laws l.0 (g.A.Adapter.device c.args.adapter.now) c.args.table.now c.args.book.now c.args.slots.now c.args.port c.args.trouble l.1 c.taken-used.result c.taken-used.ensures c.done-finished.result (g.A.Adapter.device c.done-finished.new.adapter) c.done-finished.ensures.finds
+    let a = at_answer g c in
+    may (its_trouble g a l) (its_done g a l)
 
 pub mend-recovered-requires-clause-alone : goal.mend-recovered-requires-clause-alone
 mend-recovered-requires-clause-alone g c =
-    let laws : FailureLaws = record {
-      looking = c.looks_keep.ensures.looking;
-      finding = c.looks_keep.ensures.finding;
-      over = c.looks_keep.ensures.found;
-      may = c.a_troubled_port_may_be_mended.ensures.may;
-      agreed = c.a_troubled_port_may_be_mended.ensures.agreed;
-      alike = c.a_troubled_port_may_be_mended.ensures.alike;
-      alone = c.a_troubled_port_may_be_mended.ensures.alone;
-    } in
     let l = c.requires.lends in
-    let done = lends_done laws l.0 (g.A.Adapter.device c.args.adapter.now) c.args.table.now c.args.book.now c.args.slots.now c.args.port c.args.trouble l.1 c.taken-used.result c.taken-used.ensures c.done-finished.result (g.A.Adapter.device c.done-finished.new.adapter) c.done-finished.ensures.finds in
-    let from = record l.0 { device = g.A.Adapter.device c.done-finished.new.adapter } in
-    let answers = c.answer_done.ensures.answers from c.args.port done in
-    let lent = c.answer_done.ensures.lends from c.args.port done in
-    alone laws l.0 (g.A.Adapter.device c.args.adapter.now) c.args.table.now c.args.book.now c.args.slots.now c.args.port c.args.trouble l.1 c.taken-used.result c.taken-used.ensures c.done-finished.result (g.A.Adapter.device c.done-finished.new.adapter) c.done-finished.ensures.finds c.args.replies.now.items c.answer_done.new.replies.items c.answer_done.new.table c.answer_done.new.book c.answer_done.new.slots answers lent c.taken-outstanding.result c.taken-outstanding.ensures c.are_queued-queued.result c.are_queued-queued.ensures
+    let a = at_answer g c in
+    alone (its_trouble g a l) (its_done g a l) (answered g a l) (waiting g c l)
 
 pub failed_in-failed-requires : goal.failed_in-failed-requires
 failed_in-failed-requires g c =
-    let laws : FailureLaws = record {
-      looking = c.looks_keep.ensures.looking;
-      finding = c.looks_keep.ensures.finding;
-      over = c.looks_keep.ensures.found;
-      may = c.a_troubled_port_may_be_mended.ensures.may;
-      agreed = c.a_troubled_port_may_be_mended.ensures.agreed;
-      alike = c.a_troubled_port_may_be_mended.ensures.alike;
-      alone = c.a_troubled_port_may_be_mended.ensures.alone;
-    } in
     let l = c.requires.lends in
-    let done = lends_done laws l.0 (g.A.Adapter.device c.args.adapter.now) c.args.table.now c.args.book.now c.args.slots.now c.args.port c.args.trouble l.1 c.taken-used.result c.taken-used.ensures c.done-finished.result (g.A.Adapter.device c.done-finished.new.adapter) c.done-finished.ensures.finds in
-    let from = record l.0 { device = g.A.Adapter.device c.done-finished.new.adapter } in
-    let answers = c.answer_done.ensures.answers from c.args.port done in
-    let lent = c.answer_done.ensures.lends from c.args.port done in
-    named laws l.0 (g.A.Adapter.device c.args.adapter.now) c.args.table.now c.args.book.now c.args.slots.now c.args.port c.args.trouble l.1 c.taken-used.result c.taken-used.ensures c.done-finished.result (g.A.Adapter.device c.done-finished.new.adapter) c.done-finished.ensures.finds c.args.replies.now.items c.answer_done.new.replies.items c.answer_done.new.table c.answer_done.new.book c.answer_done.new.slots answers lent c.taken-outstanding.result c.taken-outstanding.ensures c.are_queued-queued.result c.are_queued-queued.ensures c.mend-recovered.result (g.A.Adapter.device c.mend-recovered.new.adapter) c.mend-recovered.ensures.mends
+    let q = (goal.at.failed_in-failed-requires g c).After-mend-arg-1 in
+    let a = at_answer g q in
+    named (its_trouble g a l) (its_done g a l) (answered g a l) (waiting g q l) c.mend-recovered.result (g.A.Adapter.device c.mend-recovered.new.adapter) c.mend-recovered.ensures.mends
 
 pub returns-clause-mends : goal.returns-clause-mends
-returns-clause-mends g c = λ s l.
-    let laws : FailureLaws = record {
-      looking = c.looks_keep.ensures.looking;
-      finding = c.looks_keep.ensures.finding;
-      over = c.looks_keep.ensures.found;
-      may = c.a_troubled_port_may_be_mended.ensures.may;
-      agreed = c.a_troubled_port_may_be_mended.ensures.agreed;
-      alike = c.a_troubled_port_may_be_mended.ensures.alike;
-      alone = c.a_troubled_port_may_be_mended.ensures.alone;
-    } in
-    let device = g.A.Adapter.device in
-    let done = lends_done laws s (g.A.Adapter.device c.args.adapter.now) c.args.table.now c.args.book.now c.args.slots.now c.args.port c.args.trouble l c.taken-used.result c.taken-used.ensures c.done-finished.result (g.A.Adapter.device c.done-finished.new.adapter) c.done-finished.ensures.finds in
-    let from = record s { device = g.A.Adapter.device c.done-finished.new.adapter } in
-    let answers = c.answer_done.ensures.answers from c.args.port done in
-    let lent = c.answer_done.ensures.lends from c.args.port done in
-    mends_rest laws s (g.A.Adapter.device c.args.adapter.now) c.args.table.now c.args.book.now c.args.slots.now c.args.port c.args.trouble l c.taken-used.result c.taken-used.ensures c.done-finished.result (g.A.Adapter.device c.done-finished.new.adapter) c.done-finished.ensures.finds c.args.replies.now.items c.answer_done.new.replies.items c.answer_done.new.table c.answer_done.new.book c.answer_done.new.slots answers lent c.taken-outstanding.result c.taken-outstanding.ensures c.are_queued-queued.result c.are_queued-queued.ensures c.mend-recovered.result (g.A.Adapter.device c.mend-recovered.new.adapter) c.mend-recovered.ensures.mends c.failed_in-failed.result c.failed_in-failed.ensures
+returns-clause-mends g c = λ s lends.
+    let q = (goal.at.returns-clause-mends g c).After-mend-arg-1 in
+    let a = at_answer g q in
+    let l : Lends g (at_taking g (at_done g a)) = (s, lends) in
+    mends_rest (its_trouble g a l) (its_done g a l) (answered g a l) (waiting g q l) c.mend-recovered.result (g.A.Adapter.device c.mend-recovered.new.adapter) c.mend-recovered.ensures.mends c.failed_in-failed.result c.failed_in-failed.ensures

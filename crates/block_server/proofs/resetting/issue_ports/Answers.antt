@@ -1,4 +1,4 @@
-use Rattle.std.proofs.Common.{ℕ, ◌≡◌, ◌<◌, List, arith, length, set, refl, sym, ap, ◌∙◌, subst, slice_index_or}
+use Rattle.std.proofs.Common.{◌≡◌, ◌<◌, List, arith, length, set, refl, sym, ap, ◌∙◌, subst}
 use Rattle.adapter.specs.Device.{Device}
 use Rattle.agreement.specs.Agrees.{port_at}
 use Rattle.block_server.specs.Resetting.{LendsPorts, with_issues}

@@ -1,10 +1,9 @@
-use Rattle.std.proofs.Common.{◌≡◌, ◌<◌, ◌++◌, List, [], append-nil, append_assoc, arith, length, refl, sym, ap, ◌∙◌, subst, slice_index_or, rules}
+use Rattle.std.proofs.Common.{◌<◌, ◌++◌, List, [], append-nil, append_assoc, arith, length, refl, sym, ap, ◌∙◌, subst}
 use Rattle.ata_types.specs.declared.request.Reply.{Reply}
 use Rattle.agreement.specs.Agrees.{port_at}
 use Rattle.block_server.specs.Resetting.{LendsBook, with_book}
 use Rattle.host_boot.specs.Taken.{found_of}
 use Rattle.host_boot.specs.declared.Found.{Found}
-use Rattle.identify.specs.declared.DiskInfo.{DiskInfo}
 use Rattle.server_history.specs.Resets.{SettlePorts}
 use Rattle.server_history.specs.Server.{Server, remembered_at}
 use Rattle.block_server.proofs.Reviving as reviving

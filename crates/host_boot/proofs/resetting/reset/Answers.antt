@@ -1,3 +1,4 @@
+use Rattle.ata_types.specs.declared.limits.TheConstants.{READINGS}
 use Rattle.std.proofs.Common.{◌≡◌, sym, ◌∙◌, arith}
 use Rattle.host_boot.proofs.Awaiting.{resetting_begins, resetting_ends, resetting_goes_on, resetting_sticks}
 use Rattle.host_boot.proofs.resetting.reset.Goals as goal
@@ -13,5 +14,5 @@ loop-reading-preserved g c = resetting_goes_on c.laws_hold.ensures _ _ _ _ _ c.l
 
 pub returns-clause-stuck : goal.returns-clause-stuck
 returns-clause-stuck g c =
-    let all : c.loop-reading._reading ≡ 64 = omega arith in
+    let all : c.loop-reading._reading ≡ READINGS = omega arith in
     resetting_sticks c.laws_hold.ensures _ _ _ all c.loop-reading.invariant

@@ -5,7 +5,6 @@ returns c = record {
   counted = c.slots_are_counted.ensures.all;
   gone_reached = c.going_composes.ensures.reached;
   put_other = c.putting_is_of_one_slot.ensures.others;
-  any_same = c.other_ports_are_left.ensures.adapter;
   own_on = c.a_disk_is_in_where_one_shows.ensures.accesses;
   of_recorded = c.other_ports_are_left.ensures.recorded;
   of_shown = c.what_was_booted_again_may_be_served.ensures.beside;

@@ -2,6 +2,10 @@ use Rattle.server_history.proofs.lawful.slot_laws_hold.Goals as goal
 
 pub returns : goal.returns
 returns c = record {
+  accepted_agrees = c.accepting_agrees.ensures;
+  parked_agrees = c.parking_agrees.ensures;
+  parked_frees = c.parking_frees.ensures.frees;
+  ended_clear = c.ended_is_clear.ensures.clears;
   answered_agrees = c.answering_agrees.ensures;
   again_agrees = c.going_again_agrees.ensures;
   kept_agrees = c.keeping_agrees.ensures;

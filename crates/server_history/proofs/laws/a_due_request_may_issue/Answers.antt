@@ -1,4 +1,4 @@
-use Rattle.server_history.proofs.Slots.{lowest_may, never_full}
+use Rattle.server_history.proofs.state.PortSlots.{lowest_may, never_full}
 use Rattle.server_history.proofs.laws.a_due_request_may_issue.Goals as goal
 
 pub returns-clause-lowest : goal.returns-clause-lowest

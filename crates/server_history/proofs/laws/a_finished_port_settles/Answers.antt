@@ -1,4 +1,4 @@
-use Rattle.server_history.proofs.Settling.{answers_settle}
+use Rattle.server_history.proofs.healthy_turn.AnswersAndIssues.{answers_settle}
 use Rattle.server_history.proofs.laws.a_finished_port_settles.Goals as goal
 
 pub returns : goal.returns

@@ -1,6 +1,6 @@
 use Rattle.std.proofs.Common.{subst}
 use Rattle.server_history.specs.Mended.{IsFoundOut}
-use Rattle.server_history.proofs.Mending.{restarted, settles, unlooked}
+use Rattle.server_history.proofs.recovery_turn.CallPart.{restarted, settles, unlooked}
 use Rattle.server_history.proofs.laws.a_hung_port_is_restarted.Goals as goal
 
 pub returns : goal.returns

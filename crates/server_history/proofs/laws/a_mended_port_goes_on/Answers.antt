@@ -1,6 +1,6 @@
-use Rattle.server_history.proofs.Mending.{goes_on, unready_undue}
-use Rattle.server_history.proofs.Counted.{places}
-use Rattle.server_history.proofs.Recovered.{bootable, mode_still}
+use Rattle.server_history.proofs.recovery_turn.CallPart.{goes_on, unready_undue}
+use Rattle.server_history.proofs.state.IssueCounts.{places}
+use Rattle.server_history.proofs.recovery_turn.MendedServer.{bootable, mode_still}
 use Rattle.server_history.proofs.laws.a_mended_port_goes_on.Goals as goal
 
 pub returns-clause-places : goal.returns-clause-places

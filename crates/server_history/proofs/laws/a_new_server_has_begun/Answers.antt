@@ -1,4 +1,4 @@
-use Rattle.server_history.proofs.Beginning.{new_server}
+use Rattle.server_history.proofs.start.NewServer.{new_server}
 use Rattle.server_history.proofs.laws.a_new_server_has_begun.Goals as goal
 
 pub returns : goal.returns

@@ -1,5 +1,5 @@
-use Rattle.server_history.proofs.Mending.{recovered, settles}
-use Rattle.server_history.proofs.Serving.{finished, idle, unfinished}
+use Rattle.server_history.proofs.recovery_turn.CallPart.{recovered, settles}
+use Rattle.server_history.proofs.healthy_turn.ServedPort.{finished, idle, unfinished}
 use Rattle.server_history.proofs.laws.a_port_is_served.Goals as goal
 
 pub returns-clause-idle : goal.returns-clause-idle

@@ -1,4 +1,4 @@
-use Rattle.server_history.proofs.Failing.{are_alike, fits_for, is_alone, may_recover}
+use Rattle.server_history.proofs.recovery_turn.FailedPort.{are_alike, fits_for, is_alone, may_recover}
 use Rattle.server_history.proofs.laws.a_troubled_port_may_be_mended.Goals as goal
 
 pub returns-clause-may : goal.returns-clause-may

@@ -1,5 +1,5 @@
 use Rattle.std.proofs.Common.{ℕ, ap, sym, ◌∙◌}
-use Rattle.server_history.proofs.Slots.{served_request, serves_used}
+use Rattle.server_history.proofs.state.PortSlots.{served_request, serves_used}
 use Rattle.server_history.proofs.laws.a_used_slot_has_its_request.Goals as goal
 
 pub returns : goal.returns

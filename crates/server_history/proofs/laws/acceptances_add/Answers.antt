@@ -1,4 +1,4 @@
-use Rattle.server_history.proofs.Accepting.{acceptance}
+use Rattle.server_history.proofs.plain_calls.Acceptances.{acceptance}
 use Rattle.server_history.proofs.laws.acceptances_add.Goals as goal
 
 pub returns : goal.returns

@@ -1,5 +1,5 @@
-use Rattle.server_history.proofs.Tries.{tried}
-use Rattle.server_history.proofs.Anew.{may_boot, may_give_up}
+use Rattle.server_history.proofs.unready_turn.CallPart.{tried}
+use Rattle.server_history.proofs.unready_turn.AnotherBoot.{may_boot, may_give_up}
 use Rattle.server_history.proofs.laws.an_unready_port_is_tried.Goals as goal
 
 pub returns-clause-looked : goal.returns-clause-looked

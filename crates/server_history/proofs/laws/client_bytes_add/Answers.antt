@@ -1,8 +1,16 @@
-use Rattle.server_history.proofs.Calls.{load_of, store_adds}
+use Rattle.std.proofs.Common.{true, false}
+use Rattle.server_history.proofs.failed_reset.StalledCalls.{stalled_load, stalled_store}
+use Rattle.server_history.proofs.plain_calls.RefusalsAndBytes.{load_of, store_adds}
 use Rattle.server_history.proofs.laws.client_bytes_add.Goals as goal
 
 pub returns-clause-store : goal.returns-clause-store
-returns-clause-store c s new client frame offset bytes kept opens stores = store_adds c.the_laws_below_hold.ensures s new client frame offset bytes kept opens stores
+returns-clause-store c false s new client frame offset bytes settled opens stores =
+    let x = store_adds c.the_laws_below_hold.ensures s new client frame offset bytes settled opens stores in (x.settled, x.adds)
+returns-clause-store c true s new client frame offset bytes stalled opens stores =
+    let x = stalled_store c.the_laws_below_hold.ensures s stalled new client frame offset bytes opens stores in (x.stalled, x.adds)
 
 pub returns-clause-load : goal.returns-clause-load
-returns-clause-load c = load_of c.the_laws_below_hold.ensures
+returns-clause-load c false s new client frame offset count bytes settled long opens loads =
+    let x = load_of c.the_laws_below_hold.ensures s new client frame offset count bytes settled long opens loads in (x.settled, x.adds)
+returns-clause-load c true s new client frame offset count bytes stalled long opens loads =
+    let x = stalled_load c.the_laws_below_hold.ensures s stalled new client frame offset count bytes long opens loads in (x.stalled, x.adds)

@@ -1,8 +1,12 @@
-use Rattle.server_history.proofs.Calls.{device_adds_event, undone_adds}
+use Rattle.std.proofs.Common.{true, false}
+use Rattle.server_history.proofs.failed_reset.StalledCalls.{stalled_device, stalled_undone}
+use Rattle.server_history.proofs.plain_calls.RefusalsAndBytes.{device_adds_event, undone_adds}
 use Rattle.server_history.proofs.laws.device_steps_add.Goals as goal
 
 pub returns-clause-done : goal.returns-clause-done
-returns-clause-done c s new step kept asked steps = device_adds_event c.the_laws_below_hold.ensures s new step kept asked steps
+returns-clause-done c false s new step settled asked steps = let x = device_adds_event c.the_laws_below_hold.ensures s new step settled asked steps in (x.settled, x.adds)
+returns-clause-done c true s new step stalled asked steps = let x = stalled_device c.the_laws_below_hold.ensures s stalled new step asked steps in (x.stalled, x.adds)
 
 pub returns-clause-refused : goal.returns-clause-refused
-returns-clause-refused c = undone_adds c.the_laws_below_hold.ensures
+returns-clause-refused c false s step settled = (undone_adds c.the_laws_below_hold.ensures s step settled).adds
+returns-clause-refused c true s step stalled = stalled_undone c.the_laws_below_hold.ensures s stalled step

@@ -1,6 +1,6 @@
 use Rattle.std.proofs.Common.{refl}
-use Rattle.server_history.proofs.Looking.{looking_kept, finding_kept, found_over}
-use Rattle.server_history.proofs.Mending.{unlooked}
+use Rattle.server_history.proofs.plain_calls.Looks.{looking_kept, finding_kept, found_over}
+use Rattle.server_history.proofs.recovery_turn.CallPart.{unlooked}
 use Rattle.server_history.proofs.laws.looks_keep.Goals as goal
 
 pub returns-clause-looking : goal.returns-clause-looking

@@ -1,4 +1,4 @@
-use Rattle.server_history.proofs.Beginning.{new_well}
+use Rattle.server_history.proofs.start.NewServer.{new_well}
 use Rattle.server_history.proofs.laws.new_ready_ports_run_well.Goals as goal
 
 pub returns : goal.returns

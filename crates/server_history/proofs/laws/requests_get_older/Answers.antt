@@ -1,4 +1,4 @@
-use Rattle.server_history.proofs.Ageing.{older_settled}
+use Rattle.server_history.proofs.plain_calls.OlderRequests.{older_settled}
 use Rattle.server_history.proofs.laws.requests_get_older.Goals as goal
 
 pub returns : goal.returns

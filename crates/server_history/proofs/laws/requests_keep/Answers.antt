@@ -1,6 +1,6 @@
-use Rattle.server_history.proofs.Accepting.{accept_kept}
-use Rattle.server_history.proofs.Answering.{answer_kept}
-use Rattle.server_history.proofs.Issuing.{issue_kept}
+use Rattle.server_history.proofs.plain_calls.Acceptances.{accept_kept}
+use Rattle.server_history.proofs.healthy_turn.OneAnswer.{answer_kept}
+use Rattle.server_history.proofs.plain_calls.OneIssue.{issue_kept}
 use Rattle.server_history.proofs.laws.requests_keep.Goals as goal
 
 pub returns-clause-accepted : goal.returns-clause-accepted

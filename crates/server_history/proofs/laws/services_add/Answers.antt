@@ -1,4 +1,4 @@
-use Rattle.server_history.proofs.Serviced.{services_add}
+use Rattle.server_history.proofs.whole_call.Service.{services_add}
 use Rattle.server_history.proofs.laws.services_add.Goals as goal
 
 pub returns : goal.returns

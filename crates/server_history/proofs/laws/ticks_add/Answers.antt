@@ -1,4 +1,4 @@
-use Rattle.server_history.proofs.Ticked.{ticks_add}
+use Rattle.server_history.proofs.whole_call.Tick.{ticks_add}
 use Rattle.server_history.proofs.laws.ticks_add.Goals as goal
 
 pub returns : goal.returns

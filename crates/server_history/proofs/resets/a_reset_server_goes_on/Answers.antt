@@ -1,5 +1,5 @@
-use Rattle.server_history.proofs.Regained.{keeps_all, settled_at_last}
-use Rattle.server_history.proofs.Retaken.{may_settle}
+use Rattle.server_history.proofs.reset_call.ServerAfterReset.{keeps_all, settled_at_last}
+use Rattle.server_history.proofs.reset_call.RetakenMachine.{may_settle}
 use Rattle.server_history.proofs.resets.a_reset_server_goes_on.Goals as goal
 
 pub returns-clause-settle : goal.returns-clause-settle

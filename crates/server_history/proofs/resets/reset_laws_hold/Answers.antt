@@ -9,8 +9,6 @@ returns c = record {
     own = c.what_was_taken_over_may_be_served.ensures.own;
     shown = c.what_was_taken_over_may_be_served.ensures.shown;
   };
-  limits = c.limits_hold.ensures;
   own_frame = c.lent_frame_is_its_own.ensures;
   released = c.releasing_agrees.ensures;
-  switches_on = c.switching_on.ensures;
 }

@@ -1,5 +1,5 @@
-use Rattle.server_history.proofs.Rebooted.{resets_add_given}
-use Rattle.server_history.proofs.Vouching.{is_rebooted}
+use Rattle.server_history.proofs.reset_call.Reset.{resets_add_given}
+use Rattle.server_history.proofs.reset_call.ResetEvidence.{is_rebooted}
 use Rattle.server_history.proofs.resets.resets_add.Goals as goal
 
 pub returns : goal.returns

@@ -1,4 +1,4 @@
-use Rattle.server_history.proofs.Booked.{booked, may_settle}
+use Rattle.server_history.proofs.failed_reset.ServerBook.{booked, may_settle}
 use Rattle.server_history.proofs.stalled.a_server_is_booked.Goals as goal
 
 pub returns-clause-kept : goal.returns-clause-kept

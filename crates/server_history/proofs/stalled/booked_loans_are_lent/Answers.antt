@@ -1,4 +1,4 @@
-use Rattle.server_history.proofs.Keeping.{all_lent, answered, one_loan}
+use Rattle.server_history.proofs.state.KeptLoans.{all_lent, answered, one_loan}
 use Rattle.server_history.proofs.stalled.booked_loans_are_lent.Goals as goal
 
 pub returns-clause-lent : goal.returns-clause-lent

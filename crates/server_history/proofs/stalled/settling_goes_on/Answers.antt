@@ -1,4 +1,4 @@
-use Rattle.server_history.proofs.Booked.{settles_on}
+use Rattle.server_history.proofs.failed_reset.ServerBook.{settles_on}
 use Rattle.server_history.proofs.stalled.settling_goes_on.Goals as goal
 
 pub returns : goal.returns

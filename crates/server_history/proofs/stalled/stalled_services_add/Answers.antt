@@ -1,4 +1,4 @@
-use Rattle.server_history.proofs.Ending.{stalled_service}
+use Rattle.server_history.proofs.failed_reset.StalledService.{stalled_service}
 use Rattle.server_history.proofs.stalled.stalled_services_add.Goals as goal
 
 pub returns : goal.returns

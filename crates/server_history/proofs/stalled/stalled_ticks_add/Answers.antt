@@ -1,4 +1,4 @@
-use Rattle.server_history.proofs.Stuck.{stalled_tick}
+use Rattle.server_history.proofs.failed_reset.StalledCalls.{stalled_tick}
 use Rattle.server_history.proofs.stalled.stalled_ticks_add.Goals as goal
 
 pub returns : goal.returns

@@ -1,4 +1,4 @@
-use Rattle.server_history.proofs.Sticking.{stuck_adds}
+use Rattle.server_history.proofs.failed_reset.StuckReset.{stuck_adds}
 use Rattle.server_history.proofs.stalled.stuck_resets_add.Goals as goal
 
 pub returns : goal.returns

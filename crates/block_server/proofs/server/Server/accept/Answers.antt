@@ -14,7 +14,7 @@ use Rattle.request_queue.specs.Entries.{Held, asks_of}
 use Rattle.server_history.specs.Histories.{AddsEvent}
 use Rattle.server_history.specs.Served.{Accepts, accepting}
 use Rattle.server_history.specs.Server.{Server, mode_in, situation_of}
-use Rattle.block_server.proofs.Standing.{is_on, of_on, still, to_on}
+use Rattle.block_server.proofs.Standing.{is_on, of_on}
 use Rattle.block_server.proofs.Accepting as accepted
 use Rattle.block_server.proofs.server.Server.accept.Given.{Over}
 use Rattle.block_server.proofs.server.Server.accept.Goals as goal

@@ -7,10 +7,8 @@ use Rattle.block_machine.specs.Refusals.{IsFirstMemFault, IsOpen}
 use Rattle.dma_frames.specs.Table.{owner_of, lent_to}
 use Rattle.block_server.specs.Seen.{seen}
 use Rattle.block_server.specs.View.{ServerView, server_of}
-use Rattle.server_history.specs.Histories.{AddsEvent, load_said}
-use Rattle.block_server.specs.Resetting.{HoldsBy}
+use Rattle.server_history.specs.Histories.{AddsEvent, HoldsBy, load_said}
 use Rattle.block_server.proofs.Standing.{holds_either}
-use Rattle.block_server.proofs.Stepping.{bytes_add}
 use Rattle.block_server.proofs.server.Server.client_load.Given.{Over}
 use Rattle.block_server.proofs.server.Server.client_load.Goals as goal
 use Rattle.block_server.proofs.server.Server.client_load.Goals.{After-slice_known-2-1}
@@ -25,16 +23,16 @@ returns-in_err-address-clause-adds g c =
     subst P c.self.view_is (
     subst (λ r. AddsEvent s s (LoadAt c.args.client c.args.frame c.args.offset (length c.args.out.now)) (load_said r c.args.out.now)) (sym (told.1 ∙ ap Err told.2))
     (let why = subst Q (sym c.self.view_is) c.in_err-address.ensures.err in
-    holds_either c.self.inside.stuck c.self.invariant (λ _ settled. (c.refusals_add.ensures.load s c.args.client c.args.frame c.args.offset (length c.args.out.now) c.args.out.now c.in_err-address.field-0.0 settled why).adds)
-    (λ _ stalled. c.stalled_refusals_add.ensures.load s c.args.client c.args.frame c.args.offset (length c.args.out.now) c.args.out.now c.in_err-address.field-0.0 stalled why)))
+    c.refusals_add.ensures.load c.self.inside.stuck s c.args.client c.args.frame c.args.offset (length c.args.out.now) c.args.out.now c.in_err-address.field-0.0 c.self.invariant why))
 
 pub load-requires : goal.load-requires
 load-requires g c =
     let P : ServerView g.row.A.Denot → Type 0 = λ v. IsOpen (owner_of v.table) (lent_to v.table) c.args.client c.args.frame c.args.offset (length c.args.out.now) in
     subst (λ (at : ℕ). Stays (IsFree at (length c.args.out.now)) (g.A.Adapter.device c.self.inside.adapter)) (sym c.in_ok-address.ensures.ok.1)
-    (let opened = subst P (sym c.self.view_is) c.in_ok-address.ensures.ok.0 in
-    holds_either c.self.inside.stuck c.self.invariant (λ _ settled. c.open_bytes_are_free.ensures (server_of g.A.Adapter.device (seen c.self.inside)) c.args.client c.args.frame c.args.offset (length c.args.out.now) settled.kept opened)
-    (λ _ stalled. c.stalled_bytes_add.ensures.open (server_of g.A.Adapter.device (seen c.self.inside)) c.args.client c.args.frame c.args.offset (length c.args.out.now) stalled opened))
+    (let s = server_of g.A.Adapter.device (seen c.self.inside) in
+    let opened = subst P (sym c.self.view_is) c.in_ok-address.ensures.ok.0 in
+    let booked = holds_either c.self.inside.stuck c.self.invariant (λ _ settled. c.a_server_is_booked.ensures.kept s settled.kept) (λ _ stalled. stalled.booked) in
+    c.open_bytes_are_free.ensures s c.args.client c.args.frame c.args.offset (length c.args.out.now) booked opened)
 
 -- what it leaves, and that it adds an event
 went : (g : Over) (c : After-slice_known-2-1 g) → HoldsBy c.self.inside.stuck (server_of g.A.Adapter.device (record (seen c.self.inside) { adapter = c.load.new.self }))
@@ -45,9 +43,7 @@ went g c =
     let Q : ServerView g.row.A.Denot → Type 0 = λ v. IsOpen (owner_of v.table) (lent_to v.table) c.args.client c.args.frame c.args.offset (length c.args.out.now) in
     let opened = subst Q (sym c.self.view_is) c.in_ok-address.ensures.ok.0 in
     let loads = subst (λ (at : ℕ). Loads at c.load.new.out (device s.adapter) (device c.load.new.self)) c.in_ok-address.ensures.ok.1 c.load.ensures in
-    bytes_add s.stuck (server_of device s) (device c.load.new.self) (LoadAt c.args.client c.args.frame c.args.offset (length c.args.out.now)) (load_said (Ok tt) c.load.new.out) c.self.invariant
-    (λ settled. c.client_bytes_add.ensures.load (server_of device s) (device c.load.new.self) c.args.client c.args.frame c.args.offset (length c.args.out.now) c.load.new.out settled c.load.auto.out opened loads)
-    (λ stalled. c.stalled_bytes_add.ensures.load (server_of device s) (device c.load.new.self) c.args.client c.args.frame c.args.offset (length c.args.out.now) c.load.new.out stalled c.load.auto.out opened loads)
+    c.client_bytes_add.ensures.load s.stuck (server_of device s) (device c.load.new.self) c.args.client c.args.frame c.args.offset (length c.args.out.now) c.load.new.out c.self.invariant c.load.auto.out opened loads
 
 pub invariant_of-self : goal.invariant_of-self
 invariant_of-self g c = (went g c).0

@@ -7,10 +7,8 @@ use Rattle.block_machine.specs.Refusals.{IsFirstMemFault, IsOpen}
 use Rattle.dma_frames.specs.Table.{owner_of, lent_to}
 use Rattle.block_server.specs.Seen.{seen}
 use Rattle.block_server.specs.View.{ServerView, server_of}
-use Rattle.server_history.specs.Histories.{AddsEvent, store_said}
-use Rattle.block_server.specs.Resetting.{HoldsBy}
+use Rattle.server_history.specs.Histories.{AddsEvent, HoldsBy, store_said}
 use Rattle.block_server.proofs.Standing.{holds_either}
-use Rattle.block_server.proofs.Stepping.{bytes_add}
 use Rattle.block_server.proofs.server.Server.client_store.Given.{Over}
 use Rattle.block_server.proofs.server.Server.client_store.Goals as goal
 use Rattle.block_server.proofs.server.Server.client_store.Goals.{After-store}
@@ -25,16 +23,16 @@ returns-in_err-address-clause-adds g c =
     subst P c.self.view_is (
     subst (λ r. AddsEvent s s (StoreAt c.args.client c.args.frame c.args.offset c.args.bytes.now) (store_said r)) (sym (told.1 ∙ ap Err told.2))
     (let why = subst Q (sym c.self.view_is) c.in_err-address.ensures.err in
-    holds_either c.self.inside.stuck c.self.invariant (λ _ settled. (c.refusals_add.ensures.store s c.args.client c.args.frame c.args.offset c.args.bytes.now c.in_err-address.field-0.0 settled why).adds)
-    (λ _ stalled. c.stalled_refusals_add.ensures.store s c.args.client c.args.frame c.args.offset c.args.bytes.now c.in_err-address.field-0.0 stalled why)))
+    c.refusals_add.ensures.store c.self.inside.stuck s c.args.client c.args.frame c.args.offset c.args.bytes.now c.in_err-address.field-0.0 c.self.invariant why))
 
 pub store-requires : goal.store-requires
 store-requires g c =
     let P : ServerView g.row.A.Denot → Type 0 = λ v. IsOpen (owner_of v.table) (lent_to v.table) c.args.client c.args.frame c.args.offset (length c.args.bytes.now) in
     subst (λ (at : ℕ). Stays (IsFree at (length c.args.bytes.now)) (g.A.Adapter.device c.self.inside.adapter)) (sym c.in_ok-address.ensures.ok.1)
-    (let opened = subst P (sym c.self.view_is) c.in_ok-address.ensures.ok.0 in
-    holds_either c.self.inside.stuck c.self.invariant (λ _ settled. c.open_bytes_are_free.ensures (server_of g.A.Adapter.device (seen c.self.inside)) c.args.client c.args.frame c.args.offset (length c.args.bytes.now) settled.kept opened)
-    (λ _ stalled. c.stalled_bytes_add.ensures.open (server_of g.A.Adapter.device (seen c.self.inside)) c.args.client c.args.frame c.args.offset (length c.args.bytes.now) stalled opened))
+    (let s = server_of g.A.Adapter.device (seen c.self.inside) in
+    let opened = subst P (sym c.self.view_is) c.in_ok-address.ensures.ok.0 in
+    let booked = holds_either c.self.inside.stuck c.self.invariant (λ _ settled. c.a_server_is_booked.ensures.kept s settled.kept) (λ _ stalled. stalled.booked) in
+    c.open_bytes_are_free.ensures s c.args.client c.args.frame c.args.offset (length c.args.bytes.now) booked opened)
 
 -- what it leaves, and that it adds an event
 went : (g : Over) (c : After-store g) → HoldsBy c.self.inside.stuck (server_of g.A.Adapter.device (record (seen c.self.inside) { adapter = c.store.new.self }))
@@ -45,9 +43,7 @@ went g c =
     let Q : ServerView g.row.A.Denot → Type 0 = λ v. IsOpen (owner_of v.table) (lent_to v.table) c.args.client c.args.frame c.args.offset (length c.args.bytes.now) in
     let opened = subst Q (sym c.self.view_is) c.in_ok-address.ensures.ok.0 in
     let stores = subst (λ (at : ℕ). Stores at c.args.bytes.now (device s.adapter) (device c.store.new.self)) c.in_ok-address.ensures.ok.1 c.store.ensures in
-    bytes_add s.stuck (server_of device s) (device c.store.new.self) (StoreAt c.args.client c.args.frame c.args.offset c.args.bytes.now) (store_said (Ok tt)) c.self.invariant
-    (λ settled. c.client_bytes_add.ensures.store (server_of device s) (device c.store.new.self) c.args.client c.args.frame c.args.offset c.args.bytes.now settled opened stores)
-    (λ stalled. c.stalled_bytes_add.ensures.store (server_of device s) (device c.store.new.self) c.args.client c.args.frame c.args.offset c.args.bytes.now stalled opened stores)
+    c.client_bytes_add.ensures.store s.stuck (server_of device s) (device c.store.new.self) c.args.client c.args.frame c.args.offset c.args.bytes.now c.self.invariant opened stores
 
 pub invariant_of-self : goal.invariant_of-self
 invariant_of-self g c = (went g c).0

@@ -4,7 +4,7 @@ use Rattle.block_server.specs.Ports.{with_answers}
 use Rattle.block_server.specs.Seen.{seen}
 use Rattle.block_server.specs.View.{ServerView, server_of}
 use Rattle.server_history.specs.Served.{AnswersDone, done_reply}
-use Rattle.block_server.proofs.Standing.{is_on, of_on, still, to_on}
+use Rattle.block_server.proofs.Standing.{is_on, of_on, to_on}
 use Rattle.block_server.proofs.Finishing as finishing
 use Rattle.block_server.proofs.server.Server.finish.Given.{Over}
 use Rattle.block_server.proofs.server.Server.finish.Goals as goal

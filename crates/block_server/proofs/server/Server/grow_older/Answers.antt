@@ -6,7 +6,7 @@ use Rattle.server_history.specs.Server.{IsSettled}
 use Rattle.server_history.specs.Turns.{is_ready}
 use Rattle.block_server.specs.Seen.{seen}
 use Rattle.block_server.specs.View.{server_of}
-use Rattle.block_server.proofs.Standing.{is_on, of_on, still, to_on}
+use Rattle.block_server.proofs.Standing.{is_on, of_on, to_on}
 use Rattle.block_server.proofs.server.Server.grow_older.Goals as goal
 
 -- what is told of each of four ports is told by port

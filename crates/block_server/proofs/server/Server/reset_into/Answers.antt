@@ -1,4 +1,4 @@
-use Rattle.std.proofs.Common.{◌≡◌, ◌∙◌, ◌++◌, ◌∷◌, Err, List, Ok, [], None, Some, ap, refl, sym, subst, rules}
+use Rattle.std.proofs.Common.{◌∙◌, ◌++◌, ◌∷◌, List, [], None, Some, ap, refl, sym, subst, rules}
 use Rattle.ata_types.specs.declared.request.Reply.{Reply}
 use Rattle.block_machine.specs.Events.{Reset, WasReset}
 use Rattle.dma_frames.specs.Table.{Table}
@@ -7,14 +7,14 @@ use Rattle.server_history.specs.Kept.{MayGoBack}
 use Rattle.server_history.specs.Resets.{IsTakenAgain, ResetsServer, SettlePorts}
 use Rattle.server_history.specs.Server.{Server, plain_mode}
 use Rattle.server_history.specs.Stalled.{GetsStuck, KeepsBooks}
-use Rattle.block_server.specs.Resetting.{LendsBook, LendsPorts, with_book, with_issues}
+use Rattle.block_server.specs.Resetting.{LendsBook, LendsPorts, with_book}
 use Rattle.block_server.specs.Seen.{seen}
 use Rattle.block_server.specs.View.{ServerView, server_of}
 use Rattle.block_server.proofs.Reviving as reviving
 use Rattle.block_server.proofs.Standing.{holds_either}
 use Rattle.block_server.proofs.server.Server.reset_into.Given.{Over}
 use Rattle.block_server.proofs.server.Server.reset_into.Goals as goal
-use Rattle.block_server.proofs.server.Server.reset_into.Goals.{After-self-in-Err-4-1, After-deref_mut, After-settle_ports-arg-5-1, After-issue_ports-arg-5-1, After-issue_ports}
+use Rattle.block_server.proofs.server.Server.reset_into.Goals.{After-issue_ports, After-issue_ports-arg-5-1, After-self-in-Err-4-1, After-settle_ports-arg-5-1}
 
 -- ---- the adapter didn't end its reset
 
@@ -67,40 +67,64 @@ give_all_back-requires g c =
     subst (λ (table : Table). MayGoBack table c.self.inside.kept) (sym c.deref_mut.ensures.value)
     (reviving.may_go s booked (λ port. laws.lent s port booked) (λ port. laws.two s port booked) (λ port other a b. laws.one s port other a b booked))
 
-pub settle_ports-requires-clause-lends : goal.settle_ports-requires-clause-lends
-settle_ports-requires-clause-lends g c =
+-- the server as its adapter was taken over again, with no loan kept
+its_books : (g : Over) (c : After-settle_ports-arg-5-1 g) → KeepsBooks (server_of g.A.Adapter.device (seen c.self.inside))
+its_books g c =
+    holds_either c.self.inside.stuck c.self.invariant (λ _ settled. c.a_server_is_booked.ensures.kept (server_of g.A.Adapter.device (seen c.self.inside)) settled.kept) (λ _ stalled. stalled.booked)
+
+abbrev taken : (g : Over) (c : After-settle_ports-arg-5-1 g) → Server
+taken g c = reviving.taken_server (server_of g.A.Adapter.device (seen c.self.inside)) (g.A.Adapter.device c.take_over-host.new.adapter) c.give_all_back.new.table c.take_over-host.result
+    c.disks_of-self-inside.result c.modes_of-self-inside.result c.unused_slots-self-inside-2.result c.give_all_back.new.kept
+
+takes : (g : Over) (c : After-settle_ports-arg-5-1 g) → IsTakenAgain (server_of g.A.Adapter.device (seen c.self.inside)) (taken g c)
+takes g c =
     let device = g.A.Adapter.device in
-    let s = server_of device (seen c.self.inside) in
-    let booked : KeepsBooks s = holds_either c.self.inside.stuck c.self.invariant (λ _ settled. c.a_server_is_booked.ensures.kept s settled.kept) (λ _ stalled. stalled.booked) in
-    let taken = reviving.taken_server s (device c.take_over-host.new.adapter) c.give_all_back.new.table c.take_over-host.result c.disks_of-self-inside.result c.modes_of-self-inside.result c.unused_slots-self-inside-2.result c.give_all_back.new.kept in
-    let takes : IsTakenAgain s taken =
-    reviving.takes_again s (device c.reset.new.adapter) (device c.take_over-host.new.adapter) c.in_default.ensures.reset c.deref_mut.result.now c.give_all_back.new.table c.give_all_back.new.kept c.deref_mut.ensures.value
+    reviving.takes_again (server_of device (seen c.self.inside)) (device c.reset.new.adapter) (device c.take_over-host.new.adapter) c.in_default.ensures.reset c.deref_mut.result.now c.give_all_back.new.table c.give_all_back.new.kept c.deref_mut.ensures.value
     c.give_all_back.ensures.back c.give_all_back.ensures.empty c.give_all_back.ensures.four c.take_over-host.result c.take_over-host.ensures.taken c.take_over-host.ensures.four c.disks_of-self-inside.result c.disks_of-self-inside.ensures (search rules)
     c.modes_of-self-inside.result (search rules) c.modes_of-self-inside.ensures.found c.unused_slots-self-inside-2.result
-    (record { four = search rules; places = c.unused_slots-self-inside-2.ensures.places; usable = c.unused_slots-self-inside-2.ensures.usable; unused = c.unused_slots-self-inside-2.ensures.unused }) in
-    let lent : LendsBook taken c.deref_mut-2.result.now c.self.inside.book c.give_all_back.new.kept c.disks_of-self-inside.result c.take_over-host.result.ports =
-    record { may = c.a_reset_server_goes_on.ensures.settle s taken booked takes; table_is = sym c.deref_mut-2.ensures.value; book_is = refl; kept_is = refl; remembered_are = refl; ports_are = refl } in
-    (taken, lent)
+    (record { four = search rules; places = c.unused_slots-self-inside-2.ensures.places; usable = c.unused_slots-self-inside-2.ensures.usable; unused = c.unused_slots-self-inside-2.ensures.unused })
+
+lent : (g : Over) (c : After-settle_ports-arg-5-1 g) → LendsBook (taken g c) c.deref_mut-2.result.now c.self.inside.book c.give_all_back.new.kept c.disks_of-self-inside.result c.take_over-host.result.ports
+lent g c = record {
+  may = c.a_reset_server_goes_on.ensures.settle (server_of g.A.Adapter.device (seen c.self.inside)) (taken g c) (its_books g c) (takes g c);
+  table_is = sym c.deref_mut-2.ensures.value;
+  book_is = refl;
+  kept_is = refl;
+  remembered_are = refl;
+  ports_are = refl;
+}
+
+pub settle_ports-requires-clause-lends : goal.settle_ports-requires-clause-lends
+settle_ports-requires-clause-lends g c = (taken g c, lent g c)
+
+-- its requests met their fates
+abbrev at_settling : (g : Over) (c : After-issue_ports-arg-5-1 g) → After-settle_ports-arg-5-1 g
+at_settling g c = (goal.at.issue_ports-requires g c).After-settle_ports-arg-5-1
+
+abbrev settled : (g : Over) (c : After-issue_ports-arg-5-1 g) → Server
+settled g c = with_book (taken g (at_settling g c)) c.settle_ports.new.table c.settle_ports.new.book c.settle_ports.new.kept
+
+settles : (g : Over) (c : After-issue_ports-arg-5-1 g) → SettlePorts 0 (taken g (at_settling g c)).ports c.settle_ports.new.replies.items (taken g (at_settling g c)) (settled g c)
+settles g c =
+    let from = taken g (at_settling g c) in
+    let all = c.settle_ports.ensures.settles from (lent g (at_settling g c)) in
+    subst (λ (replies : List Reply). SettlePorts 0 from.ports replies from (settled g c)) (sym (all.1 ∙ ap (λ (told : List Reply). told ++ all.0) c.clear.ensures)) all.2
+
+lends : (g : Over) (c : After-issue_ports-arg-5-1 g)
+    → LendsPorts (settled g c) (g.A.Adapter.device c.take_over-host.new.adapter) c.settle_ports.new.book c.unused_slots-self-inside-2.result c.modes_of-self-inside.result c.take_over-host.result.ports
+lends g c =
+    let a = at_settling g c in
+    record {
+      kept = c.a_reset_server_goes_on.ensures.kept (server_of g.A.Adapter.device (seen c.self.inside)) (taken g a) (settled g c) c.settle_ports.new.replies.items (its_books g a) (takes g a) (settles g c);
+      device_is = refl;
+      book_is = refl;
+      slots_are = refl;
+      modes_are = refl;
+      ports_are = refl;
+    }
 
 pub issue_ports-requires : goal.issue_ports-requires
-issue_ports-requires g c =
-    let device = g.A.Adapter.device in
-    let s = server_of device (seen c.self.inside) in
-    let booked : KeepsBooks s = holds_either c.self.inside.stuck c.self.invariant (λ _ settled. c.a_server_is_booked.ensures.kept s settled.kept) (λ _ stalled. stalled.booked) in
-    let taken = reviving.taken_server s (device c.take_over-host.new.adapter) c.give_all_back.new.table c.take_over-host.result c.disks_of-self-inside.result c.modes_of-self-inside.result c.unused_slots-self-inside-2.result c.give_all_back.new.kept in
-    let takes : IsTakenAgain s taken =
-    reviving.takes_again s (device c.reset.new.adapter) (device c.take_over-host.new.adapter) c.in_default.ensures.reset c.deref_mut.result.now c.give_all_back.new.table c.give_all_back.new.kept c.deref_mut.ensures.value
-    c.give_all_back.ensures.back c.give_all_back.ensures.empty c.give_all_back.ensures.four c.take_over-host.result c.take_over-host.ensures.taken c.take_over-host.ensures.four c.disks_of-self-inside.result c.disks_of-self-inside.ensures (search rules)
-    c.modes_of-self-inside.result (search rules) c.modes_of-self-inside.ensures.found c.unused_slots-self-inside-2.result
-    (record { four = search rules; places = c.unused_slots-self-inside-2.ensures.places; usable = c.unused_slots-self-inside-2.ensures.usable; unused = c.unused_slots-self-inside-2.ensures.unused }) in
-    let lent : LendsBook taken c.deref_mut-2.result.now c.self.inside.book c.give_all_back.new.kept c.disks_of-self-inside.result c.take_over-host.result.ports =
-    record { may = c.a_reset_server_goes_on.ensures.settle s taken booked takes; table_is = sym c.deref_mut-2.ensures.value; book_is = refl; kept_is = refl; remembered_are = refl; ports_are = refl } in
-    let settled = with_book taken c.settle_ports.new.table c.settle_ports.new.book c.settle_ports.new.kept in
-    let all = c.settle_ports.ensures.settles taken lent in
-    let settles = subst (λ (replies : List Reply). SettlePorts 0 taken.ports replies taken settled) (sym (all.1 ∙ ap (λ (told : List Reply). told ++ all.0) c.clear.ensures)) all.2 in
-    let lends : LendsPorts settled (device c.take_over-host.new.adapter) c.settle_ports.new.book c.unused_slots-self-inside-2.result c.modes_of-self-inside.result c.take_over-host.result.ports =
-    record { kept = c.a_reset_server_goes_on.ensures.kept s taken settled c.settle_ports.new.replies.items booked takes settles; device_is = refl; book_is = refl; slots_are = refl; modes_are = refl; ports_are = refl } in
-    record { lends = (settled, lends) }
+issue_ports-requires g c = record { lends = (settled g c, lends g c) }
 
 -- the server then
 abbrev after : (g : Over) (c : After-issue_ports g) → Server
@@ -119,25 +143,12 @@ after g c = record (server_of g.A.Adapter.device (seen c.self.inside)) {
 was_reset : (g : Over) (c : After-issue_ports g) → ResetsServer c.settle_ports.new.replies.items (server_of g.A.Adapter.device (seen c.self.inside)) (after g c)
     × Adds (server_of g.A.Adapter.device (seen c.self.inside)) (after g c) Reset (WasReset (Some c.settle_ports.new.replies.items))
 was_reset g c =
-    let device = g.A.Adapter.device in
-    let s = server_of device (seen c.self.inside) in
-    let booked : KeepsBooks s = holds_either c.self.inside.stuck c.self.invariant (λ _ settled. c.a_server_is_booked.ensures.kept s settled.kept) (λ _ stalled. stalled.booked) in
-    let taken = reviving.taken_server s (device c.take_over-host.new.adapter) c.give_all_back.new.table c.take_over-host.result c.disks_of-self-inside.result c.modes_of-self-inside.result c.unused_slots-self-inside-2.result c.give_all_back.new.kept in
-    let takes : IsTakenAgain s taken =
-    reviving.takes_again s (device c.reset.new.adapter) (device c.take_over-host.new.adapter) c.in_default.ensures.reset c.deref_mut.result.now c.give_all_back.new.table c.give_all_back.new.kept c.deref_mut.ensures.value
-    c.give_all_back.ensures.back c.give_all_back.ensures.empty c.give_all_back.ensures.four c.take_over-host.result c.take_over-host.ensures.taken c.take_over-host.ensures.four c.disks_of-self-inside.result c.disks_of-self-inside.ensures (search rules)
-    c.modes_of-self-inside.result (search rules) c.modes_of-self-inside.ensures.found c.unused_slots-self-inside-2.result
-    (record { four = search rules; places = c.unused_slots-self-inside-2.ensures.places; usable = c.unused_slots-self-inside-2.ensures.usable; unused = c.unused_slots-self-inside-2.ensures.unused }) in
-    let lent : LendsBook taken c.deref_mut-2.result.now c.self.inside.book c.give_all_back.new.kept c.disks_of-self-inside.result c.take_over-host.result.ports =
-    record { may = c.a_reset_server_goes_on.ensures.settle s taken booked takes; table_is = sym c.deref_mut-2.ensures.value; book_is = refl; kept_is = refl; remembered_are = refl; ports_are = refl } in
-    let settled = with_book taken c.settle_ports.new.table c.settle_ports.new.book c.settle_ports.new.kept in
-    let all = c.settle_ports.ensures.settles taken lent in
-    let settles = subst (λ (replies : List Reply). SettlePorts 0 taken.ports replies taken settled) (sym (all.1 ∙ ap (λ (told : List Reply). told ++ all.0) c.clear.ensures)) all.2 in
-    let lends : LendsPorts settled (device c.take_over-host.new.adapter) c.settle_ports.new.book c.unused_slots-self-inside-2.result c.modes_of-self-inside.result c.take_over-host.result.ports =
-    record { kept = c.a_reset_server_goes_on.ensures.kept s taken settled c.settle_ports.new.replies.items booked takes settles; device_is = refl; book_is = refl; slots_are = refl; modes_are = refl; ports_are = refl } in
+    let i = (goal.at.returns-clause-resets g c).After-issue_ports-arg-5-1 in
+    let a = at_settling g i in
+    let s = server_of g.A.Adapter.device (seen c.self.inside) in
     let resets : ResetsServer c.settle_ports.new.replies.items s (after g c) =
-    record { taken = taken; takes = takes; settled = settled; settles = settles; issues = c.issue_ports.ensures.issues settled lends } in
-    (resets, c.resets_add.ensures s (after g c) c.settle_ports.new.replies.items booked resets)
+    record { taken = taken g a; takes = takes g a; settled = settled g i; settles = settles g i; issues = c.issue_ports.ensures.issues (settled g i) (lends g i) } in
+    (resets, c.resets_add.ensures s (after g c) c.settle_ports.new.replies.items (its_books g a) resets)
 
 pub invariant_of-self-2 : goal.invariant_of-self-2
 invariant_of-self-2 g c = (was_reset g c).1.settled

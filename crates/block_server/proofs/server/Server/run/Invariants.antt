@@ -1,4 +1,4 @@
-use Rattle.std.proofs.Common.{◌≡◌, ◌+◌, ◌≤◌, take, vec_len}
+use Rattle.std.proofs.Common.{◌+◌, ◌≤◌, take, vec_len}
 use Rattle.std.specs.Prelude.{IsSome}
 use Rattle.std.specs.Vec.{vec_capacity}
 use Rattle.block_server.specs.Promise.{RunsAsPromised}

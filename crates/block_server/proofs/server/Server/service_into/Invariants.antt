@@ -1,6 +1,7 @@
 use Rattle.std.proofs.Common.{ℕ, ◌≡◌, ◌+◌, ◌≤◌, ◌++◌, false, List, drop, length}
 use Rattle.host_boot.specs.Taken.{found_of}
 use Rattle.ata_types.specs.declared.request.Reply.{Reply}
+use Rattle.ata_types.specs.declared.limits.TheConstants.{MOST_UNANSWERED}
 use Rattle.server_history.specs.Turns.{ServePorts}
 use Rattle.server_history.specs.Server.{Server}
 use Rattle.block_server.specs.View.{server_of}
@@ -11,6 +12,6 @@ invariant-loop-number g l = record {
   rest : (later : List Reply) (new : Server) → ServePorts l.number (drop l.number l.ports) later (server_of g.A.Adapter.device l.self) new
       → ServePorts 0 l.fn.self.ports (l.replies.items ++ later) (server_of g.A.Adapter.device l.fn.self) new;
   ports : (q : ℕ) → l.number ≤ q → found_of l.self.ports q ≡ found_of l.ports q;
-  room : length l.replies.items + length l.self.book ≤ 128;
+  room : length l.replies.items + length l.self.book ≤ MOST_UNANSWERED;
   on : l.self.stuck ≡ false;
 }

@@ -16,8 +16,7 @@ returns-in_err-port-clause-adds g c =
     let s = server_of g.A.Adapter.device c.args.self.now in
     subst (λ r. AddsEvent s s (Submit c.args.r.now) (Submitted r)) (sym (told.1 ∙ ap Err told.2))
     (subst (λ (v : ServerView g.row.A.Denot). IsFirstRefusal (situation_of (server_of g.A.Adapter.device v)) c.args.r.now c.in_err-port.field-0.0 → AddsEvent (server_of g.A.Adapter.device v) (server_of g.A.Adapter.device v) (Submit c.args.r.now) (Submitted (Err c.in_err-port.field-0.0))) c.self.view_is
-    (λ first. holds_either c.self.inside.stuck c.self.invariant (λ _ settled. (c.refusals_add.ensures.submit (server_of g.A.Adapter.device (seen c.self.inside)) c.args.r.now c.in_err-port.field-0.0 settled first).adds)
-    (λ _ stalled. c.stalled_refusals_add.ensures.submit (server_of g.A.Adapter.device (seen c.self.inside)) c.args.r.now c.in_err-port.field-0.0 stalled first))
+    (λ first. c.refusals_add.ensures.submit c.self.inside.stuck (server_of g.A.Adapter.device (seen c.self.inside)) c.args.r.now c.in_err-port.field-0.0 c.self.invariant first)
     c.in_err-port.ensures.refused)
 
 -- a server that admits a request has its adapter on
@@ -26,7 +25,7 @@ accept-requires-clause-on g c =
     let P : ServerView g.row.A.Denot → Type 0 = λ v. IsAcceptable (situation_of (server_of g.A.Adapter.device v)) c.args.r.now in
     sym (ap (λ (v : ServerView g.row.A.Denot). v.stuck) c.self.view_is)
     ∙ holds_either c.self.inside.stuck c.self.invariant (λ on _. on)
-    (λ _ stalled. absurd (c.stalled_refusals_add.ensures.none (server_of g.A.Adapter.device (seen c.self.inside)) c.args.r.now stalled (subst P (sym c.self.view_is) c.in_ok-port.ensures.admitted.0)))
+    (λ _ stalled. absurd (c.stalled_servers_admit_none.ensures (server_of g.A.Adapter.device (seen c.self.inside)) c.args.r.now stalled (subst P (sym c.self.view_is) c.in_ok-port.ensures.admitted.0)))
 
 pub accept-requires-clause-port : goal.accept-requires-clause-port
 accept-requires-clause-port g c = grind (arith, common_steps)

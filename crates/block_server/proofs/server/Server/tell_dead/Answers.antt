@@ -1,15 +1,15 @@
 use Rattle.std.proofs.Common.{◌≡◌, ◌∙◌, ◌++◌, Bool, List, true, ap, refl, sym, subst}
 use Rattle.ata_types.specs.declared.request.Reply.{Reply}
 use Rattle.block_machine.specs.Events.{Service, Served}
-use Rattle.server_history.specs.Histories.{AddsEvent, AddsStalled}
+use Rattle.server_history.specs.Histories.{AddsEvent, AddsStalled, HoldsBy}
 use Rattle.server_history.specs.Resets.{SettlePorts}
 use Rattle.server_history.specs.Server.{Server}
 use Rattle.server_history.specs.Stalled.{IsStalled}
 use Rattle.block_server.specs.Calls.{ServicesBy}
-use Rattle.block_server.specs.Resetting.{HoldsBy, with_book}
+use Rattle.block_server.specs.Resetting.{with_book}
 use Rattle.block_server.specs.Seen.{seen}
 use Rattle.block_server.specs.View.{ServerView, server_of}
-use Rattle.block_server.proofs.Standing.{by_on, now_off, still}
+use Rattle.block_server.proofs.Standing.{now_off, still}
 use Rattle.block_server.proofs.server.Server.tell_dead.Given.{Over}
 use Rattle.block_server.proofs.server.Server.tell_dead.Goals as goal
 use Rattle.block_server.proofs.server.Server.tell_dead.Goals.{After-self-1}

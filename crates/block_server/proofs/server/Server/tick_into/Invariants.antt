@@ -1,6 +1,7 @@
 use Rattle.std.proofs.Common.{ℕ, ◌≡◌, ◌+◌, ◌≤◌, ◌++◌, false, List, drop, length}
 use Rattle.host_boot.specs.Taken.{found_of}
 use Rattle.ata_types.specs.declared.request.Reply.{Reply}
+use Rattle.ata_types.specs.declared.limits.TheConstants.{MOST_UNANSWERED}
 use Rattle.server_history.specs.Turns.{TakeTurns, TicksPort, a_tick_older}
 use Rattle.server_history.specs.Server.{Server, IsSettled}
 use Rattle.block_server.specs.View.{server_of}
@@ -11,7 +12,7 @@ invariant-loop-place g l = record {
   rest : (later : List Reply) (new : Server) → TakeTurns (TicksPort (a_tick_older (server_of g.A.Adapter.device l.fn.self)).book) (λ port one other. other ≡ one) l.place (drop l.place l.ports) later (server_of g.A.Adapter.device l.self) new
       → TakeTurns (TicksPort (a_tick_older (server_of g.A.Adapter.device l.fn.self)).book) (λ port one other. other ≡ one) 0 l.fn.self.ports (l.replies.items ++ later) (a_tick_older (server_of g.A.Adapter.device l.fn.self)) new;
   ports : (q : ℕ) → l.place ≤ q → found_of l.self.ports q ≡ found_of l.ports q;
-  room : length l.replies.items + length l.self.book ≤ 128;
+  room : length l.replies.items + length l.self.book ≤ MOST_UNANSWERED;
   on : l.self.stuck ≡ false;
   settled : IsSettled (server_of g.A.Adapter.device l.self);
 }

@@ -3,7 +3,7 @@ use Rattle.std.proofs.lemmas.Bool.{false≢true}
 use Rattle.server_history.specs.Server.{IsSettled, state_of}
 use Rattle.block_server.specs.Seen.{seen}
 use Rattle.block_server.specs.View.{ServerView, server_of}
-use Rattle.block_server.proofs.Standing.{is_on, of_on, still, to_on}
+use Rattle.block_server.proofs.Standing.{is_on}
 use Rattle.block_server.proofs.server.Server.tick_port.Goals as goal
 
 pub mend_port-requires-clause-sees : goal.mend_port-requires-clause-sees

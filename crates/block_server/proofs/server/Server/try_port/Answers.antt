@@ -5,7 +5,7 @@ use Rattle.server_history.specs.Turns.{TriesUnready}
 use Rattle.block_server.specs.Seen.{seen}
 use Rattle.server_history.specs.Tried.{FindsAnew}
 use Rattle.block_server.specs.View.{ServerView, server_of}
-use Rattle.block_server.proofs.Standing.{is_on, of_on, still, to_on}
+use Rattle.block_server.proofs.Standing.{is_on, of_on, to_on}
 use Rattle.block_server.proofs.Anew as anew
 use Rattle.block_server.proofs.server.Server.try_port.Goals as goal
 

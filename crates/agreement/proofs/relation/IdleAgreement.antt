@@ -1,0 +1,87 @@
+-- An idle device and a machine with nothing in it.
+use Rattle.std.proofs.Common.{ℕ, ◌≡◌, ◌+◌, ◌*◌, true, List, [], Option, None, Some, slice_index, refl, sym, ap, subst, arith, ⊎_elim}
+use Rattle.std.specs.List.{Contains}
+use Rattle.std.proofs.lemmas.List.Elements.{All-contains, All-nil}
+use Rattle.ata_types.specs.declared.grant.GrantRow.{GrantRow}
+use Rattle.ata_types.specs.declared.request.ClientId.{ClientId}
+use Rattle.ata_types.specs.declared.request.Frame.{Frame}
+use Rattle.adapter.specs.Device.{Device}
+use Rattle.adapter.specs.Idle.{IsIdle, TellsDisks}
+use Rattle.block_machine.specs.State.{Disk, Machine}
+use Rattle.block_machine.specs.Left.{IsStart}
+use Rattle.agreement.specs.Slots.{Free, Serves}
+use Rattle.agreement.specs.Agrees.{IsDiskOf, SameMemory, SameSectors}
+use Rattle.agreement.specs.Driven.{IsAgreed}
+use Rattle.agreement.specs.Driver.{Knows, idle}
+use Rattle.agreement.proofs.relation.OtherSlots.{true_false}
+
+pub idle_knows : (m : Machine) (d : Device) → IsStart m → IsIdle d → ((port : ℕ) → IsDiskOf m (d.port port) port) → SameMemory m d.memory →
+    (d.telling ≡ true → (port : ℕ) → SameSectors m (d.port port).disk port) → Knows m (idle d)
+idle_knows m d s i disk memory sectors = record {
+  agrees = record {
+    slot = λ q k. record { issued = (i.port q).ci k; free = (i.port q).taken k; unarmed = (i.port q).sact k };
+    apart = λ q k q' k' id u v. absurd (let z : Free ≡ Serves id = u in cc);
+    received = λ q f. true_false f (i.port q).fre;
+    disk = disk;
+    memory = memory;
+    sectors = sectors;
+  };
+  have = λ q e may at_port. ⊎_elim
+      (λ z. absurd (All-contains (λ _. ⊥) [] e (All-nil (λ _. ⊥)) (subst (λ es. Contains es e) s.book z.0)))
+      (λ z. absurd (All-contains (λ _. ⊥) [] e (All-nil (λ _. ⊥)) (subst (λ es. Contains es e) s.kept z)))
+      may;
+}
+
+-- ---- the machine of an idle device
+
+-- what a disk holds, or zeros where it doesn't tell
+abbrev pub told_bytes : Option (ℕ → List ℕ) → Disk
+told_bytes None k b = 0
+told_bytes (Some told) k b = slice_index (told k) b
+
+-- the device's disks and client frames, with these grants and owners
+abbrev pub machine_of : Device → List GrantRow → (Frame → Option ClientId) → Machine
+machine_of d rows owner = record {
+  present = λ port. (d.port port.0).present;
+  disk_ids = λ port. (d.port port.0).disk.name;
+  sizes = λ port. (d.port port.0).disk.size;
+  disks = λ port. told_bytes (d.port port.0).disk.sectors;
+  book = [];
+  kept = [];
+  lent = λ frame. None;
+  memory = λ frame b. d.memory (4096 * frame.0 + b);
+  rows = rows;
+  owner = owner;
+  next = 1;
+}
+
+pub machine_knows : (d : Device) (rows : List GrantRow) (owner : Frame → Option ClientId) → IsStart (machine_of d rows owner) → IsIdle d
+    → TellsDisks d → Knows (machine_of d rows owner) (idle d)
+machine_knows d rows owner start is told =
+    idle_knows (machine_of d rows owner) d start is (λ q. record { present = refl; id = refl; size = refl }) (λ f b low small. refl) sectors
+  where
+    sectors : d.telling ≡ true → (port : ℕ) → SameSectors (machine_of d rows owner) (d.port port).disk port
+    sectors tells q =
+        let t = told tells q in
+        record { told = t.0; tells = t.1; same = λ k b inside small. sym (ap (λ (s : Option (ℕ → List ℕ)). told_bytes s k b) t.1) }
+
+-- with no grants, and frames that are nobody's
+pub unowned_starts : (d : Device) → IsStart (machine_of d [] (λ frame. None))
+unowned_starts d = record {
+  book = refl;
+  kept = refl;
+  lent = λ frame. refl;
+  next = refl;
+  few = omega arith;
+  rows = λ i j d lt small. absurd (omega (arith, small));
+  configured = λ row here. absurd (All-contains (λ _. ⊥) [] row (All-nil (λ _. ⊥)) here);
+  owned = λ frame client (e : None ≡ Some client). absurd (cc);
+}
+
+pub idle_agrees : (d : Device) → IsIdle d → TellsDisks d → IsAgreed (λ port slot. Free) d
+idle_agrees d is told = record {
+  machine = machine_of d [] (λ frame. None);
+  parked = λ port. [];
+  reached = record { first = machine_of d [] (λ frame. None); past = []; starts = unowned_starts d; legal = tt; is = refl };
+  knows = machine_knows d [] (λ frame. None) (unowned_starts d) is told;
+}

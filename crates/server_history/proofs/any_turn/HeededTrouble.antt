@@ -1,0 +1,146 @@
+-- A port's turn heeds trouble that comes: a command that fails, a fatal error, or a disk that goes or comes. Its look told it, or it is shown still.
+use Rattle.std.proofs.Common.{ℕ, ◌≡◌, ◌≤◌, ◌++◌, true, false, List, ◌∷◌, inl, inr, refl, sym, ◌∙◌, subst, ⊎_elim, arith}
+use Rattle.std.specs.List.{All, Contains}
+use Rattle.std.proofs.lemmas.Bool.{false≢true}
+use Rattle.std.proofs.lemmas.List.{append_cancel_left}
+use Rattle.std.proofs.lemmas.List.Elements.{All-contains, Contains-append_right}
+use Rattle.ata_types.specs.declared.Port.{Port}
+use Rattle.ata_types.specs.declared.request.Reply.{Reply}
+use Rattle.hba_regs.specs.Bits.{bit}
+use Rattle.hba_regs.specs.declared.reg.Reg.TheVariants.{Px}
+use Rattle.hba_regs.specs.declared.reg.PortReg.TheVariants.{Is, Ci, Sact}
+use Rattle.adapter.specs.Access.{Access}
+use Rattle.adapter.specs.Access.Access.{Reading, Writing, Loading, Storing}
+use Rattle.adapter.specs.Device.{Device}
+use Rattle.adapter.specs.Rules.{IsOn}
+use Rattle.adapter.specs.declared.tape.Entry.{Entry}
+use Rattle.agreement.specs.Driven.{IsDrivenBy, IsOf}
+use Rattle.agreement.specs.Errors.{IsFatalOf}
+use Rattle.agreement.specs.Facts.{IsFaultOf, ShowsNoTrouble}
+use Rattle.agreement.specs.Links.{IsPlugging, SparesRegister}
+use Rattle.agreement.proofs.driver.Stretches.{by_then}
+use Rattle.server_history.proofs.state.DrivenAccesses.{by_none, driven_as}
+use Rattle.block_machine.specs.Histories.{Instant}
+use Rattle.block_machine.specs.Ports.{Evidence, Ports}
+use Rattle.driver_history.specs.Evidence.{Gains, ShowsChange, ShowsFailure}
+use Rattle.driver_history.specs.Histories.{LosesNoTrouble}
+use Rattle.error_recovery.specs.Evidence.{GainsRunning, ShowsFatal}
+use Rattle.ncq.specs.Masks.{IsFinding}
+use Rattle.ncq.specs.Tasks.{IsIssuing}
+use Rattle.port_look.specs.Looks.{IsLooking}
+use Rattle.port_look.specs.Services.{IsOrdinary}
+use Rattle.port_look.specs.declared.Look.TheVariants.{Undisturbed as Calm}
+use Rattle.slots.specs.Uses.{Uses as PortSlots}
+use Rattle.server_history.specs.Below.{LawsBelow}
+use Rattle.server_history.specs.Served.{ChecksUsed, HasNone, HasTurn, IssuesIn}
+use Rattle.server_history.proofs.state.TurnAccesses.{none_or_some}
+use Rattle.server_history.proofs.state.TransferAccesses.{issues_serve}
+use Rattle.server_history.proofs.any_turn.ShownTrouble.{fatal_unless, set_unless}
+
+-- ---- what the tape gained
+
+-- a kind of entry that none of those gained is of
+pub gains_none : (Such : Entry → Type 0) (old new : Device) (gained : List Entry) → new.tape ≡ old.tape ++ gained → All (λ e. Such e → ⊥) gained → Gains Such old new → ⊥
+gains_none Such old new gained tape none g =
+    let same : g.gained ≡ gained = append_cancel_left old.tape g.gained gained (sym g.tape ∙ tape) in
+    All-contains (λ e. Such e → ⊥) gained g.entry none (subst (λ (xs : List Entry). Contains xs g.entry) same g.here) g.is
+
+-- what was gained since ST was set was gained
+pub gained_running : (Such : Entry → Type 0) (port : ℕ) (old new : Device) → GainsRunning Such port old new → Gains Such old new
+gained_running Such port old new g = record {
+  gained = g.before ++ (g.entry ∷ g.later);
+  tape = g.tape;
+  entry = g.entry;
+  here = Contains-append_right g.before (g.entry ∷ g.later) g.entry (0, omega arith, refl);
+  is = g.is;
+}
+
+-- ---- accesses that are ordinary
+
+finding_ordinary : (port : Port) (access : Access) → IsFinding port access → IsOrdinary port access
+finding_ordinary port (Reading r v) here = (tt, tt)
+finding_ordinary port (Writing r v) here = absurd here
+finding_ordinary port (Loading at bytes) here = absurd here
+finding_ordinary port (Storing at bytes) here = absurd here
+
+issuing_spares : (port : Port) (slot : ℕ) (access : Access) → IsIssuing port slot access → SparesRegister (Px port Is) access
+issuing_spares port slot (Writing r v) here = ⊎_elim
+    (λ (is : r ≡ Px port Sact). λ q. let z : Px port Sact ≡ Px port Is = sym is ∙ q in absurd cc)
+    (λ (is : r ≡ Px port Ci). λ q. let z : Px port Ci ≡ Px port Is = sym is ∙ q in absurd cc)
+    here.0
+issuing_spares port slot (Storing at bytes) here = tt
+issuing_spares port slot (Loading at bytes) here = tt
+issuing_spares port slot (Reading r v) here = tt
+
+issuing_ordinary : (port : Port) (access : Access) → IssuesIn port access → IsOrdinary port access
+issuing_ordinary port access here = (issues_serve port access here, issuing_spares port here.0 access here.2)
+
+module _ (laws : LawsBelow) where
+  module _ (port : Port) (slots : PortSlots) (replies : List Reply) (old : Instant Device) (new : Device) (turn : HasTurn port slots replies old.device new) (on : IsOn old.device) where
+    -- what comes after a look that told nothing
+    pub later_driven : turn.look ≡ Calm → IsDrivenBy (IsOrdinary port) turn.seen new
+    later_driven calm = ⊎_elim
+        (λ (none : HasNone c.mask). subst (IsDrivenBy (IsOrdinary port) turn.seen) (sym (c.idle none).1) (by_none (IsOrdinary port) turn.seen))
+        (λ some.
+        let k = c.checks (λ none. false≢true (sym (none some.0 some.1) ∙ some.2)) in
+        by_then (driven_as (IsFinding port) (IsOrdinary port) turn.seen k.read (finding_ordinary port) k.reads.driven)
+        (driven_as (IssuesIn port) (IsOrdinary port) k.read new (issuing_ordinary port) k.over))
+        (none_or_some 32 c.mask)
+      where
+        c : ChecksUsed port slots replies turn.seen new
+        c = turn.calm calm
+
+    seen_on : IsOn turn.seen
+    seen_on = laws.of_on port old.device turn.seen on (driven_as (IsLooking port) (IsOf port) old.device turn.seen (laws.looking.looking_of port) (laws.looking.looks_driven port turn.look old.device turn.seen turn.looks))
+
+    module _ (calm : turn.look ≡ Calm) where
+      -- it showed no trouble, then
+      pub shown_none : ShowsNoTrouble (old.device.port port.0)
+      shown_none = (laws.looking.looks_calm port turn.look old.device turn.seen on turn.looks calm).0
+
+      -- what was read told of no error
+      told_none : (place : ℕ) → 27 ≤ place → place ≤ 30 → bit turn.looks.causes place ≡ false
+      told_none = (laws.looking.looks_undisturbed turn.looks.causes turn.looks.status (sym turn.looks.tells ∙ calm)).0.quiet
+
+      -- so a fault that came is shown
+      fault_shown : Gains (IsFaultOf port.0) old.device new → (new.port port.0).is 30 ≡ true
+      fault_shown g = set_unless ((new.port port.0).is 30) (λ clear.
+          let late = laws.looking.ordinary_faults port turn.seen new seen_on (later_driven calm) clear in
+          let early = laws.looking.looks_fault port turn.look old.device turn.seen on turn.looks (told_none 30 (omega arith) (omega arith)) late.0 in
+          let none = laws.looks.tape.fails_more port.0 old.device turn.seen new early.1 late.1 in
+          gains_none (IsFaultOf port.0) old.device new none.gained none.tape none.none g)
+
+      -- and so is a fatal error
+      fatal_shown : Gains (IsFatalOf port.0) old.device new → ShowsFatal (new.port port.0)
+      fatal_shown g = fatal_unless (new.port port.0) (λ clear.
+          let late = laws.looking.ordinary_fatals port turn.seen new seen_on (later_driven calm) clear in
+          let early = laws.looking.looks_fatal port turn.look old.device turn.seen on turn.looks (λ place low high. told_none place low (omega (arith, high))) late.0 in
+          let none = laws.looks.tape.fatal_more port.0 old.device turn.seen new early.1 late.1 in
+          gains_none (IsFatalOf port.0) old.device new none.gained none.tape none.none g)
+
+      -- and so is a disk that went or came
+      disk_shown : Gains (IsPlugging port.0) old.device new → (new.port port.0).serr_n ≡ true
+      disk_shown g = set_unless (new.port port.0).serr_n (λ clear.
+          let late = laws.looking.ordinary_disks port turn.seen new seen_on (later_driven calm) clear in
+          let early = laws.looking.looks_disk port turn.look old.device turn.seen on turn.looks late.0 in
+          let none = laws.looks.tape.plugs_more port.0 old.device turn.seen new early.1 late.1 in
+          gains_none (IsPlugging port.0) old.device new none.gained none.tape none.none g)
+
+      -- no failure was shown when it began
+      pub never_failed : ShowsFailure (old.device.port port.0) → ⊥
+      never_failed (inl fatal) = let high = fatal.to in false≢true (sym (shown_none.quiet fatal.place fatal.from (omega (arith, high))) ∙ fatal.set)
+      never_failed (inr fault) = false≢true (sym (shown_none.quiet 30 (omega arith) (omega arith)) ∙ fault)
+
+      -- nor a change of its link
+      pub never_changed : ShowsChange (old.device.port port.0) → ⊥
+      never_changed (inl n) = false≢true (sym shown_none.serr_n ∙ n)
+      never_changed (inr x) = false≢true (sym shown_none.serr_x ∙ x)
+
+      pub trouble_shown : (evidence : Evidence) (ports : Ports) → LosesNoTrouble evidence old ports new port
+      trouble_shown evidence ports = record {
+        errors = λ ready trouble. inr (⊎_elim (λ shows. absurd (never_failed shows)) (λ gains. ⊎_elim (λ g. inr (fault_shown g)) (λ g. inl (fatal_shown g)) gains) trouble);
+        changes = λ tended trouble. inr (⊎_elim (λ shows. absurd (never_changed shows)) (λ g. inl (disk_shown g)) trouble);
+        fault = λ ready g. fault_shown (gained_running (IsFaultOf port.0) port.0 old.device new g);
+        fatal = λ ready g. fatal_shown (gained_running (IsFatalOf port.0) port.0 old.device new g);
+        disk = λ ready g. disk_shown (gained_running (IsPlugging port.0) port.0 old.device new g);
+      }

@@ -1,0 +1,122 @@
+-- A port of which a look told no loss showed a device: so it had a disk when the turn began, or one went or came in it.
+use Rattle.std.proofs.Common.{ℕ, ◌≡◌, ◌≢◌, ◌⊎◌, ◌++◌, true, false, List, [], ◌∷◌, append_assoc, inl, inr, sym, ap, ◌∙◌, subst, ⊎_elim}
+use Rattle.std.specs.List.{Contains, list_any}
+use Rattle.std.proofs.lemmas.Bool.{cases_Bool, cases_eq, false≢true}
+use Rattle.std.proofs.lemmas.List.{append_cancel_left}
+use Rattle.std.proofs.lemmas.List.Elements.{All-weaker, Contains-append_left}
+use Rattle.ata_types.specs.declared.Port.{Port}
+use Rattle.hba_regs.specs.declared.reg.PortReg.TheVariants.{Is, Ssts}
+use Rattle.hba_regs.specs.declared.reg.Reg.TheVariants as reg
+use Rattle.hba_regs.specs.declared.reg.Reg.TheVariants.{Ghc, Px}
+use Rattle.adapter.specs.Access.{Access, Does, DoesAll}
+use Rattle.adapter.specs.Access.Access.{Reading, Writing}
+use Rattle.adapter.specs.Device.{Device, PortState}
+use Rattle.adapter.specs.Rules.{IsOn}
+use Rattle.adapter.specs.declared.tape.Entry.{Entry}
+use Rattle.adapter.specs.declared.tape.Entry.TheVariants as entry
+use Rattle.agreement.specs.Driven.{Grows}
+use Rattle.agreement.specs.Driver.{IsBacked}
+use Rattle.agreement.specs.Errors.{IsComing, NoneComes}
+use Rattle.agreement.specs.Links.{IsPlugging, PlugsNone, SparesRegister}
+use Rattle.agreement.proofs.driver.Stretches.{written_ghc}
+use Rattle.block_machine.specs.Events.{changes_disk}
+use Rattle.block_machine.specs.State.{Machine}
+use Rattle.block_machine.specs.Steps.{Step}
+use Rattle.port_look.specs.Looks.{LooksAt}
+use Rattle.port_look.specs.declared.Look.{Look}
+use Rattle.server_history.specs.Below.{LawsBelow}
+use Rattle.server_history.proofs.any_turn.ShownTrouble.{grows_over}
+use Rattle.server_history.specs.Server.{Server, IsMachineOf}
+use Rattle.server_history.proofs.any_turn.ToldTrouble.{one_or_none, shows_link}
+use Rattle.port_look.specs.declared.Look.TheVariants.{Lost}
+
+-- ---- disks that come
+
+is_coming : (port : ℕ) (e : Entry) → IsComing port e ⊎ (IsComing port e → ⊥)
+is_coming port (entry.Plug at name) = cases_eq at.0 port
+is_coming port (entry.Unplug at) = inr (λ is. is)
+is_coming port (entry.Move x) = inr (λ is. is)
+is_coming port (entry.Clear x) = inr (λ is. is)
+is_coming port (entry.Done x) = inr (λ is. is)
+is_coming port (entry.Fault x) = inr (λ is. is)
+is_coming port (entry.Fatal x) = inr (λ is. is)
+
+coming_plugs : (port : ℕ) (e : Entry) → IsComing port e → IsPlugging port e
+coming_plugs port (entry.Plug at name) is = is
+coming_plugs port (entry.Unplug at) is = absurd is
+coming_plugs port (entry.Move x) is = absurd is
+coming_plugs port (entry.Clear x) is = absurd is
+coming_plugs port (entry.Done x) is = absurd is
+coming_plugs port (entry.Fault x) is = absurd is
+coming_plugs port (entry.Fatal x) is = absurd is
+
+-- where no disk goes or comes, none comes
+pub none_comes : (port : ℕ) (old new : Device) → PlugsNone port old new → NoneComes port old new
+none_comes port old new none = record {
+  gained = none.gained;
+  tape = none.tape;
+  none = All-weaker (λ e. IsPlugging port e → ⊥) (λ e. IsComing port e → ⊥) (λ e plugs is. plugs (coming_plugs port e is)) none.gained none.none;
+}
+
+-- where none comes, this goes on
+StaysSo : (PortState → Type 0) → Port → Device → Device → Type 0
+StaysSo P port old new = Grows old new × (NoneComes port.0 old new → P (old.port port.0) → P (new.port port.0))
+
+module _ (laws : LawsBelow) (port : Port) (P : PortState → Type 0) (one : (access : Access) (old new : Device) → NoneComes port.0 old new → Does access old new → P (old.port port.0) → P (new.port port.0)) where
+  so_over : (access : Access) (old new : Device) → Does access old new → StaysSo P port old new
+  unfolding StaysSo
+  so_over access old new does = (laws.looks.tape.access_grows access old new does, λ none so. one access old new none does so)
+
+  so_more : (a b c : Device) → StaysSo P port a b → StaysSo P port b c → StaysSo P port a c
+  unfolding StaysSo
+  so_more a b c p q = (
+    laws.looks.tape.grows_more a b c p.0 q.0,
+    λ none so. let parts = laws.looks.tape.comes_parts port.0 a b c p.0.0 q.0.0 p.0.1 q.0.1 none in q.1 parts.1 (p.1 parts.0 so),
+  )
+
+  so_all : (accesses : List Access) (old new : Device) → DoesAll accesses old new → StaysSo P port old new
+  unfolding StaysSo
+  so_all [] old new is = subst (StaysSo P port old) (sym is) (laws.looks.tape.grows_none old, λ none so. so)
+  so_all (access ∷ accesses) old new (mid, does, rest) = so_more old mid new (so_over access old mid does) (so_all accesses mid new rest)
+
+  pub stays_so : (accesses : List Access) (old new : Device) → DoesAll accesses old new → NoneComes port.0 old new → P (old.port port.0) → P (new.port port.0)
+  unfolding StaysSo
+  stays_so accesses old new does = (so_all accesses old new does).1
+
+module _ (laws : LawsBelow) (port : Port) where
+  module _ (old seen : Device) (look : Look) (l : LooksAt port look old seen) (on : IsOn old) (not_lost : look ≢ Lost) where
+    on_over : (access : Access) (a b : Device) → SparesRegister Ghc access → Does access a b → IsOn a → IsOn b
+    on_over access a b spares does here = laws.looks.access_on access a b here (written_ghc access spares) does
+
+    -- a device shows at its end
+    pub shows_device : (seen.port port.0).ssts_det ≡ 3
+    shows_device =
+        let read = on_over (Reading (Px port Is) l.causes) old l.seen tt l.reads on in
+        let cleared = on_over (Writing (Px port Is) l.causes) l.seen l.cleared (λ e. absurd (let z : Px port Is ≡ Ghc = e in cc)) l.clears read in
+        let acknowledged = on_over (Writing reg.Is l.own) l.cleared l.acknowledged (λ e. absurd (let z : reg.Is ≡ Ghc = e in cc)) l.acknowledges cleared in
+        sym (laws.looks.shown_after port Ssts l.status l.acknowledged seen acknowledged.no_reset l.shows) ∙ shows_link laws port look old seen l on not_lost
+
+  -- where a disk is in at a moment, one was in before, or the tape tells that one came
+  was_in : (accesses : List Access) (old seen : Device) → DoesAll accesses old seen → (seen.port port.0).present ≡ true → ((old.port port.0).present ≡ true) ⊎ ((gained : List Entry) × (seen.tape ≡ old.tape ++ gained) × ((e : Entry) × Contains gained e × IsComing port.0 e))
+  was_in accesses old seen does own = let grows = grows_over laws accesses old seen does in ⊎_elim
+      (λ (is : (old.port port.0).present ≡ true). inl is)
+      (λ (out : (old.port port.0).present ≡ false). inr (
+        grows.0,
+        grows.1,
+        ⊎_elim
+            (λ found. found)
+            (λ none. absurd (false≢true (sym (stays_so laws port (λ p. p.present ≡ false) (laws.out_on port) accesses old seen does (record { gained = grows.0; tape = grows.1; none = none }) out) ∙ own)))
+            (one_or_none (IsComing port.0) (is_coming port.0) grows.0),
+      ))
+      (cases_Bool ((old.port port.0).present))
+
+-- Steps that the device backs, from the beginning of the turn to any moment after one at which a disk is in: the machine had a disk in the port before them, or one of them takes
+-- its disk out or puts one in.
+pub had_disk : (laws : LawsBelow) (port : Port) (s : Server) (seen new : Device) (m : Machine) (accesses : List Access) → DoesAll accesses s.device seen → (seen.port port.0).present ≡ true
+    → IsMachineOf s m → Grows seen new → (steps : List Step) → IsBacked s.device new m steps → (m.present port ≡ true) ⊎ (list_any (changes_disk port) steps ≡ true)
+had_disk laws port s seen new m accesses does own is later steps backed = ⊎_elim
+    (λ was. inl ((is.knows.agrees.disk port.0).present ∙ was))
+    (λ came. inr (
+    let whole : backed.gained ≡ came.0 ++ later.0 = append_cancel_left s.device.tape backed.gained (came.0 ++ later.0) (sym backed.tape ∙ later.1 ∙ ap (λ (tape : List Entry). tape ++ later.0) came.1 ∙ append_assoc s.device.tape came.0 later.0) in
+    laws.disks_told port m backed.gained steps backed.tells came.2.0 (subst (λ (list : List Entry). Contains list came.2.0) (sym whole) (Contains-append_left came.0 later.0 came.2.0 came.2.1)) (coming_plugs port.0 came.2.0 came.2.2)))
+    (was_in laws port accesses s.device seen does own)

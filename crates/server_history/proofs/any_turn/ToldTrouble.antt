@@ -1,0 +1,213 @@
+-- What trouble leads to, and what a look that tells of it says of the port when the turn began.
+use Rattle.std.proofs.Common.{ℕ, Bool, ◌≡◌, ◌≢◌, ◌%◌, ◌⊎◌, ◌≤◌, ◌++◌, ◌||◌, true, false, List, [], ◌∷◌, append_assoc, inl, inr, refl, sym, ap, ◌∙◌, subst, arith, ⊎_elim}
+use Rattle.std.specs.List.{All, Contains}
+use Rattle.std.proofs.lemmas.Bool.{cases_Bool, cases_eq, false≢true, or_cases}
+use Rattle.std.proofs.lemmas.List.Elements.{All-cons, All-nil, Contains-append_left}
+use Rattle.ata_types.specs.declared.Port.{Port}
+use Rattle.hba_regs.specs.Bits.{bit}
+use Rattle.hba_regs.specs.declared.reg.PortReg.TheVariants.{Cmd, Is, Sctl, Ssts}
+use Rattle.hba_regs.specs.declared.reg.Reg.TheVariants as reg
+use Rattle.hba_regs.specs.declared.reg.Reg.TheVariants.{Ghc, Px}
+use Rattle.adapter.specs.Access.{Access, is_cause, shown_interrupt}
+use Rattle.adapter.specs.Access.Access.{Reading, Writing}
+use Rattle.adapter.specs.Device.{Device}
+use Rattle.adapter.specs.Rules.{IsOn}
+use Rattle.adapter.specs.declared.tape.Entry.{Entry}
+use Rattle.adapter.specs.declared.tape.Entry.TheVariants as entry
+use Rattle.agreement.specs.Driven.{Grows}
+use Rattle.agreement.specs.Errors.{IsFatalOf, NoneComes}
+use Rattle.agreement.specs.Facts.{IsFaultOf}
+use Rattle.agreement.specs.Links.{IsPlugging, SparesRegister}
+use Rattle.server_history.proofs.state.ListMembers.{contains_there}
+use Rattle.driver_history.specs.Evidence.{Gains, ShowsChange, ShowsFailure}
+use Rattle.error_recovery.specs.Evidence.{ShowsFatal}
+use Rattle.error_recovery.specs.declared.Recovered.{Recovered}
+use Rattle.port_boot.specs.States.{RunsOn}
+use Rattle.port_look.specs.Looks.{LooksAt, look_of}
+use Rattle.port_look.specs.declared.Look.{Look}
+use Rattle.port_look.specs.declared.Look.TheVariants.{Broken, Failed, Lost, Undisturbed}
+use Rattle.server_history.specs.Below.{LawsBelow}
+use Rattle.server_history.specs.Mended.{EndsGivenUp, TellsMending}
+use Rattle.port_look.specs.declared.Trouble.{Trouble}
+use Rattle.port_look.specs.declared.Trouble.TheVariants as kinds
+use Rattle.server_history.proofs.state.CallEvidence.{fatal_shows}
+use Rattle.server_history.proofs.state.FirstMembers.{first_here}
+
+-- ---- faults on the tape
+
+is_fault : (port : ℕ) (e : Entry) → IsFaultOf port e ⊎ (IsFaultOf port e → ⊥)
+is_fault port (entry.Fault x) = cases_eq x.port.0 port
+is_fault port (entry.Unplug at) = inr (λ is. is)
+is_fault port (entry.Plug at name) = inr (λ is. is)
+is_fault port (entry.Move x) = inr (λ is. is)
+is_fault port (entry.Clear x) = inr (λ is. is)
+is_fault port (entry.Done x) = inr (λ is. is)
+is_fault port (entry.Fatal x) = inr (λ is. is)
+
+is_fatal : (port : ℕ) (e : Entry) → IsFatalOf port e ⊎ (IsFatalOf port e → ⊥)
+is_fatal port (entry.Fatal at) = cases_eq at.0 port
+is_fatal port (entry.Fault x) = inr (λ is. is)
+is_fatal port (entry.Unplug at) = inr (λ is. is)
+is_fatal port (entry.Plug at name) = inr (λ is. is)
+is_fatal port (entry.Move x) = inr (λ is. is)
+is_fatal port (entry.Clear x) = inr (λ is. is)
+is_fatal port (entry.Done x) = inr (λ is. is)
+
+pub is_plugging : (port : ℕ) (e : Entry) → IsPlugging port e ⊎ (IsPlugging port e → ⊥)
+is_plugging port (entry.Unplug at) = cases_eq at.0 port
+is_plugging port (entry.Plug at name) = cases_eq at.0 port
+is_plugging port (entry.Fatal x) = inr (λ is. is)
+is_plugging port (entry.Fault x) = inr (λ is. is)
+is_plugging port (entry.Move x) = inr (λ is. is)
+is_plugging port (entry.Clear x) = inr (λ is. is)
+is_plugging port (entry.Done x) = inr (λ is. is)
+
+-- of a kind that is told from others, an entry is among these, or none is
+pub one_or_none : (Such : Entry → Type 0) → ((e : Entry) → Such e ⊎ (Such e → ⊥)) → (gained : List Entry) → ((e : Entry) × Contains gained e × Such e) ⊎ All (λ e. Such e → ⊥) gained
+one_or_none Such told [] = inr (All-nil (λ e. Such e → ⊥))
+one_or_none Such told (e ∷ gained) = ⊎_elim
+    (λ (is : Such e). inl (e, first_here e gained, is))
+    (λ none. ⊎_elim
+    (λ found. inl (found.0, contains_there e gained found.0 found.1, found.2))
+    (λ others. inr (All-cons (λ x. Such x → ⊥) e gained none others))
+    (one_or_none Such told gained))
+    (told e)
+
+-- what the first of two stretches gained, both did
+gains_more : (Such : Entry → Type 0) (old mid new : Device) → Grows mid new → Gains Such old mid → Gains Such old new
+gains_more Such old mid new grows g = record {
+  gained = g.gained ++ grows.0;
+  tape = grows.1 ∙ ap (λ (tape : List Entry). tape ++ grows.0) g.tape ∙ append_assoc old.tape g.gained grows.0;
+  entry = g.entry;
+  here = Contains-append_left g.gained grows.0 g.entry g.here;
+  is = g.is;
+}
+
+-- ---- kinds of trouble
+
+-- no command is named, and the port doesn't run, unless a command had failed
+pub given_up : (trouble : Trouble) (port : Port) (outstanding : ℕ) (queued : Bool) (result : Recovered) (accesses : List Access) (old new : Device)
+    → TellsMending trouble port outstanding queued result accesses old new → trouble ≢ kinds.Failed → EndsGivenUp result
+given_up kinds.Failed port outstanding queued result accesses old new t other = absurd (other refl)
+given_up kinds.Broken port outstanding queued result accesses old new t other = t
+given_up kinds.Lost port outstanding queued result accesses old new t other = t
+given_up kinds.Hung port outstanding queued result accesses old new t other = t
+
+pub lost_or_not : (trouble : Trouble) → (trouble ≡ kinds.Lost) ⊎ (trouble ≢ kinds.Lost)
+lost_or_not kinds.Lost = inl refl
+lost_or_not kinds.Failed = inr (λ e. let z : kinds.Failed ≡ kinds.Lost = e in absurd cc)
+lost_or_not kinds.Broken = inr (λ e. let z : kinds.Broken ≡ kinds.Lost = e in absurd cc)
+lost_or_not kinds.Hung = inr (λ e. let z : kinds.Hung ≡ kinds.Lost = e in absurd cc)
+
+-- ---- what a look saw
+
+module _ (laws : LawsBelow) (port : Port) (look : Look) (old seen : Device) (l : LooksAt port look old seen) (on : IsOn old) where
+  its : (told : Look) → look ≡ told → look_of l.causes l.status ≡ told
+  its told is = sym l.tells ∙ is
+
+  -- a bit that was set when the turn began
+  set_then : (place : ℕ) → (old.port port.0).is place ≡ true → (l.seen.port port.0).is place ≡ true
+  set_then place = laws.looks.access_causes port (Reading (Px port Is) l.causes) old l.seen on.no_reset tt l.reads place
+
+  shown_at : (place : ℕ) → is_cause place ≡ true → bit l.causes place ≡ shown_interrupt (l.seen.port port.0) place
+  shown_at = laws.looks.shown_after port Is l.causes old l.seen on.no_reset l.reads
+
+  looked : Grows old seen
+  looked =
+      laws.looks.tape.grows_more old l.seen seen (laws.looks.tape.access_grows (Reading (Px port Is) l.causes) old l.seen l.reads)
+      (laws.looks.tape.grows_more l.seen l.cleared seen (laws.looks.tape.access_grows (Writing (Px port Is) l.causes) l.seen l.cleared l.clears)
+      (laws.looks.tape.grows_more l.cleared l.acknowledged seen (laws.looks.tape.access_grows (Writing reg.Is l.own) l.cleared l.acknowledged l.acknowledges)
+      (laws.looks.tape.access_grows (Reading (Px port Ssts) l.status) l.acknowledged seen l.shows)))
+
+  grows : Grows old l.seen
+  grows = laws.looks.tape.access_grows (Reading (Px port Is) l.causes) old l.seen l.reads
+
+  goes : RunsOn port.0 old l.seen
+  goes = laws.runs_on port (Reading (Px port Is) l.causes ∷ []) old l.seen on (l.seen, l.reads, refl) (All-cons (SparesRegister Ghc) (Reading (Px port Is) l.causes) [] tt (All-nil (SparesRegister Ghc)))
+      (All-cons (SparesRegister (Px port Sctl)) (Reading (Px port Is) l.causes) [] tt (All-nil (SparesRegister (Px port Sctl)))) (All-cons (SparesRegister (Px port Cmd)) (Reading (Px port Is) l.causes) [] tt (All-nil (SparesRegister (Px port Cmd))))
+
+  -- ---- a command had failed
+
+  module _ (failed : look ≡ Failed) where
+    -- TFES, and no fatal error
+    told : (bit l.causes 30 ≡ true) × ((place : ℕ) → 27 ≤ place → place ≤ 29 → bit l.causes place ≡ false)
+    told = let t = laws.looking.looks_failed l.causes l.status (its Failed failed) in (t.0, t.3)
+
+    -- no fatal error was shown when the turn began
+    pub no_fatal : ShowsFatal (old.port port.0) → ⊥
+    no_fatal f = let p = old.port port.0 in ⊎_elim
+        (λ a. false≢true (sym (told.1 27 (omega arith) (omega arith)) ∙ shown_at 27 refl ∙ set_then 27 a))
+        (λ more. ⊎_elim
+        (λ a. false≢true (sym (told.1 28 (omega arith) (omega arith)) ∙ shown_at 28 refl ∙ set_then 28 a))
+        (λ a. false≢true (sym (told.1 29 (omega arith) (omega arith)) ∙ shown_at 29 refl ∙ set_then 29 a))
+        (or_cases (p.is 28) (p.is 29) more))
+        (or_cases (p.is 27) (p.is 28 || p.is 29) (fatal_shows p f))
+
+    -- TFES was shown then, or a fault came before PxIS was read
+    pub fault_shown : (new : Device) → Grows l.seen new → ((old.port port.0).is 30 ≡ true) ⊎ Gains (IsFaultOf port.0) old new
+    fault_shown new later = ⊎_elim
+        (λ (is : (old.port port.0).is 30 ≡ true). inl is)
+        (λ (clear : (old.port port.0).is 30 ≡ false). inr (⊎_elim
+        (λ found. gains_more (IsFaultOf port.0) old l.seen new later (record { gained = grows.0; tape = grows.1; entry = found.0; here = found.1; is = found.2 }))
+        (λ none. absurd (false≢true (sym (goes.goes.errors.fault (record { gained = grows.0; tape = grows.1; none = none }) clear) ∙ sym (shown_at 30 refl) ∙ told.0)))
+        (one_or_none (IsFaultOf port.0) (is_fault port.0) grows.0)))
+        (cases_Bool ((old.port port.0).is 30))
+
+  -- ---- the link or the host's bus had failed
+
+  module _ (broken : look ≡ Broken) where
+    -- one of those three was shown then, or a fatal error came before PxIS was read
+    pub fatal_shown : (new : Device) → Grows l.seen new → ShowsFatal (old.port port.0) ⊎ Gains (IsFatalOf port.0) old new
+    fatal_shown new later = ⊎_elim (at 28 (omega arith) (omega arith) refl refl) (λ more. ⊎_elim (at 29 (omega arith) (omega arith) refl refl) (at 27 (omega arith) (omega arith) refl refl) more)
+        (laws.looking.looks_broken l.causes l.status (its Broken broken)).0
+      where
+        at : (place : ℕ) → 27 ≤ place → place ≤ 29 → is_cause place ≡ true → shown_interrupt (l.seen.port port.0) place ≡ (l.seen.port port.0).is place → bit l.causes place ≡ true
+            → ShowsFatal (old.port port.0) ⊎ Gains (IsFatalOf port.0) old new
+        at place from to cause plain set = ⊎_elim
+            (λ (is : (old.port port.0).is place ≡ true). inl (record { place = place; from = from; to = to; set = is }))
+            (λ (clear : (old.port port.0).is place ≡ false). inr (⊎_elim
+            (λ found. gains_more (IsFatalOf port.0) old l.seen new later (record { gained = grows.0; tape = grows.1; entry = found.0; here = found.1; is = found.2 }))
+            (λ none. absurd (false≢true (sym (goes.goes.errors.fatal (record { gained = grows.0; tape = grows.1; none = none }) place from to clear) ∙ sym plain ∙ sym (shown_at place cause) ∙ set)))
+            (one_or_none (IsFatalOf port.0) (is_fatal port.0) grows.0)))
+            (cases_Bool ((old.port port.0).is place))
+
+  -- ---- no loss
+
+  module _ (not_lost : look ≢ Lost) where
+    -- the link told of no change when the turn began
+    pub no_change : ShowsChange (old.port port.0) → ⊥
+    no_change change = not_lost (laws.looking.looks_changed port look old seen on l change)
+
+    -- nor was a device missing, unless a disk came
+    pub not_missing : (new : Device) → Grows seen new → (old.port port.0).link_due ≡ false → (old.port port.0).ssts_det ≢ 3 → NoneComes port.0 old new → ⊥
+    not_missing new later undue missing none =
+        not_lost (laws.looking.looks_unlinked port look old seen on l missing undue (laws.looks.tape.comes_parts port.0 old seen new looked.0 later.0 looked.1 later.1 none).0)
+
+  -- where it told of no loss, a device showed
+  pub shows_link : look ≢ Lost → l.status % 16 ≡ 3
+  shows_link not_lost = by look refl
+    where
+      by : (told : Look) → look ≡ told → l.status % 16 ≡ 3
+      by Failed is = (laws.looking.looks_failed l.causes l.status (its Failed is)).4
+      by Broken is = (laws.looking.looks_broken l.causes l.status (its Broken is)).3
+      by Undisturbed is = (laws.looking.looks_undisturbed l.causes l.status (its Undisturbed is)).1
+      by Lost is = absurd (not_lost is)
+
+  -- and a failure was shown when the turn began, or came
+  pub errors_shown : (look ≡ Failed) ⊎ (look ≡ Broken) → (new : Device) → Grows l.seen new → ShowsFailure (old.port port.0) ⊎ (Gains (IsFaultOf port.0) old new ⊎ Gains (IsFatalOf port.0) old new)
+  errors_shown error new later = ⊎_elim
+      (λ failed. ⊎_elim (λ is. inl (inr is)) (λ came. inr (inl came)) (fault_shown failed new later))
+      (λ broken. ⊎_elim (λ is. inl (inl is)) (λ came. inr (inr came)) (fatal_shown broken new later))
+      error
+
+  -- ---- a loss
+
+  -- it was there to tell when the turn began, or a disk went or came
+  pub loss_shown : look ≡ Lost → (old.port port.0).link_due ≡ false → (new : Device) → Grows seen new → ShowsChange (old.port port.0) ⊎ (((old.port port.0).ssts_det ≢ 3) ⊎ Gains (IsPlugging port.0) old new)
+  loss_shown lost undue new later = ⊎_elim
+      (λ change. inl change)
+      (λ more. inr (⊎_elim (λ out. inl out) (λ some. inr (⊎_elim
+      (λ found. gains_more (IsPlugging port.0) old seen new later (record { gained = looked.0; tape = looked.1; entry = found.0; here = found.1; is = found.2 }))
+      (λ none. absurd (some (record { gained = looked.0; tape = looked.1; none = none })))
+      (one_or_none (IsPlugging port.0) (is_plugging port.0) looked.0))) more))
+      (laws.looking.looks_loss port old seen on (subst (λ (told : Look). LooksAt port told old seen) lost l) undue)

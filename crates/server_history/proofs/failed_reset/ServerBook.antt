@@ -1,0 +1,115 @@
+-- What holds of a server's book, whether or not its adapter is on.
+use Rattle.std.proofs.Common.{ℕ, true, ◌≡◌, ◌≢◌, ◌≤◌, ◌+◌, ◌<◌, List, [], ◌∷◌, length, None, refl, sym, ap, ◌∙◌, subst, arith, ⊎_elim}
+use Rattle.std.specs.Prelude.{count_by}
+use Rattle.std.proofs.lemmas.List.{get_or-set_other, get_or-set_same, length-set}
+use Rattle.std.proofs.lemmas.List.Elements.{All-weaker}
+use Rattle.std.proofs.lemmas.Bool.{cases_eq}
+use Rattle.agreement.specs.Agrees.{port_at}
+use Rattle.ata_types.specs.declared.Port.{Port}
+use Rattle.ata_types.specs.declared.PortState.TheVariants.{Absent, Ready as ReadyState}
+use Rattle.ata_types.specs.declared.request.Reply.{Reply}
+use Rattle.host_boot.specs.Taken.{StillStandsBehind, found_of, wanted_of}
+use Rattle.host_boot.specs.declared.Found.{Found}
+use Rattle.host_boot.specs.declared.Found.TheVariants.{Ready, Unready, Unserved}
+use Rattle.request_queue.specs.Entries.{Held}
+use Rattle.request_queue.specs.Fates.{fate_of}
+use Rattle.server_history.specs.Below.{LawsBelow}
+use Rattle.server_history.specs.Mended.{holdings_of, requests_of}
+use Rattle.server_history.specs.Resets.{MaySettle, SettlesPort, with_holdings, SettlePorts}
+use Rattle.server_history.specs.Server.{Server, IsKept, is_served, kept_at, state_of, used_for}
+use Rattle.server_history.specs.Stalled.{KeepsBooks}
+use Rattle.server_history.proofs.state.IssueCounts.{places}
+use Rattle.server_history.proofs.any_turn.JoinedParts.{ready_or_not}
+use Rattle.server_history.proofs.state.LoanCounts.{issued_of}
+use Rattle.server_history.proofs.fates.MetFates.{nobody}
+use Rattle.server_history.proofs.fates.RemainingBook.{IsLeft, fated, its_requests}
+use Rattle.server_history.proofs.state.PortSlots.{of_ready, used_or_not, used_ready}
+use Rattle.server_history.proofs.state.ServerInstant.{served_is}
+
+-- a ready port is served
+pub ready_served : (found : Found) → state_of found ≡ ReadyState → is_served found ≡ true
+ready_served Unserved ready = let z : Absent ≡ ReadyState = ready in absurd cc
+ready_served (Ready info) ready = refl
+ready_served (Unready state) ready = refl
+
+module _ (laws : LawsBelow) (s : Server) (k : IsKept s) where
+  -- of a port that isn't ready nobody is issued
+  none_issued : (port : Port) → state_of (found_of s.ports port.0) ≢ ReadyState → issued_of port s.book ≡ 0
+  none_issued port other = ap (count_by (λ (e : Held). e.entry.issued)) (nobody (requests_of port s.book) (λ e here.
+      let w = (its_requests port s k.ordered k.accepted).here e here in
+      other (ap (λ (q : Port). state_of (found_of s.ports q.0)) (sym w.1) ∙ of_ready s k e w.0)))
+
+  have_places : (port : Port) → length (kept_at s.kept port.0) + issued_of port s.book ≤ 32
+  have_places port = ⊎_elim
+      (λ (ready : state_of (found_of s.ports port.0) ≡ ReadyState).
+      let p = places laws s port k ready in
+      let none = ap length p.0 in
+      let few = p.1 in
+      omega (arith, none, few))
+      (λ (other : state_of (found_of s.ports port.0) ≢ ReadyState). let few = k.few_kept port.0 in let none = none_issued port other in omega (arith, few, none))
+      (ready_or_not (state_of (found_of s.ports port.0)))
+
+  pub booked : KeepsBooks s
+  booked = record {
+    room = k.room;
+    served = λ port low. served_is (wanted_of s.wanted port) (found_of s.ports port) port s.device (k.behind port low).behind;
+    few = λ port its. (k.there port its).0;
+    idle = λ port low unserved. (subst (λ (f : Found). StillStandsBehind (wanted_of s.wanted port) f port s.device) unserved (k.behind port low).behind).1;
+    unused = λ port slot unserved. ⊎_elim
+        (λ u. let z : Absent ≡ ReadyState = sym (ap state_of unserved) ∙ used_ready s port slot u.0 k u.1 in absurd cc)
+        (λ (none : used_for s.slots port slot ≡ None). none)
+        (used_or_not (used_for s.slots port slot));
+    four = k.four;
+    four_modes = k.four_modes;
+    four_remembered = k.four_remembered;
+    four_kept = k.four_kept;
+    places = have_places;
+    rows = k.rows;
+    owners = k.owners;
+    accepted = k.accepted;
+    ordered = k.ordered;
+    handed_out = k.handed_out;
+    asked = All-weaker (λ (e : Held). state_of (found_of s.ports e.entry.port.0) ≡ ReadyState) (λ (e : Held). is_served (found_of s.ports e.entry.port.0) ≡ true)
+        (λ e ready. ready_served (found_of s.ports e.entry.port.0) ready) s.book k.ready;
+    machine = k.machine;
+    reached = k.reached;
+    stands = k.stands;
+  }
+
+-- so its requests may meet their fates
+pub may_settle : (s : Server) → KeepsBooks s → MaySettle s
+may_settle s b = record { four_kept = b.four_kept; ordered = b.ordered; accepted = b.accepted; places = b.places }
+
+-- and those of the other ports may still, once those of one port met theirs
+module _ (laws : LawsBelow) (s new : Server) (port : Port) (replies : List Reply) (low : port.0 < 4) (may : MaySettle s) (settles : SettlesPort port replies s new) where
+  pub left : IsLeft port (fate_of None settles.prospect) s.grants (requests_of port s.book) (holdings_of port s) settles.now
+  left = fated laws port None settles.prospect s.grants (requests_of port s.book) replies (holdings_of port s) settles.now (its_requests port s may.ordered may.accepted) settles.meets
+
+  pub kept_same : kept_at (with_holdings port settles.now s).kept port.0 ≡ settles.now.kept
+  kept_same = get_or-set_same s.kept port.0 settles.now.kept [] (let four = may.four_kept in omega (arith, four, low))
+
+  pub kept_other : (q : ℕ) → q ≢ port.0 → kept_at (with_holdings port settles.now s).kept q ≡ kept_at s.kept q
+  kept_other q other = get_or-set_other s.kept port.0 q settles.now.kept [] other
+
+  places_then : (q : Port) → length (kept_at (with_holdings port settles.now s).kept q.0) + issued_of q settles.now.book ≤ 32
+  places_then q = ⊎_elim
+      (λ (same : q.0 ≡ port.0).
+      let its : port ≡ q = ap (λ (n : ℕ). record { 0 = n }) (sym same) in
+      subst (λ (p : Port). length (kept_at (with_holdings port settles.now s).kept p.0) + issued_of p settles.now.book ≤ 32) its
+      (let long = ap length kept_same in let were = may.places port in let less = left.places in omega (arith, long, were, less)))
+      (λ (other : q.0 ≢ port.0). let long = ap length (kept_other q.0 other) in let were = may.places q in let less = left.fewer q in omega (arith, long, were, less))
+      (cases_eq q.0 port.0)
+
+  pub settles_on : MaySettle new
+  settles_on = subst MaySettle (sym settles.server) (record {
+    four_kept = length-set s.kept port.0 settles.now.kept ∙ may.four_kept;
+    ordered = left.ordered;
+    accepted = left.accepted;
+    places = places_then;
+  })
+
+-- and so on, port by port
+pub all_settle_on : LawsBelow → (found : List Found) (n : ℕ) → n + length found ≤ 4 → (replies : List Reply) (old new : Server) → SettlePorts n found replies old new → MaySettle old → MaySettle new
+all_settle_on laws [] n few replies old new (none, same) may = subst MaySettle (sym same) may
+all_settle_on laws (found ∷ rest) n few replies old new (mid, its, later, split, one, more) may =
+    all_settle_on laws rest (n + 1) (omega (arith, few)) later mid new more (settles_on laws old mid (port_at n) its (omega (arith, few)) may one)

@@ -1,0 +1,532 @@
+-- A service of a server since a reset that got stuck: the requests of its dead ports are told, port by port.
+use Rattle.std.proofs.Common.{ℕ, true, false, ◌≡◌, ◌≢◌, ◌+◌, ◌<◌, ◌≤◌, ◌++◌, List, [], ◌∷◌, Option, None, length, get_or, append_assoc, append-nil, refl, sym, ap, ◌∙◌, subst, arith, ⊎_elim, eq-eqb, inl, inr}
+use Rattle.std.specs.List.{All, Contains}
+use Rattle.std.proofs.lemmas.Bool.{cases_eq, false≢true, cases_lt}
+use Rattle.std.proofs.lemmas.List.Elements.{All-append, All-contains, All-contains_itself, All-nil, All-weaker}
+use Rattle.std.proofs.lemmas.List.Sorted.{IsPermutation-refl}
+use Rattle.ata_types.specs.declared.Port.{Port}
+use Rattle.ata_types.specs.declared.PortState.TheVariants.{Dead, Absent, Foreign, Ready as ReadyState, Unfit}
+use Rattle.ata_types.specs.declared.request.ClientId.{ClientId}
+use Rattle.ata_types.specs.declared.request.Frame.{Frame}
+use Rattle.ata_types.specs.declared.request.Op.TheVariants.{Flush}
+use Rattle.ata_types.specs.declared.request.Outcome.{Outcome}
+use Rattle.ata_types.specs.declared.request.Outcome.TheVariants as outcome
+use Rattle.ata_types.specs.declared.request.Reply.{Reply}
+use Rattle.ata_types.specs.declared.request.RequestId.{RequestId}
+use Rattle.agreement.specs.Agrees.{port_at}
+use Rattle.agreement.specs.Driven.{known}
+use Rattle.agreement.specs.Driver.{HasNoSlot, IsBacked, Known}
+use Rattle.block_machine.specs.Events.{AllMay, AnswersService, Moment, Served, Service}
+use Rattle.block_machine.specs.Histories.{IsReached, Happening, Instant, now}
+use Rattle.block_machine.specs.Left.{after}
+use Rattle.block_machine.specs.State.{Machine, Pending}
+use Rattle.block_machine.specs.Steps.{Step, Again, Answer}
+use Rattle.dma_frames.specs.Loan.{Lending}
+use Rattle.dma_frames.specs.Table.{Table}
+use Rattle.host_boot.specs.Taken.{found_of}
+use Rattle.host_boot.specs.declared.Found.{Found}
+use Rattle.host_boot.specs.declared.Found.TheVariants.{Ready, Unready, Unserved}
+use Rattle.identify.specs.declared.DiskInfo.{DiskInfo}
+use Rattle.request_queue.specs.Entries.{Held, IsAccepted, is_of}
+use Rattle.request_queue.specs.Fates.{fate_of, fate_on, Holdings, MeetFates}
+use Rattle.request_queue.specs.Machine.{IsEntry}
+use Rattle.request_queue.specs.declared.Entry.{Entry}
+use Rattle.request_queue.specs.declared.fate.Fate.{Fate}
+use Rattle.request_queue.specs.declared.fate.Fate.TheVariants.{Ends, GoesAgain}
+use Rattle.request_queue.specs.declared.fate.Prospect.{Prospect}
+use Rattle.request_queue.specs.declared.fate.Prospect.TheVariants.{SameDisk, DiskLost, Dead as NoEnd}
+use Rattle.server_history.specs.Histories.{AddsStalled, Leads}
+use Rattle.block_machine.specs.Ports.{IsServiced, Ports, SamePort}
+use Rattle.driver_history.specs.Histories.{IsUnfitOrForeign, TendsPort, TriesDisk}
+use Rattle.driver_history.specs.Trace.{IsServing, LeavesEngine}
+use Rattle.server_history.proofs.state.HistorySteps.{lead_by, ports_same}
+use Rattle.server_history.proofs.healthy_turn.CallPart.{none_last}
+use Rattle.server_history.proofs.state.CallEvidence.{no_evidence, told_by, uninterrupted}
+use Rattle.adapter.specs.declared.access.DeviceStep.{DeviceStep}
+use Rattle.adapter.specs.Device.{Device}
+use Rattle.std.proofs.lemmas.List.{set_past}
+use Rattle.server_history.proofs.recovery_turn.ReplacedPort.{is_listed}
+use Rattle.server_history.specs.Below.{LawsBelow}
+use Rattle.server_history.specs.Fates.{DecidesOn, KeepsNone, MayMeet, MeetsInMachine, keeps_fate, loans_of}
+use Rattle.server_history.specs.Mended.{holdings_of, requests_of}
+use Rattle.server_history.specs.Resets.{IsProspectAnew, MaySettle, SettlePorts, SettlesPort, with_holdings}
+use Rattle.server_history.specs.Server.{AreKept, Server, IsMachineOf, is_served, kept_at, ports_of, state_of}
+use Rattle.server_history.specs.Stalled.{KeepsBooks, IsStalled}
+use Rattle.server_history.proofs.failed_reset.ServerBook.{kept_other, kept_same, left, may_settle, settles_on}
+use Rattle.server_history.proofs.failed_reset.DeadPortSteps.{TellsDeath, death_told, deaths_belong, deaths_grounded, deaths_issue_none, deaths_lawful, deaths_unplug_none}
+use Rattle.server_history.proofs.recovery_turn.MendedMachine.{deciding_leaves, fates_owners, in_filter}
+use Rattle.server_history.proofs.any_turn.JoinedParts.{AreToldBelow, told_then}
+use Rattle.server_history.proofs.fates.MoreKeptLoans.{more_kept}
+use Rattle.server_history.proofs.state.FirstMembers.{nowhere}
+use Rattle.server_history.proofs.fates.MetFates.{loans_in, meet, tame, nobody}
+use Rattle.server_history.proofs.fates.RemainingBook.{WasIn, its_requests}
+use Rattle.server_history.proofs.failed_reset.StalledInstant.{either, holds_off, never_ready, never_troubled}
+use Rattle.server_history.proofs.state.PairedLists.{at_left, at_right}
+
+-- ---- what a dead port's requests may expect
+
+dead_prospect : (was : Option DiskInfo) (found : Found) (prospect : Prospect) → IsProspectAnew was found prospect → found ≡ Unready Dead → prospect ≡ NoEnd
+dead_prospect was found SameDisk (before, info, _, is, _) dead = let z : Ready info ≡ Unready Dead = sym is ∙ dead in absurd cc
+dead_prospect was found DiskLost x dead = absurd (x.0 dead)
+dead_prospect was found NoEnd x dead = refl
+
+-- a port that isn't dead has another prospect
+other_prospect : (was : Option DiskInfo) (found : Found) (prospect : Prospect) → IsProspectAnew was found prospect → found ≢ Unready Dead → prospect ≢ NoEnd
+other_prospect was found prospect expects alive is = alive (subst (IsProspectAnew was found) is expects)
+
+-- a request that is issued
+an_issued : RequestId → Port → Entry
+an_issued id port = record { id = id; client = record { 0 = 0 }; grant = 0; port = port; op = Flush; range = record { first = record { 0 = 0 }; count = 0 }; issued = true; issues = 0; age = 0 }
+
+an_issued_is : (id : RequestId) (port : Port) → (an_issued id port).issued ≡ true
+unfolding an_issued
+an_issued_is id port = refl
+
+module _ (laws : LawsBelow) (s : Server) (t : IsStalled s) where
+  abbrev b : KeepsBooks s
+  b = t.booked
+
+  -- the server, with these holdings of all ports
+  abbrev with_all : Table → List (List Lending) → List Held → Server
+  with_all table kept book = record s { table = table; kept = kept; book = book }
+
+  -- Requests of ports below this number were told by these steps, and so it came to this server, by these replies.
+  record HaveEnded (m : Machine) (n : ℕ) (c : Server) (replies : List Reply) : Type 0 where
+    steps : List Step
+    may : AllMay m steps
+    stands : IsMachineOf c (after m steps)
+    backed : IsBacked s.device s.device m steps
+    deaths : All (TellsDeath (ports_of s)) steps
+    told : AreToldBelow n steps replies
+    settle : MaySettle c
+    settings : c ≡ with_all c.table c.kept c.book
+    owners : c.table.owners ≡ s.table.owners
+    from : (e : Held) → Contains c.book e → WasIn s.book e
+    emptied : (q : Port) → q.0 < n → (e : Held) → Contains c.book e → e.entry.port ≢ q
+
+  begin : (m : Machine) → IsMachineOf s m → HaveEnded m 0 s []
+  begin m is = record {
+    steps = [];
+    may = tt;
+    stands = is;
+    backed = laws.backed_none s.device m;
+    deaths = All-nil (TellsDeath (ports_of s));
+    told = record { answers = []; permuted = IsPermutation-refl []; ordered = λ i j d lt below. absurd (omega (arith, lt, below)); low = All-nil (λ a. a.0.request.port.0 < 0); told = refl };
+    settle = may_settle s b;
+    settings = refl;
+    owners = refl;
+    from = λ e here. record { was = e; there = here; id = refl; port = refl; op = refl };
+    emptied = λ q small. absurd (omega (arith, small));
+  }
+
+  -- a request is of a served port
+  served_one : (e : Held) → Contains s.book e → is_served (found_of s.ports e.entry.port.0) ≡ true
+  served_one e here = All-contains (λ (x : Held). is_served (found_of s.ports x.entry.port.0) ≡ true) s.book e b.asked here
+
+  module _ (m : Machine) (reached : IsReached m) (n : ℕ) (low : n < 4) (table : Table) (kept : List (List Lending)) (book : List Held) (before its : List Reply) (mid : Server)
+      (p : HaveEnded m n (with_all table kept book) before) (one : SettlesPort (port_at n) its (with_all table kept book) mid) where
+    abbrev c : Server
+    c = with_all table kept book
+
+    abbrev new : Server
+    new = with_holdings (port_at n) one.now c
+
+    abbrev fate : Entry → Fate
+    fate = fate_of None one.prospect
+
+    abbrev requests : List Held
+    requests = requests_of (port_at n) book
+
+    abbrev w : Machine
+    w = after m p.steps
+
+    w_reached : IsReached w
+    w_reached = laws.basic.reached m p.steps reached p.may
+
+    abbrev k : Known
+    k = known p.stands.uses p.stands.parked s.device
+
+    of_its : (e : Held) → Contains requests e → Contains book e × (e.entry.port ≡ port_at n)
+    of_its = (its_requests (port_at n) c p.settle.ordered p.settle.accepted).here
+
+    -- a port that isn't served has none
+    none_unserved : found_of s.ports n ≡ Unserved → (e : Held) → Contains book e → e.entry.port.0 ≡ n → ⊥
+    none_unserved unserved e here own =
+        let x = p.from e here in
+        false≢true (sym (ap is_served unserved) ∙ ap (λ (q : ℕ). is_served (found_of s.ports q)) (sym own ∙ ap (λ (q : Port). q.0) x.port) ∙ served_one x.was x.there)
+
+    ends_dead : found_of s.ports n ≡ Unready Dead → (e : Entry) → fate e ≡ Ends outcome.PortDead
+    ends_dead dead e = ap (λ (x : Prospect). fate_on x e) (dead_prospect _ (found_of s.ports n) one.prospect one.expects dead)
+
+    keeps_issued : found_of s.ports n ≡ Unready Dead → (e : Entry) → keeps_fate (fate e) e ≡ e.issued
+    keeps_issued dead e = ap (λ (f : Fate). keeps_fate f e) (ends_dead dead e)
+
+    -- on a port that isn't served no loan is kept
+    quiet : found_of s.ports n ≢ Unready Dead → KeepsNone fate
+    quiet alive e = (tame None one.prospect e).alive (other_prospect _ (found_of s.ports n) one.prospect one.expects alive)
+
+    not_dead : found_of s.ports n ≡ Unserved → found_of s.ports n ≢ Unready Dead
+    not_dead unserved dead = let z : Unserved ≡ Unready Dead = sym unserved ∙ dead in cc
+
+    unserved : (e : Held) → Contains requests e → keeps_fate (fate e.entry) e.entry ≡ false → HasNoSlot p.stands.uses e.entry.id
+    unserved e here never = ⊎_elim
+        (λ none. absurd (none_unserved none e (of_its e here).0 (ap (λ (q : Port). q.0) (of_its e here).1)))
+        (λ dead.
+        let x = at_left IsEntry book w.book p.stands.book e (of_its e here).0 in
+        let waits : x.0.issued ≡ false = x.2.issued ∙ sym (keeps_issued dead e.entry) ∙ never in
+        subst (HasNoSlot p.stands.uses) x.2.id (laws.slots.waiting p.stands.uses w s.device w_reached p.stands.knows.agrees x.0 x.1 waits))
+        (either s t.dead n)
+
+    may_meet : MayMeet (port_at n) fate requests (holdings_of (port_at n) c) s.grants k w
+    may_meet = record {
+      reached = w_reached;
+      knows = p.stands.knows;
+      book = p.stands.book;
+      lent = p.stands.lent;
+      ordered = p.settle.ordered;
+      accepted = p.settle.accepted;
+      here = of_its;
+      earlier = (its_requests (port_at n) c p.settle.ordered p.settle.accepted).earlier;
+      unserved = unserved;
+      parked = λ none id there. ⊎_elim
+          (λ free. absurd (nowhere id (subst (λ (ids : List RequestId). Contains ids id) (p.stands.unparked n (not_dead free)) there)))
+          (λ dead. absurd (false≢true (sym (none (an_issued id (port_at n))) ∙ keeps_issued dead (an_issued id (port_at n)) ∙ an_issued_is id (port_at n))))
+          (either s t.dead n);
+    }
+
+    met : MeetsInMachine (port_at n) fate requests its (holdings_of (port_at n) c) one.now k w
+    met = meet laws (port_at n) None one.prospect s.grants requests its (holdings_of (port_at n) c) one.now k w may_meet one.meets
+
+    abbrev z : Machine
+    z = after w met.steps
+
+    -- ---- its steps
+
+    its_death : (step : Step) → Contains met.steps step → DecidesOn (port_at n) step → TellsDeath (ports_of s) step
+    its_death (Answer e o) here own = ⊎_elim
+        (λ free. absurd (let x = met.answered e o here in none_unserved free x.0 (of_its x.0 x.1).0 (ap (λ (q : Port). q.0) (of_its x.0 x.1).1)))
+        (λ dead.
+        let x = met.answered e o here in
+        let same : Ends outcome.PortDead ≡ Ends o = sym (ends_dead dead x.0.entry) ∙ x.3 in
+        let is : outcome.PortDead ≡ o = cc in
+        subst (λ (y : Outcome). TellsDeath (ports_of s) (Answer e y)) is (ap (λ (q : Port). state_of (found_of s.ports q.0)) own ∙ ap state_of dead))
+        (either s t.dead n)
+    its_death (Again e) here own = absurd (⊎_elim
+        (λ free. let x = met.again e here in none_unserved free x.0 (of_its x.0 x.1).0 (ap (λ (q : Port). q.0) (of_its x.0 x.1).1))
+        (λ dead. let x = met.again e here in let same : Ends outcome.PortDead ≡ GoesAgain = sym (ends_dead dead x.0.entry) ∙ x.3 in cc)
+        (either s t.dead n))
+    its_death step here own = absurd own
+
+    its_deaths : All (TellsDeath (ports_of s)) met.steps
+    its_deaths = All-weaker (Contains met.steps) (TellsDeath (ports_of s)) (λ step here. its_death step here (All-contains (DecidesOn (port_at n)) met.steps step met.own here)) met.steps (All-contains_itself met.steps)
+
+    -- ---- the machine
+
+    dies : (e : Pending) → Contains met.held e → (e.request.port ≡ port_at n) × (found_of s.ports n ≡ Unready Dead)
+    dies e here =
+        let x = met.whose e here in (
+          x.2.port ∙ (of_its x.0 x.1).1,
+          ⊎_elim (λ free. absurd (false≢true (sym (quiet (not_dead free) x.0.entry) ∙ x.3))) (λ dead. dead) (either s t.dead n),
+        )
+
+    -- a loan that was kept is of another request
+    crossed : (x y : Lending) → Contains (kept_at kept n) x → Contains (loans_of met.held) y → x.request ≢ y.request
+    crossed x y here there same =
+        let old = p.stands.kept.whose n x here in
+        let e = loans_in met.held y there in
+        let r = met.whose e.0 e.1 in
+        let q = at_left IsEntry book w.book p.stands.book r.0 (of_its r.0 r.1).0 in
+        laws.living.answered w q.0 old.0 w_reached q.1 old.1
+        (ap (λ (id : RequestId). id.0) (q.2.id ∙ sym r.2.id ∙ sym (ap (λ (l : Lending). l.request) e.2) ∙ sym same ∙ old.3.0))
+
+    are_kept : AreKept s.ports new.kept z.kept
+    are_kept = subst (AreKept s.ports new.kept) (sym met.kept)
+        (more_kept (port_at n) s.ports s.ports kept new.kept met.held w.kept p.stands.kept
+        (kept_same laws c mid (port_at n) its low p.settle one ∙ met.loans)
+        (kept_other laws c mid (port_at n) its low p.settle one)
+        p.stands.kept.dead dies met.two crossed)
+
+    leaves : (z.rows ≡ w.rows) × ((frame : Frame) → z.owner frame ≡ w.owner frame) × (z.next ≡ w.next)
+    leaves = deciding_leaves (port_at n) w met.steps met.own
+
+    owners_then : one.now.table.owners ≡ table.owners
+    owners_then = fates_owners fate requests its (holdings_of (port_at n) c) one.now one.meets
+
+    stands_then : IsMachineOf new z
+    stands_then = record {
+      uses = p.stands.uses;
+      used = p.stands.used;
+      parked = met.parked;
+      unparked = λ q alive. ⊎_elim
+          (λ (same : q ≡ n). ap met.parked same ∙ met.none (quiet (λ dead. alive (ap (found_of s.ports) same ∙ dead))))
+          (λ (other : q ≢ n). met.others q other ∙ p.stands.unparked q alive)
+          (cases_eq q n);
+      knows = met.knows;
+      book = met.book;
+      kept = are_kept;
+      rows = leaves.0 ∙ p.stands.rows;
+      owner = λ frame. leaves.1 frame ∙ p.stands.owner frame ∙ ap (λ (owners : List (Option ClientId)). get_or owners frame.0 None) (sym owners_then);
+      lent = met.lent;
+      next = leaves.2 ∙ p.stands.next;
+    }
+
+    -- ---- its book
+
+    from_then : (e : Held) → Contains one.now.book e → WasIn s.book e
+    from_then e here =
+        let x = (left laws c mid (port_at n) its low p.settle one).from e here in
+        let y = p.from x.was x.there in
+        record { was = y.was; there = y.there; id = x.id ∙ y.id; port = x.port ∙ y.port; op = x.op ∙ y.op }
+
+    none_here : (e : Held) → Contains one.now.book e → e.entry.port.0 ≡ n → ⊥
+    none_here e here own =
+        let l = left laws c mid (port_at n) its low p.settle one in
+        let x = l.from e here in
+        let was_own : x.was.entry.port.0 ≡ n = ap (λ (q : Port). q.0) (sym x.port) ∙ own in
+        ⊎_elim
+        (λ free. none_unserved free x.was x.there was_own)
+        (λ dead.
+        l.gone x.was outcome.PortDead (in_filter (λ (y : Held). is_of (port_at n) y.entry) book x.was x.there (eq-eqb x.was.entry.port.0 n was_own)) (ends_dead dead x.was.entry) e here x.id)
+        (either s t.dead n)
+
+    emptied_then : (q : Port) → q.0 < n + 1 → (e : Held) → Contains one.now.book e → e.entry.port ≢ q
+    emptied_then q small e here own = ⊎_elim
+        (λ (same : q.0 ≡ n). none_here e here (ap (λ (r : Port). r.0) own ∙ same))
+        (λ (other : q.0 ≢ n).
+        let x = (left laws c mid (port_at n) its low p.settle one).from e here in
+        p.emptied q (omega (arith, small, other)) x.was x.there (sym x.port ∙ own))
+        (cases_eq q.0 n)
+
+    has_ended : HaveEnded m (n + 1) mid (before ++ its)
+    has_ended = subst (λ (x : Server). HaveEnded m (n + 1) x (before ++ its)) (sym one.server) (record {
+      steps = met.steps ++ p.steps;
+      may = laws.basic.may m met.steps p.steps p.may met.may;
+      stands = subst (IsMachineOf new) (sym (laws.basic.joined m met.steps p.steps)) stands_then;
+      backed = laws.backed_parts s.device s.device s.device m p.steps met.steps p.backed (met.backed s.device);
+      deaths = All-append (TellsDeath (ports_of s)) met.steps p.steps its_deaths p.deaths;
+      told = told_then n p.steps met.steps before its p.told met.tells (λ e o here. All-contains (DecidesOn (port_at n)) met.steps (Answer e o) met.own here);
+      settle = subst MaySettle one.server (settles_on laws c mid (port_at n) its low p.settle one);
+      settings = refl;
+      owners = owners_then ∙ p.owners;
+      from = from_then;
+      emptied = emptied_then;
+    })
+
+  -- a port beyond the four has no request, and no loan is kept of it: it ends as it is
+  module _ (m : Machine) (n : ℕ) (high : 4 ≤ n) (table : Table) (kept : List (List Lending)) (book : List Held) (before its : List Reply) (mid : Server)
+      (p : HaveEnded m n (with_all table kept book) before) (one : SettlesPort (port_at n) its (with_all table kept book) mid) where
+    abbrev here : Server
+    here = with_all table kept book
+
+    none_beyond : (e : Held) → Contains book e → e.entry.port.0 ≢ n
+    none_beyond e there own =
+        let x = p.from e there in
+        let low = b.few x.was.entry.port.0 (served_one x.was x.there) in
+        let same = ap (λ (q : Port). q.0) x.port in
+        omega (arith, high, low, same, own)
+
+    meets_none : (its ≡ []) × (one.now ≡ holdings_of (port_at n) here)
+    meets_none = subst (λ (list : List Held). MeetFates (fate_of None one.prospect) list its (holdings_of (port_at n) here) one.now)
+        (nobody (requests_of (port_at n) book) (λ e there.
+        let x = (its_requests (port_at n) here p.settle.ordered p.settle.accepted).here e there in
+        none_beyond e x.0 (ap (λ (q : Port). q.0) x.1)))
+        one.meets
+
+    same_then : mid ≡ here
+    same_then =
+        one.server ∙ ap (λ (now : Holdings). with_holdings (port_at n) now here) meets_none.1
+        ∙ ap (λ (list : List (List Lending)). with_all table list book) (set_past kept n (kept_at kept n) (let four = p.settle.four_kept in omega (arith, four, high)))
+
+    beyond_ended : HaveEnded m (n + 1) mid (before ++ its)
+    beyond_ended =
+        subst (λ (r : List Reply). HaveEnded m (n + 1) mid (before ++ r)) (sym meets_none.0)
+        (subst (HaveEnded m (n + 1) mid) (sym (append-nil before))
+        (subst (λ (x : Server). HaveEnded m (n + 1) x before) (sym same_then) (record {
+          steps = p.steps;
+          may = p.may;
+          stands = p.stands;
+          backed = p.backed;
+          deaths = p.deaths;
+          told = record {
+            answers = p.told.answers;
+            permuted = p.told.permuted;
+            ordered = p.told.ordered;
+            low = All-weaker (λ a. a.0.request.port.0 < n) (λ a. a.0.request.port.0 < n + 1) (λ a lt. omega (arith, lt)) p.told.answers p.told.low;
+            told = p.told.told;
+          };
+          settle = p.settle;
+          settings = refl;
+          owners = p.owners;
+          from = p.from;
+          emptied = λ q small e there own. ⊎_elim
+              (λ (same : q.0 ≡ n). none_beyond e there (ap (λ (r : Port). r.0) own ∙ same))
+              (λ (other : q.0 ≢ n). p.emptied q (omega (arith, small, other)) e there own)
+              (cases_eq q.0 n);
+        })))
+
+  -- ---- one after another
+
+  next : (m : Machine) → IsReached m → (n : ℕ) (c mid : Server) (before its : List Reply) → HaveEnded m n c before → SettlesPort (port_at n) its c mid → HaveEnded m (n + 1) mid (before ++ its)
+  next m reached n c mid before its p one =
+      let from_all : HaveEnded m n (with_all c.table c.kept c.book) before = subst (λ (x : Server). HaveEnded m n x before) p.settings p in
+      let settles : SettlesPort (port_at n) its (with_all c.table c.kept c.book) mid = subst (λ (x : Server). SettlesPort (port_at n) its x mid) p.settings one in
+      ⊎_elim
+      (λ (low : n < 4). has_ended m reached n low c.table c.kept c.book before its mid from_all settles)
+      (λ (high : 4 ≤ n). beyond_ended m n high c.table c.kept c.book before its mid from_all settles)
+      (cases_lt n 4)
+
+  go : (m : Machine) → IsReached m → (rest : List Found) (n : ℕ) (c new : Server) (before replies : List Reply) → SettlePorts n rest replies c new → HaveEnded m n c before
+      → HaveEnded m (n + length rest) new (before ++ replies)
+  go m reached [] n c new before replies (none, same) p =
+      subst (λ (r : List Reply). HaveEnded m (n + 0) new (before ++ r)) (sym none)
+      (subst (HaveEnded m (n + 0) new) (sym (append-nil before))
+      (subst (λ (x : Server). HaveEnded m (n + 0) x before) (sym same) (let is : n ≡ n + 0 = omega arith in subst (λ (i : ℕ). HaveEnded m i c before) is p)))
+  go m reached (found ∷ rest) n c new before replies (mid, its, later, split, one, more) p =
+      subst (λ (r : List Reply). HaveEnded m (n + length (found ∷ rest)) new (before ++ r)) (sym split)
+      (subst (HaveEnded m (n + length (found ∷ rest)) new) (append_assoc before its later)
+      (let is : (n + 1) + length rest ≡ n + length (found ∷ rest) = omega arith in
+      subst (λ (i : ℕ). HaveEnded m i new ((before ++ its) ++ later)) is
+      (go m reached rest (n + 1) mid new (before ++ its) later more (next m reached n c mid before its p one))))
+
+  -- ---- the whole
+
+  module _ (new : Server) (replies : List Reply) (settles : SettlePorts 0 s.ports replies s new) where
+    ended : (m : Machine) → IsReached m → IsMachineOf s m → HaveEnded m (length s.ports) new replies
+    ended m reached is = let none : 0 + length s.ports ≡ length s.ports = omega arith in subst (λ (i : ℕ). HaveEnded m i new replies) none (go m reached s.ports 0 s new [] replies settles (begin m is))
+
+    -- the server then
+    abbrev n : Server
+    n = with_all new.table new.kept new.book
+
+    same_server : new ≡ n
+    same_server = (ended b.machine b.reached b.stands).settings
+
+    -- no request is left
+    nobody_left : (m : Machine) → HaveEnded m (length s.ports) new replies → (e : Held) → Contains new.book e → ⊥
+    nobody_left m x e here =
+        let w = x.from e here in
+        x.emptied e.entry.port (is_listed s.ports e.entry.port.0 (ap (λ (q : Port). is_served (found_of s.ports q.0)) w.port ∙ served_one w.was w.there)) e here refl
+
+    nothing_left : (P : Held → Type 0) → All P new.book
+    nothing_left P = All-weaker (Contains new.book) P (λ e here. absurd (nobody_left b.machine (ended b.machine b.reached b.stands) e here)) new.book (All-contains_itself new.book)
+
+    stalled_then : IsStalled n
+    stalled_then =
+        let x = ended b.machine b.reached b.stands in
+        record {
+          booked = record {
+            room = b.room;
+            served = b.served;
+            few = b.few;
+            idle = b.idle;
+            unused = b.unused;
+            four = b.four;
+            four_modes = b.four_modes;
+            four_remembered = b.four_remembered;
+            four_kept = x.settle.four_kept;
+            places = x.settle.places;
+            rows = b.rows;
+            owners = λ frame client own. b.owners frame client (ap (λ (owners : List (Option ClientId)). get_or owners frame.0 None) (sym x.owners) ∙ own);
+            accepted = nothing_left (IsAccepted s.grants new.table);
+            ordered = x.settle.ordered;
+            handed_out = nothing_left (λ e. e.entry.id.0 ≤ s.last);
+            asked = nothing_left (λ e. is_served (found_of s.ports e.entry.port.0) ≡ true);
+            machine = after b.machine x.steps;
+            reached = laws.basic.reached b.machine x.steps b.reached x.may;
+            stands = subst (λ (y : Server). IsMachineOf y (after b.machine x.steps)) same_server x.stands;
+          };
+          off = t.off;
+          dead = t.dead;
+        }
+
+    -- ---- the event
+
+    module _ (first : Instant Device) (past : List (Happening Device DeviceStep)) (leads : Leads first past s) where
+      abbrev old : Moment
+      old = (now first past).moment
+
+      reached_old : IsReached old.machine
+      reached_old = laws.basic.history_reached s.wanted first past leads.history
+
+      x : HaveEnded old.machine (length s.ports) new replies
+      x = ended old.machine reached_old leads.stands.machine
+
+      stands : IsMachineOf n (after old.machine x.steps)
+      stands = subst (λ (y : Server). IsMachineOf y (after old.machine x.steps)) same_server x.stands
+
+      same_ports : (port : Port) → SamePort old.ports (ports_of s) port
+      same_ports = ports_same old.ports (ports_of s) leads.stands.ports_are
+
+      was_never : (port : Port) → old.ports.state port ≢ ReadyState
+      was_never port ready = never_ready s t.dead port.0 (ap (λ (p : Ports). p.state port) (sym leads.stands.ports_are) ∙ ready)
+
+      becomes : (port : Port) → IsServiced old.ports (told_by s.device old.ports) (ports_of s) port
+      becomes port =
+          let same = same_ports port in (
+            (λ dead. same),
+            (λ alive. (
+              record {
+                served = same.0;
+                stuck = λ dead. absurd (alive (sym same.1 ∙ dead));
+                dies = λ here. absurd (nowhere port here);
+                keeps = λ unready. (same.2, same.3);
+              },
+              inl same,
+            )),
+          )
+
+      nobody_waits : (port : Port) (e : Pending) → Contains (after old.machine x.steps).book e → e.request.port ≢ port
+      nobody_waits port e here own = let a = at_right IsEntry new.book (after old.machine x.steps).book stands.book e here in nobody_left old.machine x a.0 a.1
+
+      answers : AnswersService old (told_by s.device old.ports) x.steps replies (record { machine = after old.machine x.steps; ports = ports_of s })
+      answers = record {
+        tells = record { answers = x.told.answers; same = x.told.permuted; ordered = x.told.ordered; told = x.told.told };
+        dead = λ e o here is. (death_told (ports_of s) x.steps x.deaths e o here).0;
+        grounded = deaths_grounded (ports_of s) (told_by s.device old.ports) x.steps x.deaths;
+        unplugs = deaths_unplug_none (ports_of s) x.steps x.deaths (after old.machine x.steps);
+        issues = λ port ready. absurd (never_ready s t.dead port.0 ready);
+        emptied = λ port unready. nobody_waits port;
+        becomes = becomes;
+        disk = λ port. inl (same_ports port);
+      }
+
+      -- what isn't dead isn't served, so that no disk is tried
+      tries : (port : Port) → old.ports.served port ≡ true → TriesDisk [] (record { device = s.device; moment = old }) (ports_of s) s.device port
+      tries port its = record {
+        shown = λ absent. absurd (let y : Dead ≡ Absent = sym (is_dead port its) ∙ absent in cc);
+        absent = λ absent. absurd (let y : Dead ≡ Absent = sym (is_dead port its) ∙ absent in cc);
+        missing = λ bad. absurd (not_bad port its bad);
+        changed = λ bad. absurd (not_bad port its bad);
+      }
+        where
+          is_dead : (port : Port) → old.ports.served port ≡ true → old.ports.state port ≡ Dead
+          is_dead port its = ap (λ (p : Ports). p.state port) leads.stands.ports_are ∙ ap state_of (t.dead port.0 (ap (λ (p : Ports). p.served port) (sym leads.stands.ports_are) ∙ its))
+
+          not_bad : (port : Port) → old.ports.served port ≡ true → IsUnfitOrForeign old.ports port → ⊥
+          not_bad port its (inl foreign) = let y : Dead ≡ Foreign = sym (is_dead port its) ∙ foreign in cc
+          not_bad port its (inr (cause, unfit)) = let y : Dead ≡ Unfit cause = sym (is_dead port its) ∙ unfit in cc
+
+      event : (h : Happening Device DeviceStep) × (h.event.ask ≡ Service) × (h.event.said ≡ Served replies) × Leads first (h ∷ past) n
+      event = lead_by laws first past s n Service (Served replies) x.steps refl refl leads (holds_off n stalled_then.booked t.dead t.off)
+          x.may (deaths_belong (ports_of s) x.steps x.deaths) (none_last x.steps (λ id. deaths_issue_none (ports_of s) id x.steps x.deaths)) (deaths_lawful (ports_of s) old no_evidence x.steps x.deaths)
+          answers
+          []
+          (refl, All-nil (IsServing (TendsPort old.ports)))
+          (λ port. All-nil (LeavesEngine port))
+          (λ port ready. absurd (never_ready s t.dead port.0 ready))
+          (λ port. record {
+            ties = record {
+              finds = λ ready. absurd (was_never port ready);
+              faults = λ alone. absurd (was_never port alone.ready);
+              tries = λ its none. tries port its;
+              boots = ((λ ready. absurd (was_never port ready)), inl (same_ports port));
+              trouble = never_troubled s t.dead (told_by s.device old.ports) (record { device = s.device; moment = old }) (ports_of s) s.device port leads.stands.ports_are (never_ready s t.dead port.0);
+              well = λ i. absurd (uninterrupted s.device old.ports port i);
+            };
+            heeds = λ ready. absurd (was_never port ready);
+          })
+          x.backed
+          stands
+
+    pub stalled_service : AddsStalled s new Service (Served replies)
+    stalled_service = subst (λ (y : Server). AddsStalled s y Service (Served replies)) (sym same_server) (record { stalled = stalled_then; adds = event })

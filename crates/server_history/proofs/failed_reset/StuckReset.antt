@@ -1,0 +1,289 @@
+-- A reset that gets stuck adds an event, whether or not the last one did.
+use Rattle.std.proofs.Common.{ℕ, Bool, true, ◌≡◌, ◌≢◌, List, ◌∷◌, None, inl, inr, refl, sym, ap, ◌∙◌, subst, ⊎_elim}
+use Rattle.std.specs.List.{Contains}
+use Rattle.std.proofs.lemmas.Bool.{false≢true}
+use Rattle.std.proofs.lemmas.List.Elements.{All-weaker}
+use Rattle.ata_types.specs.declared.Port.{Port}
+use Rattle.ata_types.specs.declared.PortState.TheVariants.{Dead}
+use Rattle.hba_regs.specs.declared.reg.PortReg.TheVariants.{Cmd, Sctl}
+use Rattle.hba_regs.specs.declared.reg.Reg.TheVariants.{Ghc, Px}
+use Rattle.adapter.specs.Access.{Access}
+use Rattle.adapter.specs.Access.Access.{Loading, Reading, Storing, Writing}
+use Rattle.adapter.specs.Device.{Device}
+use Rattle.adapter.specs.Rules.{IsOn}
+use Rattle.adapter.specs.declared.access.DeviceStep.{DeviceStep}
+use Rattle.agreement.specs.Driver.{IsBacked}
+use Rattle.agreement.proofs.driver.Stretches.{followed_adds}
+use Rattle.block_machine.specs.Events.{AllDevices, AllMay, Reset, WasReset}
+use Rattle.block_machine.specs.Histories.{Happening, Instant, IsReached, now}
+use Rattle.block_machine.specs.Left.{after}
+use Rattle.block_machine.specs.Ports.{AreFit, Evidence, Fault, IsStuck, Ports, SameDisk}
+use Rattle.block_machine.specs.State.{Machine}
+use Rattle.block_machine.specs.Steps.{Step}
+use Rattle.driver_history.specs.Evidence.{IsEvidencedOf}
+use Rattle.driver_history.specs.Histories.{Begins, Ties}
+use Rattle.driver_history.specs.Trace.{LeavesEngine}
+use Rattle.driver_history.proofs.Instants.{history_fit, ready_low}
+use Rattle.host_boot.specs.Resets.{IsOfReset}
+use Rattle.host_boot.specs.Taken.{found_of}
+use Rattle.host_boot.specs.declared.Found.{Found}
+use Rattle.host_boot.specs.declared.Found.TheVariants.{Ready, Unready, Unserved}
+use Rattle.identify.specs.declared.DiskInfo.{DiskInfo}
+use Rattle.std.specs.Prelude.{Option}
+use Rattle.request_queue.specs.Entries.{Held}
+use Rattle.server_history.specs.Below.{LawsBelow}
+use Rattle.server_history.specs.Histories.{AddsStalled, Leads}
+use Rattle.server_history.specs.Server.{Server, IsMachineOf, disk_in, disk_of, is_served, ports_of, remembered_at, sectors_of, serial_of, state_of, use_of}
+use Rattle.server_history.specs.Stalled.{AreDead, GetsStuck, KeepsBooks, IsStalled, stuck_found}
+use Rattle.server_history.specs.Turns.{DoesPort}
+use Rattle.server_history.proofs.state.DeviceSteps.{devices_belong, devices_last, devices_lawful}
+use Rattle.server_history.proofs.state.HistorySteps.{happening_with, lead_with, machine_on, with_device}
+use Rattle.server_history.proofs.state.FirstMembers.{nowhere}
+use Rattle.server_history.proofs.failed_reset.StalledInstant.{LeavesPorts, accesses_idle, booked_on, dead_fit, dead_if_served, holds_off, never_ready}
+use Rattle.server_history.proofs.state.CallEvidence.{chosen, chosen_is, evidenced_of, four, in_four, is_chosen, told_by}
+
+-- ---- a reset's accesses
+
+-- they leave each port
+leaves_ports : (access : Access) → IsOfReset access → LeavesPorts access
+leaves_ports (Reading Ghc v) its = tt
+leaves_ports (Writing Ghc v) its = tt
+leaves_ports (Reading r v) its = absurd its
+leaves_ports (Writing r v) its = absurd its
+leaves_ports (Loading at bytes) its = absurd its
+leaves_ports (Storing at bytes) its = absurd its
+
+-- so none stops one
+leaves_engine : (port : Port) (access : Access) → IsOfReset access → LeavesEngine port access
+leaves_engine port (Reading Ghc v) its = (tt, tt)
+leaves_engine port (Writing Ghc v) its = ((λ e. let z : Ghc ≡ Px port Cmd = e in cc), (λ e. let z : Ghc ≡ Px port Sctl = e in cc))
+leaves_engine port (Reading r v) its = absurd its
+leaves_engine port (Writing r v) its = absurd its
+leaves_engine port (Loading at bytes) its = absurd its
+leaves_engine port (Storing at bytes) its = absurd its
+
+-- ---- ports that got stuck
+
+-- it is served as it was
+stuck_served : (f : Found) → is_served (stuck_found f) ≡ is_served f
+stuck_served Unserved = refl
+stuck_served (Ready info) = refl
+stuck_served (Unready state) = refl
+
+stuck_dead : (f : Found) → is_served (stuck_found f) ≡ true → stuck_found f ≡ Unready Dead
+stuck_dead Unserved its = absurd (false≢true its)
+stuck_dead (Ready info) its = refl
+stuck_dead (Unready state) its = refl
+
+stuck_unserved : (f : Found) → stuck_found f ≡ Unserved → f ≡ Unserved
+stuck_unserved Unserved is = refl
+stuck_unserved (Ready info) is = let z : Unready Dead ≡ Unserved = is in absurd cc
+stuck_unserved (Unready state) is = let z : Unready Dead ≡ Unserved = is in absurd cc
+
+-- of it nothing but the last disk is known
+stuck_disk : (f : Found) (last : Option DiskInfo) → disk_of (stuck_found f) last ≡ last
+stuck_disk Unserved last = refl
+stuck_disk (Ready info) last = refl
+stuck_disk (Unready state) last = refl
+
+module _ (laws : LawsBelow) (s new : Server) (b : KeepsBooks s) (g : GetsStuck s new) where
+  -- the server then
+  abbrev n : Server
+  n = record s { device = new.device; ports = new.ports; remembered = new.remembered; modes = new.modes; slots = new.slots }
+
+  abbrev its_accesses : List Access
+  its_accesses = g.stays.followed.driven.accesses
+
+  dead : AreDead new.ports
+  dead port its = g.found port ∙ stuck_dead (found_of s.ports port) (sym (ap is_served (g.found port)) ∙ its)
+
+  served_same : (port : ℕ) → is_served (found_of new.ports port) ≡ is_served (found_of s.ports port)
+  served_same port = ap is_served (g.found port) ∙ stuck_served (found_of s.ports port)
+
+  was_unserved : (port : ℕ) → found_of new.ports port ≡ Unserved → found_of s.ports port ≡ Unserved
+  was_unserved port is = stuck_unserved (found_of s.ports port) (sym (g.found port) ∙ is)
+
+  alive_unserved : (port : ℕ) → found_of new.ports port ≢ Unready Dead → found_of s.ports port ≡ Unserved
+  alive_unserved port alive = ⊎_elim (was_unserved port) (λ is. absurd (alive is)) (dead_if_served (found_of new.ports port) (dead port))
+
+  disk_same : (port : Port) → disk_in n port ≡ disk_in s port
+  disk_same port =
+      ap (λ (f : Found). disk_of f (remembered_at new.remembered port.0)) (g.found port.0) ∙ stuck_disk (found_of s.ports port.0) (remembered_at new.remembered port.0) ∙ g.remembered port.0
+
+  off : IsOn new.device → ⊥
+  off on = false≢true (sym on.no_reset ∙ g.stays.pending)
+
+  -- ---- the machine that stands for it
+
+  stands_then : (m : Machine) → IsMachineOf (record s { device = new.device }) m → IsMachineOf n m
+  stands_then m is = record {
+    uses = is.uses;
+    used = λ port slot alive.
+        let unserved = alive_unserved port alive in
+        is.used port slot (unserved_alive port unserved) ∙ ap use_of (b.unused port slot unserved) ∙ sym (ap use_of (g.unused port slot));
+    parked = is.parked;
+    unparked = λ port alive. is.unparked port (unserved_alive port (alive_unserved port alive));
+    knows = is.knows;
+    book = is.book;
+    kept = record {
+      dead = λ e here. g.found e.request.port.0 ∙ ap stuck_found (is.kept.dead e here);
+      loan = is.kept.loan;
+      whose = is.kept.whose;
+      apart = is.kept.apart;
+    };
+    rows = is.rows;
+    owner = is.owner;
+    lent = is.lent;
+    next = is.next;
+  }
+    where
+      unserved_alive : (port : ℕ) → found_of s.ports port ≡ Unserved → found_of s.ports port ≢ Unready Dead
+      unserved_alive port unserved is_dead = let z : Unserved ≡ Unready Dead = sym unserved ∙ is_dead in cc
+
+  -- What the reset makes of a machine that stands for the server: the device's steps lead to one that stands for the server then.
+  record Follows (m : Machine) : Type 0 where
+    steps : List Step
+    only : AllDevices steps
+    may : AllMay m steps
+    backed : IsBacked s.device new.device m steps
+    with_device_alone : IsMachineOf (record s { device = new.device }) (after m steps)
+
+  follows : (m : Machine) → IsReached m → IsMachineOf s m → Follows m
+  follows m reached is =
+      let x = (followed_adds g.stays.followed is.uses is.parked tt).adds m reached is.knows in
+      record { steps = x.0; only = x.3.only; may = x.1; backed = x.3.backed; with_device_alone = machine_on laws s new.device m x.0 is x.3.only x.2 }
+
+  booked_then : (m : Machine) → IsReached m → IsMachineOf (record s { device = new.device }) m → KeepsBooks n
+  booked_then m reached is =
+      let on = booked_on s new.device b g.stays.same
+      (λ port idle. accesses_idle laws its_accesses (All-weaker IsOfReset LeavesPorts leaves_ports its_accesses g.stays.followed.driven.only) s.device new.device g.stays.followed.driven.all port idle)
+      m reached is in
+      record {
+        room = on.room;
+        served = λ port low. let w = on.served port low in ((λ its. w.0 (sym (served_same port) ∙ its)), (λ there. served_same port ∙ w.1 there));
+        few = λ port its. on.few port (sym (served_same port) ∙ its);
+        idle = λ port low unserved. on.idle port low (was_unserved port unserved);
+        unused = λ port slot unserved. g.unused port slot;
+        four = g.four_slots;
+        four_modes = g.four_modes;
+        four_remembered = g.four;
+        four_kept = on.four_kept;
+        places = on.places;
+        rows = on.rows;
+        owners = on.owners;
+        accepted = on.accepted;
+        ordered = on.ordered;
+        handed_out = on.handed_out;
+        asked = All-weaker (λ (e : Held). is_served (found_of s.ports e.entry.port.0) ≡ true) (λ (e : Held). is_served (found_of new.ports e.entry.port.0) ≡ true)
+            (λ e its. served_same e.entry.port.0 ∙ its) s.book b.asked;
+        machine = m;
+        reached = reached;
+        stands = stands_then m is;
+      }
+
+  stalled : IsStalled n
+  stalled =
+      let f = follows b.machine b.reached b.stands in
+      record { booked = booked_then (after b.machine f.steps) (laws.basic.reached b.machine f.steps b.reached f.may) f.with_device_alone; off = off; dead = dead }
+
+  -- ---- the event
+
+  abbrev its_served : Port → Bool
+  its_served port = is_served (found_of s.ports port.0)
+
+  -- each served port got stuck
+  abbrev stuck_told : Ports → Evidence
+  stuck_told ports = record (told_by s.device ports) { stuck = chosen its_served four }
+
+  stuck_named : (port : Port) → is_served (found_of s.ports port.0) ≡ true → Contains (chosen its_served four) port
+  stuck_named port its = is_chosen its_served four port (in_four port (b.few port.0 its)) its
+
+  module _ (first : Instant Device) (past : List (Happening Device DeviceStep)) (leads : Leads first past s) where
+    abbrev old : Instant Device
+    old = now first past
+
+    abbrev began : Instant Device
+    began = with_device s.device old
+
+    ports_are : old.moment.ports ≡ ports_of s
+    ports_are = leads.stands.ports_are
+
+    fit : AreFit old.moment.ports
+    fit = history_fit (Begins s.wanted) (Ties s.wanted) first past leads.history
+
+    evidence : Evidence
+    evidence = stuck_told old.moment.ports
+
+    was_served : (port : Port) → old.moment.ports.served port ≡ true → is_served (found_of s.ports port.0) ≡ true
+    was_served port its = ap (λ (p : Ports). p.served port) (sym ports_are) ∙ its
+
+    same_disk : (port : Port) → SameDisk old.moment.ports (ports_of n) port
+    same_disk port = subst (λ (p : Ports). SameDisk p (ports_of n) port) (sym ports_are) (ap serial_of (disk_same port), ap sectors_of (disk_same port))
+
+    gets_stuck : (port : Port) → IsStuck old.moment.ports evidence (ports_of n) port
+    unfolding evidence
+    gets_stuck port = (
+      served_same port.0 ∙ ap (λ (p : Ports). p.served port) (sym ports_are),
+      (λ its. let w = was_served port its in (ap state_of (dead port.0 (served_same port.0 ∙ w)), stuck_named port w)),
+      same_disk port,
+    )
+
+    evidenced_port : (port : Port) → IsEvidencedOf Reset (WasReset None) its_accesses began (ports_of n) new.device evidence port
+    unfolding evidence
+    evidenced_port port =
+        let leaves = All-weaker IsOfReset (LeavesEngine port) (leaves_engine port) its_accesses g.stays.followed.driven.only in
+        let base = evidenced_of four Reset (WasReset None) its_accesses began (ports_of n) new.device port (λ ready. in_four port (ready_low old port fit ready).1) leaves in
+        record {
+          lost = base.lost;
+          gone_all = base.gone_all;
+          gone_only = base.gone_only;
+          failed_all = base.failed_all;
+          failed_only = base.failed_only;
+          fatal_all = base.fatal_all;
+          fatal_only = base.fatal_only;
+          stopped_all = inl leaves;
+          stopped_only = base.stopped_only;
+          stuck_only = λ here. inr (tt, ap (λ (p : Ports). p.served port) ports_are ∙ chosen_is its_served four port here);
+        }
+
+    no_fault : (told : Fault) → Contains evidence.faults told → ⊥
+    unfolding evidence
+    no_fault told here = nowhere told here
+
+    part : (steps : List Step) (port : Port) → DoesPort began (happening_with evidence new.device Reset (WasReset None) steps (ports_of n)) its_accesses port
+    unfolding evidence
+    part steps port = record {
+      ties = record {
+        finds = tt;
+        faults = tt;
+        tries = tt;
+        boots = tt;
+        trouble = record {
+          errors = λ ready shown. inl (inr (stuck_named port (was_served port (ready_low old port fit ready).0)));
+          changes = λ tends shown. inl (inr (stuck_named port (was_served port tends.0)));
+          fault = λ ready. absurd (never_ready n dead port.0 ready);
+          fatal = λ ready. absurd (never_ready n dead port.0 ready);
+          disk = λ ready. absurd (never_ready n dead port.0 ready);
+        };
+        well = λ i ready. absurd (never_ready n dead port.0 ready);
+      };
+      heeds = tt;
+    }
+
+    event : (h : Happening Device DeviceStep) × (h.event.ask ≡ Reset) × (h.event.said ≡ WasReset None) × Leads first (h ∷ past) n
+    event =
+        let f = follows old.moment.machine (laws.basic.history_reached s.wanted first past leads.history) leads.stands.machine in
+        lead_with laws first past s n Reset (WasReset None) evidence f.steps refl leads (holds_off n stalled.booked dead off) (dead_fit n dead stalled.booked.few)
+        f.may (devices_belong {D = DeviceStep} Reset (ports_of n) f.steps f.only) (devices_last f.steps f.only) (devices_lawful old.moment evidence (ports_of n) f.steps f.only)
+        (λ e o here there same. same_disk e.request.port)
+        (f.only, gets_stuck)
+        its_accesses
+        (g.stays.followed.driven.all, g.stays.awaited)
+        (record { faults = λ told here. absurd (no_fault told here); port = evidenced_port })
+        (λ port ready. absurd (never_ready n dead port.0 ready))
+        (part f.steps)
+        f.backed
+        (stands_then (after old.moment.machine f.steps) f.with_device_alone)
+
+  pub stuck_adds : AddsStalled s new Reset (WasReset None)
+  stuck_adds = subst (λ (x : Server). AddsStalled s x Reset (WasReset None)) (sym g.server) (record { stalled = stalled; adds = event })

@@ -1,0 +1,535 @@
+-- Requests meet their fates in the machine, one after another.
+use Rattle.std.proofs.Common.{ℕ, suc, ◌≡◌, ◌≢◌, ◌<◌, ◌==◌, Bool, true, false, not, cond, eq-eqb, if◌then◌else◌, List, [], ◌∷◌, ◌++◌, map, filter, Option, Some, None, inl, inr, append-nil, append_assoc, refl, sym, ap, ◌∙◌, subst, arith, ⊎_elim}
+use Rattle.std.specs.List.{All, AllPairs, Contains}
+use Rattle.std.specs.List.Sorted.{IsPermutation}
+use Rattle.std.proofs.lemmas.Bool.{cond-true, eqb-false, false≢true, ne_eqb}
+use Rattle.std.proofs.lemmas.List.Elements.{All-append, All-cons, All-contains, All-contains_itself, All-filter, All-nil, All-weaker, Contains-append_cases, Contains-append_left, Contains-append_right, filter_passes, Contains-get_or}
+use Rattle.std.proofs.lemmas.List.Kept.{AllPairs-cons}
+use Rattle.std.proofs.lemmas.List.Sorted.{Contains-permutation, IsPermutation-append, IsPermutation-append_comm, IsPermutation-refl, IsPermutation-trans}
+use Rattle.ata_types.specs.declared.Port.{Port}
+use Rattle.ata_types.specs.declared.grant.GrantRow.{GrantRow}
+use Rattle.ata_types.specs.declared.request.Outcome.{Outcome}
+use Rattle.ata_types.specs.declared.request.Outcome.TheVariants as outcome
+use Rattle.ata_types.specs.declared.request.Reply.{Reply}
+use Rattle.ata_types.specs.declared.request.RequestId.{RequestId}
+use Rattle.adapter.specs.Memory.{changed}
+use Rattle.agreement.specs.Driver.{Forgets, HasNoSlot, Known, Knows}
+use Rattle.block_machine.specs.Events.{IsDevices, IsToldBefore, Tells, answers_of, reply_of}
+use Rattle.block_machine.specs.Histories.{IsReached}
+use Rattle.block_machine.specs.Left.{after}
+use Rattle.block_machine.specs.State.{Machine, Pending}
+use Rattle.block_machine.specs.Steps.{Step, Again, Answer, May, after_step, stays, unlend}
+use Rattle.dma_frames.specs.Loan.{Lending}
+use Rattle.dma_frames.specs.Table.{Table, lent_to}
+use Rattle.request_queue.specs.Entries.{HasIssuesLeft, Held, IsAccepted, IsEarlier, IsInOrder, at, requeued, without}
+use Rattle.request_queue.specs.Fates.{EndsLoan, Holdings, MeetFates, MeetsFate, fate_of, fate_on, keeps_loan, reply_to}
+use Rattle.request_queue.specs.Machine.{IsBook, IsEntry}
+use Rattle.request_queue.specs.declared.Entry.{Entry}
+use Rattle.request_queue.specs.declared.fate.Failed.{Failed}
+use Rattle.request_queue.specs.declared.fate.Fate.{Fate}
+use Rattle.request_queue.specs.declared.fate.Fate.TheVariants.{Ends, GoesAgain, Waits}
+use Rattle.request_queue.specs.declared.fate.Prospect.{Prospect}
+use Rattle.request_queue.specs.declared.fate.Prospect.TheVariants.{Dead, DiskLost, SameDisk}
+use Rattle.server_history.specs.Below.{LawsBelow}
+use Rattle.server_history.specs.Fates.{DecidesOn, KeepsNone, MayMeet, MeetsInMachine, keeps_fate, loan_of, loans_of}
+use Rattle.server_history.specs.Server.{AreOfTwo}
+use Rattle.server_history.proofs.healthy_turn.OneAnswer.{given_back}
+use Rattle.server_history.proofs.any_turn.JoinedParts.{all_pairs_append, answers_append, answers_there, first_or_later}
+use Rattle.adapter.proofs.Changed.{changed_each, changed_other, changed_same}
+use Rattle.server_history.proofs.state.PairedLists.{at_left}
+use Rattle.server_history.proofs.state.FirstMembers.{nowhere}
+
+-- ---- fates
+
+-- whether it is kept is told by both alike
+stays_is : (o : Outcome) (e : Entry) (p : Pending) → p.issued ≡ e.issued → stays p o ≡ keeps_loan o e
+stays_is outcome.Ok e p same = refl
+stays_is (outcome.DeviceError status error) e p same = refl
+stays_is outcome.Aborted e p same = refl
+stays_is outcome.Unplugged e p same = refl
+stays_is outcome.PortDead e p same = same
+
+-- one that waits isn't issued, and one that goes again is, and was fewer than four times; and loans are kept on dead ports alone
+pub record Tame (prospect : Prospect) (fate : Entry → Fate) (e : Entry) : Type 0 where
+  pub alive : prospect ≢ Dead → keeps_fate (fate e) e ≡ false
+  pub waits : fate e ≡ Waits → e.issued ≡ false
+  pub again : fate e ≡ GoesAgain → (e.issued ≡ true) × ((e.issues == 4) ≡ false)
+
+-- so it is of one that ends, and isn't kept
+ends_tame : (prospect : Prospect) (fate : Entry → Fate) (e : Entry) (o : Outcome) → (prospect ≢ Dead → keeps_loan o e ≡ false) → fate e ≡ Ends o → Tame prospect fate e
+ends_tame prospect fate e o never is = record {
+  alive = λ lives. ap (λ (f : Fate). keeps_fate f e) is ∙ never lives;
+  waits = λ z. let w : Ends o ≡ Waits = sym is ∙ z in absurd cc;
+  again = λ z. let w : Ends o ≡ GoesAgain = sym is ∙ z in absurd cc;
+}
+
+tame_on : (prospect : Prospect) (e : Entry) → Tame prospect (fate_on prospect) e
+tame_on SameDisk e = by e.issued (e.issues == 4) refl refl
+  where
+    by : (a b : Bool) → e.issued ≡ a → (e.issues == 4) ≡ b → Tame SameDisk (fate_on SameDisk) e
+    by true true x y = ends_tame SameDisk (fate_on SameDisk) e outcome.Aborted (λ lives. refl) (λ i. if x i then (if y i then Ends outcome.Aborted else GoesAgain) else Waits)
+    by true false x y =
+        let is : fate_on SameDisk e ≡ GoesAgain = (λ i. if x i then (if y i then Ends outcome.Aborted else GoesAgain) else Waits) in
+        record {
+          alive = λ lives. ap (λ (f : Fate). keeps_fate f e) is;
+          waits = λ z. let w : GoesAgain ≡ Waits = sym is ∙ z in absurd cc;
+          again = λ z. (x, y);
+        }
+    by false b x y =
+        let is : fate_on SameDisk e ≡ Waits = (λ i. if x i then (if e.issues == 4 then Ends outcome.Aborted else GoesAgain) else Waits) in
+        record {
+          alive = λ lives. ap (λ (f : Fate). keeps_fate f e) is;
+          waits = λ z. x;
+          again = λ z. let w : Waits ≡ GoesAgain = sym is ∙ z in absurd cc;
+        }
+tame_on DiskLost e = ends_tame DiskLost (fate_on DiskLost) e outcome.Unplugged (λ lives. refl) refl
+tame_on Dead e = ends_tame Dead (fate_on Dead) e outcome.PortDead (λ lives. absurd (lives refl)) refl
+
+pub tame : (failed : Option Failed) (prospect : Prospect) (e : Entry) → Tame prospect (fate_of failed prospect) e
+tame None prospect e = let t = tame_on prospect e in record { alive = t.alive; waits = t.waits; again = t.again }
+tame (Some failed) prospect e = by (failed.id.0 == e.id.0) refl
+  where
+    by : (b : Bool) → (failed.id.0 == e.id.0) ≡ b → Tame prospect (fate_of (Some failed) prospect) e
+    by true x =
+        ends_tame prospect (fate_of (Some failed) prospect) e (outcome.DeviceError failed.status failed.error) (λ lives. refl)
+        (λ i. if x i then Ends (outcome.DeviceError failed.status failed.error) else fate_on prospect e)
+    by false x =
+        let is : fate_of (Some failed) prospect e ≡ fate_on prospect e = (λ i. if x i then Ends (outcome.DeviceError failed.status failed.error) else fate_on prospect e) in
+        let t = tame_on prospect e in
+        record { alive = λ lives. ap (λ (f : Fate). keeps_fate f e) is ∙ t.alive lives; waits = λ z. t.waits (sym is ∙ z); again = λ z. t.again (sym is ∙ z) }
+
+-- ---- loans that are kept
+
+pub loans_append : (late early : List Pending) → loans_of (late ++ early) ≡ loans_of early ++ loans_of late
+loans_append [] early = sym (append-nil (loans_of early))
+loans_append (e ∷ late) early = ap (λ (loans : List Lending). loans ++ loan_of e ∷ []) (loans_append late early) ∙ append_assoc (loans_of early) (loans_of late) (loan_of e ∷ [])
+
+-- each is of one of them
+pub loans_in : (held : List Pending) (loan : Lending) → Contains (loans_of held) loan → (e : Pending) × Contains held e × (loan ≡ loan_of e)
+loans_in [] loan here = absurd (nowhere loan here)
+loans_in (x ∷ held) loan here = ⊎_elim
+    (λ early. let r = loans_in held loan early in (r.0, Contains-append_right (x ∷ []) held r.0 r.1, r.2))
+    (λ last. ⊎_elim
+    (λ (is : loan ≡ loan_of x). (x, Contains-get_or (x ∷ held) 0 x (omega arith), is))
+    (λ none. absurd (nowhere loan none))
+    (first_or_later (loan_of x) [] loan last))
+    (Contains-append_cases (loans_of held) (loan_of x ∷ []) loan here)
+
+pub in_loans : (held : List Pending) (e : Pending) → Contains held e → Contains (loans_of held) (loan_of e)
+in_loans [] e here = absurd (nowhere e here)
+in_loans (x ∷ held) e here = ⊎_elim
+    (λ (is : e ≡ x). Contains-append_right (loans_of held) (loan_of x ∷ []) (loan_of e) (0, omega arith, ap loan_of (sym is)))
+    (λ there. Contains-append_left (loans_of held) (loan_of x ∷ []) (loan_of e) (in_loans held e there))
+    (first_or_later x held e here)
+
+-- ---- what is parked
+
+-- a list with nobody in it
+pub nobody : {X : Type 0} (xs : List X) → ((x : X) → Contains xs x → ⊥) → xs ≡ []
+nobody [] none = refl
+nobody (x ∷ xs) none = absurd (none x (Contains-get_or (x ∷ xs) 0 x (omega arith)))
+
+-- but for this one
+abbrev but : RequestId → List RequestId → List RequestId
+but id xs = filter (λ (x : RequestId). not (x.0 == id.0)) xs
+
+but_in : (id : RequestId) (xs : List RequestId) (x : RequestId) → Contains (but id xs) x → Contains xs x × (x ≢ id)
+but_in id xs x here = (
+  All-contains (Contains xs) (but id xs) x (All-filter (λ (y : RequestId). not (y.0 == id.0)) (Contains xs) xs (All-contains_itself xs)) here,
+  λ same. false≢true (sym (ap not (eq-eqb x.0 id.0 (ap (λ (y : RequestId). y.0) same)))
+      ∙ All-contains (λ (y : RequestId). not (y.0 == id.0) ≡ true) (but id xs) x (filter_passes (λ (y : RequestId). not (y.0 == id.0)) xs) here),
+)
+
+in_but : (id : RequestId) (xs : List RequestId) (x : RequestId) → Contains xs x → (x ≡ id → ⊥) → Contains (but id xs) x
+in_but id [] x here ne = absurd (nowhere x here)
+in_but id (y ∷ xs) x here ne = ⊎_elim
+    (λ (same : x ≡ y). subst (λ (list : List RequestId). Contains list x) (sym (kept (passes same))) (Contains-append_left (y ∷ []) (but id xs) x (0, omega arith, sym same)))
+    (λ (later : Contains xs x). by (not (y.0 == id.0)) (in_but id xs x later ne))
+    (first_or_later y xs x here)
+  where
+    passes : x ≡ y → not (y.0 == id.0) ≡ true
+    passes same = ap not (ne_eqb y.0 id.0 (λ is. ne (same ∙ ap (λ (n : ℕ). record { 0 = n }) is)))
+
+    kept : not (y.0 == id.0) ≡ true → but id (y ∷ xs) ≡ y ∷ but id xs
+    kept is = cond-true (not (y.0 == id.0)) (y ∷ but id xs) (but id xs) is
+
+    by : (b : Bool) → Contains (but id xs) x → Contains (cond b (y ∷ but id xs) (but id xs)) x
+    by true there = Contains-append_right (y ∷ []) (but id xs) x there
+    by false there = there
+
+-- what is parked once this one of the port is decided
+abbrev decided : (ℕ → List RequestId) → ℕ → RequestId → ℕ → List RequestId
+decided parked port id = changed parked port (but id (parked port))
+
+forgets_it : (parked : ℕ → List RequestId) (port : ℕ) (id : RequestId) → Forgets id parked (decided parked port id)
+forgets_it parked port id =
+    changed_each parked port (but id (parked port)) (λ q ids. (other : RequestId) → Contains (parked q) other → (other ≡ id → ⊥) → Contains ids other)
+    (λ other here ne. in_but id (parked port) other here ne)
+    (λ q other here ne. here)
+
+-- ---- one request
+
+module _ (laws : LawsBelow) (port : Port) (failed : Option Failed) (prospect : Prospect) (rows : List GrantRow) where
+  abbrev fate : Entry → Fate
+  fate = fate_of failed prospect
+
+  module _ (request : Held) (rest : List Held) (now mid : Holdings) (k : Known) (m : Machine) (may : MayMeet port fate (request ∷ rest) now rows k m) where
+    pub here : Contains now.book request
+    here = (may.here request (Contains-get_or (request ∷ rest) 0 request (omega arith))).0
+
+    its_port : request.entry.port ≡ port
+    its_port = (may.here request (Contains-get_or (request ∷ rest) 0 request (omega arith))).1
+
+    in_rest : (e : Held) → Contains rest e → Contains (request ∷ rest) e
+    in_rest e there = Contains-append_right (request ∷ []) rest e there
+
+    pub later_id : (e : Held) → Contains rest e → request.entry.id.0 < e.entry.id.0
+    later_id e there = All-contains (IsEarlier request) rest e (λ i d small. may.earlier 0 (suc i) d (omega arith) (omega (arith, small))) there
+
+    differs : (e : Held) → Contains rest e → e.entry.id ≢ request.entry.id
+    differs e there same = let lt = later_id e there in let id = ap (λ (i : RequestId). i.0) same in omega (arith, lt, id)
+
+    earlier : AllPairs IsEarlier rest
+    earlier i j d lt below = may.earlier (suc i) (suc j) d (omega (arith, lt)) (omega (arith, below))
+
+    abbrev pub entry : (p : Pending) × Contains m.book p × IsEntry request p
+    entry = at_left IsEntry now.book m.book may.book request here
+
+    abbrev pub p : Pending
+    p = entry.0
+
+    id_is : p.request.id ≡ request.entry.id
+    id_is = entry.2.id
+
+    unserved : keeps_fate (fate request.entry) request.entry ≡ false → HasNoSlot k.uses p.request.id
+    unserved never = subst (HasNoSlot k.uses) (sym id_is) (may.unserved request (Contains-get_or (request ∷ rest) 0 request (omega arith)) never)
+
+    abbrev pub left_known : Known
+    left_known = record k { parked = decided k.parked port.0 request.entry.id }
+
+    forgets : Forgets p.request.id k.parked (decided k.parked port.0 request.entry.id)
+    forgets = subst (λ (id : RequestId). Forgets id k.parked (decided k.parked port.0 request.entry.id)) (sym id_is) (forgets_it k.parked port.0 request.entry.id)
+
+    -- what is parked then is of the rest
+    left_parked : KeepsNone fate → (id : RequestId) → Contains ((decided k.parked port.0 request.entry.id) port.0) id → (e : Held) × Contains rest e × (e.entry.id ≡ id) × (e.entry.issued ≡ true)
+    left_parked quiet id there =
+        let b = but_in request.entry.id (k.parked port.0) id (subst (λ (list : List RequestId). Contains list id) (changed_same k.parked port.0 (but request.entry.id (k.parked port.0))) there) in
+        let w = may.parked quiet id b.0 in
+        ⊎_elim (λ (same : w.0 ≡ request). absurd (b.1 (sym w.2 ∙ ap (λ (e : Held). e.entry.id) same))) (λ (later : Contains rest w.0). (w.0, later, w.2, w.3)) (first_or_later request rest w.0 w.1)
+
+    -- ---- with those that come after it
+
+    -- this step decides it, by which these are kept
+    module _ (step : Step) (its later replies : List Reply) (new : Holdings) (split : replies ≡ its ++ later) (comes : May m step) (of_port : DecidesOn port step) (own : IsDevices step → ⊥)
+        (parked : ℕ → List RequestId) (elsewhere : (q : ℕ) → q ≢ port.0 → parked q ≡ k.parked q)
+        (gone : List Pending) (keeps : (after_step m step).kept ≡ gone ++ m.kept) (lends : mid.kept ≡ now.kept ++ loans_of gone) (alone : AllPairs AreOfTwo (loans_of gone))
+        (its_own : (e : Pending) → Contains gone e → IsEntry request e × (keeps_fate (fate request.entry) request.entry ≡ true))
+        (told : (e : Pending) (o : Outcome) → Answer e o ≡ step → IsEntry request e × (fate request.entry ≡ Ends o))
+        (waits : (e : Pending) → Again e ≡ step → IsEntry request e × (fate request.entry ≡ GoesAgain))
+        (r : MeetsInMachine port fate rest later mid new (record k { parked = parked }) (after_step m step)) where
+      whole_is : after m (r.steps ++ step ∷ []) ≡ after (after_step m step) r.steps
+      whole_is = laws.basic.joined m r.steps (step ∷ [])
+
+      answered_by : (e : Pending) (o : Outcome) → Contains (r.steps ++ step ∷ []) (Answer e o) → (y : Held) × Contains (request ∷ rest) y × IsEntry y e × (fate y.entry ≡ Ends o)
+      answered_by e o there = ⊎_elim
+          (λ early. let w = r.answered e o early in (w.0, in_rest w.0 w.1, w.2, w.3))
+          (λ last. ⊎_elim
+          (λ (is : Answer e o ≡ step). let w = told e o is in (request, Contains-get_or (request ∷ rest) 0 request (omega arith), w.0, w.1))
+          (λ none. absurd (nowhere (Answer e o) none))
+          (first_or_later step [] (Answer e o) last))
+          (Contains-append_cases r.steps (step ∷ []) (Answer e o) there)
+
+      again_by : (e : Pending) → Contains (r.steps ++ step ∷ []) (Again e) → (y : Held) × Contains (request ∷ rest) y × IsEntry y e × (fate y.entry ≡ GoesAgain)
+      again_by e there = ⊎_elim
+          (λ early. let w = r.again e early in (w.0, in_rest w.0 w.1, w.2, w.3))
+          (λ last. ⊎_elim
+          (λ (is : Again e ≡ step). let w = waits e is in (request, Contains-get_or (request ∷ rest) 0 request (omega arith), w.0, w.1))
+          (λ none. absurd (nowhere (Again e) none))
+          (first_or_later step [] (Again e) last))
+          (Contains-append_cases r.steps (step ∷ []) (Again e) there)
+
+      kept_by : (e : Pending) → Contains (r.held ++ gone) e → (y : Held) × Contains (request ∷ rest) y × IsEntry y e × (keeps_fate (fate y.entry) y.entry ≡ true)
+      kept_by e there = ⊎_elim
+          (λ late. let w = r.whose e late in (w.0, in_rest w.0 w.1, w.2, w.3))
+          (λ first. let w = its_own e first in (request, Contains-get_or (request ∷ rest) 0 request (omega arith), w.0, w.1))
+          (Contains-append_cases r.held gone e there)
+
+      two : AllPairs AreOfTwo (loans_of (r.held ++ gone))
+      two = subst (AllPairs AreOfTwo) (sym (loans_append r.held gone)) (all_pairs_append AreOfTwo (loans_of gone) (loans_of r.held) alone r.two (λ a b first late same.
+          let x = loans_in gone a first in
+          let y = loans_in r.held b late in
+          let w = r.whose y.0 y.1 in
+          differs w.0 w.1 (sym w.2.id ∙ sym (ap (λ (l : Lending). l.request) y.2) ∙ sym same ∙ ap (λ (l : Lending). l.request) x.2 ∙ (its_own x.0 x.1).0.id)))
+
+      pub decides : Tells (r.steps ++ step ∷ []) replies → MeetsInMachine port fate (request ∷ rest) replies now new k m
+      decides tells = record {
+        steps = r.steps ++ step ∷ [];
+        parked = r.parked;
+        may = laws.basic.may m r.steps (step ∷ []) (tt, comes) r.may;
+        own = All-append (DecidesOn port) r.steps (step ∷ []) r.own (All-cons (DecidesOn port) step [] of_port (All-nil (DecidesOn port)));
+        backed = λ d. laws.backed_parts d d d m (step ∷ []) r.steps (laws.backed_own d m step own) (r.backed d);
+        knows = subst (λ (n : Machine). Knows n (record k { parked = r.parked })) (sym whole_is) r.knows;
+        others = λ q ne. r.others q ne ∙ elsewhere q ne;
+        none = r.none;
+        book = subst (λ (n : Machine). IsBook new.book n.book) (sym whole_is) r.book;
+        lent = λ frame. ap (λ (n : Machine). n.lent frame) whole_is ∙ r.lent frame;
+        held = r.held ++ gone;
+        kept = ap (λ (n : Machine). n.kept) whole_is ∙ r.kept ∙ ap (λ (kept : List Pending). r.held ++ kept) keeps ∙ sym (append_assoc r.held gone m.kept);
+        loans = r.loans ∙ ap (λ (loans : List Lending). loans ++ loans_of r.held) lends ∙ append_assoc now.kept (loans_of gone) (loans_of r.held) ∙ ap (λ (loans : List Lending). now.kept ++ loans) (sym (loans_append r.held gone));
+        two = two;
+        whose = kept_by;
+        answered = answered_by;
+        again = again_by;
+        tells = tells;
+      }
+
+  -- ---- one that ends
+
+  module _ (request : Held) (rest : List Held) (now mid new : Holdings) (its later replies : List Reply) (k : Known) (m : Machine) (may : MayMeet port fate (request ∷ rest) now rows k m) (split : replies ≡ its ++ later)
+      (more : (k : Known) (m : Machine) → MayMeet port fate rest mid rows k m → MeetsInMachine port fate rest later mid new k m) (o : Outcome) (is : fate request.entry ≡ Ends o) (meets : MeetsFate request (Ends o) its now mid) where
+    abbrev x : Pending
+    x = p request rest now mid k m may
+
+    its_entry : IsEntry request x
+    its_entry = (entry request rest now mid k m may).2
+
+    comes : May m (Answer x o)
+    comes = (entry request rest now mid k m may).1
+
+    of_port : x.request.port ≡ port
+    of_port = its_entry.port ∙ its_port request rest now mid k m may
+
+    fate_is : keeps_fate (fate request.entry) request.entry ≡ keeps_loan o request.entry
+    fate_is = ap (λ (f : Fate). keeps_fate f request.entry) is
+
+    stay : stays x o ≡ keeps_loan o request.entry
+    stay = stays_is o request.entry x its_entry.issued
+
+    reply_is : reply_to request o ≡ reply_of (x, o)
+    reply_is = λ i. record { id = sym its_entry.id i; client = sym its_entry.client i; outcome = o }
+
+    reached : IsReached (after_step m (Answer x o))
+    reached = laws.basic.reached m (Answer x o ∷ []) may.reached (tt, comes)
+
+    book : IsBook mid.book (after_step m (Answer x o)).book
+    book = subst (λ (book : List Held). IsBook book (after_step m (Answer x o)).book) (sym meets.1)
+        (subst (λ (id : RequestId). IsBook (without id now.book) (after_step m (Answer x o)).book) (id_is request rest now mid k m may) (laws.answers now.book m x o may.book))
+
+    ordered : IsInOrder mid.book
+    ordered = subst IsInOrder (sym meets.1) (laws.fewer now.book request.entry.id may.ordered)
+
+    still : (e : Held) → Contains rest e → Contains mid.book e × (e.entry.port ≡ port)
+    still e there =
+        let w = may.here e (in_rest request rest now mid k m may e there) in
+        (subst (λ (book : List Held). Contains book e) (sym meets.1) ((laws.left now.book request.entry.id e).1 (w.0, differs request rest now mid k m may e there)), w.1)
+
+    -- what comes of it, once the rest met their fates
+    module _ (parked : ℕ → List RequestId) (elsewhere : (q : ℕ) → q ≢ port.0 → parked q ≡ k.parked q) (gone : List Pending) (keeps : (after_step m (Answer x o)).kept ≡ gone ++ m.kept)
+        (lends : mid.kept ≡ now.kept ++ loans_of gone) (alone : AllPairs AreOfTwo (loans_of gone)) (its_own : (e : Pending) → Contains gone e → IsEntry request e × (keeps_fate (fate request.entry) request.entry ≡ true))
+        (goes : MayMeet port fate rest mid rows (record k { parked = parked }) (after_step m (Answer x o))) where
+      r : MeetsInMachine port fate rest later mid new (record k { parked = parked }) (after_step m (Answer x o))
+      r = more (record k { parked = parked }) (after_step m (Answer x o)) goes
+
+      -- it is told first
+      first : All (IsToldBefore (x, o)) r.tells.answers
+      first = All-weaker (Contains r.tells.answers) (IsToldBefore (x, o)) (λ a there.
+          let w = r.answered a.0 a.1 (answers_there r.steps a (Contains-permutation r.tells.answers (answers_of r.steps) a r.tells.same there)) in
+          let lt = later_id request rest now mid k m may w.0 w.1 in
+          let mine = ap (λ (i : RequestId). i.0) its_entry.id in
+          let other = ap (λ (i : RequestId). i.0) w.2.id in
+          inr (of_port ∙ sym (w.2.port ∙ (may.here w.0 (in_rest request rest now mid k m may w.0 w.1)).1), omega (arith, lt, mine, other))) r.tells.answers (All-contains_itself r.tells.answers)
+
+      answers : MeetsInMachine port fate (request ∷ rest) replies now new k m
+      answers =
+          decides request rest now mid k m may (Answer x o) its later replies new split comes of_port (λ none. none) parked elsewhere gone keeps lends alone its_own
+          (λ e other same.
+          let e_is : e ≡ x = (let z : Answer e other ≡ Answer x o = same in cc) in
+          let o_is : other ≡ o = (let z : Answer e other ≡ Answer x o = same in cc) in
+          (subst (IsEntry request) (sym e_is) its_entry, is ∙ ap Ends (sym o_is)))
+          (λ e same. let z : Again e ≡ Answer x o = same in absurd cc)
+          r
+          (record {
+            answers = (x, o) ∷ r.tells.answers;
+            same = subst (IsPermutation ((x, o) ∷ r.tells.answers)) (sym (answers_append r.steps (Answer x o ∷ [])))
+                (IsPermutation-trans _ _ _ (IsPermutation-append_comm ((x, o) ∷ []) r.tells.answers) (IsPermutation-append _ _ _ _ r.tells.same (IsPermutation-refl ((x, o) ∷ []))));
+            ordered = AllPairs-cons IsToldBefore (x, o) r.tells.answers first r.tells.ordered;
+            told = split ∙ ap (λ (y : List Reply). y ++ later) meets.0 ∙ (λ i. reply_is i ∷ r.tells.told i);
+          })
+
+    by : (b : Bool) → keeps_loan o request.entry ≡ b → MeetsInMachine port fate (request ∷ rest) replies now new k m
+    by false never =
+        answers (decided k.parked port.0 request.entry.id) (λ q ne. changed_other k.parked port.0 (but request.entry.id (k.parked port.0)) q ne) []
+        (ap (λ (b : Bool). if b then x ∷ m.kept else m.kept) (stay ∙ never)) (loan.0 ∙ sym (append-nil now.kept)) (λ i j d lt below. absurd (omega (arith, lt, below))) (λ e there. absurd (nowhere e there))
+        (record {
+          reached = reached;
+          knows = laws.slots.answered_agrees k m x o (decided k.parked port.0 request.entry.id) may.reached may.knows comes (stay ∙ never) (unserved request rest now mid k m may (fate_is ∙ never)) (forgets request rest now mid k m may);
+          book = book;
+          lent = λ frame. ap (λ (b : Bool). (if b then m.lent else unlend x.request.id m.lent) frame) (stay ∙ never)
+              ∙ given_back m request x now.table mid.table may.reached (inl comes) its_entry may.lent (All-contains (IsAccepted rows now.table) now.book request may.accepted (here request rest now mid k m may)).lent loan.1 frame;
+          ordered = ordered;
+          accepted = subst (All (IsAccepted rows mid.table)) (sym meets.1) (laws.still_answered rows now.table mid.table now.book request (here request rest now mid k m may) loan.1 may.accepted);
+          here = still;
+          earlier = earlier request rest now mid k m may;
+          unserved = λ e there none. may.unserved e (in_rest request rest now mid k m may e there) none;
+          parked = left_parked request rest now mid k m may;
+        })
+      where
+        loan : EndsLoan false request now mid
+        loan = subst (λ (b : Bool). EndsLoan b request now mid) never meets.2
+    by true keeps =
+        answers k.parked (λ q ne. refl) (x ∷ [])
+        (ap (λ (b : Bool). if b then x ∷ m.kept else m.kept) (stay ∙ keeps)) (loan.0 ∙ ap (λ (l : Lending). now.kept ++ l ∷ []) loan_is) (λ i j d lt below. absurd (omega (arith, lt, below)))
+        (λ e there. ⊎_elim (λ (same : e ≡ x). (subst (IsEntry request) (sym same) its_entry, fate_is ∙ keeps)) (λ none. absurd (nowhere e none)) (first_or_later x [] e there))
+        (record {
+          reached = reached;
+          knows = laws.slots.kept_agrees k m x o may.reached may.knows comes (stay ∙ keeps);
+          book = book;
+          lent = λ frame. ap (λ (b : Bool). (if b then m.lent else unlend x.request.id m.lent) frame) (stay ∙ keeps) ∙ may.lent frame ∙ ap (λ (t : Table). lent_to t frame) (sym loan.1);
+          ordered = ordered;
+          accepted = subst (All (IsAccepted rows mid.table)) (sym meets.1) (subst (λ (t : Table). All (IsAccepted rows t) (without request.entry.id now.book)) (sym loan.1)
+              (All-weaker (Contains (without request.entry.id now.book)) (IsAccepted rows now.table) (λ e there. All-contains (IsAccepted rows now.table) now.book e may.accepted ((laws.left now.book request.entry.id e).0 there).0)
+              (without request.entry.id now.book) (All-contains_itself (without request.entry.id now.book))));
+          here = still;
+          earlier = earlier request rest now mid k m may;
+          unserved = λ e there none. may.unserved e (in_rest request rest now mid k m may e there) none;
+          parked = λ quiet id there. absurd (false≢true (sym (quiet request.entry) ∙ fate_is ∙ keeps));
+        })
+      where
+        loan : EndsLoan true request now mid
+        loan = subst (λ (b : Bool). EndsLoan b request now mid) keeps meets.2
+
+        loan_is : record { frames = request.frames; request = request.entry.id } ≡ loan_of x
+        loan_is = λ i. record { frames = sym its_entry.frames i; request = sym its_entry.id i }
+
+    pub meet_end : MeetsInMachine port fate (request ∷ rest) replies now new k m
+    meet_end = by (keeps_loan o request.entry) refl
+
+  -- ---- each fate
+
+  meet_one : (request : Held) (rest : List Held) (now mid new : Holdings) (its later replies : List Reply) (k : Known) (m : Machine) → MayMeet port fate (request ∷ rest) now rows k m → replies ≡ its ++ later
+      → ((k : Known) (m : Machine) → MayMeet port fate rest mid rows k m → MeetsInMachine port fate rest later mid new k m) → (f : Fate) → fate request.entry ≡ f → MeetsFate request f its now mid
+      → MeetsInMachine port fate (request ∷ rest) replies now new k m
+  meet_one request rest now mid new its later replies k m may split more Waits is meets = record {
+    steps = r.steps;
+    parked = r.parked;
+    may = r.may;
+    own = r.own;
+    backed = r.backed;
+    knows = r.knows;
+    others = r.others;
+    none = r.none;
+    book = r.book;
+    lent = r.lent;
+    held = r.held;
+    kept = r.kept;
+    loans = r.loans ∙ ap (λ (h : Holdings). h.kept ++ loans_of r.held) meets.1;
+    two = r.two;
+    whose = λ e here. let w = r.whose e here in (w.0, in_rest request rest now mid k m may w.0 w.1, w.2, w.3);
+    answered = λ e o here. let w = r.answered e o here in (w.0, in_rest request rest now mid k m may w.0 w.1, w.2, w.3);
+    again = λ e here. let w = r.again e here in (w.0, in_rest request rest now mid k m may w.0 w.1, w.2, w.3);
+    tells = subst (Tells r.steps) (sym (split ∙ ap (λ (x : List Reply). x ++ later) meets.0)) r.tells;
+  }
+    where
+      waiting : request.entry.issued ≡ false
+      waiting = (tame failed prospect request.entry).waits is
+
+      goes : MayMeet port fate rest now rows k m
+      goes = record {
+        reached = may.reached;
+        knows = may.knows;
+        book = may.book;
+        lent = may.lent;
+        ordered = may.ordered;
+        accepted = may.accepted;
+        here = λ e there. may.here e (in_rest request rest now mid k m may e there);
+        earlier = earlier request rest now mid k m may;
+        unserved = λ e there never. may.unserved e (in_rest request rest now mid k m may e there) never;
+        parked = λ quiet id there.
+            let w = may.parked quiet id there in
+            ⊎_elim
+            (λ (same : w.0 ≡ request). absurd (false≢true (sym waiting ∙ ap (λ (e : Held). e.entry.issued) (sym same) ∙ w.3)))
+            (λ (then_on : Contains rest w.0). (w.0, then_on, w.2, w.3))
+            (first_or_later request rest w.0 w.1);
+      }
+
+      r : MeetsInMachine port fate rest later mid new k m
+      r = more k m (subst (λ (h : Holdings). MayMeet port fate rest h rows k m) (sym meets.1) goes)
+  meet_one request rest now mid new its later replies k m may split more GoesAgain is meets =
+      decides request rest now mid k m may (Again x) its later replies new split comes of_port (λ none. none) (decided k.parked port.0 request.entry.id)
+      (λ q ne. changed_other k.parked port.0 (but request.entry.id (k.parked port.0)) q ne) [] refl
+      (ap (λ (h : Holdings). h.kept) meets.1 ∙ sym (append-nil now.kept)) (λ i j d lt below. absurd (omega (arith, lt, below))) (λ e there. absurd (nowhere e there))
+      (λ e o same. let z : Answer e o ≡ Again x = same in absurd cc)
+      (λ e same. let e_is : e ≡ x = (let z : Again e ≡ Again x = same in cc) in (subst (IsEntry request) (sym e_is) (entry request rest now mid k m may).2, is))
+      r
+      (record {
+        answers = r.tells.answers;
+        same = subst (IsPermutation r.tells.answers) (sym (answers_append r.steps (Again x ∷ []) ∙ append-nil (answers_of r.steps))) r.tells.same;
+        ordered = r.tells.ordered;
+        told = split ∙ ap (λ (y : List Reply). y ++ later) meets.0 ∙ r.tells.told;
+      })
+    where
+      x : Pending
+      x = p request rest now mid k m may
+
+      its_issue : (request.entry.issued ≡ true) × ((request.entry.issues == 4) ≡ false)
+      its_issue = (tame failed prospect request.entry).again is
+
+      few : request.entry.issues < 4
+      few =
+          let most = (All-contains (λ (e : Held). HasIssuesLeft e.entry) now.book request may.ordered.issues (here request rest now mid k m may)).0 in
+          let other = eqb-false request.entry.issues 4 its_issue.1 in omega (arith, most, other)
+
+      comes : May m (Again x)
+      comes =
+          let e = entry request rest now mid k m may in
+          (e.1, e.2.issued ∙ its_issue.0, subst (λ (n : ℕ). n < 4) (sym e.2.issues) few)
+
+      of_port : x.request.port ≡ port
+      of_port = (entry request rest now mid k m may).2.port ∙ its_port request rest now mid k m may
+
+      goes : MayMeet port fate rest (record now { book = map (at request.entry.id requeued) now.book }) rows (left_known request rest now mid k m may) (after_step m (Again x))
+      goes = record {
+        reached = laws.basic.reached m (Again x ∷ []) may.reached (tt, comes);
+        knows = laws.slots.again_agrees k m x (decided k.parked port.0 request.entry.id) may.reached may.knows comes.0 (unserved request rest now mid k m may (ap (λ (f : Fate). keeps_fate f request.entry) is)) (forgets request rest now mid k m may);
+        book = subst (λ (id : RequestId). IsBook (map (at id requeued) now.book) (after_step m (Again x)).book) (id_is request rest now mid k m may) (laws.again now.book m x may.book);
+        lent = may.lent;
+        ordered = laws.requeued now.book request.entry.id may.ordered (request, here request rest now mid k m may, refl, its_issue.0, few);
+        accepted = laws.still_requeued rows now.table now.book request.entry.id may.accepted;
+        here = λ e there.
+            let w = may.here e (in_rest request rest now mid k m may e there) in
+            (laws.others now.book request.entry.id requeued e w.0 (differs request rest now mid k m may e there), w.1);
+        earlier = earlier request rest now mid k m may;
+        unserved = λ e there never. may.unserved e (in_rest request rest now mid k m may e there) never;
+        parked = left_parked request rest now mid k m may;
+      }
+
+      r : MeetsInMachine port fate rest later mid new (left_known request rest now mid k m may) (after_step m (Again x))
+      r = more (left_known request rest now mid k m may) (after_step m (Again x)) (subst (λ (h : Holdings). MayMeet port fate rest h rows (left_known request rest now mid k m may) (after_step m (Again x))) (sym meets.1) goes)
+  meet_one request rest now mid new its later replies k m may split more (Ends o) is meets = meet_end request rest now mid new its later replies k m may split more o is meets
+
+pub meet : LawsBelow → (port : Port) (failed : Option Failed) (prospect : Prospect) (rows : List GrantRow) (requests : List Held) (replies : List Reply) (old new : Holdings) (k : Known) (m : Machine)
+    → MayMeet port (fate_of failed prospect) requests old rows k m → MeetFates (fate_of failed prospect) requests replies old new → MeetsInMachine port (fate_of failed prospect) requests replies old new k m
+meet laws port failed prospect rows [] replies old new k m may (none, is) = record {
+  steps = [];
+  parked = k.parked;
+  may = tt;
+  own = All-nil (DecidesOn port);
+  backed = λ d. laws.backed_none d m;
+  knows = may.knows;
+  others = λ q ne. refl;
+  none = λ quiet. nobody (k.parked port.0) (λ id here. let w = may.parked quiet id here in nowhere w.0 w.1);
+  book = subst (λ (h : Holdings). IsBook h.book m.book) (sym is) may.book;
+  lent = λ frame. may.lent frame ∙ ap (λ (h : Holdings). lent_to h.table frame) (sym is);
+  held = [];
+  kept = refl;
+  loans = ap (λ (h : Holdings). h.kept) is ∙ sym (append-nil old.kept);
+  two = λ i j d lt below. absurd (omega (arith, lt, below));
+  whose = λ e here. absurd (nowhere e here);
+  answered = λ e o here. absurd (nowhere (Answer e o) here);
+  again = λ e here. absurd (nowhere (Again e) here);
+  tells = record { answers = []; same = IsPermutation-refl []; ordered = λ i j d lt below. absurd (omega (arith, lt, below)); told = none };
+}
+meet laws port failed prospect rows (request ∷ rest) replies old new k m may (mid, its, later, split, meets, more) =
+    meet_one laws port failed prospect rows request rest old mid new its later replies k m may split
+    (λ n machine next. meet laws port failed prospect rows rest later mid new n machine next more)
+    (fate_of failed prospect request.entry) refl meets

@@ -1,0 +1,342 @@
+-- A turn in which a ready port is left as it was is a part of a service: what it makes of a machine.
+use Rattle.std.proofs.Common.{ℕ, ◌≡◌, ◌≢◌, ◌<◌, ◌||◌, Bool, true, false, List, [], ◌∷◌, ◌++◌, map, Some, inl, inr, refl, sym, ap, ◌∙◌, subst, ⊎_elim, append_assoc, arith, suc}
+use Rattle.std.specs.List.{All, AllPairs, AllZip, Contains, list_any}
+use Rattle.std.specs.List.Sorted.{IsPermutation}
+use Rattle.std.proofs.lemmas.Bool.{false≢true}
+use Rattle.std.proofs.lemmas.List.Elements.{All-cons, All-contains, All-contains_itself, All-map, All-nil, Contains-append_cases, Contains-append_right, Contains-get_or}
+use Rattle.std.proofs.lemmas.List.Kept.{AllPairs-cons}
+use Rattle.std.proofs.lemmas.List.{append-nil}
+use Rattle.std.proofs.lemmas.List.Sorted.{IsPermutation-append, IsPermutation-append_comm, IsPermutation-refl, IsPermutation-trans}
+use Rattle.ata_types.specs.declared.Port.{Port}
+use Rattle.ata_types.specs.declared.PortState.TheVariants.{Dead, Ready as ReadyState}
+use Rattle.ata_types.specs.declared.request.Outcome.{Outcome}
+use Rattle.ata_types.specs.declared.request.Outcome.TheVariants.{Ok, Unplugged}
+use Rattle.ata_types.specs.declared.request.Reply.{Reply}
+use Rattle.ata_types.specs.declared.request.RequestId.{RequestId}
+use Rattle.adapter.specs.declared.access.DeviceStep.{DeviceStep}
+use Rattle.adapter.specs.declared.command.Operation.TheVariants.{ReadLog}
+use Rattle.agreement.specs.Driven.{SendsNone}
+use Rattle.agreement.specs.Driver.{IsBacked}
+use Rattle.block_machine.specs.Events.{AllDevices, AllGrounded, AllLawful, AllMay, Belong, IsDevices, IsLawful, IssuesLast, IsToldBefore, Moment, Served, Service, Tells, answers_of, issues_it}
+use Rattle.block_machine.specs.Histories.{IsReached}
+use Rattle.block_machine.specs.Left.{after}
+use Rattle.block_machine.specs.Ports.{Evidence, IsServiced, Ports, SamePort}
+use Rattle.block_machine.specs.State.{Machine, Pending}
+use Rattle.block_machine.specs.Steps.{Step, Again, Answer, Issue}
+use Rattle.block_machine.specs.declared.due.Mode.{Mode}
+use Rattle.driver_history.specs.Evidence.{IsEvidencedOf}
+use Rattle.driver_history.specs.Histories.{IssuesDue}
+use Rattle.host_boot.specs.Taken.{found_of}
+use Rattle.port_look.specs.declared.Look.TheVariants.{Undisturbed as Calm}
+use Rattle.request_queue.specs.Entries.{Held, IsEarlier}
+use Rattle.slots.specs.declared.Use.{Use as SlotUse}
+use Rattle.server_history.specs.Below.{LawsBelow}
+use Rattle.server_history.specs.Served.{AnswersBy, AnswersTurn, HasEnded, HasTurn, IsAnsweredIn, IssuesOnly, SameSettings, answers_in}
+use Rattle.server_history.specs.Server.{Server, IsMachineOf, IsSettled, mode_in, ports_of, remembered_at, slots_at, state_of, used_for}
+use Rattle.server_history.specs.Turns.{InService, ServesPort, IsOfTurn, LeavesOthers, MakesTurn, NamesOnly, instant_of, moment_of}
+use Rattle.server_history.proofs.state.AnswerSteps.{answered_in, ended_stood, issuing_answers, may_parts, no_answer, no_answer_issuing, told_so, with_ok}
+use Rattle.server_history.proofs.state.TurnAccesses.{TurnList, turn_list}
+use Rattle.server_history.proofs.healthy_turn.AnswersAndIssues.{turn_apart, turn_settings, turn_slots}
+use Rattle.server_history.proofs.state.PortSlots.{ready_found}
+use Rattle.server_history.proofs.healthy_turn.TurnAsCall.{finds, never_lost, ties, unfailing}
+use Rattle.server_history.proofs.state.PairedLists.{at_right}
+use Rattle.server_history.proofs.state.CallEvidence.{no_evidence}
+use Rattle.server_history.proofs.state.FirstMembers.{nowhere}
+
+-- What such a turn adds to a machine that stands for the server.
+pub record AddsTurn (port : Port) (replies : List Reply) (old new : Server) (m : Machine) : Type 0 where
+  pub steps : List Step
+  pub may : AllMay m steps
+  pub stands : IsMachineOf new (after m steps)
+  pub backed : IsBacked old.device new.device m steps
+  pub answers : AnswersBy (mode_in old port) port replies steps
+  pub last : IssuesLast steps
+  pub issues : IssuesDue (mode_in old port) steps (after m steps) port
+
+-- ---- its steps
+
+-- the device's steps
+pub devices_all : (P : List Step → Type 0) → ((step : Step) (base : List Step) → IsDevices step → P base → P (step ∷ base)) → P [] → (steps : List Step) → AllDevices steps → P steps
+devices_all P device none [] only = none
+devices_all P device none (step ∷ steps) only = device step steps only.1 (devices_all P device none steps only.0)
+
+-- then the answers
+pub answers_all : (P : List Step → Type 0) (ended : List Pending) (early : List Step) → ((e : Pending) (base : List Step) → Contains ended e → P base → P (Answer e Ok ∷ base)) → P early → P (answers_in ended ++ early)
+answers_all P [] early answer start = start
+answers_all P (e ∷ ended) early answer start =
+    subst P (sym (append_assoc (answers_in ended) (Answer e Ok ∷ []) early))
+    (answers_all P ended (Answer e Ok ∷ early) (λ x base here. answer x base (Contains-append_right (e ∷ []) ended x here)) (answer e early (Contains-get_or (e ∷ ended) 0 e (omega arith)) start))
+
+-- then those that issue
+pub issues_all : (P : List Step → Type 0) (mode : Mode) (port : Port) → ((step : Step) (base : List Step) → IsDevices step → P base → P (step ∷ base))
+    → ((e : Pending) (base : List Step) → e.request.port ≡ port → P base → P (Issue mode e ∷ base)) → (late early : List Step) → IssuesOnly mode port late → P early → P (late ++ early)
+issues_all P mode port device issue [] early only start = start
+issues_all P mode port device issue (Issue its e ∷ late) early only start =
+    subst (λ (m : Mode). P (Issue m e ∷ (late ++ early))) (sym only.0) (issue e (late ++ early) only.1 (issues_all P mode port device issue late early only.2 start))
+issues_all P mode port device issue (step ∷ late) early only start = device step (late ++ early) only.0 (issues_all P mode port device issue late early only.1 start)
+
+-- what holds of such steps
+of_turn : (P : List Step → Type 0) (mode : Mode) (port : Port) (replies : List Reply) (steps : List Step) (b : AnswersBy mode port replies steps) → P []
+    → ((step : Step) (base : List Step) → IsDevices step → P base → P (step ∷ base)) → ((e : Pending) (base : List Step) → Contains b.ended e → P base → P (Answer e Ok ∷ base))
+    → ((e : Pending) (base : List Step) → e.request.port ≡ port → P base → P (Issue mode e ∷ base)) → P steps
+of_turn P mode port replies steps b none device answer issue =
+    subst P (sym b.steps_are) (issues_all P mode port device issue b.later (answers_in b.ended ++ b.before) b.last (answers_all P b.ended b.before answer (devices_all P device none b.before b.first)))
+
+pub device_own : (port : Port) (step : Step) → IsDevices step → IsOfTurn port step
+device_own port (Issue mode e) is = absurd is
+device_own port (Again e) is = absurd is
+device_own port (Answer e o) is = absurd is
+device_own port step is = is
+
+device_lawful : (old : Moment) (evidence : Evidence) (ports : Ports) (step : Step) (base : List Step) → IsDevices step → AllLawful old evidence ports base → AllLawful old evidence ports (step ∷ base)
+device_lawful old evidence ports (Again e) base is l = absurd is
+device_lawful old evidence ports (Answer e o) base is l = absurd is
+device_lawful old evidence ports step base is l = l
+
+pub device_grounded : (evidence : Evidence) (step : Step) (base : List Step) → IsDevices step → AllGrounded evidence base → AllGrounded evidence (step ∷ base)
+device_grounded evidence (Again e) base is g = absurd is
+device_grounded evidence (Answer e o) base is g = absurd is
+device_grounded evidence step base is g = g
+
+-- steps that issue nothing
+pub none_last : (steps : List Step) → ((id : RequestId) → list_any (issues_it id) steps ≡ false) → IssuesLast steps
+none_last [] none = tt
+none_last (step ∷ steps) none = (none_last steps rest, λ id h i. false≢true (sym (rest id) ∙ i))
+  where
+    right : (a b : Bool) → (a || b) ≡ false → b ≡ false
+    right true b is = absurd (false≢true (sym is))
+    right false b is = is
+
+    rest : (id : RequestId) → list_any (issues_it id) steps ≡ false
+    rest id = right (issues_it id step) (list_any (issues_it id) steps) (none id)
+
+-- ---- what it tells
+
+pub devices_answers : (steps : List Step) → AllDevices steps → answers_of steps ≡ []
+devices_answers [] only = refl
+devices_answers (Answer e o ∷ steps) only = absurd only.1
+devices_answers (step ∷ steps) only = devices_answers steps only.0
+
+pub answered_permuted : (ended : List Pending) (early : List Step) → IsPermutation (map with_ok ended ++ answers_of early) (answers_of (answers_in ended ++ early))
+answered_permuted [] early = IsPermutation-refl (answers_of early)
+answered_permuted (e ∷ ended) early =
+    subst (λ (steps : List Step). IsPermutation (with_ok e ∷ (map with_ok ended ++ answers_of early)) (answers_of steps)) (sym (append_assoc (answers_in ended) (Answer e Ok ∷ []) early))
+    (IsPermutation-trans _ _ _ moved (answered_permuted ended (Answer e Ok ∷ early)))
+  where
+    moved : IsPermutation (with_ok e ∷ (map with_ok ended ++ answers_of early)) (map with_ok ended ++ with_ok e ∷ answers_of early)
+    moved = subst (IsPermutation (with_ok e ∷ (map with_ok ended ++ answers_of early))) (append_assoc (map with_ok ended) (with_ok e ∷ []) (answers_of early))
+        (IsPermutation-append _ _ _ _ (IsPermutation-append_comm (with_ok e ∷ []) (map with_ok ended)) (IsPermutation-refl (answers_of early)))
+
+rest_ordered : {X : Type 0} (R : X → X → Type 0) (x : X) (xs : List X) → AllPairs R (x ∷ xs) → AllPairs R xs
+rest_ordered R x xs order i j d lt below = order (suc i) (suc j) d (omega (arith, lt)) (omega (arith, below))
+
+first_ordered : {X : Type 0} (R : X → X → Type 0) (x : X) (xs : List X) → AllPairs R (x ∷ xs) → All (R x) xs
+first_ordered R x xs order i d small = order 0 (suc i) d (omega arith) (omega (arith, small))
+
+pub told_ordered : (port : Port) (requests : List Held) (ended : List Pending) → AllZip (HasEnded port) requests ended → AllPairs IsEarlier requests → AllPairs IsToldBefore (map with_ok ended)
+told_ordered port requests [] each order = λ i j d lt below. absurd (omega (arith, lt, below))
+told_ordered port [] (p ∷ ended) each order = absurd each
+told_ordered port (e ∷ requests) (p ∷ ended) each order =
+    AllPairs-cons IsToldBefore (with_ok p) (map with_ok ended) (All-map (IsToldBefore (with_ok p)) with_ok ended first) (told_ordered port requests ended each.1 (rest_ordered IsEarlier e requests order))
+  where
+    first : All (λ q. IsToldBefore (with_ok p) (with_ok q)) ended
+    first k d small =
+        let x = at_right (HasEnded port) requests ended each.1 _ (All-contains_itself ended k d small) in
+        let lt : e.entry.id.0 < x.0.entry.id.0 = All-contains (IsEarlier e) requests x.0 (first_ordered IsEarlier e requests order) x.1 in
+        let a = ap (λ (i : RequestId). i.0) each.0.entry.id in
+        let b = ap (λ (i : RequestId). i.0) x.2.entry.id in
+        inr (each.0.entry.port ∙ each.0.port_is ∙ sym (x.2.entry.port ∙ x.2.port_is), omega (arith, lt, a, b))
+
+-- ---- the whole
+
+module _ (laws : LawsBelow) (port : Port) (replies : List Reply) (old new : Server) (t : IsSettled old) (ready : state_of (found_of old.ports port.0) ≡ ReadyState)
+    (turn : HasTurn port (slots_at old.slots port.0) replies old.device new.device) (told : AnswersTurn port replies old new turn) where
+  low : port.0 < 4
+  low = (ready_found old port.0 t.kept ready).0
+
+  same : SameSettings old new
+  same = turn_settings laws port replies old new turn told
+
+  ports_same : ports_of new ≡ ports_of old
+  ports_same = ap (λ (n : Server). ports_of n) same
+
+  list : TurnList port (slots_at old.slots port.0) replies old.device new.device turn
+  list = turn_list port laws low (slots_at old.slots port.0) replies old.device new.device turn
+
+  -- no trouble is named
+  abbrev its : Evidence
+  its = no_evidence
+
+  others : LeavesOthers port old new
+  others = record {
+    grants = ap (λ (n : Server). n.grants) same;
+    wanted = ap (λ (n : Server). n.wanted) same;
+    last = ap (λ (n : Server). n.last) same;
+    found = λ q ne. ap (λ (n : Server). found_of n.ports q) same;
+    remembered = λ q ne. ap (λ (n : Server). remembered_at n.remembered q) same;
+    modes = λ q ne. ap (λ (n : Server). mode_in n (record { 0 = q })) same;
+    slots = λ q ne. turn_slots laws port replies old new turn told q ne;
+    book = λ q ne. turn_apart laws port replies old new turn t.kept.ordered told q ne;
+  }
+
+  port_same : SamePort (ports_of old) (ports_of new) port
+  port_same = subst (λ (ports : Ports). SamePort (ports_of old) ports port) (sym ports_same) (refl, refl, refl, refl, refl, refl)
+
+  mode_same : mode_in new port ≡ mode_in old port
+  mode_same = ap (λ (n : Server). mode_in n port) same
+
+  names : NamesOnly port its
+  names = record {
+    lost = All-nil (λ q. q ≡ port);
+    gone = All-nil (λ q. q ≡ port);
+    failed = All-nil (λ q. q ≡ port);
+    fatal = All-nil (λ q. q ≡ port);
+    stopped = All-nil (λ q. q ≡ port);
+    stuck = All-nil (λ q. q ≡ port);
+  }
+
+  module _ (m : Machine) (reached : IsReached m) (is : IsMachineOf old m) (x : AddsTurn port replies old new m)
+      (answered : turn.look ≡ Calm → (slot : ℕ) (used : SlotUse) → slot < 32 → used_for old.slots port.0 slot ≡ Some used
+      → (old.device.port port.0).ci slot ≡ false → (old.device.port port.0).sact slot ≡ false → IsAnsweredIn used.id replies) where
+    abbrev mode : Mode
+    mode = mode_in old port
+
+    abbrev b : AnswersBy mode port replies x.steps
+    b = x.answers
+
+    abbrev began : Moment
+    began = moment_of old m
+
+    -- what holds of its steps
+    all_steps : (P : List Step → Type 0) → P [] → ((step : Step) (base : List Step) → IsDevices step → P base → P (step ∷ base)) → ((e : Pending) (base : List Step) → Contains b.ended e → P base → P (Answer e Ok ∷ base))
+        → ((e : Pending) (base : List Step) → e.request.port ≡ port → P base → P (Issue mode e ∷ base)) → P x.steps
+    all_steps P none device answer issue = of_turn P mode port replies x.steps b none device answer issue
+
+    ended_by : (e : Pending) → Contains b.ended e → (request : Held) × Contains b.requests request × HasEnded port request e
+    ended_by e here = at_right (HasEnded port) b.requests b.ended b.each e here
+
+    ended_port : (e : Pending) → Contains b.ended e → e.request.port ≡ port
+    ended_port e here = let y = ended_by e here in y.2.entry.port ∙ y.2.port_is
+
+    own : All (IsOfTurn port) x.steps
+    own = all_steps (All (IsOfTurn port)) (All-nil (IsOfTurn port))
+        (λ step base device rest. All-cons (IsOfTurn port) step base (device_own port step device) rest)
+        (λ e base here rest. All-cons (IsOfTurn port) (Answer e Ok) base (ended_port e here) rest)
+        (λ e base its_port rest. All-cons (IsOfTurn port) (Issue mode e) base its_port rest)
+
+    belong : Belong {D = DeviceStep} Service (ports_of new) x.steps
+    belong = all_steps (Belong {D = DeviceStep} Service (ports_of new)) tt
+        (λ step base device rest. (rest, inl device))
+        (λ e base here rest. (rest, inr tt))
+        (λ e base its_port rest. (rest, inr (ap (ports_of new).state its_port ∙ port_same.1 ∙ ready, ap (ports_of new).mode its_port ∙ mode_same)))
+
+    early_may : AllMay m b.before × AllMay (after m b.before) (answers_in b.ended)
+    early_may = may_parts laws m (answers_in b.ended) b.before (may_parts laws m b.later (answers_in b.ended ++ b.before) (subst (AllMay m) b.steps_are x.may)).0
+
+    -- who is answered was issued when the turn began, and has ended
+    ok_lawful : (e : Pending) → Contains b.ended e → IsLawful began its (ports_of new) e Ok
+    ok_lawful e here =
+        let y = ended_by e here in
+        let l = laws.basic.found_before m.book (after m b.before).book e (laws.basic.spares m b.before b.first).book (ended_stood laws (after m b.before) b.ended early_may.1 e here) in
+        (record { pending = l.0; here = l.1; id_is = ap (λ r. r.id) (sym l.2.request); issued = sym l.2.issued ∙ y.2.issued }, y.2.issued, y.2.touched, y.2.ended)
+
+    lawful : AllLawful began its (ports_of new) x.steps
+    lawful = all_steps (AllLawful began its (ports_of new)) tt (device_lawful began its (ports_of new)) (λ e base here rest. (rest, ok_lawful e here)) (λ e base its_port rest. rest)
+
+    grounded : AllGrounded its x.steps
+    grounded = all_steps (AllGrounded its) tt (device_grounded its) (λ e base here rest. rest) (λ e base its_port rest. rest)
+
+    -- each answer is one of these
+    only_ok : (e : Pending) (o : Outcome) → Contains x.steps (Answer e o) → Contains b.ended e × (o ≡ Ok)
+    only_ok e o here = ⊎_elim
+        (λ later. absurd (no_answer_issuing mode port b.later b.last e o later))
+        (λ rest. ⊎_elim (answered_in b.ended e o) (λ early. absurd (no_answer b.before b.first e o early)) (Contains-append_cases (answers_in b.ended) b.before (Answer e o) rest))
+        (Contains-append_cases b.later (answers_in b.ended ++ b.before) (Answer e o) (subst (λ (steps : List Step). Contains steps (Answer e o)) b.steps_are here))
+
+    never_unplugged : (e : Pending) → Contains x.steps (Answer e Unplugged) → ⊥
+    never_unplugged e here = let z : Unplugged ≡ Ok = (only_ok e Unplugged here).1 in absurd cc
+
+    answers_are : answers_of x.steps ≡ answers_of (answers_in b.ended ++ b.before)
+    answers_are = ap answers_of b.steps_are ∙ issuing_answers mode port b.later (answers_in b.ended ++ b.before) b.last
+
+    tells : Tells x.steps replies
+    tells = record {
+      answers = map with_ok b.ended;
+      same = subst (IsPermutation (map with_ok b.ended)) (sym answers_are)
+          (subst (λ (list : List (Pending × Outcome)). IsPermutation list (answers_of (answers_in b.ended ++ b.before))) (ap (λ (none : List (Pending × Outcome)). map with_ok b.ended ++ none) (devices_answers b.before b.first) ∙ append-nil (map with_ok b.ended))
+          (answered_permuted b.ended b.before));
+      ordered = told_ordered port b.requests b.ended b.each b.ordered;
+      told = b.told ∙ told_so port b.requests b.ended b.each;
+    }
+
+    becomes : IsServiced (ports_of old) its (ports_of new) port
+    becomes = (
+      λ dead. port_same,
+      λ lives. (
+        record {
+          served = port_same.0;
+          stuck = λ dead. absurd (lives (sym port_same.1 ∙ dead));
+          dies = λ stuck. absurd (nowhere port stuck);
+          keeps = λ _. (port_same.2, port_same.3);
+        },
+        inl port_same,
+      ),
+    )
+
+    -- no trouble was shown
+    evidenced : IsEvidencedOf Service (Served replies) list.driven.accesses (instant_of old m) (ports_of new) new.device its port
+    evidenced = record {
+      lost = λ here. absurd (nowhere port here);
+      gone_all = λ _ loss. absurd (never_lost laws port replies old new t ready turn list port_same m reached is x.steps x.may b answered loss);
+      gone_only = λ here. absurd (nowhere port here);
+      failed_all = λ _ failure. absurd (unfailing laws port replies old new t ready turn list port_same m reached is x.steps x.may b answered failure);
+      failed_only = λ here. absurd (nowhere port here);
+      fatal_all = λ _ fatal. absurd (unfailing laws port replies old new t ready turn list port_same m reached is x.steps x.may b answered (inl fatal));
+      fatal_only = λ here. absurd (nowhere port here);
+      stopped_all = inl list.leaves;
+      stopped_only = λ here. absurd (nowhere port here);
+      stuck_only = λ here. absurd (nowhere port here);
+    }
+
+    makes : MakesTurn InService port replies list.driven.accesses old new m
+    makes = record {
+      steps = x.steps;
+      evidence = its;
+      may = x.may;
+      stands = x.stands;
+      backed = x.backed;
+      own = own;
+      belong = belong;
+      last = x.last;
+      names = names;
+      lawful = lawful;
+      owes = grounded;
+      tells = tells;
+      unplugs = record { emptied = λ e other here. absurd (never_unplugged e here); alike = λ e other here. absurd (never_unplugged e here) };
+      becomes = becomes;
+      disk = inl port_same;
+      keeps = inl (port_same.2, port_same.3);
+      issues = λ _. subst (λ (kind : Mode). IssuesDue kind x.steps (after m x.steps) port) (sym mode_same) x.issues;
+      evidenced = evidenced;
+      faults = λ told here. absurd (nowhere told here);
+      ties = ties laws port replies old new t ready turn list port_same m reached is x.steps x.may b answered x.backed;
+      finds = λ _. finds laws port replies old new t ready turn list port_same m reached is x.steps x.may b answered;
+    }
+
+  module _ (adds : (m : Machine) → IsReached m → IsMachineOf old m → AddsTurn port replies old new m)
+      (answered : turn.look ≡ Calm → (slot : ℕ) (used : SlotUse) → slot < 32 → used_for old.slots port.0 slot ≡ Some used
+      → (old.device.port port.0).ci slot ≡ false → (old.device.port port.0).sact slot ≡ false → IsAnsweredIn used.id replies)
+      (silent : (q : ℕ) → state_of (found_of old.ports q) ≢ Dead → SendsNone q ReadLog old.device new.device) where
+    pub serves : ServesPort port replies old new
+    serves = record {
+      does = inl (turn, told);
+      part = record {
+        accesses = list.driven.accesses;
+        does = list.driven.all;
+        of = list.of;
+        own = list.own;
+        others = others;
+        silent = λ q other lives. silent q lives;
+        makes = λ m reached is. makes m reached is (adds m reached is) answered;
+      };
+    }

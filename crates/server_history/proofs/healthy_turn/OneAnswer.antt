@@ -1,0 +1,214 @@
+-- The request of a ready port's slot, whose command is over, is answered.
+use Rattle.std.proofs.Common.{ℕ, ◌≡◌, ◌<◌, ◌≤◌, ◌==◌, Bool, true, false, cond, List, [], ◌∷◌, length, get_or, Option, Some, None, inl, refl, sym, ap, ◌∙◌, subst, ⊎_elim, arith, eqb-true, eq-eqb}
+use Rattle.std.specs.List.{All, Contains}
+use Rattle.std.proofs.lemmas.Bool.{cond-true, false≢true}
+use Rattle.std.proofs.lemmas.List.{get_or_default}
+use Rattle.std.proofs.lemmas.List.Elements.{All-contains}
+use Rattle.ata_types.specs.declared.Port.{Port}
+use Rattle.ata_types.specs.declared.PortState.TheVariants.{Ready as ReadyState}
+use Rattle.ata_types.specs.declared.request.ClientId.{ClientId}
+use Rattle.ata_types.specs.declared.request.Frame.{Frame}
+use Rattle.ata_types.specs.declared.request.Outcome.TheVariants as outcome
+use Rattle.ata_types.specs.declared.request.RequestId.{RequestId}
+use Rattle.adapter.specs.Device.{Device}
+use Rattle.adapter.proofs.Changed.{changed_each}
+use Rattle.block_machine.specs.Histories.{IsReached}
+use Rattle.block_machine.specs.State.{Machine, Pending}
+use Rattle.block_machine.specs.Steps.{Answer, IsLiving, after_step, is_lent_to, unlend}
+use Rattle.block_machine.proofs.Lending.{lent_own}
+use Rattle.server_history.proofs.state.ListMembers.{contains_cases}
+use Rattle.agreement.specs.Driven.{known}
+use Rattle.agreement.specs.Driver.{Forgets, HasNoSlot, Known, parking}
+use Rattle.agreement.specs.Slots.{Free, Serves, Uses, put, IsDropped, IsEnded, IsOver, ServesRequest}
+use Rattle.agreement.proofs.device.AdapterOverAccesses.{same_refl}
+use Rattle.dma_frames.specs.Table.{Table, lent_to, LendsOnly}
+use Rattle.host_boot.specs.Taken.{found_of}
+use Rattle.request_queue.specs.Entries.{Held, IsAccepted, without}
+use Rattle.request_queue.specs.Machine.{IsBook, IsEntry}
+use Rattle.server_history.specs.Served.{AnswersOne, HasEnded}
+use Rattle.server_history.specs.Server.{Server, IsKept, IsMachineOf, mode_at, slots_at, state_of, usable_of, with_slot, used_for}
+use Rattle.server_history.specs.Below.{LawsBelow}
+use Rattle.server_history.proofs.state.HistorySteps.{kept_then}
+use Rattle.server_history.proofs.state.PlacedSlots.{freed_was, placed_four, placed_has, placed_uses}
+use Rattle.server_history.proofs.state.PortSlots.{IsServedBy, its_mode, used_low, used_or_not, ready_found, served_request, serves_used, stage_over, usable_ready}
+
+-- ---- loans
+
+-- the frames of the request given back, in the machine and in the table
+pub given_back : (m : Machine) (e : Held) (x : Pending) (old new : Table) → IsReached m → IsLiving m x → IsEntry e x → ((f : Frame) → m.lent f ≡ lent_to old f)
+    → All (λ f. lent_to old f ≡ Some e.entry.id) e.frames → LendsOnly old new e.frames None → (f : Frame) → unlend x.request.id m.lent f ≡ lent_to new f
+given_back m e x old new reached lives entry same lent lends f = by (m.lent f) refl
+  where
+    -- the frame is another's, or nobody's
+    left : (o : Option RequestId) → m.lent f ≡ o → (Some e.entry.id ≡ o → ⊥) → lent_to new f ≡ o
+    left o is ne = lends.others f (λ there. ne (sym (All-contains (λ (y : Frame). lent_to old y ≡ Some e.entry.id) e.frames f lent there) ∙ sym (same f) ∙ is)) ∙ sym (same f) ∙ is
+
+    seen : (o : Option RequestId) → m.lent f ≡ o → unlend x.request.id m.lent f ≡ cond (is_lent_to x.request.id o) None o
+    seen o is = ap (λ (y : Option RequestId). cond (is_lent_to x.request.id y) None y) is
+
+    by : (o : Option RequestId) → m.lent f ≡ o → unlend x.request.id m.lent f ≡ lent_to new f
+    by None is = seen None is ∙ sym (left None is (λ q. let z : Some e.entry.id ≡ None = q in cc))
+    by (Some o) is = held (o.0 == x.request.id.0) refl
+      where
+        held : (b : Bool) → (o.0 == x.request.id.0) ≡ b → unlend x.request.id m.lent f ≡ lent_to new f
+        held true q =
+            let mine : o ≡ x.request.id = ap (λ n. record { 0 = n }) (eqb-true o.0 x.request.id.0 q) in
+            let place = lent_own m f x reached lives (is ∙ ap Some mine) in
+            let there : Contains x.request.asked.frames.items f = (place.0, place.1, get_or_default x.request.asked.frames.items place.0 f _ place.1 ∙ place.2) in
+            seen (Some o) is ∙ cond-true (o.0 == x.request.id.0) None (Some o) q
+            ∙ sym (All-contains (λ (y : Frame). lent_to new y ≡ None) e.frames f lends.these (subst (λ (fs : List Frame). Contains fs f) entry.frames there))
+        held false q =
+            seen (Some o) is ∙ ap (λ (b : Bool). cond b None (Some o)) q
+            ∙ sym (left (Some o) is (λ z. let w : e.entry.id ≡ o = (let v : Some e.entry.id ≡ Some o = z in cc) in
+            false≢true (sym q ∙ eq-eqb o.0 x.request.id.0 (ap (λ (i : RequestId). i.0) (sym w ∙ sym entry.id)))))
+
+-- what is parked last is forgotten
+forgets_one : (uses : Uses) (parked : ℕ → List RequestId) (d : Device) (port slot : ℕ) (id : RequestId) → Forgets id (parking (known uses parked d) port slot id).parked parked
+forgets_one uses parked d port slot id =
+    changed_each parked port (id ∷ parked port) (λ q ids. (other : RequestId) → Contains ids other → (other ≡ id → ⊥) → Contains (parked q) other)
+    (λ other here ne. ⊎_elim (λ same. absurd (ne same)) (λ there. there) (contains_cases id (parked port) other here))
+    (λ q other here ne. here)
+
+-- ---- it is answered
+
+-- Its request is answered, by a machine's step, after which the machine stands for the new server.
+pub record IsAnswer (port : Port) (request : Held) (old new : Server) (m : Machine) : Type 0 where
+  pub done : Pending
+  pub here : Contains m.book done
+  pub has : HasEnded port request done
+  pub stands : IsMachineOf new (after_step m (Answer done outcome.Ok))
+
+module _ (laws : LawsBelow) (s new : Server) (port : Port) (e : Held) (k : IsKept s) (ready : state_of (found_of s.ports port.0) ≡ ReadyState)
+    (one : AnswersOne port e s new) (over : IsOver (s.device.port port.0) one.slot) where
+  abbrev id : RequestId
+  id = e.entry.id
+
+  abbrev slot : ℕ
+  slot = one.slot
+
+  -- the server then
+  abbrev left : Server
+  left = record s { table = new.table; slots = with_slot s.slots port.0 slot None; book = without e.entry.id s.book }
+
+  low : port.0 < 4
+  low = (ready_found s port.0 k ready).0
+
+  started : (s.device.port port.0).st ≡ true
+  started = ((k.behind port.0 low).runs ready).st
+
+  was_accepted : IsAccepted s.grants s.table e
+  was_accepted = All-contains (IsAccepted s.grants s.table) s.book e k.accepted one.here
+
+  module _ (m : Machine) (reached : IsReached m) (is : IsMachineOf s m) where
+    serves : is.uses port.0 slot ≡ Serves id
+    serves = serves_used s m port.0 is ready slot one.used one.served ∙ ap Serves one.id_is
+
+    abbrev r : IsServedBy s m port.0 slot id
+    r = served_request s m port.0 slot is ready id serves
+
+    abbrev x : ServesRequest m s.device.memory (s.device.port port.0) port.0 slot id
+    x = r.serves
+
+    abbrev done : Pending
+    done = x.pending
+
+    -- it has ended, since the port runs
+    ended : IsEnded (s.device.port port.0) slot done
+    ended = ⊎_elim
+        (λ (y : IsEnded (s.device.port port.0) slot done). y)
+        (λ (d : IsDropped (s.device.port port.0) slot done). absurd (false≢true (sym d.stopped ∙ started)))
+        (stage_over s.device.memory (s.device.port port.0) port.0 slot done x.command x.places x.stage over)
+
+    same : r.request ≡ e
+    same = laws.one s.book r.request e k.ordered r.there one.here r.id_is
+
+    entry : IsEntry e done
+    entry = subst (λ (y : Held). IsEntry y done) same r.entry
+
+    abbrev answered : Machine
+    answered = after_step m (Answer done outcome.Ok)
+
+    abbrev taken : Known
+    taken = parking (known is.uses is.parked s.device) port.0 slot id
+
+    no_slot : HasNoSlot taken.uses done.request.id
+    no_slot = subst (HasNoSlot taken.uses) (sym x.id_is) (laws.slots.parked_frees (known is.uses is.parked s.device) port.0 slot id is.knows.agrees.apart serves)
+
+    forgets : Forgets done.request.id taken.parked is.parked
+    forgets = subst (λ (i : RequestId). Forgets i taken.parked is.parked) (sym x.id_is) (forgets_one is.uses is.parked s.device port.0 slot id)
+
+    stands : IsMachineOf left answered
+    stands = record {
+      uses = put is.uses port.0 slot Free;
+      used = placed_uses s.slots port.0 slot None (let l = low in let f = k.four in omega (arith, l, f)) (let h = (k.slots port.0 low).places in let small = one.small in omega (arith, h, small)) s.ports is.uses is.used;
+      parked = is.parked;
+      unparked = is.unparked;
+      knows = laws.slots.answered_agrees taken m done outcome.Ok is.parked reached (laws.slots.parked_agrees (known is.uses is.parked s.device) m is.knows port.0 slot over id serves) r.here refl no_slot forgets;
+      book = subst (λ (i : RequestId). IsBook (without i s.book) answered.book) x.id_is (laws.answers s.book m done outcome.Ok is.book);
+      kept = is.kept;
+      rows = is.rows;
+      owner = λ f. is.owner f ∙ sym (ap (λ (owners : List (Option ClientId)). get_or owners f.0 None) one.lent.owners);
+      lent = given_back m e done s.table new.table reached (inl r.here) entry is.lent was_accepted.lent one.lent;
+      next = is.next;
+    }
+
+    pub answer_one : IsAnswer port e s new m
+    answer_one = record {
+      done = done;
+      here = r.here;
+      has = record {
+        port_is = ap (λ (n : ℕ). record { 0 = n }) (ap (λ (y : Held). y.entry.port.0) (sym same) ∙ r.port_is);
+        entry = entry;
+        issued = r.issued;
+        ended = ended.ended;
+        touched = ended.touched;
+      };
+      stands = subst (λ (n : Server). IsMachineOf n answered) (sym one.server) stands;
+    }
+
+  -- ---- what the server keeps
+
+  -- what holds of each that is left
+  left_each : (P : Held → Type 0) → All P s.book → All P (without id s.book)
+  left_each P all i d small =
+      let y : Held = get_or (without id s.book) i d in
+      All-contains P s.book y all ((laws.left s.book id y).0 (i, small, get_or_default (without id s.book) i y d small)).0
+
+  pub answer_kept : IsKept new
+  answer_kept =
+      let a = answer_one k.machine k.reached k.stands in
+      subst IsKept (sym one.server)
+      (kept_then s s.device new.table (with_slot s.slots port.0 slot None) (without id s.book) s.last k
+      k.on (same_refl s.device) k.behind one.lent.owners
+      (placed_four s.ports s.modes s.slots port.0 slot None k.four low slot_low few k.slots)
+      (placed_has s.ports s.modes s.slots port.0 slot None k.four low slot_low few k.slots)
+      (λ q n used h is there same. k.kinds q n used h (freed_was s.slots port.0 slot in_list in_places q.0 n used is) ((laws.left s.book id h).0 there).0 same)
+      (λ q n used is. k.commands q n used (freed_was s.slots port.0 slot in_list in_places q n used is))
+      (λ q n used is plain.
+      let a = k.alone q n used (freed_was s.slots port.0 slot in_list in_places q n used is) plain in
+      (a.0, λ other ne. still_none q other (a.1 other ne)))
+      (laws.still_answered s.grants s.table new.table s.book e one.here one.lent k.accepted)
+      (laws.fewer s.book id k.ordered)
+      (left_each (λ y. y.entry.id.0 ≤ s.last) k.handed_out)
+      (left_each (λ y. state_of (found_of s.ports y.entry.port.0) ≡ ReadyState) k.ready)
+      (after_step k.machine (Answer a.done outcome.Ok)) (laws.basic.reached k.machine (Answer a.done outcome.Ok ∷ []) k.reached (tt, a.here))
+      (subst (λ (n : Server). IsMachineOf n (after_step k.machine (Answer a.done outcome.Ok))) one.server a.stands))
+    where
+      slot_low : slot < usable_of (found_of s.ports port.0) (mode_at s.modes port.0)
+      slot_low = used_low s port.0 slot one.used k low one.served
+
+      in_list : port.0 < length s.slots
+      in_list = let f = k.four in let l = low in omega (arith, f, l)
+
+      in_places : slot < length (slots_at s.slots port.0).places
+      in_places = let p = (k.slots port.0 low).places in let t = one.small in omega (arith, p, t)
+
+      -- what wasn't used isn't now
+      still_none : (q n : ℕ) → used_for s.slots q n ≡ None → used_for (with_slot s.slots port.0 slot None) q n ≡ None
+      still_none q n none = ⊎_elim
+          (λ x. let z : None ≡ Some x.0 = sym none ∙ freed_was s.slots port.0 slot in_list in_places q n x.0 x.1 in absurd cc)
+          (λ free. free)
+          (used_or_not (used_for (with_slot s.slots port.0 slot None) q n))
+
+      few : usable_of (found_of s.ports port.0) (mode_at s.modes port.0) ≤ 32
+      few = let u = usable_ready s port.0 k ready in let f = (its_mode s port.0 k (ready_found s port.0 k ready).0).0.1 in omega (arith, u, f)

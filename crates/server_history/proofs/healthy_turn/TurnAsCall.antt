@@ -1,0 +1,318 @@
+-- A turn in which a ready port is left as it was: what it has done of the port, as a call of its own.
+use Rattle.std.proofs.Common.{◌&&◌, ℕ, ◌≡◌, ◌≢◌, ◌⊎◌, ◌<◌, not, Bool, true, false, List, [], ◌∷◌, ◌++◌, Some, None, refl, sym, ap, ◌∙◌, subst, inl, inr, ⊎_elim, arith}
+use Rattle.std.specs.List.{Contains, list_any}
+use Rattle.std.specs.Prelude.{◌↔◌}
+use Rattle.std.proofs.lemmas.Bool.{and_from, and_parts, cases_eq, false≢true}
+use Rattle.std.proofs.lemmas.List.Elements.{All-contains_itself, All-head, Contains-append_cases, Contains-append_left, Contains-append_right}
+use Rattle.ata_types.specs.declared.Port.{Port}
+use Rattle.ata_types.specs.declared.PortState.TheVariants.{Absent, Foreign, Ready as ReadyState, Unfit}
+use Rattle.ata_types.specs.declared.request.Outcome.{Outcome}
+use Rattle.ata_types.specs.declared.request.Outcome.TheVariants.{DeviceError, Ok}
+use Rattle.ata_types.specs.declared.request.Reply.{Reply}
+use Rattle.ata_types.specs.declared.request.RequestId.{RequestId}
+use Rattle.hba_regs.specs.Bits.{bit}
+use Rattle.hba_regs.specs.declared.reg.Reg.TheVariants.{Px}
+use Rattle.hba_regs.specs.declared.reg.PortReg.TheVariants.{Ci, Sact}
+use Rattle.adapter.specs.Access.{Reads}
+use Rattle.adapter.specs.Device.{Device}
+use Rattle.agreement.specs.Driven.{Grows, IsDrivenBy}
+use Rattle.agreement.specs.Driver.{IsBacked}
+use Rattle.agreement.specs.Slots.{IsFree, IsServed, Serves, ServesRequest, Stage, Use}
+use Rattle.block_machine.specs.Events.{AllMay, AnswersEnded, ServesReady, changes_disk, tells_fault}
+use Rattle.block_machine.specs.Histories.{IsReached}
+use Rattle.block_machine.specs.Left.{after}
+use Rattle.block_machine.specs.Ports.{Evidence, IsInterrupted, SamePort}
+use Rattle.block_machine.specs.State.{Pending, Machine}
+use Rattle.block_machine.specs.Steps.{Step, Answer}
+use Rattle.block_machine.specs.declared.due.Mode.{Mode}
+use Rattle.block_machine.proofs.Calm.{counts_none}
+use Rattle.server_history.proofs.state.ListMembers.{into_map, map_in}
+use Rattle.driver_history.specs.Evidence.{ShowsFailure, ShowsLoss}
+use Rattle.driver_history.specs.Histories.{FindsDone, IsUnfitOrForeign, IsAnsweredOk, IsIssuedOn}
+use Rattle.driver_history.specs.Trace.{ReadsMasks}
+use Rattle.host_boot.specs.Taken.{found_of}
+use Rattle.port_look.specs.Looks.{IsLooking}
+use Rattle.port_look.specs.declared.Look.TheVariants.{Lost, Undisturbed as Calm}
+use Rattle.slots.specs.declared.Use.{Use as SlotUse}
+use Rattle.server_history.specs.Below.{LawsBelow}
+use Rattle.server_history.specs.Served.{AnswersBy, Checks, HasEnded, HasTurn, IsAnsweredIn, IsMaskOf, answers_in, done_reply, is_used}
+use Rattle.server_history.proofs.any_turn.UnusedSlotBits.{unused_clear}
+use Rattle.server_history.specs.Turns.{FindsTurn, InService, TiesTurn, instant_of, moment_of}
+use Rattle.server_history.specs.Server.{Server, IsKept, IsMachineOf, IsSettled, mode_in, ports_of, slots_at, state_of, used_for}
+use Rattle.server_history.proofs.state.AnswerSteps.{answered_in, ended_stood, in_answered, may_parts, no_answer, no_answer_issuing}
+use Rattle.server_history.proofs.state.TurnAccesses.{TurnList, look_does, look_list}
+use Rattle.server_history.proofs.any_turn.ToldTrouble.{no_change, not_missing}
+use Rattle.server_history.proofs.any_turn.HeededTrouble.{later_driven, never_failed, trouble_shown}
+use Rattle.server_history.proofs.plain_calls.Looks.{both_clear}
+use Rattle.server_history.proofs.state.TransferAccesses.{both_read}
+use Rattle.server_history.proofs.state.SlotCommands.{one_said}
+use Rattle.server_history.proofs.state.PortSlots.{HasSlot, free_unused, issued_has, not_true, ready_found, serves_used, still_booked, used_or_not}
+use Rattle.server_history.proofs.any_turn.ShownDevice.{had_disk, shows_device}
+use Rattle.server_history.proofs.state.CallEvidence.{no_evidence}
+use Rattle.server_history.proofs.any_turn.ShownTrouble.{grows_over}
+use Rattle.server_history.proofs.state.PairedLists.{at_left, at_right}
+use Rattle.server_history.proofs.state.FirstMembers.{nowhere}
+
+-- where each of the port's requests is answered Ok, no fault of it is told
+tells_none : (q : Port) (steps : List Step) → ((e : Pending) (o : Outcome) → Contains steps (Answer e o) → o ≡ Ok) → list_any (tells_fault q) steps ≡ false
+tells_none q [] told = refl
+tells_none q (Answer e (DeviceError status error) ∷ steps) told =
+    absurd (let z : DeviceError status error ≡ Ok = told e (DeviceError status error) (All-head (Contains (Answer e (DeviceError status error) ∷ steps)) (Answer e (DeviceError status error)) steps (All-contains_itself (Answer e (DeviceError status error) ∷ steps))) in cc)
+tells_none q (step ∷ steps) told = tells_none q steps (λ x o here. told x o (Contains-append_right (step ∷ []) steps (Answer x o) here))
+
+-- ---- a turn
+
+module _ (laws : LawsBelow) (port : Port) (replies : List Reply) (old new : Server) (t : IsSettled old) (ready : state_of (found_of old.ports port.0) ≡ ReadyState)
+    (turn : HasTurn port (slots_at old.slots port.0) replies old.device new.device) (list : TurnList port (slots_at old.slots port.0) replies old.device new.device turn)
+    (same : SamePort (ports_of old) (ports_of new) port) (m : Machine) (reached : IsReached m) (at : IsMachineOf old m) (steps : List Step) (may : AllMay m steps)
+    (b : AnswersBy (mode_in old port) port replies steps)
+    (answered : turn.look ≡ Calm → (slot : ℕ) (used : SlotUse) → slot < 32 → used_for old.slots port.0 slot ≡ Some used
+    → (old.device.port port.0).ci slot ≡ false → (old.device.port port.0).sact slot ≡ false → IsAnsweredIn used.id replies) where
+  abbrev kept : IsKept old
+  kept = t.kept
+
+  low : port.0 < 4
+  low = (ready_found old port.0 kept ready).0
+
+  -- no trouble is named
+  abbrev its : Evidence
+  its = no_evidence
+
+  -- how the port takes commands
+  abbrev takes : Mode
+  takes = mode_in old port
+
+  one_of : (e y : Pending) → Contains m.book e → Contains m.book y → e.request.id.0 ≡ y.request.id.0 → e ≡ y
+  one_of e y here there is = laws.basic.one m reached e y here there is
+
+  -- who is answered in the turn is one of these
+  turn_ended : (e : Pending) (o : Outcome) → Contains steps (Answer e o) → Contains b.ended e × (o ≡ Ok)
+  turn_ended e o here = ⊎_elim
+      (λ later. absurd (no_answer_issuing takes port b.later b.last e o later))
+      (λ rest. ⊎_elim
+      (λ told. answered_in b.ended e o told)
+      (λ early. absurd (no_answer b.before b.first e o early))
+      (Contains-append_cases (answers_in b.ended) b.before (Answer e o) rest))
+      (Contains-append_cases b.later (answers_in b.ended ++ b.before) (Answer e o) (subst (λ (list : List Step). Contains list (Answer e o)) b.steps_are here))
+
+  has_slot : (e : Pending) → IsIssuedOn port m e → HasSlot old port e.request.id
+  has_slot e own = issued_has old m port at kept ready e own.here own.port_is own.issued
+
+  -- one that had ended was issued
+  ended_on : (e : Pending) → Contains m.book e → e.request.port ≡ port → e.ended ≡ true → IsIssuedOn port m e
+  ended_on e there own ended = record { here = there; port_is = own; issued = laws.basic.ended_issued m e reached there ended }
+
+  -- and its command's bits are clear
+  ended_clear : (e : Pending) → (own : IsIssuedOn port m e) → e.ended ≡ true → ((old.device.port port.0).ci (has_slot e own).slot ≡ false) × ((old.device.port port.0).sact (has_slot e own).slot ≡ false)
+  ended_clear e own ended =
+      let h = has_slot e own in
+      let slot : at.uses port.0 h.slot ≡ Serves e.request.id = serves_used old m port.0 at ready h.slot h.used h.used_is ∙ ap Serves h.id_is in
+      let clear = laws.slots.ended_clear at.uses m old.device port h.slot e reached at.knows.agrees (inl (own.here, own.issued)) ended slot in
+      (clear.0.over.issued, clear.0.sact)
+
+  early_may : AllMay m b.before × AllMay (after m b.before) (answers_in b.ended)
+  early_may = may_parts laws m (answers_in b.ended) b.before (may_parts laws m b.later (answers_in b.ended ++ b.before) (subst (AllMay m) b.steps_are may)).0
+
+  -- who is told is answered, and who is answered is told
+  module _ (e : Pending) (own : IsIssuedOn port m e) where
+    told_answered : IsAnsweredIn (has_slot e own).used.id replies → IsAnsweredOk e steps
+    told_answered told =
+        let r = map_in done_reply b.requests told.0 (subst (λ (list : List Reply). Contains list told.0) b.told told.1) in
+        let d = at_left (HasEnded port) b.requests b.ended b.each r.0 r.1 in
+        let id_is : d.0.request.id ≡ e.request.id = d.2.entry.id ∙ sym (ap (λ (y : Reply). y.id) r.2) ∙ told.2 ∙ (has_slot e own).id_is in
+        let w = ended_stood laws (after m b.before) b.ended early_may.1 d.0 d.1 in
+        let l = laws.basic.found_before m.book (after m b.before).book d.0 (laws.basic.spares m b.before b.first).book w in
+        let one : e ≡ l.0 = one_of e l.0 own.here l.1 (ap (λ (i : RequestId). i.0) (sym id_is ∙ ap (λ r. r.id) l.2.request)) in (
+          d.0,
+          l.2.request ∙ ap (λ (y : Pending). y.request) (sym one),
+          subst (λ (steps : List Step). Contains steps (Answer d.0 Ok)) (sym b.steps_are)
+              (Contains-append_right b.later (answers_in b.ended ++ b.before) (Answer d.0 Ok) (Contains-append_left (answers_in b.ended) b.before (Answer d.0 Ok) (in_answered b.ended d.0 d.1))),
+        )
+
+    answered_told : IsAnsweredOk e steps → IsAnsweredIn (has_slot e own).used.id replies
+    answered_told ok =
+        let r = at_right (HasEnded port) b.requests b.ended b.each ok.0 (turn_ended ok.0 Ok ok.2).0 in (
+          done_reply r.0,
+          subst (λ (list : List Reply). Contains list (done_reply r.0)) (sym b.told) (into_map done_reply b.requests r.0 r.1),
+          sym r.2.entry.id ∙ ap (λ q. q.id) ok.1 ∙ sym (has_slot e own).id_is,
+        )
+
+  module _ (calm : turn.look ≡ Calm) where
+    -- a request that had ended is told
+    ended_told : (e : Pending) → (own : IsIssuedOn port m e) → e.ended ≡ true → IsAnsweredIn (has_slot e own).used.id replies
+    ended_told e own ended =
+        let h = has_slot e own in
+        let clear = ended_clear e own ended in
+        answered calm h.slot h.used h.small h.used_is clear.0 clear.1
+
+    heeded : AnswersEnded m steps port
+    heeded e there own ended = let on = ended_on e there own ended in told_answered e on (ended_told e on ended)
+
+    -- ---- what is found done in it
+
+    module _ (e : Pending) (leads : IsIssuedOn port m e) where
+      read : (mask : ℕ) × IsMaskOf (slots_at old.slots port.0) mask
+          × ((c : Checks port (slots_at old.slots port.0) mask replies turn.seen new.device) × ReadsMasks port c.reads.issued c.reads.active list.driven.accesses)
+      read = let h = has_slot e leads in list.masks calm (h.slot, h.small, ap is_used h.used_is)
+
+      abbrev k : Checks port (slots_at old.slots port.0) read.0 replies turn.seen new.device
+      k = read.2.0
+
+      looks : IsDrivenBy (IsLooking port) old.device turn.seen
+      looks = laws.looking.looks_driven port turn.look old.device turn.seen turn.looks
+
+      masks_read : (mid : Device) × Reads (Px port Ci) k.reads.issued turn.seen mid × Reads (Px port Sact) k.reads.active mid k.read
+      masks_read = both_read port read.0 k.done turn.seen k.read k.reads
+
+      abbrev AreClear : ℕ → Type 0
+      AreClear slot = (bit k.reads.issued slot ≡ false) × (bit k.reads.active slot ≡ false)
+
+      -- a request's slot tells whether it was answered
+      module _ (other : Pending) (own : IsIssuedOn port m other) where
+        abbrev h : HasSlot old port other.request.id
+        h = has_slot other own
+
+        asked : bit read.0 h.slot ≡ true
+        asked = read.1 h.slot h.small ∙ ap is_used h.used_is
+
+        tells : bit k.done h.slot ≡ (not (bit k.reads.issued h.slot) && not (bit k.reads.active h.slot))
+        tells = k.reads.tells h.slot h.small ∙ ap (λ (y : Bool). y && not (bit k.reads.issued h.slot) && not (bit k.reads.active h.slot)) asked
+
+        at_slot : IsAnsweredOk other steps ↔ AreClear h.slot
+        at_slot = (
+          (λ ok.
+              let done = (k.exact h.slot h.used h.small h.used_is).1 (answered_told other own ok) in
+              let both = and_parts (not (bit k.reads.issued h.slot)) (not (bit k.reads.active h.slot)) (sym tells ∙ done) in
+              (not_true (bit k.reads.issued h.slot) both.0, not_true (bit k.reads.active h.slot) both.1)),
+          (λ clear.
+              told_answered other own ((k.exact h.slot h.used h.small h.used_is).0
+              (tells ∙ and_from (not (bit k.reads.issued h.slot)) (not (bit k.reads.active h.slot)) (ap not clear.0) (ap not clear.1)))),
+        )
+
+        -- bytes of another slot may say its command still: then it has ended, and that slot isn't used
+        module _ (slot : ℕ) (apart : slot ≢ h.slot) (says : ServesRequest m old.device.memory (old.device.port port.0) port.0 slot other.request.id) where
+          unused : used_for old.slots port.0 slot ≡ None
+          unused = ⊎_elim
+              (λ (y : (u : SlotUse) × (used_for old.slots port.0 slot ≡ Some u)).
+              let same : other.request.id ≡ y.0.id = one_said laws old kept m at port.0 slot y.0 other.request.id ready y.1 says in
+              let there = serves_used old m port.0 at ready slot y.0 y.1 ∙ ap Serves (sym same) in
+              let here = serves_used old m port.0 at ready h.slot h.used h.used_is ∙ ap Serves h.id_is in
+              absurd (apart (at.knows.agrees.apart port.0 slot port.0 h.slot other.request.id there here).1))
+              (λ none. none)
+              (used_or_not (used_for old.slots port.0 slot))
+
+          free : IsFree (old.device.port port.0) slot
+          free = subst (λ (u : Use). IsServed m old.device.memory old.device.tape (old.device.port port.0) port.0 slot u) (free_unused old m port.0 at ready slot unused) (at.knows.agrees.slot port.0 slot)
+
+          has_ended : other.ended ≡ true
+          has_ended = ap (λ (y : Pending). y.ended) (sym its_pending) ∙ by says.stage
+            where
+              its_pending : says.pending ≡ other
+              its_pending = one_of says.pending other (still_booked old m port.0 at ready says.pending says.moves says.port_is).0 own.here (ap (λ (i : RequestId). i.0) says.id_is)
+
+              by : Stage old.device.memory (old.device.port port.0) port.0 slot says.pending says.command says.places → says.pending.ended ≡ true
+              by (inl waits) = absurd (false≢true (sym free.issued ∙ waits.issued))
+              by (inr (inl taken)) = let z : None ≡ Some taken.command = sym free.free ∙ taken.taken in absurd cc
+              by (inr (inr (inl ended))) = ended.ended
+              by (inr (inr (inr dropped))) = absurd (false≢true (sym dropped.stopped ∙ ((kept.behind port.0 low).runs ready).st))
+
+          clear_there : AreClear slot
+          clear_there = both_clear laws port slot k.reads.issued k.reads.active old.device turn.seen masks_read.0 k.read says.placed.slot_below looks masks_read.1 masks_read.2
+              (record { issued = free.issued; free = free.free }) free.unarmed
+
+          apart_too : IsAnsweredOk other steps ↔ AreClear slot
+          apart_too = (
+            (λ _. clear_there),
+            (λ _. told_answered other own (ended_told other own has_ended)),
+          )
+
+      finding : FindsDone port list.driven.accesses (instant_of old m) steps
+      finding = record {
+        ci = k.reads.issued;
+        sact = k.reads.active;
+        reads = read.2.1;
+        exact = λ other slot own says. ⊎_elim
+            (λ (same : slot ≡ (has_slot other own).slot). subst (λ (i : ℕ). IsAnsweredOk other steps ↔ AreClear i) (sym same) (at_slot other own))
+            (λ (apart : slot ≢ (has_slot other own).slot). apart_too other own slot apart says)
+            (cases_eq slot (has_slot other own).slot);
+      }
+
+      found_by_masks : FindsTurn port list.driven.accesses old m steps
+      unfolding finding
+      found_by_masks = record { done = finding; unused = λ slot small none. unused_clear laws old m port.0 at ready turn.seen k.read looks read.0 k.done k.reads slot small none }
+
+  -- ---- what is owed to it
+
+  pub finds : (e : Pending) → IsIssuedOn port m e → FindsTurn port list.driven.accesses old m steps
+  finds e own = found_by_masks turn.quiet e own
+
+  undue : (old.device.port port.0).link_due ≡ false
+  undue = ((kept.behind port.0 low).runs ready).recorded.linked
+
+  -- no failure was shown
+  pub unfailing : ShowsFailure (old.device.port port.0) → ⊥
+  unfailing = never_failed laws port (slots_at old.slots port.0) replies (instant_of old m) new.device turn kept.on turn.quiet
+
+  not_lost : turn.look ≢ Lost
+  not_lost lost = let z : Calm ≡ Lost = sym turn.quiet ∙ lost in cc
+
+  later : Grows turn.seen new.device
+  later = let over = later_driven laws port (slots_at old.slots port.0) replies (instant_of old m) new.device turn kept.on turn.quiet in grows_over laws over.accesses turn.seen new.device over.all
+
+  -- nor was a loss
+  pub never_lost : ShowsLoss port old.device new.device → ⊥
+  never_lost loss = ⊎_elim
+      (no_change laws port turn.look old.device turn.seen turn.looks kept.on not_lost)
+      (λ (out : _ × _). not_missing laws port turn.look old.device turn.seen turn.looks kept.on not_lost new.device later undue out.0 out.1)
+      loss
+
+  module _ (backed : IsBacked old.device new.device m steps) where
+    uninterrupted : IsInterrupted its port → ⊥
+    uninterrupted i = ⊎_elim (nowhere port) (nowhere port) i
+
+    not_bad : IsUnfitOrForeign (ports_of old) port → ⊥
+    not_bad (inl foreign) = let z : Foreign ≡ ReadyState = sym foreign ∙ ready in cc
+    not_bad (inr (cause, unfit)) = let z : Unfit cause ≡ ReadyState = sym unfit ∙ ready in cc
+
+    not_absent : (ports_of old).state port ≡ Absent → ⊥
+    not_absent absent = let z : Absent ≡ ReadyState = sym absent ∙ ready in cc
+
+    -- the look saw a device, so a disk was in when the turn began, or one came before the look
+    had : (m.present port ≡ true) ⊎ (list_any (changes_disk port) steps ≡ true)
+    had =
+        let accesses = look_list port turn.looks.causes turn.looks.own turn.looks.status in
+        let does = look_does port turn.look old.device turn.seen turn.looks in
+        had_disk laws port old turn.seen new.device m accesses does
+        (laws.recovery.own_on port.0 accesses old.device turn.seen does ((kept.behind port.0 low).own ready) (shows_device laws port old.device turn.seen turn.look turn.looks kept.on not_lost))
+        at later steps backed
+
+    serves_ready : ServesReady (moment_of old m) its steps (record { machine = after m steps; ports = ports_of new }) port
+    serves_ready = record {
+      ended = heeded turn.quiet;
+      emptied = λ gone. absurd (nowhere port gone);
+      told = λ gone. absurd (nowhere port gone);
+      interrupts = λ trouble. absurd (⊎_elim (nowhere port) (nowhere port) trouble);
+      anew = λ trouble. absurd (⊎_elim (nowhere port) (nowhere port) trouble);
+      single = let none = counts_none (tells_fault port) port (λ step is. is) steps (tells_none port steps (λ e o here. (turn_ended e o here).1)) in omega (arith, none);
+      fatal = λ here. absurd (nowhere port here);
+      disk = λ shows. had;
+      calm = inr (record { same = same; told = λ e o here own. inl (turn_ended e o here).1; uninterrupted = uninterrupted });
+    }
+
+    pub ties : TiesTurn InService port replies list.driven.accesses old new m its steps
+    ties = record {
+      ties = record {
+        finds = λ is e own. finding turn.quiet e own;
+        faults = λ alone. absurd (unfailing (inr alone.shows.fault));
+        tries = λ served coming. record {
+          shown = λ absent det. absurd (not_absent absent);
+          absent = λ absent det fresh. absurd (not_absent absent);
+          missing = λ bad. absurd (not_bad bad);
+          changed = λ bad. absurd (not_bad bad);
+        };
+        boots = (λ is trouble. absurd (⊎_elim (λ fatal. unfailing (inl fatal)) never_lost trouble), inl same);
+        trouble = trouble_shown laws port (slots_at old.slots port.0) replies (instant_of old m) new.device turn kept.on turn.quiet its (ports_of new);
+        well = λ i. absurd (uninterrupted i);
+      };
+      heeds = λ is. serves_ready;
+    }

@@ -1,0 +1,174 @@
+-- What a request is that may be accepted.
+use Rattle.std.proofs.Common.{ℕ, ◌≡◌, ◌≢◌, ◌+◌, ◌^◌, ◌<◌, ◌≤◌, List, length, Option, Some, None, refl, sym, ap, ◌∙◌, subst, ⊎_elim, arith, get_or}
+use Rattle.std.specs.List.{All, AllPairs, Contains}
+use Rattle.std.specs.Prelude.{IsSome}
+use Rattle.std.proofs.lemmas.Bool.{cases_eq, cases_lt}
+use Rattle.std.proofs.lemmas.List.Elements.{All-contains}
+use Rattle.std.proofs.lemmas.Option.{slice_get-get_or}
+use Rattle.ata_types.specs.declared.Port.{Port}
+use Rattle.ata_types.specs.declared.PortState.{PortState}
+use Rattle.ata_types.specs.declared.PortState.TheVariants.{Absent, Ready as ReadyState, Foreign, Unfit, Dead}
+use Rattle.ata_types.specs.declared.grant.GrantRow.{GrantRow}
+use Rattle.ata_types.specs.declared.refusal.FrameFault.TheVariants.{FrameForeign, FrameTwice, FrameLent}
+use Rattle.ata_types.specs.declared.refusal.Refusal.TheVariants.{Rule, PortNotReady, ClientFull, IdsSpent}
+use Rattle.ata_types.specs.declared.refusal.Rule.TheVariants.{BadCount, FrameCount, Frames}
+use Rattle.ata_types.specs.declared.request.ClientId.{ClientId}
+use Rattle.ata_types.specs.declared.request.Op.{Op}
+use Rattle.ata_types.specs.declared.request.Op.TheVariants.{Read, Write, Trim, Flush}
+use Rattle.ata_types.specs.declared.request.Request.{Request}
+use Rattle.ata_types.specs.declared.request.RequestId.{RequestId}
+use Rattle.adapter.specs.Device.{Device}
+use Rattle.block_machine.specs.Confined.{IsGranted}
+use Rattle.block_machine.specs.Events as events
+use Rattle.block_machine.specs.Histories.{Instant, IsReached}
+use Rattle.block_machine.specs.Refusals.{Situation, IsAcceptable}
+use Rattle.block_machine.specs.Rules.{DifferInName, IsCount, IsNamed, frames_for}
+use Rattle.block_machine.specs.State as machine
+use Rattle.block_machine.specs.State.{Machine, block_of}
+use Rattle.block_machine.specs.Steps as steps
+use Rattle.block_machine.specs.Steps.{IsNew, newly_accepted}
+use Rattle.block_machine.proofs.Accepts.{accepted_is_granted}
+use Rattle.block_machine.proofs.Configured.{rows_stay}
+use Rattle.block_machine.proofs.Limits.{owned}
+use Rattle.block_machine.proofs.RuleLemmas.{one_row}
+use Rattle.dma_frames.specs.Table.{Table, owner_of, lent_to, LendsOnly}
+use Rattle.host_boot.specs.Taken.{found_of}
+use Rattle.request_queue.specs.Entries.{IsAccepted, unanswered_of}
+use Rattle.request_queue.specs.Machine.{IsEntry}
+use Rattle.server_history.specs.Served.{accepted_as}
+use Rattle.block_machine.specs.Left.{IsRow}
+use Rattle.server_history.specs.Server.{Server, IsKept, IsMachineOf, ports_of, situation_of, state_of}
+use Rattle.server_history.specs.Below.{LawsBelow}
+use Rattle.server_history.proofs.plain_calls.RefusalsAndBytes.{situation_is}
+
+-- ---- what isn't refused holds
+
+between : (n top : ℕ) → (((1 ≤ n) × (n ≤ top) → ⊥) → ⊥) → (1 ≤ n) × (n ≤ top)
+between n top twice = (
+  ⊎_elim (λ (low : n < 1). absurd (twice (λ c. let from = c.0 in omega (arith, low, from)))) (λ (high : 1 ≤ n). high) (cases_lt n 1),
+  ⊎_elim (λ (high : top < n). absurd (twice (λ c. let to = c.1 in omega (arith, high, to)))) (λ (low : n ≤ top). low) (cases_lt top n),
+)
+
+count_is : (op : Op) (n : ℕ) → ((IsCount op n → ⊥) → ⊥) → IsCount op n
+count_is Read n twice = between n 256 twice
+count_is Write n twice = between n 256 twice
+count_is Trim n twice = between n 4194240 twice
+count_is Flush n twice = ⊎_elim (λ (same : n ≡ 0). same) (λ (other : n ≢ 0). absurd (twice other)) (cases_eq n 0)
+
+-- but for a flush, there is a sector
+some_sector : (op : Op) (n : ℕ) → IsCount op n → op ≢ Flush → 1 ≤ n
+some_sector Read n is other = is.0
+some_sector Write n is other = is.0
+some_sector Trim n is other = is.0
+some_sector Flush n is other = absurd (other refl)
+
+ready_is : (state : PortState) → (state ≢ ReadyState → ⊥) → state ≡ ReadyState
+ready_is ReadyState twice = refl
+ready_is Absent twice = absurd (twice (λ e. cc))
+ready_is Foreign twice = absurd (twice (λ e. cc))
+ready_is (Unfit n) twice = absurd (twice (λ e. cc))
+ready_is Dead twice = absurd (twice (λ e. cc))
+
+-- the rows of a machine that is reached differ in name
+rows_differ : (m : Machine) → IsReached m → AllPairs DifferInName m.rows
+rows_differ m reached =
+    subst (λ (n : Machine). AllPairs DifferInName n.rows) (sym reached.is)
+    (subst (λ (rows : List GrantRow). AllPairs DifferInName rows) (sym (rows_stay reached.first reached.past)) reached.starts.rows)
+
+module _ (s : Server) (r : Request) (acc : IsAcceptable (situation_of s) r) (row : GrantRow) (named : IsNamed s.grants r row) (port : Port) (port_is : row.port ≡ port) where
+  -- its port is ready
+  pub on_ready : state_of (found_of s.ports port.0) ≡ ReadyState
+  on_ready =
+      let at : state_of (found_of s.ports row.port.0) ≡ ReadyState = ready_is (state_of (found_of s.ports row.port.0)) (λ other. acc (PortNotReady (state_of (found_of s.ports row.port.0))) (other, (row, named, refl))) in
+      ap (λ (p : Port). state_of (found_of s.ports p.0)) (sym port_is) ∙ at
+
+  -- its client has room
+  pub has_room : unanswered_of s.book r.client.0 < 16
+  has_room = ⊎_elim (λ (low : unanswered_of s.book r.client.0 < 16). low) (λ high. absurd (acc ClientFull high)) (cases_lt (unanswered_of s.book r.client.0) 16)
+
+  -- none of its frames is lent
+  pub unlent : All (λ f. lent_to s.table f ≡ None) r.frames.items
+  unlent i d small = free (lent_to s.table (get_or r.frames.items i d)) refl
+    where
+      free : (o : Option RequestId) → lent_to s.table (get_or r.frames.items i d) ≡ o → lent_to s.table (get_or r.frames.items i d) ≡ None
+      free None is = is
+      free (Some id) is =
+          absurd (acc (Rule (Frames (FrameLent i))) (get_or r.frames.items i d, slice_get-get_or r.frames.items i d small, subst (λ (o : Option RequestId). IsSome o) (sym is) refl))
+
+  module _ (id : RequestId) (id_is : id.0 ≡ s.last + 1) where
+    -- ---- it is new to the machine
+
+    -- what a machine has of it
+    abbrev pub request_in : Machine → machine.Accepted
+    request_in m = record { id = id; port = port; asked = r; held = block_of m.memory r.frames.items }
+
+    pub entry_in : (m : Machine) → IsEntry (accepted_as port r id) (newly_accepted (request_in m))
+    entry_in m = record { id = refl; client = refl; grant = refl; port = refl; op = refl; range = refl; frames = refl; issued = refl; issues = refl; age = refl }
+
+    module _ (laws : LawsBelow) (m : Machine) (reached : IsReached m) (is : IsMachineOf s m) where
+      abbrev at : Instant Device
+      at = record { device = s.device; moment = record { machine = m; ports = ports_of s } }
+
+      allowed : IsAcceptable (events.situation_of at.moment) r
+      allowed = subst (λ (x : Situation). IsAcceptable x r) (sym (situation_is laws s at (record { device_is = refl; ports_are = refl; machine = is }))) acc
+
+      pub is_new : IsNew m (request_in m)
+      is_new = record {
+        id = id_is ∙ sym is.next;
+        id_left = ⊎_elim (λ (low : m.next < 2 ^ 64). low) (λ high. absurd (allowed IdsSpent high)) (cases_lt m.next (2 ^ 64));
+        unbroken = λ rule broken. allowed (Rule rule) broken;
+        port = λ other there.
+            let here = subst (λ (rows : List GrantRow). Contains rows row) (sym is.rows) named.0 in
+            sym port_is ∙ ap (λ (x : GrantRow). x.port) (one_row m.rows (rows_differ m reached) r.client r.grant row other here named.1 there.0 there.1);
+        few = ⊎_elim (λ (low : steps.unanswered_of m.book r.client < 16). low) (λ high. absurd (allowed ClientFull high)) (cases_lt (steps.unanswered_of m.book r.client) 16);
+        held = refl;
+      }
+
+    -- ---- it is as the book has it
+
+    module _ (laws : LawsBelow) (k : IsKept s) where
+      granted : IsGranted k.machine.rows (request_in k.machine)
+      granted = accepted_is_granted k.machine (request_in k.machine) (is_new laws k.machine k.reached k.stands)
+
+      there : Contains s.grants granted.row
+      there = subst (λ (rows : List GrantRow). Contains rows granted.row) k.stands.rows granted.named.0
+
+      row_is : IsRow granted.row
+      row_is = All-contains IsRow s.grants granted.row k.rows there
+
+      count : IsCount r.op r.count
+      count = count_is r.op r.count (λ other. acc (Rule BadCount) other)
+
+      first_below : r.op ≢ Flush → r.first.0 < 2 ^ 48
+      first_below other =
+          let covers = granted.covered other in
+          let some = some_sector r.op r.count count other in
+          let below = row_is.below in
+          omega (arith, covers.1, some, below)
+
+      own : All (λ frame. owner_of s.table frame ≡ Some r.client) r.frames.items
+      own i d small = owned (owner_of s.table (get_or r.frames.items i d)) r.client (λ other. acc (Rule (Frames (FrameForeign i))) (get_or r.frames.items i d, slice_get-get_or r.frames.items i d small, other))
+
+      apart : AllPairs (λ a b. a ≢ b) r.frames.items
+      apart i j d before small same =
+          acc (Rule (Frames (FrameTwice j))) (
+            get_or r.frames.items j d,
+            i,
+            before,
+            slice_get-get_or r.frames.items i d (omega (arith, before, small)) ∙ ap Some same,
+            slice_get-get_or r.frames.items j d small,
+          )
+
+      pub is_accepted : (table : Table) → LendsOnly s.table table r.frames.items (Some id) → IsAccepted s.grants table (accepted_as port r id)
+      is_accepted table lends = record {
+        client_from = subst (λ (c : ClientId). 1 ≤ c.0) granted.named.1.0 row_is.client.0;
+        client_to = subst (λ (c : ClientId). c.0 ≤ 8) granted.named.1.0 row_is.client.1;
+        sectors = count;
+        first = first_below;
+        frames = ⊎_elim (λ (same : length r.frames.items ≡ frames_for r.op r.count). same) (λ other. absurd (acc (Rule FrameCount) other)) (cases_eq (length r.frames.items) (frames_for r.op r.count));
+        row = (granted.row, there, granted.named.1.0, granted.named.1.1, sym granted.port, granted.right, granted.covered);
+        clients = λ i d small. (k.owners (get_or r.frames.items i d) r.client (own i d small)).0;
+        own = λ i d small. ap (λ (owners : List (Option ClientId)). get_or owners (get_or r.frames.items i d).0 None) lends.owners ∙ own i d small;
+        apart = apart;
+        lent = lends.these;
+      }

@@ -1,0 +1,282 @@
+-- A request that is accepted adds an event, and the server keeps what it keeps.
+use Rattle.std.proofs.Common.{ℕ, ◌≡◌, ◌≢◌, ◌+◌, ◌≤◌, ◌<◌, ◌==◌, cond, Bool, true, false, List, [], ◌∷◌, ◌++◌, not, Option, Some, None, Ok, inr, refl, sym, ap, ◌∙◌, subst, arith, ⊎_elim, eqb-true, eq-eqb}
+use Rattle.std.specs.List.{All, Contains, list_any}
+use Rattle.std.specs.Prelude.{slice_index_or}
+use Rattle.std.proofs.lemmas.Bool.{cond-true, cond-false, false≢true, ne_eqb, or_cases}
+use Rattle.std.proofs.lemmas.List.Elements.{All-contains, All-push, All-weaker}
+use Rattle.ata_types.specs.declared.Port.{Port}
+use Rattle.ata_types.specs.declared.PortState.TheVariants.{Ready as ReadyState}
+use Rattle.ata_types.specs.declared.grant.GrantRow.{GrantRow}
+use Rattle.ata_types.specs.declared.request.ClientId.{ClientId}
+use Rattle.ata_types.specs.declared.request.Frame.{Frame}
+use Rattle.ata_types.specs.declared.request.Request.{Request}
+use Rattle.ata_types.specs.declared.request.RequestId.{RequestId}
+use Rattle.adapter.specs.Device.{Device}
+use Rattle.adapter.specs.declared.access.DeviceStep.{DeviceStep}
+use Rattle.block_machine.specs.Due.{NoneDue, is_plain, of_port}
+use Rattle.block_machine.specs.Events as events
+use Rattle.block_machine.specs.Events.{Submit, Submitted, AllIssued, issues_it}
+use Rattle.block_machine.specs.Histories.{Instant, Happening, IsReached, now}
+use Rattle.block_machine.specs.Left.{after}
+use Rattle.block_machine.specs.Ports.{SamePorts}
+use Rattle.block_machine.specs.Refusals.{Situation, IsAcceptable}
+use Rattle.block_machine.specs.Rules.{IsNamed}
+use Rattle.block_machine.specs.State as machine
+use Rattle.block_machine.specs.State.{Machine}
+use Rattle.block_machine.specs.Steps.{Step, Accept, IsNew, after_step, lend}
+use Rattle.block_machine.specs.declared.due.Unanswered.{Unanswered}
+use Rattle.server_history.proofs.state.ListMembers.{append_in, contains_there, some_in}
+use Rattle.agreement.specs.Driven.{IsDrivenBy, known}
+use Rattle.agreement.proofs.device.AdapterOverAccesses.{same_refl}
+use Rattle.dma_frames.specs.Table.{Table, lent_to, LendsOnly}
+use Rattle.host_boot.specs.Taken.{found_of}
+use Rattle.host_boot.specs.declared.Found.{Found}
+use Rattle.request_queue.specs.Entries.{Held, IsAccepted, IsEarlier, asks, asks_of, due_ids}
+use Rattle.driver_history.specs.Histories.{IssuesDue, IssuesOn}
+use Rattle.driver_history.specs.Trace.{ClearsNone, LeavesEngine}
+use Rattle.agreement.specs.Links.{SparesRegister}
+use Rattle.hba_regs.specs.declared.reg.Reg.TheVariants.{Ghc, Px}
+use Rattle.hba_regs.specs.declared.reg.PortReg.TheVariants.{Ci, Sact}
+use Rattle.hba_regs.specs.declared.reg.PortReg.TheVariants as register
+use Rattle.adapter.specs.Access.{Access}
+use Rattle.adapter.specs.Access.Access.{Loading, Reading, Storing, Writing}
+use Rattle.server_history.specs.Below.{LawsBelow}
+use Rattle.server_history.specs.Histories.{Adds, Leads}
+use Rattle.server_history.specs.Served.{IssuesIn, Accepts, IssuesAll, accepted_as, accepting}
+use Rattle.server_history.specs.Server.{Server, IsKept, IsMachineOf, IsSettled, mode_in, ports_of, situation_of, state_of, used_for}
+use Rattle.slots.specs.declared.Use.{Use as SlotUse}
+use Rattle.block_machine.specs.declared.due.Mode.{Mode}
+use Rattle.server_history.proofs.state.DueRequests.{none_due}
+use Rattle.server_history.proofs.plain_calls.RefusalsAndBytes.{reached, situation_is}
+use Rattle.server_history.proofs.state.TurnAccesses.{issuing_is, issuing_leaves}
+use Rattle.server_history.proofs.state.HistorySteps.{holding, kept_then, lead_by, ports_same, with_device}
+use Rattle.server_history.proofs.plain_calls.AcceptableRequests.{has_room, is_accepted, is_new, on_ready, request_in, entry_in, unlent}
+use Rattle.server_history.proofs.plain_calls.IssueRounds.{AreIssued, accepts_on, any_append, belong_on, dues, dues_carried, each_driven, each_issued, each_settings, last_on, lawful_on, or_none, settled}
+use Rattle.server_history.proofs.state.PortSlots.{ready_found, served_request, serves_used, used_ready}
+use Rattle.server_history.proofs.state.CallEvidence.{no_evidence, told_by, uninterrupted}
+use Rattle.server_history.proofs.state.FirstMembers.{first_here}
+
+-- ---- what issuing writes
+
+-- neither GHC, nor a bit that tells of trouble
+issuing_spares_host : (port : Port) (access : Access) → IssuesIn port access → SparesRegister Ghc access
+issuing_spares_host port (Writing r v) here =
+    λ q. ⊎_elim (λ (is : r ≡ Px port Sact). let z : Px port Sact ≡ Ghc = sym is ∙ q in absurd cc) (λ (is : r ≡ Px port Ci). let z : Px port Ci ≡ Ghc = sym is ∙ q in absurd cc) here.2.0
+issuing_spares_host port (Storing at bytes) here = tt
+issuing_spares_host port (Loading at bytes) here = absurd here.2
+issuing_spares_host port (Reading r v) here = absurd here.2
+
+issuing_clears_none : (port other : Port) (access : Access) → IssuesIn port access → ClearsNone other access
+issuing_clears_none port other (Writing r v) here = record {
+  is = λ q. absurd (⊎_elim (λ (is : r ≡ Px port Sact). let z : Px port Sact ≡ Px other register.Is = sym is ∙ q in absurd cc) (λ (is : r ≡ Px port Ci). let z : Px port Ci ≡ Px other register.Is = sym is ∙ q in absurd cc) here.2.0);
+  serr = λ q. absurd (⊎_elim (λ (is : r ≡ Px port Sact). let z : Px port Sact ≡ Px other register.Serr = sym is ∙ q in absurd cc) (λ (is : r ≡ Px port Ci). let z : Px port Ci ≡ Px other register.Serr = sym is ∙ q in absurd cc) here.2.0);
+}
+issuing_clears_none port other (Storing at bytes) here = tt
+issuing_clears_none port other (Loading at bytes) here = absurd here.2
+issuing_clears_none port other (Reading r v) here = absurd here.2
+
+-- ---- lending
+
+pub any_in : {X : Type 0} (p : X → Bool) (xs : List X) → list_any p xs ≡ true → (x : X) × Contains xs x × (p x ≡ true)
+any_in p [] h = absurd (false≢true h)
+any_in p (y ∷ ys) h = ⊎_elim
+    (λ here. (y, first_here y ys, here))
+    (λ later. let r = any_in p ys later in (r.0, contains_there y ys r.0 r.1, r.2))
+    (or_cases (p y) (list_any p ys) h)
+
+lends_alike : (a : machine.Accepted) (lent : Frame → Option RequestId) (old new : Table) → ((f : Frame) → lent f ≡ lent_to old f) → LendsOnly old new a.asked.frames.items (Some a.id) → (f : Frame) → lend a lent f ≡ lent_to new f
+lends_alike a lent old new alike lends f = by (list_any (λ g. g.0 == f.0) a.asked.frames.items) refl
+  where
+    frames : List Frame
+    frames = a.asked.frames.items
+
+    by : (b : Bool) → list_any (λ g. g.0 == f.0) frames ≡ b → lend a lent f ≡ lent_to new f
+    by true is =
+        let x = any_in (λ (g : Frame). g.0 == f.0) frames is in
+        let same : x.0 ≡ f = ap (λ (n : ℕ). record { 0 = n }) (eqb-true x.0.0 f.0 x.2) in
+        cond-true (list_any (λ g. g.0 == f.0) frames) (Some a.id) (lent f) is
+        ∙ sym (All-contains (λ g. lent_to new g ≡ Some a.id) frames f lends.these (subst (λ (g : Frame). Contains frames g) same x.1))
+    by false is =
+        cond-false (list_any (λ g. g.0 == f.0) frames) (Some a.id) (lent f) is
+        ∙ alike f ∙ sym (lends.others f (λ here. false≢true (sym is ∙ some_in (λ (g : Frame). g.0 == f.0) frames f here (eq-eqb f.0 f.0 refl))))
+
+-- ---- the server with one more
+
+-- the others' own requests are as many where one of another port goes last
+own_longer : (q : Port) (book : List Held) (e : Held) → e.entry.port ≢ q → of_port q (asks_of (book ++ e ∷ [])) ≡ of_port q (asks_of book)
+own_longer q [] e other = cond-false (e.entry.port.0 == q.0) (asks e.entry ∷ []) [] (ne_eqb e.entry.port.0 q.0 (λ same. other (ap (λ (n : ℕ). record { 0 = n }) same)))
+own_longer q (x ∷ book) e other =
+    ap (λ (us : List Unanswered). cond (x.entry.port.0 == q.0) (asks x.entry ∷ us) us) (own_longer q book e other)
+
+module _ (laws : LawsBelow) (s : Server) (k : IsKept s) (r : Request) (acc : IsAcceptable (situation_of s) r) (row : GrantRow) (named : IsNamed s.grants r row) (port : Port) (port_is : row.port ≡ port)
+    (id : RequestId) (id_is : id.0 ≡ s.last + 1) (table : Table) (lends : LendsOnly s.table table r.frames.items (Some id)) where
+  abbrev e : Held
+  e = accepted_as port r id
+
+  abbrev more : Server
+  more = accepting port r id table s
+
+  ready : state_of (found_of s.ports port.0) ≡ ReadyState
+  ready = on_ready s r acc row named port port_is
+
+  its : IsAccepted s.grants table e
+  its = is_accepted s r acc row named port port_is id id_is laws k table lends
+
+  earlier : All (λ x. IsEarlier x e) s.book
+  earlier i d small = let h = k.handed_out i d small in omega (arith, h, id_is)
+
+  accepted : All (IsAccepted s.grants table) (s.book ++ e ∷ [])
+  accepted =
+      All-push (IsAccepted s.grants table) s.book e
+      (laws.still_lent s.grants s.table table s.book r.frames.items (Some id) lends (unlent s r acc row named port port_is) k.accepted) its
+
+  module _ (m : Machine) (was : IsReached m) (is : IsMachineOf s m) where
+    abbrev request : machine.Accepted
+    request = request_in s r acc row named port port_is id id_is m
+
+    fresh : IsNew m request
+    fresh = is_new s r acc row named port port_is id id_is laws m was is
+
+    abbrev next : Machine
+    next = after_step m (Accept request)
+
+    reached_next : IsReached next
+    reached_next = laws.basic.reached m (Accept request ∷ []) was (tt, fresh)
+
+    stands_next : IsMachineOf more next
+    stands_next = record {
+      uses = is.uses;
+      used = is.used;
+      parked = is.parked;
+      unparked = is.unparked;
+      knows = laws.slots.accepted_agrees (known is.uses is.parked s.device) m request is.knows;
+      book = laws.accepts s.book m e request is.book (entry_in s r acc row named port port_is id id_is m);
+      kept = is.kept;
+      rows = is.rows;
+      owner = λ f. is.owner f ∙ sym (ap (λ (owners : List (Option ClientId)). slice_index_or owners f.0 None) lends.owners);
+      lent = lends_alike request m.lent s.table table is.lent lends;
+      next = let n = is.next in omega (arith, n);
+    }
+
+  -- each used slot's command is of its request's kind still: the new request has no slot
+  kinds_then : (q : Port) (slot : ℕ) (used : SlotUse) (h : Held) → used_for s.slots q.0 slot ≡ Some used → Contains (s.book ++ e ∷ []) h → h.entry.id ≡ used.id → used.queued ≡ not (is_plain (mode_in s q) h.entry.op)
+  kinds_then q slot used h is there same = ⊎_elim
+      (λ (old : Contains s.book h). k.kinds q slot used h is old same)
+      (λ (new : h ≡ e).
+      let ready = used_ready s q.0 slot used k is in
+      let x = served_request s k.machine q.0 slot k.stands ready used.id (serves_used s k.machine q.0 k.stands ready slot used is) in
+      let low = All-contains (λ (y : Held). y.entry.id.0 ≤ s.last) s.book x.request k.handed_out x.there in
+      let its : x.request.entry.id.0 ≡ id.0 = ap (λ (i : RequestId). i.0) (x.id_is ∙ sym same ∙ ap (λ (y : Held). y.entry.id) new) in
+      absurd (omega (arith, low, its, id_is)))
+      (append_in s.book e h there)
+
+  pub accept_kept : IsKept more
+  accept_kept = kept_then s s.device table s.slots (s.book ++ e ∷ []) (s.last + 1) k k.on (same_refl s.device) k.behind lends.owners k.four k.slots kinds_then k.commands k.alone accepted
+      (laws.longer s.book e k.ordered earlier (refl, refl, refl) its.client_from its.client_to (has_room s r acc row named port port_is))
+      (All-push (λ (x : Held). x.entry.id.0 ≤ s.last + 1) s.book e (All-weaker (λ (x : Held). x.entry.id.0 ≤ s.last) (λ (x : Held). x.entry.id.0 ≤ s.last + 1) (λ x low. omega (arith, low)) s.book k.handed_out) (omega (arith, id_is)))
+      (All-push (λ (x : Held). state_of (found_of s.ports x.entry.port.0) ≡ ReadyState) s.book e k.ready ready)
+      (next k.machine k.reached k.stands) (reached_next k.machine k.reached k.stands) (stands_next k.machine k.reached k.stands)
+
+  -- ---- the event
+
+  module _ (none : (other : Port) → NoneDue (mode_in s other) (asks_of s.book) other) (new : Server) (issues : IssuesAll port more new) where
+    abbrev ids : List RequestId
+    ids = due_ids (mode_in s port) port (asks_of more.book)
+
+    none_other : (other : Port) → other ≢ port → NoneDue (mode_in s other) (asks_of more.book) other
+    none_other other ne u own due =
+        none other u own ((laws.same_due (mode_in s other) other (asks_of more.book) (asks_of s.book) u (own_longer other s.book e (λ same. ne (sym same))) own).0 due)
+
+    settles : IsSettled new
+    settles = settled laws port more new accept_kept none_other issues
+
+    same : new ≡ record more { device = new.device; slots = new.slots; book = new.book }
+    same = each_settings laws port ids more new issues
+
+    driven : IsDrivenBy (IssuesIn port) s.device new.device
+    driven = each_driven laws port ids more new issues
+
+    port_low : port.0 < 4
+    port_low = (ready_found s port.0 k ready).0
+
+    pub event : (first : Instant Device) (past : List (Happening Device DeviceStep)) → Leads first past s
+        → (h : Happening Device DeviceStep) × (h.event.ask ≡ Submit r) × (h.event.said ≡ Submitted (Ok id)) × Leads first (h ∷ past) new
+    event first past leads =
+        lead_by laws first past s new (Submit r) (Submitted (Ok id)) (x.steps ++ early) (ap (λ (n : Server). n.wanted) same) (ap ports_of same) leads (holding new settles.kept)
+        (laws.basic.may m x.steps early (tt, fresh m was is) x.may)
+        (belong_on mode port {D = DeviceStep} (Submit r) (ports_of new) (λ p own. (its_ready p own, its_mode p own)) x.steps early x.only (tt, inr refl))
+        (last_on mode port x.steps early x.only x.last (tt, λ other h i. false≢true h) (λ other i j. false≢true j))
+        (lawful_on mode port old.moment no_evidence (ports_of new) x.steps early x.only tt)
+        (allowed, (asked, accepts_on mode port x.steps early x.only, refl), same_ports_are, all_issued)
+        driven.accesses
+        (driven.all, (row, its_row, All-weaker (IssuesIn port) (IssuesOn row.port) (λ access here. subst (λ (p : Port). IssuesOn p access) (sym port_is) (issuing_is port port_low access here)) driven.accesses driven.only))
+        (λ other. All-weaker (IssuesIn port) (LeavesEngine other) (issuing_leaves port other) driven.accesses driven.only)
+        (λ other is_ready. due_now other)
+        (λ other. record { ties = record { finds = tt; faults = tt; tries = tt; boots = tt; trouble = laws.calls.ordinary other (with_device s.device old) new.device driven.accesses (told_by s.device old.moment.ports) (ports_of new) k.on driven.all (All-weaker (IssuesIn port) (SparesRegister Ghc) (issuing_spares_host port) driven.accesses driven.only) (All-weaker (IssuesIn port) (ClearsNone other) (issuing_clears_none port other) driven.accesses driven.only); well = λ i. absurd (uninterrupted s.device old.moment.ports other i) }; heeds = uninterrupted s.device old.moment.ports other })
+        (laws.backed_parts s.device s.device new.device m early x.steps (laws.backed_own s.device m (Accept asked) (λ no. no)) x.backed)
+        stands
+      where
+        old : Instant Device
+        old = now first past
+
+        m : Machine
+        m = old.moment.machine
+
+        was : IsReached m
+        was = reached laws first past s leads
+
+        is : IsMachineOf s m
+        is = leads.stands.machine
+
+        asked : machine.Accepted
+        asked = request m was is
+
+        early : List Step
+        early = Accept asked ∷ []
+
+        x : AreIssued port ids more new (next m was is)
+        x = each_issued laws port ids more new accept_kept issues (next m was is) (reached_next m was is) (stands_next m was is)
+
+        stands : IsMachineOf new (after m (x.steps ++ early))
+        stands = subst (IsMachineOf new) (sym (laws.basic.joined m x.steps early)) x.stands
+
+        mode : Mode
+        mode = mode_in s port
+
+        its_mode : (p : machine.Pending) → p.request.port ≡ port → (ports_of new).mode p.request.port ≡ mode
+        its_mode p own = ap (mode_in new) own ∙ ap (λ (n : Server). mode_in n port) same
+
+        ports_same_too : new.ports ≡ s.ports
+        ports_same_too = ap (λ (n : Server). n.ports) same
+
+        its_ready : (p : machine.Pending) → p.request.port ≡ port → (ports_of new).state p.request.port ≡ ReadyState
+        its_ready p own = ap (λ (q : Port). state_of (found_of new.ports q.0)) own ∙ ap (λ (found : List Found). state_of (found_of found port.0)) ports_same_too ∙ ready
+
+        allowed : IsAcceptable (events.situation_of old.moment) r
+        allowed = subst (λ (y : Situation). IsAcceptable y r) (sym (situation_is laws s old leads.stands)) acc
+
+        its_row : IsNamed m.rows r row
+        its_row = subst (λ (rows : List GrantRow). IsNamed rows r row) (sym is.rows) named
+
+        same_ports_are : SamePorts old.moment.ports (ports_of new)
+        same_ports_are = ports_same old.moment.ports (ports_of new) (leads.stands.ports_are ∙ sym (ap ports_of same))
+
+        all_issued : AllIssued (record { machine = after m (x.steps ++ early); ports = ports_of new })
+        all_issued other on = none_due new (after m (x.steps ++ early)) stands (mode_in new other) other (settles.issued other)
+
+        mode_is : (other : Port) → mode_in new other ≡ mode_in s other
+        mode_is other = ap (λ (n : Server). mode_in n other) same
+
+        due_now : (other : Port) → IssuesDue (mode_in new other) (x.steps ++ early) (after m (x.steps ++ early)) other
+        due_now other =
+            subst (λ (takes : Mode). IssuesDue takes (x.steps ++ early) (after m (x.steps ++ early)) other) (sym (mode_is other))
+            (subst (λ (n : Machine). IssuesDue (mode_in s other) (x.steps ++ early) n other) (sym (laws.basic.joined m x.steps early))
+            (dues_carried laws (mode_in s other) x.steps (x.steps ++ early) (after (next m was is) x.steps) (after (next m was is) x.steps) other refl
+            (λ u here own. sym (any_append (issues_it u.id) x.steps early ∙ or_none (list_any (issues_it u.id) x.steps)))
+            (dues laws port more new accept_kept issues (next m was is) x other (none_other other))))
+
+pub acceptance : LawsBelow → (s new : Server) (port : Port) (r : Request) (id : RequestId) → IsSettled s → IsAcceptable (situation_of s) r → Accepts port r id s new → Adds s new (Submit r) (Submitted (Ok id))
+acceptance laws s new port r id k acc a = record {
+  settled = settles laws s k.kept r acc a.row a.named port a.port_is id a.id_is a.table a.lent k.issued new a.issued;
+  adds = event laws s k.kept r acc a.row a.named port a.port_is id a.id_is a.table a.lent k.issued new a.issued;
+}

@@ -1,0 +1,489 @@
+-- Due requests of a port are issued one after another, and what is due then.
+use Rattle.std.proofs.Common.{ℕ, ◌≡◌, ◌≢◌, ◌⊎◌, ◌==◌, ◌||◌, Bool, true, false, not, List, [], ◌∷◌, ◌++◌, map, None, inl, inr, refl, sym, ap, ◌∙◌, subst, ⊎_elim, eqb-true, eq-eqb}
+use Rattle.std.specs.Prelude.{◌↔◌, if◌then◌else◌}
+use Rattle.std.specs.List.{Contains, list_any}
+use Rattle.std.proofs.lemmas.Bool.{cases_Bool, cases_eq, cond-true, cond-false, false≢true, or_cases, or_left, or_right, and_parts}
+use Rattle.std.proofs.lemmas.List.Elements.{All-append}
+use Rattle.std.proofs.lemmas.List.{get_or-set_other}
+use Rattle.ata_types.specs.declared.Port.{Port}
+use Rattle.ata_types.specs.declared.request.RequestId.{RequestId}
+use Rattle.ata_types.specs.declared.PortState.TheVariants.{Dead}
+use Rattle.adapter.specs.declared.command.Operation.{Operation}
+use Rattle.agreement.specs.Driven.{IsDrivenBy, SendsNone}
+use Rattle.agreement.specs.Slots.{op_of}
+use Rattle.agreement.specs.Driver.{IsBacked}
+use Rattle.server_history.proofs.state.DrivenAccesses.{by_none, driven_as}
+use Rattle.block_machine.specs.Due.{AreDueInTurn, IsDue, NoneDue, due_of, mark_issued, of_port, with_issued}
+use Rattle.block_machine.specs.Events.{Ask, Moment, AllDevices, AllLawful, AllMay, Belong, IsIssuedIn, IsServers, IssuesLast, accepts_of, handles, issues_it}
+use Rattle.block_machine.specs.Histories.{IsReached}
+use Rattle.block_machine.specs.Left.{after}
+use Rattle.block_machine.specs.Ports.{Ports, Evidence}
+use Rattle.block_machine.specs.State.{Machine, Pending, unanswered}
+use Rattle.block_machine.specs.Steps.{Step, Accept, Again, Answer, Issue}
+use Rattle.block_machine.specs.declared.due.Mode.{Mode}
+use Rattle.block_machine.specs.declared.due.Unanswered.{Unanswered}
+use Rattle.server_history.proofs.state.ListMembers.{contains_cases, contains_here, contains_there, into_map, map_in}
+use Rattle.driver_history.specs.Histories.{IssuesDue, unissued}
+use Rattle.ncq.specs.Tasks.{IsIssuing}
+use Rattle.request_queue.specs.Entries.{Held, IsInOrder, IsWaiting, asks, asks_of, at, due_ids, has_id, issue}
+use Rattle.server_history.specs.Below.{LawsBelow}
+use Rattle.server_history.specs.Served.{IssuesAll, IssuesIn, IssuesEach, IssuesOne, IssuesOnly}
+use Rattle.server_history.specs.Server.{Server, IsKept, IsMachineOf, IsSettled, mode_at, mode_in, no_slots, slots_at}
+use Rattle.server_history.proofs.state.DueRequests.{same_book}
+use Rattle.server_history.proofs.state.DeviceSteps.{devices_last, not_handled}
+use Rattle.server_history.proofs.plain_calls.OneIssue.{IsIssue, issue_kept, issue_one, issue_silent}
+use Rattle.server_history.proofs.state.SilentOperations.{silent_more, silent_none}
+use Rattle.host_boot.specs.Taken.{found_of}
+use Rattle.host_boot.specs.declared.Found.TheVariants.{Unready}
+use Rattle.server_history.proofs.state.FirstMembers.{nowhere, first_here}
+
+pub not_true : (b : Bool) → not b ≡ true → b ≡ false
+not_true false is = refl
+not_true true is = absurd (false≢true is)
+
+-- ---- steps
+
+-- the device's steps issue nothing
+pub devices_issue_none : (id : RequestId) (steps : List Step) → AllDevices steps → list_any (issues_it id) steps ≡ false
+devices_issue_none id [] all = refl
+devices_issue_none id (Issue its e ∷ steps) all = absurd all.1
+devices_issue_none id (step ∷ steps) all = devices_issue_none id steps all.0
+
+pub any_append : {X : Type 0} (p : X → Bool) (xs ys : List X) → list_any p (xs ++ ys) ≡ (list_any p xs || list_any p ys)
+any_append p [] ys = refl
+any_append p (x ∷ xs) ys = ap (λ (b : Bool). p x || b) (any_append p xs ys) ∙ reassoc (p x) (list_any p xs) (list_any p ys)
+  where
+    reassoc : (a b c : Bool) → (a || (b || c)) ≡ ((a || b) || c)
+    reassoc true b c = refl
+    reassoc false b c = refl
+
+pub or_none : (b : Bool) → (b || false) ≡ b
+or_none true = refl
+or_none false = refl
+
+pub issued_parts : (id : RequestId) (late early : List Step) → IsIssuedIn id (late ++ early) → IsIssuedIn id late ⊎ IsIssuedIn id early
+issued_parts id late early i = or_cases _ _ (sym (any_append (issues_it id) late early) ∙ i)
+
+pub issued_late : (id : RequestId) (late early : List Step) → IsIssuedIn id late → IsIssuedIn id (late ++ early)
+issued_late id late early i = any_append (issues_it id) late early ∙ or_left _ _ i
+
+pub issued_early : (id : RequestId) (late early : List Step) → IsIssuedIn id early → IsIssuedIn id (late ++ early)
+issued_early id late early i = any_append (issues_it id) late early ∙ or_right _ _ i
+
+devices_only : (mode : Mode) (port : Port) (steps : List Step) → AllDevices steps → IssuesOnly mode port steps
+devices_only mode port [] all = tt
+devices_only mode port (Issue its e ∷ steps) all = absurd all.1
+devices_only mode port (step ∷ steps) all = (all.1, devices_only mode port steps all.0)
+
+pub only_append : (mode : Mode) (port : Port) (late early : List Step) → IssuesOnly mode port late → IssuesOnly mode port early → IssuesOnly mode port (late ++ early)
+only_append mode port [] early a b = b
+only_append mode port (Issue its e ∷ late) early a b = (a.0, a.1, only_append mode port late early a.2 b)
+only_append mode port (step ∷ late) early a b = (a.0, only_append mode port late early a.1 b)
+
+-- what such steps are to a call: each is the device's, or issues a request of the port
+module _ (mode : Mode) (port : Port) where
+  pub belong_on : {D : Type 0} (ask : Ask D) (ports : Ports) → ((e : Pending) → e.request.port ≡ port → IsServers ask ports (Issue mode e)) → (late early : List Step) → IssuesOnly mode port late → Belong ask ports early
+      → Belong ask ports (late ++ early)
+  belong_on ask ports own [] early only b = b
+  belong_on ask ports own (Issue its e ∷ late) early only b =
+      (belong_on ask ports own late early only.2 b, inr (subst (λ (x : Mode). IsServers ask ports (Issue x e)) (sym only.0) (own e only.1)))
+  belong_on ask ports own (step ∷ late) early only b = (belong_on ask ports own late early only.1 b, inl only.0)
+
+  pub last_on : (late early : List Step) → IssuesOnly mode port late → IssuesLast late → IssuesLast early → ((id : RequestId) → IsIssuedIn id late → IsIssuedIn id early → ⊥) → IssuesLast (late ++ early)
+  last_on [] early only l e apart = e
+  last_on (step ∷ late) early only l e apart = (
+    last_on late early (rest step only) l.0 e (λ id i. apart id (or_right _ _ i)),
+    λ id h i. ⊎_elim (λ (before : IsIssuedIn id late). l.1 id h before) (λ (there : IsIssuedIn id early). apart id (or_left _ _ (issues step only id h)) there) (issued_parts id late early i),
+  )
+    where
+      rest : (step : Step) → IssuesOnly mode port (step ∷ late) → IssuesOnly mode port late
+      rest (Issue its e) only = only.2
+      rest step only = only.1
+
+      issues : (step : Step) → IssuesOnly mode port (step ∷ late) → (id : RequestId) → handles id step ≡ true → issues_it id step ≡ true
+      issues (Issue its e) only id h = h
+      issues step only id h = absurd (not_handled id step only.0 h)
+
+  pub lawful_on : (old : Moment) (evidence : Evidence) (ports : Ports) (late early : List Step) → IssuesOnly mode port late → AllLawful old evidence ports early → AllLawful old evidence ports (late ++ early)
+  lawful_on old evidence ports [] early only l = l
+  lawful_on old evidence ports (Issue its e ∷ late) early only l = lawful_on old evidence ports late early only.2 l
+  lawful_on old evidence ports (Again e ∷ late) early only l = absurd only.0
+  lawful_on old evidence ports (Answer e o ∷ late) early only l = absurd only.0
+  lawful_on old evidence ports (step ∷ late) early only l = lawful_on old evidence ports late early only.1 l
+
+  pub accepts_on : (late early : List Step) → IssuesOnly mode port late → accepts_of (late ++ early) ≡ accepts_of early
+  accepts_on [] early only = refl
+  accepts_on (Issue its e ∷ late) early only = accepts_on late early only.2
+  accepts_on (Accept r ∷ late) early only = absurd only.0
+  accepts_on (step ∷ late) early only = accepts_on late early only.1
+
+-- ---- one after another
+
+-- These requests are issued by such steps from the machine, after which it stands for the new server.
+pub record AreIssued (port : Port) (ids : List RequestId) (old new : Server) (m : Machine) : Type 0 where
+  pub steps : List Step
+  pub may : AllMay m steps
+  pub backed : IsBacked old.device new.device m steps
+  pub stands : IsMachineOf new (after m steps)
+  pub only : IssuesOnly (mode_in old port) port steps
+  pub named : (id : RequestId) → IsIssuedIn id steps → Contains ids id
+  pub all : (id : RequestId) → Contains ids id → IsIssuedIn id steps
+  pub last : IssuesLast steps
+
+same_id : (a b : RequestId) → a.0 ≡ b.0 → a ≡ b
+same_id a b same = ap (λ (n : ℕ). record { 0 = n }) same
+
+module _ (laws : LawsBelow) (port : Port) where
+  -- each waits until its turn comes
+  each_waits : (ids : List RequestId) (old new : Server) → IsKept old → IssuesEach port ids old new → (id : RequestId) → Contains ids id → (e : Held) → Contains old.book e → e.entry.id ≡ id → e.entry.issued ≡ false
+  each_waits [] old new k none id there e here its = absurd (nowhere id there)
+  each_waits (first ∷ ids) old new k (mid, one, more) id there e here its = ⊎_elim
+      (λ (same : id ≡ first).
+      let it : one.request ≡ e = laws.one old.book one.request e k.ordered one.here here (one.id_is ∙ sym same ∙ sym its) in
+      subst (λ (x : Held). x.entry.issued ≡ false) it (not_true one.request.entry.issued (and_parts _ _ one.due.clear).0))
+      (λ (later : Contains ids id).
+      let moved : Contains mid.book (at first issue e) = subst (λ (n : Server). Contains n.book (at first issue e)) (sym one.server) (into_map (at first issue) old.book e here) in
+      let waits : (at first issue e).entry.issued ≡ false = each_waits ids mid new (issue_kept laws old mid port first k one) more id later (at first issue e) moved (by_id e (has_id first e) ∙ its) in
+      still e (has_id first e) refl waits)
+      (contains_cases first ids id there)
+    where
+      by_id : (e : Held) (b : Bool) → (if b then record e { entry = issue e.entry } else e).entry.id ≡ e.entry.id
+      by_id e true = refl
+      by_id e false = refl
+
+      still : (e : Held) (b : Bool) → has_id first e ≡ b → (at first issue e).entry.issued ≡ false → e.entry.issued ≡ false
+      still e true is waits = absurd (false≢true (sym waits ∙ ap (λ (x : Held). x.entry.issued) (cond-true (has_id first e) (record e { entry = issue e.entry }) e is)))
+      still e false is waits = sym (ap (λ (x : Held). x.entry.issued) (cond-false (has_id first e) (record e { entry = issue e.entry }) e is)) ∙ waits
+
+  -- so no request is issued twice
+  never_again : (first : RequestId) (ids : List RequestId) (old mid new : Server) → IsKept old → IssuesOne port first old mid → IssuesEach port ids mid new → Contains ids first → ⊥
+  never_again first ids old mid new k one more there = false≢true (sym waits ∙ ap (λ (x : Held). x.entry.issued) now)
+    where
+      e : Held
+      e = one.request
+
+      now : at first issue e ≡ record e { entry = issue e.entry }
+      now = cond-true (has_id first e) (record e { entry = issue e.entry }) e (eq-eqb e.entry.id.0 first.0 (ap (λ (r : RequestId). r.0) one.id_is))
+
+      waits : (at first issue e).entry.issued ≡ false
+      waits = each_waits ids mid new (issue_kept laws old mid port first k one) more first there (at first issue e)
+          (subst (λ (n : Server). Contains n.book (at first issue e)) (sym one.server) (into_map (at first issue) old.book e one.here))
+          (ap (λ (x : Held). x.entry.id) now ∙ one.id_is)
+
+  pub each_issued : (ids : List RequestId) (old new : Server) → IsKept old → IssuesEach port ids old new → (m : Machine) → IsReached m → IsMachineOf old m → AreIssued port ids old new m
+  each_issued [] old new k none m reached is = record {
+    steps = [];
+    may = tt;
+    backed = subst (λ (n : Server). IsBacked old.device n.device m []) (sym none) (laws.backed_none old.device m);
+    stands = subst (λ (n : Server). IsMachineOf n m) (sym none) is;
+    only = tt;
+    named = λ id i. absurd (false≢true i);
+    all = λ id here. absurd (nowhere id here);
+    last = tt;
+  }
+  each_issued (first ∷ ids) old new k (mid, one, more) m reached is =
+      let x : IsIssue port first old mid m = issue_one laws old mid port first k one m reached is in
+      let early : List Step = Issue (mode_in old port) x.request ∷ x.steps in
+      let y : AreIssued port ids mid new (after m early) = each_issued ids mid new (issue_kept laws old mid port first k one) more (after m early) (laws.basic.reached m early reached x.may) x.stands in
+      record {
+        steps = y.steps ++ early;
+        may = laws.basic.may m y.steps early x.may y.may;
+        backed = laws.backed_parts old.device mid.device new.device m early y.steps x.backed y.backed;
+        stands = subst (IsMachineOf new) (sym (laws.basic.joined m y.steps early)) y.stands;
+        only = only_append (mode_in old port) port y.steps early (subst (λ (modes : List Mode). IssuesOnly (mode_at modes port.0) port y.steps) (ap (λ (n : Server). n.modes) one.server) y.only) (refl, x.port_is, devices_only (mode_in old port) port x.steps x.only);
+        named = λ id i. ⊎_elim
+            (λ (late : IsIssuedIn id y.steps). contains_there first ids id (y.named id late))
+            (λ (here : IsIssuedIn id early). ⊎_elim
+            (λ (its : (x.request.request.id.0 == id.0) ≡ true). contains_here first ids id (same_id id first (sym (eqb-true x.request.request.id.0 id.0 its) ∙ ap (λ (r : RequestId). r.0) x.id_is)))
+            (λ (before : IsIssuedIn id x.steps). absurd (false≢true (sym (devices_issue_none id x.steps x.only) ∙ before)))
+            (or_cases (x.request.request.id.0 == id.0) (list_any (issues_it id) x.steps) here))
+            (issued_parts id y.steps early i);
+        all = λ id there. ⊎_elim
+            (λ (same : id ≡ first). issued_early id y.steps early (or_left _ _ (eq-eqb x.request.request.id.0 id.0 (ap (λ (r : RequestId). r.0) (x.id_is ∙ sym same)))))
+            (λ (later : Contains ids id). issued_late id y.steps early (y.all id later))
+            (contains_cases first ids id there);
+        last = last_on (mode_in mid port) port y.steps early y.only y.last
+            (devices_last x.steps x.only, λ id h i. false≢true (sym (devices_issue_none id x.steps x.only) ∙ i))
+            (λ id late i. ⊎_elim
+            (λ (its : (x.request.request.id.0 == id.0) ≡ true).
+            never_again first ids old mid new k one more (subst (Contains ids) (same_id id first (sym (eqb-true x.request.request.id.0 id.0 its) ∙ ap (λ (r : RequestId). r.0) x.id_is)) (y.named id late)))
+            (λ (before : IsIssuedIn id x.steps). absurd (false≢true (sym (devices_issue_none id x.steps x.only) ∙ before)))
+            (or_cases (x.request.request.id.0 == id.0) (list_any (issues_it id) x.steps) i));
+      }
+
+  pub each_kept : (ids : List RequestId) (old new : Server) → IsKept old → IssuesEach port ids old new → IsKept new
+  each_kept [] old new k none = subst IsKept (sym none) k
+  each_kept (first ∷ ids) old new k (mid, one, more) = each_kept ids mid new (issue_kept laws old mid port first k one) more
+
+  -- in that no data comes for a command of the driver's own but on dead ports
+  pub each_silent : (ids : List RequestId) (old new : Server) → IsKept old → IssuesEach port ids old new → (q : ℕ) (o : Operation) → op_of o ≡ None → found_of old.ports q ≢ Unready Dead
+      → SendsNone q o old.device new.device
+  each_silent [] old new k none q o own other = subst (λ (n : Server). SendsNone q o old.device n.device) (sym none) (silent_none q o old.device)
+  each_silent (first ∷ ids) old new k (mid, one, more) q o own other =
+      silent_more q o old.device mid.device new.device (issue_silent laws old mid port first k one q o own other)
+      (each_silent ids mid new (issue_kept laws old mid port first k one) more q o own (λ dead. other (ap (λ (n : Server). found_of n.ports q) (sym one.server) ∙ dead)))
+
+  -- but for the device, the slots and the book, the server is as it was
+  pub each_settings : (ids : List RequestId) (old new : Server) → IssuesEach port ids old new → new ≡ record old { device = new.device; slots = new.slots; book = new.book }
+  each_settings [] old new none = none ∙ ap (λ (n : Server). record old { device = n.device; slots = n.slots; book = n.book }) (sym none)
+  each_settings (first ∷ ids) old new (mid, one, more) =
+      each_settings ids mid new more ∙ ap (λ (n : Server). record n { device = new.device; slots = new.slots; book = new.book }) one.server
+
+  -- the accesses that issue them
+  pub each_driven : (ids : List RequestId) (old new : Server) → IssuesEach port ids old new → IsDrivenBy (IssuesIn port) old.device new.device
+  each_driven [] old new none = subst (λ (n : Server). IsDrivenBy (IssuesIn port) old.device n.device) (sym none) (by_none (IssuesIn port) old.device)
+  each_driven (first ∷ ids) old new (mid, one, more) =
+      let late = each_driven ids mid new more in
+      let early = driven_as (IsIssuing port one.slot) (IssuesIn port) old.device mid.device (λ access is. (one.slot, one.small, is)) one.issues.driven in
+      record {
+        accesses = early.accesses ++ late.accesses;
+        all = laws.basic.does_append early.accesses late.accesses old.device mid.device new.device early.all late.all;
+        only = All-append (IssuesIn port) early.accesses late.accesses early.only late.only;
+      }
+
+  -- ---- the book then
+
+  -- the requests of these ids issued
+  abbrev with_each : List RequestId → List Unanswered → List Unanswered
+  with_each [] book = book
+  with_each (id ∷ ids) book = with_each ids (with_issued id book)
+
+  each_asks : (ids : List RequestId) (old new : Server) → IssuesEach port ids old new → asks_of new.book ≡ with_each ids (asks_of old.book)
+  each_asks [] old new none = ap (λ (n : Server). asks_of n.book) none
+  each_asks (first ∷ ids) old new (mid, one, more) =
+      each_asks ids mid new more ∙ ap (with_each ids) (ap (λ (n : Server). asks_of n.book) one.server ∙ laws.asks_issued old.book first)
+
+  -- nothing changes how ports take commands
+  pub each_modes : (ids : List RequestId) (old new : Server) → IssuesEach port ids old new → new.modes ≡ old.modes
+  each_modes [] old new none = ap (λ (n : Server). n.modes) none
+  each_modes (first ∷ ids) old new (mid, one, more) = each_modes ids mid new more ∙ ap (λ (n : Server). n.modes) one.server
+
+  -- once all that were due are issued, none is
+  pub each_done : (mode : Mode) (ids : List RequestId) (old new : Server) → IssuesEach port ids old new → AreDueInTurn mode port ids (asks_of old.book) → NoneDue mode (asks_of new.book) port
+  each_done mode [] old new none turns = subst (λ (n : Server). NoneDue mode (asks_of n.book) port) (sym none) turns
+  each_done mode (first ∷ ids) old new (mid, one, more) turns =
+      each_done mode ids mid new more
+      (subst (AreDueInTurn mode port ids) (sym (ap (λ (n : Server). asks_of n.book) one.server ∙ laws.asks_issued old.book first)) turns.1)
+
+  -- requests of another port are as they were
+  pub each_apart : (ids : List RequestId) (old new : Server) → IsInOrder old.book → IssuesEach port ids old new → (other : Port) → other ≢ port → of_port other (asks_of new.book) ≡ of_port other (asks_of old.book)
+  each_apart [] old new order none other ne = ap (λ (n : Server). of_port other (asks_of n.book)) none
+  each_apart (first ∷ ids) old new order (mid, one, more) other ne =
+      each_apart ids mid new (subst (λ (n : Server). IsInOrder n.book) (sym one.server) (laws.issued old.book first order (subst (λ (id : RequestId). IsWaiting id old.book) one.id_is (laws.waits (mode_in old port) old.book (asks one.request.entry) one.due)))) more other ne
+      ∙ ap (of_port other) (ap (λ (n : Server). asks_of n.book) one.server ∙ laws.asks_issued old.book first ∙ ap (λ (id : RequestId). with_issued id (asks_of old.book)) (sym one.id_is))
+      ∙ laws.issued_apart other (asks_of old.book) (asks one.request.entry) (laws.asked old.book order) (into_map (λ (y : Held). asks y.entry) old.book one.request one.here)
+      (λ same. ne (sym same ∙ one.port_is))
+
+  -- and so are the slots of another port
+  pub each_slots : (ids : List RequestId) (old new : Server) → IssuesEach port ids old new → (other : ℕ) → other ≢ port.0 → slots_at new.slots other ≡ slots_at old.slots other
+  each_slots [] old new none other ne = ap (λ (n : Server). slots_at n.slots other) none
+  each_slots (first ∷ ids) old new (mid, one, more) other ne = each_slots ids mid new more other ne ∙ ap (λ (n : Server). slots_at n.slots other) one.server
+      ∙ get_or-set_other old.slots port.0 other _ no_slots ne
+
+  pub settled : (old new : Server) → IsKept old → ((other : Port) → other ≢ port → NoneDue (mode_in old other) (asks_of old.book) other) → IssuesAll port old new → IsSettled new
+  settled old new k none issues = record {
+    kept = each_kept ids old new k issues;
+    issued = λ other. subst (λ (modes : List Mode). NoneDue (mode_at modes other.0) (asks_of new.book) other) (sym (each_modes ids old new issues)) (⊎_elim
+        (λ (same : other.0 ≡ port.0).
+        subst (λ (q : Port). NoneDue (mode_in old q) (asks_of new.book) q) (ap (λ (n : ℕ). record { 0 = n }) (sym same))
+        (each_done (mode_in old port) ids old new issues (laws.in_turn (mode_in old port) port (asks_of old.book) (laws.asked old.book k.ordered))))
+        (λ (ne : other.0 ≢ port.0).
+        let apart : other ≢ port = λ same. ne (ap (λ (p : Port). p.0) same) in
+        λ r own is_due. none other apart r own
+        ((laws.same_due (mode_in old other) other (asks_of new.book) (asks_of old.book) r (each_apart ids old new k.ordered issues other apart) own).0 is_due))
+        (cases_eq other.0 port.0));
+  }
+    where
+      ids : List RequestId
+      ids = due_ids (mode_in old port) port (asks_of old.book)
+
+  -- ---- what was due is what was issued
+
+  -- as it was, were none of them issued
+  abbrev mark : List Step → Unanswered → Unanswered
+  mark steps r = if list_any (issues_it r.id) steps then record r { issued = false } else r
+
+  abbrev mark_each : List RequestId → Unanswered → Unanswered
+  mark_each [] r = r
+  mark_each (id ∷ ids) r = mark_each ids (mark_issued id r)
+
+  each_marks : (ids : List RequestId) (book : List Unanswered) → with_each ids book ≡ map (mark_each ids) book
+  each_marks [] book = sym (map_same book)
+    where
+      map_same : (xs : List Unanswered) → map (λ (r : Unanswered). r) xs ≡ xs
+      map_same [] = refl
+      map_same (x ∷ xs) = ap (λ (ys : List Unanswered). x ∷ ys) (map_same xs)
+  each_marks (id ∷ ids) book = each_marks ids (with_issued id book) ∙ map_map book
+    where
+      map_map : (xs : List Unanswered) → map (mark_each ids) (map (mark_issued id) xs) ≡ map (λ (r : Unanswered). mark_each ids (mark_issued id r)) xs
+      map_map [] = refl
+      map_map (x ∷ xs) = ap (λ (ys : List Unanswered). mark_each ids (mark_issued id x) ∷ ys) (map_map xs)
+
+  -- what issuing these leaves of a request
+  each_mark : (ids : List RequestId) (r : Unanswered) → ((mark_each ids r ≡ r) × (Contains ids r.id → ⊥)) ⊎ ((mark_each ids r ≡ record r { issued = true }) × Contains ids r.id)
+  each_mark [] r = inl (refl, λ here. nowhere r.id here)
+  each_mark (id ∷ ids) r = ⊎_elim
+      (λ (its : (r.id.0 == id.0) ≡ true).
+      let same : r.id ≡ id = same_id r.id id (eqb-true r.id.0 id.0 its) in
+      let head : mark_issued id r ≡ record r { issued = true } = cond-true (r.id.0 == id.0) (record r { issued = true }) r its in
+      inr (ap (mark_each ids) head ∙ ⊎_elim (λ one. one.0) (λ one. one.0) (each_mark ids (record r { issued = true })), contains_here id ids r.id same))
+      (λ (other : (r.id.0 == id.0) ≡ false).
+      let head : mark_issued id r ≡ r = cond-false (r.id.0 == id.0) (record r { issued = true }) r other in
+      ⊎_elim
+      (λ (one : (mark_each ids r ≡ r) × (Contains ids r.id → ⊥)).
+      inl (ap (mark_each ids) head ∙ one.0, λ here. ⊎_elim (λ (same : r.id ≡ id). false≢true (sym other ∙ eq-eqb r.id.0 id.0 (ap (λ (i : RequestId). i.0) same))) one.1 (contains_cases id ids r.id here)))
+      (λ (one : (mark_each ids r ≡ record r { issued = true }) × Contains ids r.id). inr (ap (mark_each ids) head ∙ one.0, contains_there id ids r.id one.1))
+      (each_mark ids r))
+      (cases_Bool (r.id.0 == id.0))
+
+  -- and with that undone, it is as it was
+  unmarked : (ids : List RequestId) (steps : List Step) (r : Unanswered) → ((id : RequestId) → IsIssuedIn id steps → Contains ids id) → ((id : RequestId) → Contains ids id → IsIssuedIn id steps)
+      → (Contains ids r.id → r.issued ≡ false) → mark steps (mark_each ids r) ≡ r
+  unmarked ids steps r named all waits = ⊎_elim
+      (λ (one : (mark_each ids r ≡ r) × (Contains ids r.id → ⊥)).
+      ap (mark steps) one.0 ∙ ⊎_elim
+      (λ (issued : IsIssuedIn r.id steps). absurd (one.1 (named r.id issued)))
+      (λ (none : list_any (issues_it r.id) steps ≡ false). cond-false (list_any (issues_it r.id) steps) (record r { issued = false }) r none)
+      (cases_Bool (list_any (issues_it r.id) steps)))
+      (λ (one : (mark_each ids r ≡ record r { issued = true }) × Contains ids r.id).
+      let here : record r { issued = false } ≡ r = (λ i. record r { issued = sym (waits one.1) i }) in
+      ap (mark steps) one.0 ∙ cond-true (list_any (issues_it r.id) steps) (record r { issued = false }) (record r { issued = true }) (all r.id one.1) ∙ here)
+      (each_mark ids r)
+
+  unmarked_all : (f g : Unanswered → Unanswered) (xs : List Unanswered) → ((r : Unanswered) → Contains xs r → f (g r) ≡ r) → map f (map g xs) ≡ xs
+  unmarked_all f g [] each = refl
+  unmarked_all f g (x ∷ xs) each =
+      ap (λ (y : Unanswered). y ∷ map f (map g xs)) (each x (first_here x xs)) ∙ ap (λ (ys : List Unanswered). x ∷ ys) (unmarked_all f g xs (λ r here. each r (contains_there x xs r here)))
+
+  module _ (old new : Server) (k : IsKept old) (issues : IssuesAll port old new) (m : Machine) (x : AreIssued port (due_ids (mode_in old port) port (asks_of old.book)) old new m) where
+    abbrev ids : List RequestId
+    ids = due_ids (mode_in old port) port (asks_of old.book)
+
+    -- a request of the book whose id is among these is due, and of the port
+    is_due : (r : Unanswered) → Contains (asks_of old.book) r → Contains ids r.id → IsDue (mode_in old port) (asks_of old.book) r × (r.port ≡ port)
+    is_due r here there =
+        let y = map_in (λ (u : Unanswered). u.id) (due_of (mode_in old port) port (asks_of old.book)) r.id there in
+        let own : y.0.port ≡ port = laws.own (mode_in old port) port (asks_of old.book) y.0 y.1 in
+        let its : IsDue (mode_in old port) (asks_of old.book) y.0 = (laws.exact (mode_in old port) port (asks_of old.book) y.0 own).0 y.1 in
+        let a = map_in (λ (e : Held). asks e.entry) old.book r here in
+        let b = map_in (λ (e : Held). asks e.entry) old.book y.0 its.here in
+        let one : a.0 ≡ b.0 = laws.one old.book a.0 b.0 k.ordered a.1 b.1 (sym (ap (λ (u : Unanswered). u.id) a.2) ∙ y.2 ∙ ap (λ (u : Unanswered). u.id) b.2) in
+        let same : y.0 ≡ r = b.2 ∙ ap (λ (e : Held). asks e.entry) (sym one) ∙ sym a.2 in
+        (subst (IsDue (mode_in old port) (asks_of old.book)) same its, ap (λ (u : Unanswered). u.port) (sym same) ∙ own)
+
+    was : unissued x.steps (map unanswered (after m x.steps).book) ≡ asks_of old.book
+    was =
+        ap (map (mark x.steps)) (same_book new.book (after m x.steps).book x.stands.book ∙ each_asks ids old new issues ∙ each_marks ids (asks_of old.book))
+        ∙ unmarked_all (mark x.steps) (mark_each ids) (asks_of old.book)
+        (λ r here. unmarked ids x.steps r x.named x.all (λ there. not_true r.issued (and_parts _ _ (is_due r here there).0.clear).0))
+
+    pub dues : (q : Port) → (q ≢ port → NoneDue (mode_in old q) (asks_of old.book) q) → IssuesDue (mode_in old q) x.steps (after m x.steps) q
+    dues q none = subst (λ (us : List Unanswered). (r : Unanswered) → Contains us r → r.port ≡ q → IsIssuedIn r.id x.steps ↔ IsDue (mode_in old q) us r) (sym was) exact
+      where
+        exact : (r : Unanswered) → Contains (asks_of old.book) r → r.port ≡ q → IsIssuedIn r.id x.steps ↔ IsDue (mode_in old q) (asks_of old.book) r
+        exact r here own = (
+          (λ issued. let d = is_due r here (x.named r.id issued) in subst (λ (z : Port). IsDue (mode_in old z) (asks_of old.book) r) (sym d.1 ∙ own) d.0),
+          (λ its. ⊎_elim
+              (λ (same : q.0 ≡ port.0).
+              let at : r.port ≡ port = own ∙ ap (λ (n : ℕ). record { 0 = n }) same in
+              x.all r.id (into_map (λ (u : Unanswered). u.id) (due_of (mode_in old port) port (asks_of old.book)) r ((laws.exact (mode_in old port) port (asks_of old.book) r at).1 (subst (λ (z : Port). IsDue (mode_in old z) (asks_of old.book) r) (ap (λ (n : ℕ). record { 0 = n }) same) its))))
+              (λ (ne : q.0 ≢ port.0). absurd (none (λ same. ne (ap (λ (p : Port). p.0) same)) r own its))
+              (cases_eq q.0 port.0)),
+        )
+
+-- ---- what is due of a port, after more steps
+
+-- the requests of the port among these
+own_in : (q : Port) (xs : List Unanswered) (r : Unanswered) → Contains (of_port q xs) r → Contains xs r × (r.port ≡ q)
+own_in q [] r here = absurd (nowhere r here)
+own_in q (x ∷ xs) r here = ⊎_elim
+    (λ (its : (x.port.0 == q.0) ≡ true). ⊎_elim
+    (λ (same : r ≡ x). (contains_here x xs r same, ap (λ (u : Unanswered). u.port) same ∙ ap (λ (n : ℕ). record { 0 = n }) (eqb-true x.port.0 q.0 its)))
+    (λ (later : Contains (of_port q xs) r). let rest = own_in q xs r later in (contains_there x xs r rest.0, rest.1))
+    (contains_cases x (of_port q xs) r (subst (λ (us : List Unanswered). Contains us r) (cond-true (x.port.0 == q.0) (x ∷ of_port q xs) (of_port q xs) its) here)))
+    (λ (other : (x.port.0 == q.0) ≡ false).
+    let rest = own_in q xs r (subst (λ (us : List Unanswered). Contains us r) (cond-false (x.port.0 == q.0) (x ∷ of_port q xs) (of_port q xs) other) here) in
+    (contains_there x xs r rest.0, rest.1))
+    (cases_Bool (x.port.0 == q.0))
+
+in_own : (q : Port) (xs : List Unanswered) (r : Unanswered) → Contains xs r → r.port ≡ q → Contains (of_port q xs) r
+in_own q [] r here own = absurd (nowhere r here)
+in_own q (x ∷ xs) r here own = ⊎_elim
+    (λ (its : (x.port.0 == q.0) ≡ true). subst (λ (us : List Unanswered). Contains us r) (sym (cond-true (x.port.0 == q.0) (x ∷ of_port q xs) (of_port q xs) its)) (⊎_elim
+    (λ (same : r ≡ x). contains_here x (of_port q xs) r same)
+    (λ (later : Contains xs r). contains_there x (of_port q xs) r (in_own q xs r later own))
+    (contains_cases x xs r here)))
+    (λ (other : (x.port.0 == q.0) ≡ false). subst (λ (us : List Unanswered). Contains us r) (sym (cond-false (x.port.0 == q.0) (x ∷ of_port q xs) (of_port q xs) other)) (⊎_elim
+    (λ (same : r ≡ x). absurd (false≢true (sym other ∙ eq-eqb x.port.0 q.0 (ap (λ (u : Unanswered). u.port.0) (sym same) ∙ ap (λ (p : Port). p.0) own))))
+    (λ (later : Contains xs r). in_own q xs r later own)
+    (contains_cases x xs r here)))
+    (cases_Bool (x.port.0 == q.0))
+
+-- what leaves each one's port leaves which are the port's
+own_map : (q : Port) (f : Unanswered → Unanswered) → ((r : Unanswered) → (f r).port ≡ r.port) → (xs : List Unanswered) → of_port q (map f xs) ≡ map f (of_port q xs)
+own_map q f keeps [] = refl
+own_map q f keeps (x ∷ xs) = ⊎_elim
+    (λ (its : (x.port.0 == q.0) ≡ true).
+    cond-true ((f x).port.0 == q.0) (f x ∷ of_port q (map f xs)) (of_port q (map f xs)) (ap (λ (p : Port). p.0 == q.0) (keeps x) ∙ its)
+    ∙ ap (λ (us : List Unanswered). f x ∷ us) (own_map q f keeps xs) ∙ ap (map f) (sym (cond-true (x.port.0 == q.0) (x ∷ of_port q xs) (of_port q xs) its)))
+    (λ (other : (x.port.0 == q.0) ≡ false).
+    cond-false ((f x).port.0 == q.0) (f x ∷ of_port q (map f xs)) (of_port q (map f xs)) (ap (λ (p : Port). p.0 == q.0) (keeps x) ∙ other)
+    ∙ own_map q f keeps xs ∙ ap (map f) (sym (cond-false (x.port.0 == q.0) (x ∷ of_port q xs) (of_port q xs) other)))
+    (cases_Bool (x.port.0 == q.0))
+
+map_alike : (f g : Unanswered → Unanswered) (xs : List Unanswered) → ((r : Unanswered) → Contains xs r → f r ≡ g r) → map f xs ≡ map g xs
+map_alike f g [] each = refl
+map_alike f g (x ∷ xs) each = ap (λ (y : Unanswered). y ∷ map f xs) (each x (first_here x xs)) ∙ ap (λ (ys : List Unanswered). g x ∷ ys) (map_alike f g xs (λ r here. each r (contains_there x xs r here)))
+
+mark_port : (steps : List Step) (r : Unanswered) → (if list_any (issues_it r.id) steps then record r { issued = false } else r).port ≡ r.port
+mark_port steps r = by (list_any (issues_it r.id) steps)
+  where
+    by : (b : Bool) → (if b then record r { issued = false } else r).port ≡ r.port
+    by true = refl
+    by false = refl
+
+mark_id : (steps : List Step) (r : Unanswered) → (if list_any (issues_it r.id) steps then record r { issued = false } else r).id ≡ r.id
+mark_id steps r = by (list_any (issues_it r.id) steps)
+  where
+    by : (b : Bool) → (if b then record r { issued = false } else r).id ≡ r.id
+    by true = refl
+    by false = refl
+
+-- Where the port's requests are the same in two machines, and the same of them are issued in two lists of steps, what is due once the others
+-- are undone is the same.
+pub dues_carried : LawsBelow → (mode : Mode) → (one other : List Step) (m n : Machine) (q : Port) → of_port q (map unanswered m.book) ≡ of_port q (map unanswered n.book)
+    → ((r : Unanswered) → Contains (map unanswered m.book) r → r.port ≡ q → list_any (issues_it r.id) one ≡ list_any (issues_it r.id) other)
+    → IssuesDue mode one m q → IssuesDue mode other n q
+dues_carried laws mode one other m n q same alike dues r here own = (
+  (λ issued. (laws.same_due mode q a b r marks own).0 (was.0 (id_alike ∙ issued))),
+  (λ due_now. sym id_alike ∙ was.1 ((laws.same_due mode q a b r marks own).1 due_now)),
+)
+  where
+    a : List Unanswered
+    a = unissued one (map unanswered m.book)
+
+    b : List Unanswered
+    b = unissued other (map unanswered n.book)
+
+    own_alike : (x : Unanswered) → Contains (of_port q (map unanswered m.book)) x → (if list_any (issues_it x.id) one then record x { issued = false } else x) ≡ (if list_any (issues_it x.id) other then record x { issued = false } else x)
+    own_alike x there =
+        let w = own_in q (map unanswered m.book) x there in
+        ap (λ (c : Bool). if c then record x { issued = false } else x) (alike x w.0 w.1)
+
+    marks : of_port q a ≡ of_port q b
+    marks =
+        own_map q _ (mark_port one) (map unanswered m.book) ∙ map_alike _ _ (of_port q (map unanswered m.book)) own_alike
+        ∙ ap (map (λ (x : Unanswered). if list_any (issues_it x.id) other then record x { issued = false } else x)) same ∙ sym (own_map q _ (mark_port other) (map unanswered n.book))
+
+    there_too : Contains a r
+    there_too = (own_in q a r (subst (λ (us : List Unanswered). Contains us r) (sym marks) (in_own q b r here own))).0
+
+    was : IsIssuedIn r.id one ↔ IsDue mode a r
+    was = dues r there_too own
+
+    id_alike : list_any (issues_it r.id) one ≡ list_any (issues_it r.id) other
+    id_alike =
+        let x = map_in _ (map unanswered m.book) r there_too in
+        let id_is : r.id ≡ x.0.id = ap (λ (u : Unanswered). u.id) x.2 ∙ mark_id one x.0 in
+        let port_is : x.0.port ≡ q = sym (mark_port one x.0) ∙ sym (ap (λ (u : Unanswered). u.port) x.2) ∙ own in
+        ap (λ (i : RequestId). list_any (issues_it i) one) id_is ∙ alike x.0 x.1 port_is ∙ ap (λ (i : RequestId). list_any (issues_it i) other) (sym id_is)

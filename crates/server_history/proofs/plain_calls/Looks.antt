@@ -1,0 +1,170 @@
+-- A server goes on while a port is looked at, and while the transfer of a ready one is looked for.
+use Rattle.std.proofs.Common.{ℕ, ◌≡◌, ◌≢◌, ◌<◌, true, false, None, inl, inr, refl, sym, ap, ◌∙◌, subst, List}
+use Rattle.std.proofs.lemmas.Bool.{and_parts}
+use Rattle.ata_types.specs.declared.Port.{Port}
+use Rattle.ata_types.specs.declared.PortState.TheVariants.{Dead, Ready as ReadyState}
+use Rattle.hba_regs.specs.declared.reg.Reg.TheVariants.{Px}
+use Rattle.hba_regs.specs.declared.reg.PortReg.{PortReg}
+use Rattle.hba_regs.specs.declared.reg.PortReg.TheVariants.{Is, Cmd, Sact, Ci}
+use Rattle.adapter.specs.Access.{Access, Reads}
+use Rattle.adapter.specs.Access.Access.{Reading, Writing, Loading, Storing}
+use Rattle.adapter.specs.Device.{Device}
+use Rattle.adapter.specs.declared.command.Operation.{Operation}
+use Rattle.adapter.specs.declared.command.Operation.TheVariants.{Identify}
+use Rattle.agreement.specs.Agrees.{port_at}
+use Rattle.agreement.specs.Driven.{AnyUse, IsDrivenBy, IsFollowed, IsOf, LeavesPort, NoneWrites, SendsNone}
+use Rattle.agreement.specs.Halting.{IsHaltedAsTaken}
+use Rattle.agreement.specs.Slots.{IsOver, Uses, op_of}
+use Rattle.agreement.proofs.driver.Stretches.{along, followed_adds, followed_silent}
+use Rattle.server_history.proofs.state.DrivenAccesses.{driven_as}
+use Rattle.agreement.proofs.driver.FinishedCommand.{access_over, steps_over}
+use Rattle.host_boot.specs.Taken.{found_of}
+use Rattle.host_boot.specs.declared.Found.TheVariants.{Unready}
+use Rattle.server_history.specs.Served.{IsMaskOf}
+use Rattle.server_history.specs.Server.{Server, IsKept, IsPortOf, slots_at, state_of, used_for}
+use Rattle.server_history.proofs.state.HistorySteps.{machine_on, kept_on}
+use Rattle.server_history.proofs.state.PlainHalts.{followed_halts}
+use Rattle.server_history.proofs.state.PortsOverAccesses.{port_on}
+use Rattle.server_history.proofs.state.PortSlots.{AreOver, busy_used, not_own, ready_found, serves_used, used_there}
+use Rattle.server_history.proofs.state.StoredCommands.{service_leaves_stored}
+use Rattle.agreement.specs.Acts.{at as at_slots}
+use Rattle.std.specs.List.{All}
+use Rattle.port_look.specs.Looks.{IsLooking}
+use Rattle.port_look.specs.Services.{IsService}
+use Rattle.ncq.specs.Masks.{ReadsDone, IsFinding}
+use Rattle.hba_regs.specs.Bits.{bit}
+use Rattle.server_history.specs.Below.{LawsBelow}
+use Rattle.server_history.proofs.state.TransferAccesses.{finding_serves}
+
+-- ---- what stands behind the ports
+
+-- Accesses that serve a ready port leave what stands behind each, where the others are left to the device, no page comes but on
+-- dead ones, and halts are of taken commands still.
+pub behind_served : LawsBelow → (s : Server) (new : Device) (port : Port) → IsKept s → state_of (found_of s.ports port.0) ≡ ReadyState → IsDrivenBy IsService s.device new
+    → ((q : ℕ) → q < 4 → q ≢ port.0 → LeavesPort (s.device.port q) (new.port q)) → ((q : ℕ) → found_of s.ports q ≢ Unready Dead → SendsNone q Identify s.device new)
+    → ((q : ℕ) → IsHaltedAsTaken (s.device.port q) → IsHaltedAsTaken (new.port q)) → (q : ℕ) → q < 4 → IsPortOf s.wanted s.ports q new
+behind_served laws s new port k ready driven left silent halts q low =
+    port_on laws s.wanted s.ports q s.device new (laws.looking.services_same s.device new driven) k.on driven
+    (λ unready. left q low (λ same. unready (ap (λ (n : ℕ). state_of (found_of s.ports n)) same ∙ ready))) (silent q) (halts q) (k.behind q low)
+
+-- ---- the server
+
+-- a look writes of a port's registers PxIS alone
+pub looking_spares : (port q : Port) (r : PortReg) → (Is ≡ r → ⊥) → NoneWrites (IsLooking port) (Px q r)
+looking_spares port q r other (Writing reg v) (inl e) = λ is. other (let x : Px port Is ≡ Px q r = sym e ∙ is in cc)
+looking_spares port q r other (Writing reg v) (inr e) = λ is. let x : _ ≡ Px q r = sym e.0 ∙ is in absurd cc
+looking_spares port q r other (Reading reg v) here = tt
+looking_spares port q r other (Loading at bytes) here = tt
+looking_spares port q r other (Storing at bytes) here = tt
+
+module _ (s : Server) (new : Device) (port : Port) (k : IsKept s) where
+  -- in followed accesses that write neither PxCI nor PxSACT, no data comes for a command of the driver's own but on dead ports
+  silent_over : (May : Access → Type 0) → ((q : Port) → NoneWrites May (Px q Ci) × NoneWrites May (Px q Sact)) → IsFollowed May AnyUse s.device new
+      → (q : ℕ) (o : Operation) → op_of o ≡ None → found_of s.ports q ≢ Unready Dead → SendsNone q o s.device new
+  silent_over May none followed q o own other =
+      followed_silent followed k.stands.uses k.stands.parked k.machine tt k.reached k.stands.knows (port_at q) o own (none (port_at q)).0 (none (port_at q)).1
+      (not_own (found_of s.ports q) (used_for s.slots q 0) (k.stands.uses q 0) o other (k.stands.used q 0))
+
+  -- followed accesses that serve the port, and write no PxCI, where what stands behind each port goes on
+  kept_by : LawsBelow → (May : Access → Type 0) → ((access : Access) → May access → IsService access) → ((access : Access) (at : ℕ) (bytes : List ℕ) → May access → access ≡ Storing at bytes → ⊥) → ((q : Port) → NoneWrites May (Px q Ci) × NoneWrites May (Px q Sact)) → ((q : Port) → NoneWrites May (Px q Cmd))
+      → ((q : ℕ) → q < 4 → IsPortOf s.wanted s.ports q new) → IsFollowed May AnyUse s.device new → IsKept (record s { device = new })
+  kept_by below May service storeless none commandless behind followed =
+      let uses : Uses = k.stands.uses in
+      let driven : IsDrivenBy IsService s.device new = driven_as May IsService s.device new service followed.driven in
+      let x = (followed_adds followed uses k.stands.parked tt).adds k.machine k.reached k.stands.knows in
+      kept_on below s new k (below.looking.services_on s.device new k.on driven) (below.looking.services_same s.device new driven)
+      behind
+      (λ q n used is.
+      let t = used_there s q n used k is in
+      let h = k.commands q n used is in
+      let acts = followed.comes (record { uses = uses; parked = k.stands.parked }) k.machine k.reached k.stands.knows tt in
+      record {
+        command = h.command;
+        places = h.places;
+        stored = below.slots.stored (port_at q) n h.command h.places acts.acts (at_slots (record { uses = uses; parked = k.stands.parked }) s.device) (at_slots (record { uses = uses; parked = k.stands.parked }) new) k.machine k.reached k.stands.knows acts.done
+            (λ i d small.
+            let its = subst (All May) (sym acts.accesses_are) followed.driven.only i d small in
+            service_leaves_stored (port_at q) n _ (service _ its) (λ a bytes place e x from to. storeless _ a bytes its e)) k.on h.stored;
+        kind = h.kind;
+      })
+      x.0 x.1
+      (machine_on below s new k.machine x.0 k.stands x.3.only x.2)
+
+  finding_spares : (q : Port) (r : PortReg) → NoneWrites (IsFinding port) (Px q r)
+  finding_spares q r (Writing reg v) here = absurd here
+  finding_spares q r (Reading reg v) here = tt
+  finding_spares q r (Loading at bytes) here = tt
+  finding_spares q r (Storing at bytes) here = tt
+
+  looking_stores : (access : Access) (at : ℕ) (bytes : List ℕ) → IsLooking port access → access ≡ Storing at bytes → ⊥
+  looking_stores access at bytes is e = subst (IsLooking port) e is
+
+  finding_stores : (access : Access) (at : ℕ) (bytes : List ℕ) → IsFinding port access → access ≡ Storing at bytes → ⊥
+  finding_stores access at bytes is e = subst (IsFinding port) e is
+
+  pub looking_silent : IsFollowed (IsLooking port) AnyUse s.device new → (q : ℕ) (o : Operation) → op_of o ≡ None → found_of s.ports q ≢ Unready Dead → SendsNone q o s.device new
+  looking_silent followed = silent_over (IsLooking port) (λ q. (looking_spares port q Ci (λ e. absurd cc), looking_spares port q Sact (λ e. absurd cc))) followed
+
+  -- a look, whatever the port is, where what stands behind each port goes on
+  pub looked_kept : LawsBelow → IsFollowed (IsLooking port) AnyUse s.device new → ((q : ℕ) → q < 4 → IsPortOf s.wanted s.ports q new) → IsKept (record s { device = new })
+  looked_kept laws followed behind =
+      kept_by laws (IsLooking port) (laws.looking.looking_service port) looking_stores (λ q. (looking_spares port q Ci (λ e. absurd cc), looking_spares port q Sact (λ e. absurd cc))) (λ q. looking_spares port q Cmd (λ e. absurd cc)) behind followed
+
+module _ (s : Server) (new : Device) (port : Port) (k : IsKept s) (ready : state_of (found_of s.ports port.0) ≡ ReadyState) where
+  kept_over : LawsBelow → (May : Access → Type 0) → ((access : Access) → May access → IsService access) → ((access : Access) (at : ℕ) (bytes : List ℕ) → May access → access ≡ Storing at bytes → ⊥) → ((q : Port) → NoneWrites May (Px q Ci) × NoneWrites May (Px q Sact)) → ((q : Port) → NoneWrites May (Px q Cmd))
+      → ((q : ℕ) → q < 4 → q ≢ port.0 → LeavesPort (s.device.port q) (new.port q)) → IsFollowed May AnyUse s.device new → IsKept (record s { device = new })
+  kept_over below May service storeless none commandless left followed =
+      kept_by s new port k below May service storeless none commandless
+      (behind_served below s new port k ready (driven_as May IsService s.device new service followed.driven) left
+      (λ q other. silent_over s new port k May none followed q Identify refl other)
+      (λ q. followed_halts below (port_at q) May s k new followed (commandless (port_at q))))
+      followed
+
+  pub looking_kept : LawsBelow → IsFollowed (IsLooking port) AnyUse s.device new → IsKept (record s { device = new })
+  looking_kept laws followed =
+      kept_over laws (IsLooking port) (laws.looking.looking_service port) (looking_stores s new port k) (λ q. (looking_spares port q Ci (λ e. absurd cc), looking_spares port q Sact (λ e. absurd cc))) (λ q. looking_spares port q Cmd (λ e. absurd cc)) (λ q low other. laws.looks.other_left port q s.device new other k.on (driven_as (IsLooking port) (IsOf port) s.device new (laws.looking.looking_of port) followed.driven)) followed
+
+  module _ (laws : LawsBelow) (mask done : ℕ) (finds : ReadsDone port mask done s.device new) where
+    pub finding_kept : IsKept (record s { device = new })
+    finding_kept =
+        let followed = laws.finding_followed port mask done s.device new finds in
+        kept_over laws (IsFinding port) (finding_serves port) (finding_stores s new port k) (λ q. (finding_spares s new port k q Ci, finding_spares s new port k q Sact)) (λ q. finding_spares s new port k q Cmd)
+        (λ q low other. laws.looks.other_left port q s.device new other k.on (driven_as (IsFinding port) (IsOf port) s.device new (laws.finding_of port) followed.driven)) followed
+
+    pub finding_silent : (q : ℕ) (o : Operation) → op_of o ≡ None → found_of s.ports q ≢ Unready Dead → SendsNone q o s.device new
+    finding_silent = silent_over s new port k (IsFinding port) (λ q. (finding_spares s new port k q Ci, finding_spares s new port k q Sact)) (laws.finding_followed port mask done s.device new finds)
+
+    -- the command of a slot that was found done is over, where only used slots were asked for
+    pub found_over : IsMaskOf (slots_at s.slots port.0) mask → AreOver port done new
+    found_over its slot small found =
+        let asked : bit mask slot ≡ true = (and_parts (bit mask slot) _ (and_parts _ _ (sym (finds.tells slot small) ∙ found)).0).0 in
+        let used = busy_used (used_for s.slots port.0 slot) (sym (its slot small) ∙ asked) in
+        let x = finds.comes (record { uses = k.stands.uses; parked = k.stands.parked }) k.machine k.reached k.stands.knows tt in
+        (x.tells.ended started slot used.0.id small found (serves_used s k.machine port.0 k.stands ready slot used.0 used.1)).0
+      where
+        started : (s.device.port port.0).st ≡ true
+        started = ((k.behind port.0 (ready_found s port.0 k ready).0).runs ready).st
+
+-- ---- commands that are over
+
+-- a look writes no PxCI
+no_issue : (port : Port) (access : Access) → IsLooking port access → (v : ℕ) → access ≡ Writing (Px port Ci) v → ⊥
+no_issue port access is v same = by (subst (IsLooking port) same is)
+  where
+    by : IsLooking port (Writing (Px port Ci) v) → ⊥
+    by (inl e) = let z : Px port Ci ≡ Px port Is = e in absurd cc
+    by (inr e) = absurd (let z = e.0 in cc)
+
+pub still_over : (port : Port) (slot : ℕ) (old new : Device) → IsDrivenBy (IsLooking port) old new → IsOver (old.port port.0) slot → IsOver (new.port port.0) slot
+still_over port slot old new driven =
+    along (λ a b. IsOver (a.port port.0) slot → IsOver (b.port port.0) slot) (λ d h. h) (λ a b c x y h. y (x h)) (IsLooking port)
+    (λ access a b is does h. access_over port slot access a b (λ v same. absurd (no_issue port access is v same)) does h) driven.accesses old new driven.only driven.all
+
+-- PxCI and PxSACT, which are read after a look, show the bits of a slot clear that had no command before
+pub both_clear : LawsBelow → (port : Port) (slot issued active : ℕ) (old seen read new : Device) → slot < 32 → IsDrivenBy (IsLooking port) old seen → Reads (Px port Ci) issued seen read
+    → Reads (Px port Sact) active read new → IsOver (old.port port.0) slot → (old.port port.0).sact slot ≡ false → (bit issued slot ≡ false) × (bit active slot ≡ false)
+both_clear laws port slot issued active old seen read new small looks reads shows over clear =
+    let unarmed = laws.looks.reads_clear port.0 slot (Px port Ci) issued seen read reads (laws.looking.looks_inactive port port.0 slot old seen looks clear) in (
+      reads.shows slot small ∙ (steps_over port.0 slot seen reads.mid reads.steps (still_over port slot old seen looks over)).issued,
+      shows.shows slot small ∙ laws.looks.steps_clear port.0 slot read shows.mid shows.steps unarmed,
+    )

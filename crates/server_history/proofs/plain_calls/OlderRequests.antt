@@ -1,0 +1,172 @@
+-- Requests that get older: in the book, and in a machine that stands for the server.
+use Rattle.std.proofs.Common.{get_or, min, not, ℕ, suc, ◌≡◌, ◌≤◌, ◌&&◌, Bool, true, false, if◌then◌else◌, List, [], ◌∷◌, refl, sym, ap, ◌∙◌, subst, inl, inr, ⊎_elim}
+use Rattle.std.specs.List.{All, Contains}
+use Rattle.std.proofs.lemmas.List.Elements.{All-map}
+use Rattle.ata_types.specs.declared.Port.{Port}
+use Rattle.ata_types.specs.declared.PortState.TheVariants.{Ready as ReadyState}
+use Rattle.ata_types.specs.declared.request.Op.{Op}
+use Rattle.ata_types.specs.declared.request.Op.TheVariants.{Flush, Read, Trim, Write}
+use Rattle.ata_types.specs.declared.request.RequestId.{RequestId}
+use Rattle.adapter.specs.Commands.{Meaning}
+use Rattle.adapter.specs.Device.{PortState, Taken}
+use Rattle.agreement.specs.Driven.{known}
+use Rattle.agreement.specs.Slots.{Means, Progress, ServesRequest, Stage}
+use Rattle.block_machine.specs.Due.{NoneDue, is_plain}
+use Rattle.block_machine.specs.State.{Machine, Pending}
+use Rattle.block_machine.specs.Steps.{Age, after_step, older}
+use Rattle.block_machine.specs.declared.due.Unanswered.{Unanswered}
+use Rattle.server_history.proofs.state.ListMembers.{into_map, map_in}
+use Rattle.host_boot.specs.Taken.{found_of}
+use Rattle.request_queue.specs.Entries as entries
+use Rattle.request_queue.specs.Entries.{Held}
+use Rattle.request_queue.specs.declared.Entry.{Entry}
+use Rattle.server_history.specs.Below.{LawsBelow}
+use Rattle.server_history.specs.Server.{Server, IsKept, IsMachineOf, IsSettled, mode_in, state_of}
+use Rattle.server_history.specs.Turns.{a_tick_older, is_ready}
+
+-- ---- one request
+
+-- but for its age, the request is what it was
+pub older_by : (P : Pending → Type 0) (ready : Port → Bool) (e : Pending) → P e → P (record e { age = suc e.age }) → P (older ready e)
+older_by P ready e same other = by (e.issued && ready e.request.port)
+  where
+    by : (b : Bool) → P (if b then record e { age = suc e.age } else e)
+    by true = other
+    by false = same
+
+pub older_request : (ready : Port → Bool) (e : Pending) → (older ready e).request ≡ e.request
+older_request ready e = older_by (λ x. x.request ≡ e.request) ready e refl refl
+
+pub older_issued : (ready : Port → Bool) (e : Pending) → (older ready e).issued ≡ e.issued
+older_issued ready e = older_by (λ x. x.issued ≡ e.issued) ready e refl refl
+
+pub older_ended : (ready : Port → Bool) (e : Pending) → (older ready e).ended ≡ e.ended
+older_ended ready e = older_by (λ x. x.ended ≡ e.ended) ready e refl refl
+
+-- and so it is in the book
+pub entry_by : (P : Entry → Type 0) (ready : Port → Bool) (r : Entry) → P r → ((age : ℕ) → P (record r { age = age })) → P (entries.older ready r)
+entry_by P ready r same other = by (r.issued && ready r.port)
+  where
+    by : (b : Bool) → P (if b then record r { age = min (suc r.age) 3 } else r)
+    by true = other (min (suc r.age) 3)
+    by false = same
+
+-- ---- its slot
+
+module _ (memory : ℕ → ℕ) (p : PortState) (port slot : ℕ) where
+  progress_on : (op : Op) (e : Pending) (age : ℕ) (t : Taken) → Progress op memory port e t → Progress op memory port (record e { age = age }) t
+  progress_on Read e age t x = x
+  progress_on Write e age t x = x
+  progress_on Trim e age t x = x
+  progress_on Flush e age t x = x
+
+  stage_on : (e : Pending) (age : ℕ) (c : Meaning) (places : List ℕ) → Stage memory p port slot e c places → Stage memory p port slot (record e { age = age }) c places
+  stage_on e age c places (inl w) = inl (record { started = w.started; issued = w.issued; free = w.free; sact = w.sact; block = w.block; untouched = w.untouched; unended = w.unended })
+  stage_on e age c places (inr (inl t)) = inr (inl (record {
+    command = t.command;
+    taken = t.taken;
+    meaning = t.meaning;
+    places_are = t.places_are;
+    running = t.running;
+    issued = t.issued;
+    sact = t.sact;
+    progress = progress_on e.request.asked.op e age t.command t.progress;
+    unended = t.unended;
+  }))
+  stage_on e age c places (inr (inr (inl d))) = inr (inr (inl (record { issued = d.issued; sact = d.sact; free = d.free; ended = d.ended; touched = d.touched })))
+  stage_on e age c places (inr (inr (inr d))) = inr (inr (inr (record { stopped = d.stopped; issued = d.issued; sact = d.sact; free = d.free; unended = d.unended })))
+
+  -- a slot that served the request does so still
+  pub serves_on : (m : Machine) (ready : Port → Bool) (id : RequestId) → ServesRequest m memory p port slot id → ServesRequest (after_step m (Age ready)) memory p port slot id
+  serves_on m ready id x = ⊎_elim
+      (λ here. record {
+        pending = older ready x.pending;
+        moves = inl (into_map (older ready) m.book x.pending here.0, older_issued ready x.pending ∙ here.1);
+        id_is = ap (λ r. r.id) (older_request ready x.pending) ∙ x.id_is;
+        port_is = ap (λ r. r.port.0) (older_request ready x.pending) ∙ x.port_is;
+        placed = x.placed;
+        command = x.command;
+        places = x.places;
+        told = x.told;
+        means = older_by (λ e. Means port slot e.request x.command x.places) ready x.pending x.means x.means;
+        stage = older_by (λ e. Stage memory p port slot e x.command x.places) ready x.pending x.stage (stage_on x.pending (suc x.pending.age) x.command x.places x.stage);
+      })
+      (λ kept. record {
+        pending = x.pending;
+        moves = inr kept;
+        id_is = x.id_is;
+        port_is = x.port_is;
+        placed = x.placed;
+        command = x.command;
+        places = x.places;
+        told = x.told;
+        means = x.means;
+        stage = x.stage;
+      })
+      x.moves
+
+-- ---- the server
+
+module _ (laws : LawsBelow) (s : Server) where
+  abbrev ready : Port → Bool
+  ready port = is_ready (found_of s.ports port.0)
+
+  pub older_stands : (m : Machine) → IsMachineOf s m → IsMachineOf (a_tick_older s) (after_step m (Age ready))
+  older_stands m is = record {
+    uses = is.uses;
+    used = is.used;
+    parked = is.parked;
+    unparked = is.unparked;
+    knows = laws.ages.agrees (known is.uses is.parked s.device) m ready is.knows;
+    book = laws.ages.book s.book m ready is.book;
+    kept = is.kept;
+    rows = is.rows;
+    owner = is.owner;
+    lent = is.lent;
+    next = is.next;
+  }
+
+  -- who is in the book then was in it
+  was_held : (e : Held) → Contains (a_tick_older s).book e → (o : Held) × Contains s.book o × (e ≡ record o { entry = entries.older ready o.entry })
+  was_held e here = map_in (λ (x : Held). record x { entry = entries.older ready x.entry }) s.book e here
+
+  still_all : (P : Held → Type 0) → ((e : Held) (age : ℕ) → P e → P (record e { entry = record (e.entry) { age = age } })) → All P s.book → All P (a_tick_older s).book
+  still_all P keeps all = All-map P (λ (x : Held). record x { entry = entries.older ready x.entry }) s.book
+      (λ k d lt. entry_by (λ r. P (record (get_or s.book k d) { entry = r })) ready (get_or s.book k d).entry (all k d lt) (λ age. keeps (get_or s.book k d) age (all k d lt)))
+
+  pub older_settled : IsSettled s → IsSettled (a_tick_older s)
+  older_settled settled = record {
+    kept = record {
+      on = k.on;
+      room = k.room;
+      there = k.there;
+      behind = k.behind;
+      four = k.four;
+      four_modes = k.four_modes;
+      four_remembered = k.four_remembered;
+      four_kept = k.four_kept;
+      few_kept = k.few_kept;
+      modes = k.modes;
+      slots = k.slots;
+      kinds = λ port slot used e its here id.
+          let w = was_held e here in
+          let same_id = ap (λ (x : Held). x.entry.id) w.2 ∙ entry_by (λ r. r.id ≡ w.0.entry.id) ready w.0.entry refl (λ age. refl) in
+          let same_op = ap (λ (x : Held). x.entry.op) w.2 ∙ entry_by (λ r. r.op ≡ w.0.entry.op) ready w.0.entry refl (λ age. refl) in
+          k.kinds port slot used w.0 its w.1 (sym same_id ∙ id) ∙ ap (λ (op : Op). not (is_plain (mode_in s port) op)) (sym same_op);
+      commands = k.commands;
+      alone = k.alone;
+      rows = k.rows;
+      owners = k.owners;
+      accepted = laws.ages.accepted s.grants s.table s.book ready k.accepted;
+      ordered = laws.ages.ordered s.book ready k.ordered;
+      handed_out = still_all (λ e. e.entry.id.0 ≤ s.last) (λ e age x. x) k.handed_out;
+      ready = still_all (λ e. state_of (found_of s.ports e.entry.port.0) ≡ ReadyState) (λ e age x. x) k.ready;
+      machine = after_step k.machine (Age ready);
+      reached = laws.basic.reached k.machine (Age ready ∷ []) k.reached (tt, tt);
+      stands = older_stands k.machine k.stands;
+    };
+    issued = λ port. subst (λ (us : List Unanswered). NoneDue (mode_in s port) us port) (sym (laws.ages.asks s.book ready)) (settled.issued port);
+  }
+    where
+      k : IsKept s
+      k = settled.kept

@@ -1,0 +1,29 @@
+-- The turn of a ready port that is mended: it is recovered or given up, booted where it has to be, and its
+-- requests meet their fates.
+pub mod FailedPort
+pub mod BootOrAbsence
+pub mod LinkResets
+pub mod SeenDevice
+pub mod FoundDisk
+pub mod RecoveredDevice
+pub mod RecoveryAccesses
+pub mod TurnStretches
+pub mod OtherPorts
+pub mod SparedPorts
+pub mod ReplacedPort
+pub mod MendedServer
+pub mod MendedPort
+pub mod RebootedPort
+pub mod HealthyPort
+pub mod MendedMachine
+pub mod DecidedSteps
+pub mod TurnParts
+pub mod LastingTrouble
+pub mod NamedTrouble
+pub mod TurnEvidence
+pub mod ToldFault
+pub mod DoneRequests
+pub mod HeededFaults
+pub mod TurnAsCall
+pub mod RestartedPort
+pub mod CallPart

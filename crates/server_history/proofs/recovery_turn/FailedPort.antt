@@ -1,0 +1,122 @@
+-- A ready port that a look tells a failure of may be recovered.
+use Rattle.std.proofs.Common.{ℕ, ◌≡◌, ◌≢◌, ◌<◌, ◌%◌, Bool, true, false, None, Some, sym, ap, ◌∙◌, subst, ⊎_elim}
+use Rattle.std.proofs.lemmas.Bool.{cases_Bool, cases_eq}
+use Rattle.ata_types.specs.declared.Port.{Port}
+use Rattle.ata_types.specs.declared.PortState.TheVariants.{Ready as ReadyState}
+use Rattle.hba_regs.specs.declared.reg.Reg.TheVariants.{Px}
+use Rattle.hba_regs.specs.declared.reg.PortReg.TheVariants.{Ci, Sact}
+use Rattle.adapter.specs.Access.Access.{Reading}
+use Rattle.adapter.specs.Device.{Device}
+use Rattle.adapter.specs.Rules.{IsOn}
+use Rattle.agreement.specs.Driven.{AgreesWith, AnyUse, IsFollowed}
+use Rattle.agreement.specs.Facts.{IsFaulted}
+use Rattle.error_recovery.specs.Recovery.{FitsFor, IsAloneIn, MayRecover}
+use Rattle.driver_history.specs.Holds.{Runs}
+use Rattle.host_boot.specs.Taken.{StillStandsBehind, found_of, wanted_of}
+use Rattle.host_boot.specs.declared.Found.{Found}
+use Rattle.ncq.specs.Masks.{ReadsDone}
+use Rattle.port_look.specs.Looks.{IsLooking, LooksAt}
+use Rattle.port_look.specs.declared.Look.TheVariants.{Failed}
+use Rattle.slots.specs.declared.Use.{Use as SlotUse}
+use Rattle.server_history.specs.Below.{LawsBelow}
+use Rattle.server_history.specs.Server.{Server, IsKept, StandsAlone, slots_at, state_of, used_for}
+use Rattle.server_history.specs.Mended.{AreQueued}
+use Rattle.server_history.specs.Served.{IsMaskOf}
+use Rattle.server_history.proofs.plain_calls.Looks.{finding_kept, looking_kept}
+use Rattle.server_history.proofs.state.TransferAccesses.{both_read}
+use Rattle.server_history.proofs.state.PortSlots.{busy_used, free_unused, ready_found, used_or_not}
+
+-- COMRESET isn't being sent
+released : (s : Server) (port : Port) → IsKept s → state_of (found_of s.ports port.0) ≡ ReadyState → (s.device.port port.0).sctl_det ≡ 0
+released s port k ready =
+    let r = ready_found s port.0 k ready in
+    (subst (λ (f : Found). StillStandsBehind (wanted_of s.wanted port.0) f port.0 s.device) r.1.1 (k.behind port.0 r.0).behind).1.det
+
+module _ (laws : LawsBelow) (s : Server) (seen found : Device) (port : Port) (mask done : ℕ) (k : IsKept s) (ready : state_of (found_of s.ports port.0) ≡ ReadyState)
+    (l : LooksAt port Failed s.device seen) (looks : IsFollowed (IsLooking port) AnyUse s.device seen) (finds : ReadsDone port mask done seen found) where
+  low : port.0 < 4
+  low = (ready_found s port.0 k ready).0
+
+  seen_kept : IsKept (record s { device = seen })
+  seen_kept = looking_kept s seen port k ready laws looks
+
+  found_kept : IsKept (record s { device = found })
+  found_kept = finding_kept (record s { device = seen }) found port seen_kept ready laws mask done finds
+
+  -- it runs, before and after
+  was : Runs port.0 s.device
+  was = (k.behind port.0 low).runs ready
+
+  then_runs : Runs port.0 seen
+  then_runs = (seen_kept.behind port.0 low).runs ready
+
+  runs : Runs port.0 found
+  runs = (found_kept.behind port.0 low).runs ready
+
+  first : IsFaulted (seen.port port.0).halt × ((seen.port port.0).notes.last_ssts % 16 ≡ 3)
+  first = laws.looking.fails_look port s.device seen k.on l was.st (λ _. was.recorded)
+
+  halted : IsFaulted (found.port port.0).halt × ((found.port port.0).notes.last_ssts % 16 ≡ 3)
+  halted =
+      let r = both_read port mask done seen found finds in
+      let mid = r.0 in
+      let access = Reading (Px port Ci) finds.issued in
+      let a = laws.looking.fails_reads port Ci finds.issued seen mid seen_kept.on r.1 (λ e. absurd cc) then_runs.st (λ _. then_runs.recorded) first.0 in
+      let on : IsOn mid = laws.looks.access_on access seen mid seen_kept.on (λ v e. absurd cc) r.1 in
+      let st = ((laws.looks.access_controls port access seen mid seen_kept.on.no_reset r.1).command tt).0 ∙ then_runs.st in
+      let recorded = laws.looks.access_recorded port access seen mid tt tt r.1 (λ _. then_runs.recorded) in
+      let b = laws.looking.fails_reads port Sact finds.active mid found on r.2 (λ e. absurd cc) st recorded a.0 in
+      (b.0, ap (λ (n : ℕ). n % 16) (b.1 ∙ a.1) ∙ first.1)
+
+  pub may_recover : MayRecover port.0 found
+  may_recover = record {
+    st = runs.st;
+    cr = runs.cr;
+    fre = runs.fre;
+    bases = runs.bases;
+    det = released (record s { device = found }) port found_kept ready;
+    linked = halted.1;
+    recorded = runs.recorded;
+    halted = halted.0;
+  }
+
+-- of plain commands a port has one alone
+pub fits_for : (s : Server) (port : Port) (queued : Bool) (k : IsKept s) → state_of (found_of s.ports port.0) ≡ ReadyState
+    → ((slot : ℕ) (used : SlotUse) → used_for s.slots port.0 slot ≡ Some used → used.queued ≡ queued) → AgreesWith (FitsFor queued port.0) s.device
+fits_for s port queued k ready kinds = (
+  k.stands.uses,
+  (λ plain slot other. ⊎_elim
+      (λ x. absurd (other (k.alone port.0 slot x.0 x.1 (kinds slot x.0 x.1 ∙ plain)).0))
+      (λ none. free_unused s k.machine port.0 k.stands ready slot none)
+      (used_or_not (used_for s.slots port.0 slot))),
+  record { machine = k.machine; parked = k.stands.parked; reached = k.reached; knows = k.stands.knows },
+)
+
+-- where a slot has a plain command, so it is of each used one
+one_plain : (s : Server) (port slot other : ℕ) (used its : SlotUse) → IsKept s → used_for s.slots port slot ≡ Some used → used_for s.slots port other ≡ Some its → used.queued ≡ false → its ≡ used
+one_plain s port slot other used its k is there plain = ⊎_elim
+    (λ (same : other ≡ 0).
+    let z : Some its ≡ Some used = sym there ∙ ap (used_for s.slots port) (same ∙ sym alone.0) ∙ is in
+    let e : its ≡ used = cc in e)
+    (λ (ne : other ≢ 0). let z : None ≡ Some its = sym (alone.1 other ne) ∙ there in absurd cc)
+    (cases_eq other 0)
+  where
+    alone : StandsAlone s.slots port slot
+    alone = k.alone port slot used is plain
+
+-- the used slots of a port have queued commands, or plain ones
+pub are_alike : (s : Server) (port : Port) (slot : ℕ) (used : SlotUse) → IsKept s → used_for s.slots port.0 slot ≡ Some used → AreQueued used.queued (slots_at s.slots port.0)
+are_alike s port slot used k is other its there = ⊎_elim
+    (λ (queued : used.queued ≡ true). ⊎_elim
+    (λ (so : its.queued ≡ true). so ∙ sym queued)
+    (λ (plain : its.queued ≡ false). ap (λ (u : SlotUse). u.queued) (sym (one_plain s port.0 other slot its used k there is plain)))
+    (cases_Bool its.queued))
+    (λ (plain : used.queued ≡ false). ap (λ (u : SlotUse). u.queued) (one_plain s port.0 slot other used its k is there plain))
+    (cases_Bool used.queued)
+
+-- of plain ones it is slot 0 alone
+pub is_alone : (s : Server) (port : Port) (queued : Bool) (outstanding : ℕ) → IsKept s → IsMaskOf (slots_at s.slots port.0) outstanding → AreQueued queued (slots_at s.slots port.0)
+    → IsAloneIn queued outstanding
+is_alone s port queued outstanding k its alike plain slot small is =
+    let used = busy_used (used_for s.slots port.0 slot) (sym (its slot small) ∙ is) in
+    (k.alone port.0 slot used.0 used.1 (alike slot used.0 used.1 ∙ plain)).0

@@ -1,0 +1,162 @@
+-- A boot that finds a disk has seen a device on its way: PxSSTS was read, and its DET was 3 (AHCI 1.3.1, 3.3.10).
+use Rattle.std.proofs.Common.{◌⊎◌, true, ◌≡◌, ◌≢◌, ◌∷◌, ◌++◌, [], inl, inr, refl, sym, ap, ◌∙◌, ⊎_elim, arith, subst}
+use Rattle.std.proofs.lemmas.Bool.{cases_eq}
+use Rattle.std.proofs.lemmas.List.Elements.{All-append, All-weaker}
+use Rattle.std.specs.List.{All, list_any}
+use Rattle.std.specs.Prelude.{List}
+use Rattle.ata_types.specs.declared.Port.{Port}
+use Rattle.ata_types.specs.declared.PortState.{PortState as Shown}
+use Rattle.ata_types.specs.declared.PortState.TheVariants.{Absent, Dead, Foreign, Ready as ReadyState, Unfit}
+use Rattle.ata_types.specs.declared.limits.TheConstants.{READINGS}
+use Rattle.hba_regs.specs.declared.reg.PortReg.TheVariants.{Sctl, Ssts, Tfd}
+use Rattle.hba_regs.specs.declared.reg.Reg.TheVariants.{Px}
+use Rattle.adapter.specs.Access.{Access, DoesAll, Writes}
+use Rattle.adapter.specs.Access.Access.{Reading, Writing}
+use Rattle.adapter.specs.Device.{Device, PortState}
+use Rattle.adapter.specs.Rules.{IsOn}
+use Rattle.agreement.specs.Driven.{Grows, IsControl, IsDrivenBy, IsOf}
+use Rattle.agreement.specs.Driver.{IsBacked}
+use Rattle.block_machine.specs.Events.{ShowsDisk, changes_disk}
+use Rattle.block_machine.specs.State.{Machine}
+use Rattle.block_machine.specs.Steps.{Step}
+use Rattle.host_boot.specs.Again.{BootsAgain, BootsStopped, IsOfStart}
+use Rattle.host_boot.specs.declared.Booted.{Booted}
+use Rattle.host_boot.specs.declared.Found.{Found}
+use Rattle.host_boot.specs.declared.Found.TheVariants.{Ready, Unready, Unserved}
+use Rattle.identify.specs.declared.wanted.Wanted.{Wanted}
+use Rattle.port_boot.specs.States.{EndsAs, EndsEarly, EndsLate, GetsReady, GetsUp, IsEarly, IsLate, IsOfBoot, ShowsOwnDisk, TellsFault}
+use Rattle.identify.specs.Wanted.{serial_of}
+use Rattle.port_control.specs.Ports.{FindsLink, HasLink, IsPlacing, Looks, ReadsUntil}
+use Rattle.port_control.specs.declared.PortFault.{PortFault}
+use Rattle.port_control.specs.declared.PortFault.TheVariants.{NoDevice, Busy, EngineStuck, NotAta}
+use Rattle.server_history.specs.Below.{LawsBelow}
+use Rattle.server_history.specs.Server.{IsMachineOf, Server, state_of}
+use Rattle.server_history.proofs.state.DrivenAccesses.{driven_as}
+use Rattle.server_history.proofs.recovery_turn.LinkResets.{IsBeside, cleared_then, late_then, linked_then, placing_boots, ready_then, resetting, started_then, until, without}
+use Rattle.server_history.proofs.any_turn.ShownTrouble.{grows_over}
+use Rattle.server_history.proofs.any_turn.ShownDevice.{had_disk}
+
+-- At this moment of the way a device shows; and a disk is in then, since COMRESET has the port show no device until its link comes up.
+pub record SeesDevice (port : Port) (old new : Device) : Type 0 where
+  pub seen : Device
+  pub early : IsDrivenBy (IsOfBoot port) old seen
+  pub shows : (seen.port port.0).ssts_det ≡ 3
+  pub own : ShowsOwnDisk (seen.port port.0)
+  pub late : IsDrivenBy (IsBeside port) seen new
+
+module _ (laws : LawsBelow) (port : Port) where
+  -- once COMRESET was sent, a disk is in where a device shows
+  own_then : (placed sent ended seen : Device) → IsOn placed → Writes (Px port Sctl) 1 placed sent → Writes (Px port Sctl) 0 sent ended → ReadsUntil port Ssts HasLink ended seen → ShowsOwnDisk (seen.port port.0)
+  own_then placed sent ended seen on sends ends sees =
+      let waits = sees.waits.reads in
+      laws.recovery.own_on port.0 (Writing (Px port Sctl) 0 ∷ (waits.accesses ++ Reading (Px port Ssts) sees.value ∷ [])) sent seen
+      (ended, ends, laws.basic.does_append waits.accesses (Reading (Px port Ssts) sees.value ∷ []) ended sees.waited seen waits.all (seen, sees.reads, refl))
+      (λ shows. let z : 0 ≡ 3 = sym none ∙ shows in absurd (omega (arith, z)))
+    where
+      none : (sent.port port.0).ssts_det ≡ 0
+      none = ap (λ (p : PortState). p.ssts_det) (laws.looks.put port Sctl 1 placed sent sends on.no_reset).here
+
+  -- COMRESET was sent, and the link was found
+  found_then : (old placed sent ended linked new : Device) → IsOn old → IsDrivenBy (IsControl IsPlacing port) old placed → Writes (Px port Sctl) 1 placed sent → Writes (Px port Sctl) 0 sent ended
+      → FindsLink port ended linked → IsDrivenBy (IsBeside port) linked new → SeesDevice port old new
+  found_then old placed sent ended linked new on places sends ends found rest =
+      let waited = (resetting laws port old placed sent ended found.sees.waited places sends ends (without laws port Ssts _ found.sees.count ended found.sees.waited found.sees.waits)).driven in
+      let there = laws.of_on port old found.sees.waited on (record { accesses = waited.accesses; all = waited.all; only = All-weaker (IsOfBoot port) (IsOf port) (laws.booting_of port) waited.accesses waited.only }) in
+      record {
+        seen = found.seen;
+        early = (resetting laws port old placed sent ended found.seen places sends ends (until laws port Ssts _ ended found.seen found.sees)).driven;
+        shows = sym (laws.looks.shown_after port Ssts found.sees.value found.sees.waited found.seen there.no_reset found.sees.reads) ∙ found.sees.shown;
+        own = own_then placed sent ended found.seen (laws.of_on port old placed on (driven_as (IsControl IsPlacing port) (IsOf port) old placed (λ access is. laws.booting_of port access (placing_boots laws port access is)) places)) sends ends found.sees;
+        late = cleared_then laws port found.seen linked new found.clears rest;
+      }
+
+  -- the port was started, and what came then
+  started : (old up new : Device) → IsOn old → GetsUp port old up → IsDrivenBy (IsBeside port) up new → SeesDevice port old new
+  started old up new on g rest = found_then old g.placed g.resets.sent g.resets.ended g.resets.rest.linked new on g.places g.resets.sends g.resets.ends g.resets.rest.links
+      (started_then laws port old up new g rest)
+
+  -- it wasn't started, but looked at, with a fault that isn't a missing device
+  early : (state : Shown) (old new : Device) → IsOn old → state ≢ Absent → EndsEarly port state old new → SeesDevice port old new
+  early state old new on other g = by g.fault g.told g.resets.rest
+    where
+      by : (fault : PortFault) → TellsFault state fault → Looks port fault g.resets.ended new → SeesDevice port old new
+      by NoDevice told l = absurd (other told)
+      by Busy told l = found_then old g.placed g.resets.sent g.resets.ended l.linked new on g.places g.resets.sends g.resets.ends l.links (without laws port Tfd _ READINGS l.linked new l.waits)
+      by (NotAta signature) told l = found_then old g.placed g.resets.sent g.resets.ended l.linked new on g.places g.resets.sends g.resets.ends l.links (linked_then laws port signature g.resets.ended new l)
+      by EngineStuck told l = absurd l
+
+  -- a port that isn't ready, by the way that it went
+  pub unready_sees : (state : Shown) (old new : Device) → IsOn old → state ≢ ReadyState → (IsEarly state → EndsEarly port state old new) → (IsLate state → EndsLate port old new) → ShowsDisk state → SeesDevice port old new
+  unready_sees Absent old new on other first last shows = absurd shows
+  unready_sees Dead old new on other first last shows = absurd shows
+  unready_sees ReadyState old new on other first last shows = absurd (other refl)
+  unready_sees Foreign old new on other first last shows = let g = last tt in started old g.up new on g.first (late_then laws port old new g)
+  unready_sees (Unfit n) old new on other first last shows = ⊎_elim
+      (λ (seven : n ≡ 7). early (Unfit n) old new on no (first (inl seven)))
+      (λ (not_seven : n ≢ 7). ⊎_elim
+      (λ (eight : n ≡ 8). early (Unfit n) old new on no (first (inr eight)))
+      (λ (not_eight : n ≢ 8). let g = last (not_seven, not_eight) in started old g.up new on g.first (late_then laws port old new g))
+      (cases_eq n 8))
+      (cases_eq n 7)
+    where
+      no : Unfit n ≢ Absent
+      no is = let z : Unfit n ≡ Absent = is in cc
+
+  -- and one that is ready
+  pub ready_sees : (old new : Device) → IsOn old → GetsReady port old new → SeesDevice port old new
+  ready_sees old new on g = started old g.up new on g.first (ready_then laws port old new g)
+
+  -- each boot that finds a disk
+  pub boot_sees : (wanted : Wanted) (found : Found) (old new : Device) → IsOn old → BootsStopped wanted port found old new → ShowsDisk (state_of found) → SeesDevice port old new
+  boot_sees wanted Unserved old new on none shows = absurd none
+  boot_sees wanted (Ready info) old new on e shows = ready_sees old new on e.way
+  boot_sees wanted (Unready state) old new on e shows = unready_sees state old new on (λ is. subst (λ (x : Shown). EndsAs (serial_of wanted) x port.0 new) is e.ended) e.early e.late shows
+
+-- So it has since before the boot: by these accesses, of which some led to the boot.
+pub record SeesOver (port : Port) (old asked new : Device) : Type 0 where
+  pub seen : Device
+  pub accesses : List Access
+  pub does : DoesAll accesses old seen
+  pub shows : (seen.port port.0).ssts_det ≡ 3
+  pub own : ShowsOwnDisk (seen.port port.0)
+  pub before : Grows old asked
+  pub since : Grows asked new
+  pub later : Grows seen new
+
+pub booted_sees : (laws : LawsBelow) (port : Port) (wanted : Wanted) (booted : Booted) (accesses : List Access) (old d new : Device) → IsOn old → DoesAll accesses old d → All (IsOf port) accesses
+    → (b : BootsAgain wanted port booted d new) → ShowsDisk (state_of booted.found) → SeesOver port old b.asked new
+booted_sees laws port wanted booted accesses old d new on does of b shows = record {
+  seen = sees.seen;
+  accesses = until ++ sees.early.accesses;
+  does = laws.basic.does_append until sees.early.accesses old b.asked sees.seen asked sees.early.all;
+  shows = sees.shows;
+  own = sees.own;
+  before = grows_over laws until old b.asked asked;
+  since = laws.looks.tape.grows_more b.asked sees.seen new (grows_over laws sees.early.accesses b.asked sees.seen sees.early.all) late;
+  later = late;
+}
+  where
+    made : IsDrivenBy (IsOfStart port) d b.asked
+    made = b.asks.driven
+
+    until : List Access
+    until = accesses ++ made.accesses
+
+    asked : DoesAll until old b.asked
+    asked = laws.basic.does_append accesses made.accesses old d b.asked does made.all
+
+    sees : SeesDevice port b.asked new
+    sees = boot_sees laws port wanted booted.found b.asked new
+        (laws.of_on port old b.asked on (record { accesses = until; all = asked; only = All-append (IsOf port) accesses made.accesses of (All-weaker (IsOfStart port) (IsOf port) (laws.recovery.start_of port) made.accesses made.only) }))
+        b.boots shows
+
+    late : Grows sees.seen new
+    late = grows_over laws sees.late.accesses sees.seen new sees.late.all
+
+-- The machine had a disk in the port then, or one went or came, where the device went on after the boot.
+pub booted_had : (laws : LawsBelow) (port : Port) (s : Server) (wanted : Wanted) (booted : Booted) (accesses : List Access) (d new end : Device) → IsOn s.device → DoesAll accesses s.device d → All (IsOf port) accesses
+    → (b : BootsAgain wanted port booted d new) → ShowsDisk (state_of booted.found) → Grows new end → (m : Machine) → IsMachineOf s m → (steps : List Step) → IsBacked s.device end m steps
+    → (m.present port ≡ true) ⊎ (list_any (changes_disk port) steps ≡ true)
+booted_had laws port s wanted booted accesses d new end on does of b shows later m stands steps backed =
+    let sees = booted_sees laws port wanted booted accesses s.device d new on does of b shows in
+    had_disk laws port s sees.seen end m sees.accesses sees.does (sees.own sees.shows) stands (laws.looks.tape.grows_more sees.seen new end sees.later later) steps backed

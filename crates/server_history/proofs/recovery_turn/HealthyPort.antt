@@ -1,0 +1,245 @@
+-- A port that was recovered, or booted anew, runs well after the turn, unless trouble came since ST was set.
+use Rattle.std.proofs.Common.{◌≡◌, ◌≢◌, ◌<◌, ◌++◌, true, false, List, [], ◌∷◌, refl, sym, ap, ◌∙◌, subst, inr, ⊎_elim, arith}
+use Rattle.std.specs.List.{All, Contains}
+use Rattle.std.specs.Prelude.{◌⊎◌}
+use Rattle.std.proofs.lemmas.Bool.{cases_eq, false≢true}
+use Rattle.std.proofs.lemmas.List.Elements.{All-contains, All-contains_itself, All-head, All-tail, All-weaker, Contains-append_left, Contains-append_right}
+use Rattle.ata_types.specs.declared.Port.{Port}
+use Rattle.ata_types.specs.declared.PortState.TheVariants.{Dead as DeadState, Ready as ReadyState}
+use Rattle.ata_types.specs.declared.request.Reply.{Reply}
+use Rattle.hba_regs.specs.declared.reg.PortReg.TheVariants.{Ie, Sctl}
+use Rattle.hba_regs.specs.declared.reg.Reg.TheVariants.{Ghc, Px}
+use Rattle.adapter.specs.Access.{Access, DoesAll}
+use Rattle.adapter.specs.Access.Access.{Writing}
+use Rattle.adapter.specs.Device.{Device, PortState}
+use Rattle.adapter.specs.Rules.{IsOn}
+use Rattle.agreement.specs.Driven.{AnyUse, Grows, IsDrivenBy, IsFollowed}
+use Rattle.agreement.specs.Errors.{IsFatalOf}
+use Rattle.agreement.specs.Facts.{IsFaultOf, RunsWell, Undisturbed}
+use Rattle.agreement.specs.Links.{PlugsNone, SparesRegister}
+use Rattle.agreement.specs.Recovering.{IsLinked, WorksPlainly}
+use Rattle.block_machine.specs.State.{Machine}
+use Rattle.driver_history.specs.Histories.{RunsWellAnew}
+use Rattle.driver_history.specs.Trace.{ResetsLink}
+use Rattle.error_recovery.specs.Evidence.{GainsRunning}
+use Rattle.error_recovery.specs.declared.Next.{Next}
+use Rattle.error_recovery.specs.declared.Next.TheVariants as next
+use Rattle.host_boot.specs.Taken.{StillStandsBehind, found_of, wanted_of}
+use Rattle.host_boot.specs.Again.{BootsAgain}
+use Rattle.host_boot.specs.declared.Booted.{Booted}
+use Rattle.host_boot.specs.declared.Found.{Found}
+use Rattle.host_boot.specs.declared.Found.TheVariants.{Ready}
+use Rattle.identify.specs.declared.DiskInfo.{DiskInfo}
+use Rattle.identify.specs.declared.wanted.Wanted.{Wanted}
+use Rattle.port_boot.specs.States.{GetsReady, told_causes}
+use Rattle.port_look.specs.Looks.{IsLooking}
+use Rattle.port_look.specs.declared.Trouble.{Trouble}
+use Rattle.port_look.specs.declared.Trouble.TheVariants.{Failed}
+use Rattle.block_machine.specs.Events.{Service}
+use Rattle.server_history.specs.Below.{LawsBelow}
+use Rattle.server_history.specs.Mended.{IsMended, HasMetFates, MendsPort}
+use Rattle.server_history.specs.Server.{Server, IsKept, ports_of, state_of}
+use Rattle.server_history.specs.Turns.{instant_of}
+use Rattle.server_history.proofs.recovery_turn.MendedPort.{next_dead, state_new}
+use Rattle.server_history.proofs.recovery_turn.TurnEvidence.{IsEvident}
+use Rattle.server_history.proofs.any_turn.ToldTrouble.{given_up}
+use Rattle.server_history.proofs.recovery_turn.MendedMachine.{mid_kept, mid_ready}
+use Rattle.server_history.proofs.recovery_turn.LastingTrouble.{again, again_booted, boot_asked_on, boot_ends, ready_since, ready_up_on, info, issuing, recovered_on, then_issuing}
+use Rattle.server_history.proofs.recovery_turn.RecoveryAccesses.{IsEarlyPart}
+use Rattle.server_history.proofs.recovery_turn.TurnParts.{evidence_by, gone_of}
+use Rattle.server_history.proofs.recovery_turn.LinkResets.{up_driven}
+use Rattle.server_history.proofs.any_turn.ShownTrouble.{LeavesTrouble, grows_over, on_one, shows_over}
+use Rattle.server_history.proofs.any_turn.ShownDevice.{none_comes}
+use Rattle.server_history.proofs.state.PortSlots.{ready_found}
+use Rattle.server_history.proofs.state.FirstMembers.{nowhere}
+use Rattle.server_history.proofs.recovery_turn.TurnStretches.{TurnParts}
+
+-- ---- a link that is up
+
+-- a device shows, its first FIS has come, and no link is due
+record ShowsLink (p : PortState) : Type 0 where
+  det : p.ssts_det ≡ 3
+  fresh : p.fresh ≡ true
+  undue : p.link_due ≡ false
+
+module _ (laws : LawsBelow) (port : Port) where
+  -- the access writes neither PxSCTL nor GHC
+  abbrev LeavesLinked : Access → Type 0
+  LeavesLinked access = SparesRegister (Px port Sctl) access × SparesRegister Ghc access
+
+  linked_over : (accesses : List Access) (old new : Device) → IsOn old → All LeavesLinked accesses → PlugsNone port.0 old new → DoesAll accesses old new → ShowsLink (old.port port.0) → ShowsLink (new.port port.0)
+  linked_over [] old new on all none is up = subst (λ (d : Device). ShowsLink (d.port port.0)) (sym is) up
+  linked_over (access ∷ accesses) old new on all none (mid, does, rest) up =
+      let kind = All-head LeavesLinked access accesses all in
+      let early = laws.looks.tape.access_grows access old mid does in
+      let late = grows_over laws accesses mid new rest in
+      let parts = laws.looks.tape.plugs_parts port.0 old mid new early.0 late.0 early.1 late.1 none in
+      linked_over accesses mid new (on_one laws port access old mid on kind.1 does) (All-tail LeavesLinked access accesses all) parts.1 rest
+      (⊎_elim
+      (λ same. record { det = same.det ∙ up.det; fresh = same.fresh ∙ up.fresh; undue = same.due ∙ up.undue })
+      (λ comes. absurd (false≢true (sym up.undue ∙ comes.due)))
+      (laws.looks.access_link port access old mid on.no_reset kind.0 does parts.0))
+
+  -- a port that runs well does so still
+  all_well : (accesses : List Access) (old new : Device) → IsOn old → All (LeavesTrouble port) accesses → DoesAll accesses old new → Undisturbed port.0 old new → RunsWell (old.port port.0) → RunsWell (new.port port.0)
+  all_well [] old new on all is calm well = subst (λ (d : Device). RunsWell (d.port port.0)) (sym is) well
+  all_well (access ∷ accesses) old new on all (mid, does, rest) calm well =
+      let kind = All-head (LeavesTrouble port) access accesses all in
+      let early = laws.looks.tape.access_grows access old mid does in
+      let late = grows_over laws accesses mid new rest in
+      let parts = laws.looks.tape.calm_parts port.0 old mid new early.0 late.0 early.1 late.1 calm in
+      all_well accesses mid new (laws.looks.access_on access old mid on kind.4 does) (All-tail (LeavesTrouble port) access accesses all) rest parts.1
+      (laws.runs_well port.0 old mid (laws.runs_over port access old mid on kind.3 kind.2 does) parts.0 well)
+
+  well_over : (old new : Device) → IsOn old → IsDrivenBy (LeavesTrouble port) old new → Undisturbed port.0 old new → RunsWell (old.port port.0) → RunsWell (new.port port.0)
+  well_over old new on driven calm well = all_well driven.accesses old new on driven.only driven.all calm well
+
+-- one that got ready runs well, where no disk went or came, and nothing went wrong since ST was set
+module _ (laws : LawsBelow) (port : Port) (old asked mid new : Device) (on : IsOn asked) (way : GetsReady port asked mid) (later : IsDrivenBy (LeavesTrouble port) mid new) (mid_on : IsOn mid)
+    (first : Grows old asked) where
+  pub ready_well : PlugsNone port.0 old new → (GainsRunning (IsFaultOf port.0) port.0 old new → ⊥) → (GainsRunning (IsFatalOf port.0) port.0 old new → ⊥) → RunsWell (new.port port.0)
+  ready_well none unfailed unbroken =
+      let since = ready_since laws port old asked mid new on way later in
+      let up = (let x = up_driven laws port asked way.up way.first in grows_over laws x.accesses asked way.up x.all) in
+      let told = laws.looks.tape.grows_more way.up way.then.asked mid (grows_over laws way.then.asks.accesses way.up way.then.asked way.then.asks.all) (laws.looks.tape.access_grows (Writing (Px port Ie) told_causes) way.then.asked mid way.then.tells) in
+      let whole = laws.looks.tape.grows_more asked way.up mid up told in
+      let last = grows_over laws later.accesses mid new later.all in
+      let rest = laws.looks.tape.grows_more asked mid new whole last in
+      let plugs = laws.looks.tape.plugs_parts port.0 asked mid new whole.0 last.0 whole.1 last.1 (laws.looks.tape.plugs_parts port.0 old asked new first.0 rest.0 first.1 rest.1 none).1 in
+      let same = (shows_over laws port since.accesses way.up new (ready_up_on laws port old asked mid new on way later) since.only since.all).same in
+      let set = way.first.set in
+      let calm = laws.calls.calm_since port.0 old way.up new (laws.looks.tape.grows_more old asked way.up first up) (grows_over laws since.accesses way.up new since.all) (omega (arith, same, set)) none unfailed unbroken in
+      let parts = laws.looks.tape.calm_parts port.0 way.up mid new told.0 last.0 told.1 last.1 calm in
+      well_over laws port mid new mid_on later parts.1 (way.well plugs.0 parts.0)
+
+-- and so does one that was booted
+module _ (laws : LawsBelow) (port : Port) (low : port.0 < 4) (wanted : Wanted) (info : DiskInfo) (booted : Booted) (old d mid new : Device) (on : IsOn d) (b : BootsAgain wanted port booted d mid) (found : booted.found ≡ Ready info)
+    (later : IsDrivenBy (LeavesTrouble port) mid new) (mid_on : IsOn mid) (until : Grows old d) where
+  pub booted_well : PlugsNone port.0 old new → (GainsRunning (IsFaultOf port.0) port.0 old new → ⊥) → (GainsRunning (IsFatalOf port.0) port.0 old new → ⊥) → RunsWell (new.port port.0)
+  booted_well = ready_well laws port old b.asked mid new (boot_asked_on laws port low wanted info booted old d mid new on b found later) (boot_ends laws port low wanted info booted old d mid new on b found later).way later mid_on
+      (laws.looks.tape.grows_more old d b.asked until (grows_over laws b.asks.driven.accesses d b.asked b.asks.driven.all))
+
+-- a link wasn't reset where PxSCTL wasn't written
+never_reset : (port : Port) (accesses : List Access) → All (SparesRegister (Px port Sctl)) accesses → ResetsLink port accesses → ⊥
+never_reset port accesses all r = All-contains (SparesRegister (Px port Sctl)) accesses (Writing (Px port Sctl) r.sending) all
+    (subst (λ (list : List Access). Contains list (Writing (Px port Sctl) r.sending)) (sym r.here)
+    (Contains-append_right r.before (Writing (Px port Sctl) r.sending ∷ (r.between ++ (Writing (Px port Sctl) r.ending ∷ r.later))) (Writing (Px port Sctl) r.sending)
+    (0, omega arith, refl))) refl
+
+-- ---- the whole
+
+module _ (laws : LawsBelow) (port : Port) (replies : List Reply) (old new : Server) (k : IsKept old) (ready : state_of (found_of old.ports port.0) ≡ ReadyState) (r : MendsPort port replies old new)
+    (looks : IsFollowed (IsLooking port) AnyUse old.device r.settled.mended.seen) (kept : IsKept r.mid) (evident : IsEvident port replies old new r)
+    (plainly : r.settled.mended.queued ≡ false → WorksPlainly (r.settled.mid.device.port port.0)) where
+  abbrev a : HasMetFates port r.later old r.mid
+  a = r.settled
+
+  abbrev x : IsMended port old a.mid a.device
+  x = a.mended
+
+  abbrev t : TurnParts port replies old new r
+  t = evident.parts
+
+  low : port.0 < 4
+  low = (ready_found old port.0 k ready).0
+
+  then_kept : IsKept a.mid
+  then_kept = mid_kept laws port r.later old r.mid k ready a looks
+
+  then_ready : state_of (found_of a.mid.ports port.0) ≡ ReadyState
+  then_ready = mid_ready laws port r.later old r.mid k ready a looks
+
+  early_grows : Grows old.device a.mid.device
+  early_grows = grows_over laws t.early.accesses old.device a.mid.device t.early.all
+
+  part_grows : Grows a.mid.device a.device
+  part_grows = grows_over laws x.mends.accesses a.mid.device a.device t.does
+
+  late_grows : Grows a.device new.device
+  late_grows = grows_over laws t.late.accesses a.device new.device t.late.all
+
+  -- ---- a port that runs again
+
+  module _ (token : _) (is : x.result.next ≡ next.Running token) where
+    unreset : All (SparesRegister (Px port Sctl)) (t.early.accesses ++ (x.mends.accesses ++ t.late.accesses))
+    unreset = t.unreset (λ other same. let z : next.Running token ≡ next.Restart other = sym is ∙ same in absurd cc)
+
+    early_leaves : All (LeavesLinked laws port) t.early.accesses
+    early_leaves = All-weaker (λ access. Contains t.early.accesses access × IsEarlyPart port access) (LeavesLinked laws port)
+        (λ access w. (
+          All-contains (SparesRegister (Px port Sctl)) (t.early.accesses ++ (x.mends.accesses ++ t.late.accesses)) access unreset (Contains-append_left t.early.accesses (x.mends.accesses ++ t.late.accesses) access w.0),
+          laws.of_host port access w.1.0.1,
+        ))
+        t.early.accesses (λ i d small. (All-contains_itself t.early.accesses i d small, t.early.only i d small))
+
+    -- its link was up
+    linked : PlugsNone port.0 old.device new.device → (old.device.port port.0).ssts_det ≡ 3 → (old.device.port port.0).fresh ≡ true → IsLinked (a.mid.device.port port.0)
+    linked none det fresh = record {
+      det = up.det;
+      present = (then_kept.behind port.0 low).own then_ready up.det;
+      fresh = up.fresh;
+      linked = up.undue;
+      released = λ one. let z : 0 ≡ 1 = sym released ∙ one in absurd cc;
+    }
+      where
+        rest : Grows a.mid.device new.device
+        rest = laws.looks.tape.grows_more a.mid.device a.device new.device part_grows late_grows
+
+        up : ShowsLink (a.mid.device.port port.0)
+        up = linked_over laws port t.early.accesses old.device a.mid.device k.on early_leaves
+            (laws.looks.tape.plugs_parts port.0 old.device a.mid.device new.device early_grows.0 rest.0 early_grows.1 rest.1 none).0 t.early.all
+            (record { det = det; fresh = fresh; undue = ((k.behind port.0 low).runs ready).recorded.linked })
+
+        released : (a.mid.device.port port.0).sctl_det ≡ 0
+        released =
+            let f = ready_found a.mid port.0 then_kept then_ready in
+            (subst (λ (f : Found). StillStandsBehind (wanted_of a.mid.wanted port.0) f port.0 a.mid.device) f.1.1 (then_kept.behind port.0 low).behind).1.det
+
+    runs_well : PlugsNone port.0 old.device new.device → (old.device.port port.0).ssts_det ≡ 3 → (GainsRunning (IsFaultOf port.0) port.0 old.device new.device → ⊥) → (GainsRunning (IsFatalOf port.0) port.0 old.device new.device → ⊥)
+        → ResetsLink port evident.accesses ⊎ ((old.device.port port.0).fresh ≡ true) → RunsWell (new.device.port port.0)
+    runs_well none det unfailed unbroken how =
+        let fresh : (old.device.port port.0).fresh ≡ true = ⊎_elim
+        (λ reset. absurd (never_reset port (t.early.accesses ++ (x.mends.accesses ++ t.late.accesses)) unreset (subst (ResetsLink port) evident.accesses_are reset)))
+        (λ is. is) how in
+        let rest = laws.looks.tape.grows_more a.mid.device a.device new.device part_grows late_grows in
+        let plugs = laws.looks.tape.plugs_parts port.0 a.mid.device a.device new.device part_grows.0 late_grows.0 part_grows.1 late_grows.1
+        (laws.looks.tape.plugs_parts port.0 old.device a.mid.device new.device early_grows.0 rest.0 early_grows.1 rest.1 none).1 in
+        let runs = again laws port replies old new k ready r looks kept t token is in
+        let on = recovered_on laws port replies old new k ready r looks kept t in
+        let last = then_issuing laws port replies old new k ready r looks kept t token is in
+        let same = (shows_over laws port last.accesses a.device new.device on last.only last.all).same in
+        let known = runs.recorded.known in
+        let calm = laws.calls.calm_since port.0 old.device a.device new.device (laws.looks.tape.grows_more old.device a.mid.device a.device early_grows part_grows) late_grows (omega (arith, same, known)) none unfailed unbroken in
+        well_over laws port a.device new.device on last calm
+        (runs.well plugs.0 (λ g. unbroken (laws.calls.fatal_in_part port.0 old.device a.mid.device a.device new.device early_grows late_grows same g)) (linked none det fresh) plainly)
+
+  -- ---- one that was booted
+
+  module _ (token : _) (is : x.result.next ≡ next.Restart token) (is_ready : (ports_of new).state port ≡ ReadyState) where
+    boots_well : PlugsNone port.0 old.device new.device → (GainsRunning (IsFaultOf port.0) port.0 old.device new.device → ⊥) → (GainsRunning (IsFatalOf port.0) port.0 old.device new.device → ⊥)
+        → RunsWell (new.device.port port.0)
+    boots_well =
+        let again = again_booted laws port replies old new k ready r looks kept t token is is_ready in
+        let its = info laws port replies old new k ready r looks kept t token is is_ready in
+        booted_well laws port low (wanted_of old.wanted port.0) its.0 again.0 old.device a.device r.mid.device new.device (recovered_on laws port replies old new k ready r looks kept t) again.2 (again.1 ∙ its.1)
+        (issuing laws port replies old new k ready r looks kept t) kept.on (laws.looks.tape.grows_more old.device a.mid.device a.device early_grows part_grows)
+
+  -- A port that runs again showed a device when the turn began, where no disk went or came: else the look would have told that its disk was lost.
+  showed : (m : Machine) (token : _) → x.result.next ≡ next.Running token → PlugsNone port.0 old.device new.device → (old.device.port port.0).ssts_det ≡ 3
+  showed m token is none = ⊎_elim
+      (λ shows. shows)
+      (λ (missing : (old.device.port port.0).ssts_det ≢ 3).
+      let failed : x.trouble ≢ Failed = λ failed.
+      nowhere port (subst (λ (t : Trouble). Contains (gone_of port t (old.device.port port.0)) port) failed ((evident.evidenced Service m).gone_all ready (inr (missing, none_comes port.0 old.device new.device none)))) in
+      absurd ((given_up x.trouble port x.outstanding x.queued x.result x.mends.accesses a.mid.device a.device x.tells failed).1 token is))
+      (cases_eq (old.device.port port.0).ssts_det 3)
+
+  pub going_well : (m : Machine) → RunsWellAnew (evidence_by a) evident.accesses (instant_of old m) (ports_of new) new.device port
+  going_well m _ is_ready none unfailed unbroken how = by x.result.next refl
+    where
+      by : (n : Next) → x.result.next ≡ n → RunsWell (new.device.port port.0)
+      by (next.Running token) is = runs_well token is none (showed m token is none) unfailed unbroken how
+      by (next.Restart token) is = boots_well token is is_ready none unfailed unbroken
+      by next.Dead is =
+          let dead = state_new laws port replies old new k ready r looks kept ∙ ap state_of (next_dead laws port replies old new k ready r looks kept is) in
+          let z : DeadState ≡ ReadyState = sym dead ∙ is_ready in absurd cc

@@ -1,0 +1,208 @@
+-- A turn that mends its port loses no trouble: what came since ST was set is shown, where the port is ready then.
+use Rattle.std.proofs.Common.{ℕ, ◌≡◌, List, [], ◌∷◌, refl, sym, ap, ◌∙◌, subst, inl, ⊎_elim, ◌<◌}
+use Rattle.std.proofs.lemmas.List.Elements.{All-cons, All-nil, All-weaker}
+use Rattle.ata_types.specs.declared.Port.{Port}
+use Rattle.ata_types.specs.declared.PortState.TheVariants.{Absent as AbsentState, Dead as DeadState, Ready as ReadyState}
+use Rattle.ata_types.specs.declared.request.Reply.{Reply}
+use Rattle.hba_regs.specs.declared.reg.PortReg.TheVariants.{Ci, Cmd, Ie, Is, Sact, Sctl, Serr}
+use Rattle.hba_regs.specs.declared.reg.Reg.{Reg}
+use Rattle.hba_regs.specs.declared.reg.Reg.TheVariants.{Ghc, Px}
+use Rattle.adapter.specs.Access.{Access}
+use Rattle.adapter.specs.Access.Access.{Loading, Reading, Storing, Writing}
+use Rattle.adapter.specs.Device.{Device}
+use Rattle.adapter.specs.Rules.{IsOn}
+use Rattle.agreement.specs.Driven.{AnyUse, IsDrivenBy, IsFollowed, IsOf}
+use Rattle.agreement.proofs.driver.Stretches.{by_then}
+use Rattle.server_history.proofs.state.DrivenAccesses.{driven_as}
+use Rattle.block_machine.specs.State.{Machine}
+use Rattle.disk_page.specs.Asking.{IsAsking}
+use Rattle.driver_history.specs.Histories.{LosesNoTrouble}
+use Rattle.error_recovery.specs.Evidence.{ShowsTrouble}
+use Rattle.error_recovery.specs.Recovery.{EndsIn, RunsAgain}
+use Rattle.error_recovery.specs.declared.Next.{Next}
+use Rattle.error_recovery.specs.declared.Next.TheVariants as next
+use Rattle.host_boot.specs.Again.{BootsAgain, BootsStopped, EndsReady, IsOfStart}
+use Rattle.host_boot.specs.Taken.{found_of, wanted_of}
+use Rattle.host_boot.specs.declared.Booted.{Booted}
+use Rattle.host_boot.specs.declared.Found.{Found}
+use Rattle.host_boot.specs.declared.Found.TheVariants.{Ready, Unready}
+use Rattle.identify.specs.declared.DiskInfo.{DiskInfo}
+use Rattle.port_boot.specs.States.{GetsReady, IsOfBoot, told_causes}
+use Rattle.port_look.specs.Looks.{IsLooking}
+use Rattle.request_queue.specs.Entries.{asks_of, due_ids}
+use Rattle.identify.specs.declared.wanted.Wanted.{Wanted}
+use Rattle.server_history.specs.Below.{LawsBelow}
+use Rattle.server_history.specs.Mended.{IsFoundAfter, IsMended, HasMetFates, MendsPort}
+use Rattle.server_history.specs.Served.{IssuesIn}
+use Rattle.server_history.specs.Server.{Server, IsKept, mode_in, ports_of, state_of}
+use Rattle.server_history.specs.Turns.{instant_of}
+use Rattle.server_history.proofs.recovery_turn.MendedPort.{interrupted, next_dead, ready_info, state_new}
+use Rattle.server_history.proofs.recovery_turn.RecoveryAccesses.{IsEarlyPart, IsPart, start_part}
+use Rattle.server_history.proofs.recovery_turn.TurnParts.{evidence_by}
+use Rattle.server_history.proofs.recovery_turn.LinkResets.{up_driven}
+use Rattle.server_history.proofs.plain_calls.IssueRounds.{each_driven}
+use Rattle.server_history.proofs.any_turn.ShownTrouble.{LeavesTrouble, grows_over, shown_more, shown_since, shows_over, stays_on}
+use Rattle.server_history.proofs.recovery_turn.TurnStretches.{TurnParts}
+use Rattle.server_history.proofs.recovery_turn.BootOrAbsence.{boots_or_absent}
+use Rattle.server_history.proofs.state.PortSlots.{ready_found}
+
+-- ---- accesses that leave what a port shows
+
+ci_apart : (port at : Port) (v : ℕ) → LeavesTrouble port (Writing (Px at Ci) v)
+ci_apart port at v = (
+  (λ e. let z : Px at Ci ≡ Px port Is = e in cc),
+  (λ e. let z : Px at Ci ≡ Px port Serr = e in cc),
+  (λ e. let z : Px at Ci ≡ Px port Cmd = e in cc),
+  (λ e. let z : Px at Ci ≡ Px port Sctl = e in cc),
+  stays_on (Writing (Px at Ci) v) (λ e. let z : Px at Ci ≡ Ghc = e in cc),
+)
+
+sact_apart : (port at : Port) (v : ℕ) → LeavesTrouble port (Writing (Px at Sact) v)
+sact_apart port at v = (
+  (λ e. let z : Px at Sact ≡ Px port Is = e in cc),
+  (λ e. let z : Px at Sact ≡ Px port Serr = e in cc),
+  (λ e. let z : Px at Sact ≡ Px port Cmd = e in cc),
+  (λ e. let z : Px at Sact ≡ Px port Sctl = e in cc),
+  stays_on (Writing (Px at Sact) v) (λ e. let z : Px at Sact ≡ Ghc = e in cc),
+)
+
+ie_apart : (port : Port) (v : ℕ) → LeavesTrouble port (Writing (Px port Ie) v)
+ie_apart port v = (
+  (λ e. let z : Px port Ie ≡ Px port Is = e in cc),
+  (λ e. let z : Px port Ie ≡ Px port Serr = e in cc),
+  (λ e. let z : Px port Ie ≡ Px port Cmd = e in cc),
+  (λ e. let z : Px port Ie ≡ Px port Sctl = e in cc),
+  stays_on (Writing (Px port Ie) v) (λ e. let z : Px port Ie ≡ Ghc = e in cc),
+)
+
+-- of any port
+pub issuing_leaves : (at port : Port) (access : Access) → IssuesIn at access → LeavesTrouble port access
+issuing_leaves at port (Reading r v) is = (tt, tt, tt, tt, stays_on (Reading r v) tt)
+issuing_leaves at port (Writing r v) is = ⊎_elim
+    (λ (same : r ≡ Px at Sact). subst (λ (x : Reg). LeavesTrouble port (Writing x v)) (sym same) (sact_apart port at v))
+    (λ (same : r ≡ Px at Ci). subst (λ (x : Reg). LeavesTrouble port (Writing x v)) (sym same) (ci_apart port at v))
+    is.2.0
+issuing_leaves at port (Loading a bytes) is = (tt, tt, tt, tt, stays_on (Loading a bytes) tt)
+issuing_leaves at port (Storing a bytes) is = (tt, tt, tt, tt, stays_on (Storing a bytes) tt)
+
+asking_leaves : (port : Port) (access : Access) → IsAsking port access → LeavesTrouble port access
+asking_leaves port (Reading r v) is = (tt, tt, tt, tt, stays_on (Reading r v) tt)
+asking_leaves port (Writing r v) is = subst (λ (x : Reg). LeavesTrouble port (Writing x v)) (sym is.0) (ci_apart port port v)
+asking_leaves port (Loading at bytes) is = (tt, tt, tt, tt, stays_on (Loading at bytes) tt)
+asking_leaves port (Storing at bytes) is = (tt, tt, tt, tt, stays_on (Storing at bytes) tt)
+
+-- ---- a port that got ready
+
+module _ (laws : LawsBelow) (port : Port) (old asked mid new : Device) (on : IsOn asked) (way : GetsReady port asked mid) (later : IsDrivenBy (LeavesTrouble port) mid new) where
+  pub ready_up_on : IsOn way.up
+  ready_up_on = laws.of_on port asked way.up on (driven_as (IsOfBoot port) (IsOf port) asked way.up (λ access x. laws.booting_of port access x) (up_driven laws port asked way.up way.first))
+
+  -- what came since ST was set leaves what the port shows
+  pub ready_since : IsDrivenBy (LeavesTrouble port) way.up new
+  ready_since =
+      by_then (driven_as (IsAsking port) (LeavesTrouble port) way.up way.then.asked (asking_leaves port) way.then.asks)
+      (by_then
+      (record { accesses = Writing (Px port Ie) told_causes ∷ []; all = (mid, way.then.tells, refl); only = All-cons (LeavesTrouble port) (Writing (Px port Ie) told_causes) [] (ie_apart port told_causes) (All-nil (LeavesTrouble port)) })
+      later)
+
+  pub ready_shows : ShowsTrouble port.0 old new
+  ready_shows = shown_since port.0 old way.up new (shows_over laws port ready_since.accesses way.up new ready_up_on ready_since.only ready_since.all) way.first.set
+
+-- ---- a port that is ready once it was booted
+
+module _ (laws : LawsBelow) (port : Port) (low : port.0 < 4) (wanted : Wanted) (info : DiskInfo) (booted : Booted) (old d mid new : Device) (on : IsOn d) (b : BootsAgain wanted port booted d mid) (found : booted.found ≡ Ready info)
+    (later : IsDrivenBy (LeavesTrouble port) mid new) where
+  pub boot_asked_on : IsOn b.asked
+  boot_asked_on = laws.of_on port d b.asked on (driven_as (IsOfStart port) (IsOf port) d b.asked (λ access s. (start_part laws port low access s).1) b.asks.driven)
+
+  pub boot_ends : EndsReady wanted port info b.asked mid
+  boot_ends = subst (λ (f : Found). BootsStopped wanted port f b.asked mid) found b.boots
+
+  abbrev boot_way : GetsReady port b.asked mid
+  boot_way = boot_ends.way
+
+  pub boot_shows : ShowsTrouble port.0 old new
+  boot_shows = ready_shows laws port old b.asked mid new boot_asked_on boot_way later
+
+-- ---- the whole
+
+module _ (laws : LawsBelow) (port : Port) (replies : List Reply) (old new : Server) (k : IsKept old) (ready : state_of (found_of old.ports port.0) ≡ ReadyState) (r : MendsPort port replies old new)
+    (looks : IsFollowed (IsLooking port) AnyUse old.device r.settled.mended.seen) (kept : IsKept r.mid) (t : TurnParts port replies old new r) where
+  abbrev a : HasMetFates port r.later old r.mid
+  a = r.settled
+
+  abbrev x : IsMended port old a.mid a.device
+  x = a.mended
+
+  low : port.0 < 4
+  low = (ready_found old port.0 k ready).0
+
+  -- what is issued leaves what the port shows
+  pub issuing : IsDrivenBy (LeavesTrouble port) r.mid.device new.device
+  issuing = driven_as (IssuesIn port) (LeavesTrouble port) r.mid.device new.device (issuing_leaves port port) (each_driven laws port (due_ids (mode_in r.mid port) port (asks_of r.mid.book)) r.mid new r.issued)
+
+  -- the adapter is on when the port was recovered
+  pub recovered_driven : IsDrivenBy (IsOf port) old.device a.device
+  recovered_driven = by_then (driven_as (IsEarlyPart port) (IsOf port) old.device a.mid.device (λ access is. is.0.1) t.early)
+      (record { accesses = x.mends.accesses; all = t.does; only = All-weaker (IsPart port) (IsOf port) (λ access is. is.1) x.mends.accesses t.kinds })
+
+  pub recovered_on : IsOn a.device
+  recovered_on = laws.of_on port old.device a.device k.on recovered_driven
+
+  -- a port that runs again
+  module _ (token : _) (is : x.result.next ≡ next.Running token) where
+    again_is : IsFoundAfter (wanted_of old.wanted port.0) port x.trouble a.was (next.Running token) a.device r.mid.device a.found
+    again_is = subst (λ (n : Next). IsFoundAfter (wanted_of old.wanted port.0) port x.trouble a.was n a.device r.mid.device a.found) is a.is
+
+    pub again : RunsAgain x.queued port.0 a.mid.device a.device
+    again = (subst (λ (n : Next). EndsIn x.queued port n a.mid.device a.device) is x.mends.leaves.ends).1
+
+    pub then_issuing : IsDrivenBy (LeavesTrouble port) a.device new.device
+    then_issuing = subst (λ (d : Device). IsDrivenBy (LeavesTrouble port) d new.device) again_is.1 issuing
+
+    runs_shows : ShowsTrouble port.0 old.device new.device
+    runs_shows = shown_more port.0 old.device a.mid.device a.device new.device again.shows (grows_over laws x.mends.accesses a.mid.device a.device t.does) again.since
+        (shows_over laws port then_issuing.accesses a.device new.device recovered_on then_issuing.only then_issuing.all)
+
+  -- one that was booted
+  module _ (token : _) (is : x.result.next ≡ next.Restart token) (is_ready : (ports_of new).state port ≡ ReadyState) where
+    pub info : (info : DiskInfo) × (a.found ≡ Ready info)
+    info = ready_info laws port replies old new k ready r looks kept is_ready
+
+    pub again_booted : (booted : Booted) × (booted.found ≡ a.found) × BootsAgain (wanted_of old.wanted port.0) port booted a.device r.mid.device
+    again_booted =
+        let after : IsFoundAfter (wanted_of old.wanted port.0) port x.trouble a.was (next.Restart token) a.device r.mid.device a.found =
+        subst (λ (n : Next). IsFoundAfter (wanted_of old.wanted port.0) port x.trouble a.was n a.device r.mid.device a.found) is a.is in (
+          after.0,
+          after.1,
+          ⊎_elim
+              (λ (boots : BootsAgain (wanted_of old.wanted port.0) port after.0 a.device r.mid.device). boots)
+              (λ absent. let z : Unready AbsentState ≡ Ready info.0 = sym absent.is ∙ after.1 ∙ info.1 in absurd cc)
+              (boots_or_absent x.trouble (wanted_of old.wanted port.0) port after.0 a.device r.mid.device after.2),
+        )
+
+    abbrev pub asked : Device
+    asked = again_booted.2.asked
+
+    its_shows : ShowsTrouble port.0 old.device new.device
+    its_shows = boot_shows laws port low (wanted_of old.wanted port.0) info.0 again_booted.0 old.device a.device r.mid.device new.device recovered_on again_booted.2 (again_booted.1 ∙ info.1) issuing
+
+  shows : (ports_of new).state port ≡ ReadyState → ShowsTrouble port.0 old.device new.device
+  shows is_ready = by x.result.next refl
+    where
+      by : (n : Next) → x.result.next ≡ n → ShowsTrouble port.0 old.device new.device
+      by (next.Running token) is = runs_shows token is
+      by (next.Restart token) is = its_shows token is is_ready
+      by next.Dead is =
+          let dead = state_new laws port replies old new k ready r looks kept ∙ ap state_of (next_dead laws port replies old new k ready r looks kept is) in
+          let z : DeadState ≡ ReadyState = sym dead ∙ is_ready in absurd cc
+
+  -- the port was interrupted
+  pub lasting : (m : Machine) → LosesNoTrouble (evidence_by a) (instant_of old m) (ports_of new) new.device port
+  lasting m = record {
+    errors = λ _ _. inl (interrupted laws port replies old new k ready r looks kept);
+    changes = λ _ _. inl (interrupted laws port replies old new k ready r looks kept);
+    fault = λ is_ready g. (shows is_ready).fault g;
+    fatal = λ is_ready g. (shows is_ready).fatal g;
+    disk = λ is_ready g. (shows is_ready).disk g;
+  }

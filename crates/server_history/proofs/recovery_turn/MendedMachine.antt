@@ -1,0 +1,402 @@
+-- From a machine that stands for the server, a port's recovery, and what its requests meet then, lead to one that stands for the server after them.
+use Rattle.std.proofs.Common.{ℕ, ◌≡◌, ◌≢◌, ◌<◌, ◌++◌, Bool, true, false, cond, eq-eqb, eqb-true, List, [], ◌∷◌, get_or, length, Option, None, inl, refl, sym, ap, ◌∙◌, subst, ⊎_elim, arith}
+use Rattle.std.specs.List.{All, Contains}
+use Rattle.std.specs.Prelude.{filter}
+use Rattle.std.proofs.lemmas.Bool.{cases_eq, cond-true, false≢true}
+use Rattle.std.proofs.lemmas.List.{get_or-set_other, get_or-set_same}
+use Rattle.std.proofs.lemmas.List.Elements.{All-contains, All-contains_itself, All-filter, All-head, All-tail, Contains-append_cases, Contains-append_left, Contains-append_right, filter_passes}
+use Rattle.std.proofs.lemmas.List.Kept.{AllPairs-filter}
+use Rattle.ata_types.specs.declared.Port.{Port}
+use Rattle.ata_types.specs.declared.PortState.TheVariants.{Dead, Ready as ReadyState}
+use Rattle.ata_types.specs.declared.request.ClientId.{ClientId}
+use Rattle.ata_types.specs.declared.request.Frame.{Frame}
+use Rattle.ata_types.specs.declared.request.Reply.{Reply}
+use Rattle.ata_types.specs.declared.request.RequestId.{RequestId}
+use Rattle.adapter.specs.Device.{Device}
+use Rattle.agreement.specs.Acts.{InSlots, at as at_slots}
+use Rattle.agreement.specs.Driven.{AnyUse, IsFollowed}
+use Rattle.agreement.specs.Driver.{HasNoSlot, IsBacked}
+use Rattle.agreement.specs.Slots.{Serves}
+use Rattle.agreement.specs.Spares.{SparesBook}
+use Rattle.block_machine.specs.Events.{AllDevices, AllMay}
+use Rattle.block_machine.specs.Histories.{IsReached}
+use Rattle.block_machine.specs.Left.{after}
+use Rattle.block_machine.specs.State.{Machine, Pending}
+use Rattle.block_machine.specs.Steps.{Step, Accept, after_step}
+use Rattle.block_machine.specs.declared.due.Mode.{Mode}
+use Rattle.dma_frames.specs.Loan.{Lending}
+use Rattle.error_recovery.specs.declared.Next.{Next}
+use Rattle.error_recovery.specs.declared.Next.TheVariants.{Running, Restart, Dead as Stuck}
+use Rattle.host_boot.specs.Taken.{found_of, wanted_of}
+use Rattle.host_boot.specs.declared.Found.{Found}
+use Rattle.host_boot.specs.declared.Found.TheVariants.{Unserved, Ready, Unready}
+use Rattle.identify.specs.declared.DiskInfo.{DiskInfo}
+use Rattle.port_look.specs.Looks.{IsLooking}
+use Rattle.request_queue.specs.Entries.{Held, IsEarlier, is_of}
+use Rattle.request_queue.specs.Fates.{EndsLoan, Holdings, MeetFates, MeetsFate, fate_of, fate_on, keeps_loan}
+use Rattle.request_queue.specs.Machine.{IsEntry}
+use Rattle.request_queue.specs.declared.Entry.{Entry}
+use Rattle.request_queue.specs.declared.fate.Failed.{Failed}
+use Rattle.request_queue.specs.declared.fate.Fate.{Fate}
+use Rattle.request_queue.specs.declared.fate.Fate.TheVariants.{Ends, GoesAgain, Waits}
+use Rattle.request_queue.specs.declared.fate.Prospect.{Prospect}
+use Rattle.request_queue.specs.declared.fate.Prospect.TheVariants.{SameDisk, DiskLost, Dead as NoEnd}
+use Rattle.slots.specs.Uses.{Uses as PortSlots}
+use Rattle.server_history.specs.Below.{LawsBelow}
+use Rattle.server_history.specs.Fates.{DecidesOn, MayMeet, MeetsInMachine, keeps_fate}
+use Rattle.server_history.specs.Mended.{AreUnused, IsFailed, IsFoundAfter, IsProspect, HasMetFates, holdings_of, requests_of, with_port}
+use Rattle.server_history.specs.Served.{answers_in}
+use Rattle.server_history.specs.Server.{AreKept, AreUsesOf, IsKept, IsMachineOf, Server, is_served, kept_at, slots_at, state_of}
+use Rattle.server_history.proofs.state.HistorySteps.{book_on, still_kept}
+use Rattle.server_history.proofs.any_turn.JoinedParts.{first_or_later}
+use Rattle.server_history.proofs.state.KeptLoans.{none_alive}
+use Rattle.server_history.proofs.plain_calls.Looks.{finding_kept, found_over, looking_kept}
+use Rattle.server_history.proofs.fates.MetFates.{meet, tame}
+use Rattle.server_history.proofs.recovery_turn.RecoveredDevice.{IsPassed, devices_both, passed, uses_then}
+use Rattle.server_history.proofs.recovery_turn.TurnParts.{AddsFates}
+use Rattle.server_history.proofs.recovery_turn.ReplacedPort.{is_listed}
+use Rattle.server_history.proofs.healthy_turn.ServedPort.{finds_serve, followed_steps, looks_serve}
+use Rattle.server_history.proofs.healthy_turn.AnswersAndIssues.{AreAnswered, answers_kept, answers_settings, each_answered}
+use Rattle.server_history.proofs.state.PortSlots.{AreOver, not_dead, ready_found, served_request}
+use Rattle.server_history.proofs.state.PairedLists.{at_left}
+use Rattle.server_history.proofs.fates.MoreKeptLoans.{more_kept}
+use Rattle.server_history.proofs.state.FirstMembers.{nowhere}
+use Rattle.port_look.specs.declared.Trouble.{Trouble}
+
+-- ---- lists
+
+-- what passes is kept
+pub in_filter : {X : Type 0} (p : X → Bool) (xs : List X) (x : X) → Contains xs x → p x ≡ true → Contains (filter p xs) x
+in_filter p [] x here passes = absurd (nowhere x here)
+in_filter {X} p (y ∷ xs) x here passes = ⊎_elim
+    (λ (same : x ≡ y). subst (λ (list : List X). Contains list x) (sym (cond-true (p y) (y ∷ filter p xs) (filter p xs) (ap p (sym same) ∙ passes))) (Contains-append_left (y ∷ []) (filter p xs) x (0, omega arith, sym same)))
+    (λ (later : Contains xs x). by (p y) (in_filter p xs x later passes))
+    (first_or_later y xs x here)
+  where
+    by : (b : Bool) → Contains (filter p xs) x → Contains (cond b (y ∷ filter p xs) (filter p xs)) x
+    by true there = Contains-append_right (y ∷ []) (filter p xs) x there
+    by false there = there
+
+-- a port that was found with a disk is in the list
+pub in_ports : (ports : List Found) (port : ℕ) (info : DiskInfo) → found_of ports port ≡ Ready info → port < length ports
+in_ports ports port info is = is_listed ports port (ap is_served is)
+
+-- ---- what fates leave
+
+-- steps that decide leave the grants, the owners, and the next id
+step_leaves : (port : Port) (m : Machine) (step : Step) → DecidesOn port step → ((after_step m step).rows ≡ m.rows) × ((frame : Frame) → (after_step m step).owner frame ≡ m.owner frame) × ((after_step m step).next ≡ m.next)
+step_leaves port m (Accept r) is = absurd is
+step_leaves port m step is = (refl, λ frame. refl, refl)
+
+pub deciding_leaves : (port : Port) (m : Machine) (steps : List Step) → All (DecidesOn port) steps → ((after m steps).rows ≡ m.rows) × ((frame : Frame) → (after m steps).owner frame ≡ m.owner frame) × ((after m steps).next ≡ m.next)
+deciding_leaves port m [] own = (refl, λ frame. refl, refl)
+deciding_leaves port m (step ∷ steps) own =
+    let x = step_leaves port (after m steps) step (All-head (DecidesOn port) step steps own) in
+    let y = deciding_leaves port m steps (All-tail (DecidesOn port) step steps own) in
+    (x.0 ∙ y.0, λ frame. x.1 frame ∙ y.1 frame, x.2 ∙ y.2)
+
+-- and fates the owners
+fate_owners : (request : Held) (f : Fate) (replies : List Reply) (old new : Holdings) → MeetsFate request f replies old new → new.table.owners ≡ old.table.owners
+fate_owners request Waits replies old new meets = ap (λ (h : Holdings). h.table.owners) meets.1
+fate_owners request GoesAgain replies old new meets = ap (λ (h : Holdings). h.table.owners) meets.1
+fate_owners request (Ends o) replies old new meets = by (keeps_loan o request.entry) meets.2
+  where
+    by : (b : Bool) → EndsLoan b request old new → new.table.owners ≡ old.table.owners
+    by true loan = ap (λ t. t.owners) loan.1
+    by false loan = loan.1.owners
+
+pub fates_owners : (fate : Entry → Fate) (requests : List Held) (replies : List Reply) (old new : Holdings) → MeetFates fate requests replies old new → new.table.owners ≡ old.table.owners
+fates_owners fate [] replies old new meets = ap (λ (h : Holdings). h.table.owners) meets.1
+fates_owners fate (request ∷ requests) replies old new (mid, its, later, split, meets, more) = fates_owners fate requests later mid new more ∙ fate_owners request (fate request.entry) its old mid meets
+
+-- ---- the port's requests meet their fates
+
+-- a dead port has no other prospect
+pub dead_end : (trouble : Trouble) (was : DiskInfo) (found : Found) (prospect : Prospect) → IsProspect trouble was found prospect → found ≡ Unready Dead → prospect ≡ NoEnd
+dead_end trouble was found SameDisk (_, (info, is, same)) dead = let z : Ready info ≡ Unready Dead = sym is ∙ dead in absurd cc
+dead_end trouble was found DiskLost x dead = absurd (x.0 dead)
+dead_end trouble was found NoEnd x dead = refl
+
+module _ (laws : LawsBelow) (port : Port) (mid : Server) (k : IsKept mid) (ready : state_of (found_of mid.ports port.0) ≡ ReadyState) (n : Machine) (reached : IsReached n) (is : IsMachineOf mid n)
+    (way : Next) (found : Found) (device : Device) (passed : IsPassed port.0 way found mid.device device (record { uses = is.uses; parked = is.parked }) n)
+    (failed : Option Failed) (prospect : Prospect) (trouble : Trouble) (was : DiskInfo) (expects : IsProspect trouble was found prospect) (unnamed : way ≡ Stuck → (found ≡ Unready Dead) × (failed ≡ None)) where
+  abbrev t : InSlots
+  t = passed.slots
+
+  abbrev w : Machine
+  w = after n passed.passes.steps
+
+  abbrev fate : Entry → Fate
+  fate = fate_of failed prospect
+
+  abbrev its : List Held
+  its = requests_of port mid.book
+
+  low : port.0 < 4
+  low = (ready_found mid port.0 k ready).0
+
+  alive : found_of mid.ports port.0 ≢ Unready Dead
+  alive = not_dead mid port.0 ready
+
+  w_reached : IsReached w
+  w_reached = laws.basic.reached n passed.passes.steps reached passed.passes.may
+
+  spares : SparesBook n w
+  spares = laws.basic.spares n passed.passes.steps passed.passes.only
+
+  in_its : (e : Held) → Contains mid.book e → e.entry.port.0 ≡ port.0 → Contains its e
+  in_its e here same = in_filter (λ (x : Held). is_of port x.entry) mid.book e here (eq-eqb e.entry.port.0 port.0 same)
+
+  of_its : (e : Held) → Contains its e → Contains mid.book e × (e.entry.port ≡ port)
+  of_its e here = (
+    All-contains (Contains mid.book) its e (All-filter (λ (x : Held). is_of port x.entry) (Contains mid.book) mid.book (All-contains_itself mid.book)) here,
+    ap (λ (q : ℕ). record { 0 = q }) (eqb-true e.entry.port.0 port.0 (All-contains (λ (x : Held). is_of port x.entry ≡ true) its e (filter_passes (λ (x : Held). is_of port x.entry) mid.book) here)),
+  )
+
+  -- one whose loan isn't kept has no slot
+  unserved : (e : Held) → Contains its e → keeps_fate (fate e.entry) e.entry ≡ false → HasNoSlot t.uses e.entry.id
+  unserved e here never = by e.entry.issued refl
+    where
+      entry : (p : Pending) × Contains n.book p × IsEntry e p
+      entry = at_left IsEntry mid.book n.book is.book e (of_its e here).0
+
+      served : way ≢ Stuck → e.entry.issued ≡ true → HasNoSlot t.uses e.entry.id
+      served lives issued = ⊎_elim
+          (λ (parked : Contains (is.parked port.0) entry.0.request.id). absurd (nowhere entry.0.request.id (subst (λ (ids : List RequestId). Contains ids entry.0.request.id) (is.unparked port.0 alive) parked)))
+          (λ (slot : (slot : ℕ) × (is.uses port.0 slot ≡ Serves entry.0.request.id)). passed.left.unserved lives is.knows.agrees.apart slot.0 e.entry.id (slot.1 ∙ ap Serves entry.2.id))
+          (is.knows.have port.0 entry.0 (inl (entry.1, entry.2.issued ∙ issued)) (ap (λ (q : Port). q.0) (entry.2.port ∙ (of_its e here).1)))
+
+      of : (x : Next) → way ≡ x → e.entry.issued ≡ true → HasNoSlot t.uses e.entry.id
+      of (Running token) z issued = served (λ stuck. let y : Running token ≡ Stuck = sym z ∙ stuck in absurd cc) issued
+      of (Restart token) z issued = served (λ stuck. let y : Restart token ≡ Stuck = sym z ∙ stuck in absurd cc) issued
+      of Stuck z issued =
+          let u = unnamed z in
+          let keeps : keeps_fate (fate e.entry) e.entry ≡ true =
+          ap (λ (f : Option Failed). keeps_fate (fate_of f prospect e.entry) e.entry) u.1 ∙ ap (λ (p : Prospect). keeps_fate (fate_on p e.entry) e.entry) (dead_end trouble was found prospect expects u.0) ∙ issued in
+          absurd (false≢true (sym never ∙ keeps))
+
+      by : (b : Bool) → e.entry.issued ≡ b → HasNoSlot t.uses e.entry.id
+      by false waits =
+          let l = laws.basic.found_later n.book w.book entry.0 spares.book entry.1 in
+          subst (HasNoSlot t.uses) (ap (λ r. r.id) l.2.request ∙ entry.2.id) (laws.slots.waiting t.uses w device w_reached passed.passes.knows.agrees l.0 l.1 (l.2.issued ∙ entry.2.issued ∙ waits))
+      by true issued = of way refl issued
+
+  -- what is parked was in a slot
+  parked_by : (id : RequestId) → Contains (t.parked port.0) id → (e : Held) × Contains its e × (e.entry.id ≡ id) × (e.entry.issued ≡ true)
+  parked_by id here = ⊎_elim
+      (λ there.
+      let slot = laws.slots.served is.uses port.0 32 id there in
+      let r = served_request mid n port.0 slot.0 is ready id slot.2 in
+      (r.request, in_its r.request r.there r.port_is, r.id_is, sym r.entry.issued ∙ r.issued))
+      (λ there. absurd (nowhere id (subst (λ (ids : List RequestId). Contains ids id) (is.unparked port.0 alive) there)))
+      (Contains-append_cases _ (is.parked port.0) id (passed.left.its id here))
+
+  may_meet : MayMeet port fate its (holdings_of port mid) mid.grants (at_slots t device) w
+  may_meet = record {
+    reached = w_reached;
+    knows = passed.passes.knows;
+    book = book_on mid.book n.book w.book spares.book is.book;
+    lent = λ frame. ap (λ f. f frame) spares.lent ∙ is.lent frame;
+    ordered = k.ordered;
+    accepted = k.accepted;
+    here = of_its;
+    earlier = AllPairs-filter IsEarlier (λ (x : Held). is_of port x.entry) mid.book k.ordered.ordered;
+    unserved = unserved;
+    parked = λ quiet. parked_by;
+  }
+
+  module _ (later : List Reply) (now : Holdings) (meets : MeetFates fate its later (holdings_of port mid) now) where
+    pub met : MeetsInMachine port fate its later (holdings_of port mid) now (at_slots t device) w
+    met = meet laws port failed prospect mid.grants its later (holdings_of port mid) now (at_slots t device) w may_meet meets
+
+    abbrev z : Machine
+    z = after w met.steps
+
+    -- a request whose loan is kept is of a dead port
+    dies : (e : Pending) → Contains met.held e → (e.request.port ≡ port) × (found ≡ Unready Dead)
+    dies e here = (x.2.port ∙ (of_its x.0 x.1).1, by prospect refl)
+      where
+        x : (request : Held) × Contains its request × IsEntry request e × (keeps_fate (fate request.entry) request.entry ≡ true)
+        x = met.whose e here
+
+        lives : prospect ≢ NoEnd → ⊥
+        lives other = false≢true (sym ((tame failed prospect x.0.entry).alive other) ∙ x.3)
+
+        by : (p : Prospect) → prospect ≡ p → found ≡ Unready Dead
+        by SameDisk same = absurd (lives (λ dead. let y : SameDisk ≡ NoEnd = sym same ∙ dead in absurd cc))
+        by DiskLost same = absurd (lives (λ dead. let y : DiskLost ≡ NoEnd = sym same ∙ dead in absurd cc))
+        by NoEnd same = subst (IsProspect trouble was found) same expects
+
+    -- on another port nothing is decided
+    quiet : found ≢ Unready Dead → (e : Entry) → keeps_fate (fate e) e ≡ false
+    quiet other e = (tame failed prospect e).alive (λ dead. other (subst (IsProspect trouble was found) dead expects))
+
+    module _ (mode : Mode) (slots : PortSlots) (unused : AreUnused mode slots) where
+      abbrev new : Server
+      new = with_port port device found was mode slots now mid
+
+      found_same : found_of new.ports port.0 ≡ found
+      found_same = get_or-set_same mid.ports port.0 found Unserved (let f = (ready_found mid port.0 k ready).1 in in_ports mid.ports port.0 f.0 f.1)
+
+      found_other : (q : ℕ) → q ≢ port.0 → found_of new.ports q ≡ found_of mid.ports q
+      found_other q ne = get_or-set_other mid.ports port.0 q found Unserved ne
+
+      kept_same : kept_at new.kept port.0 ≡ now.kept
+      kept_same = get_or-set_same mid.kept port.0 now.kept [] (let f = k.four_kept in let l = low in omega (arith, f, l))
+
+      kept_other : (q : ℕ) → q ≢ port.0 → kept_at new.kept q ≡ kept_at mid.kept q
+      kept_other q ne = get_or-set_other mid.kept port.0 q now.kept [] ne
+
+      used : AreUsesOf new t.uses
+      used = uses_then port.0 way found mid.ports mid.slots slots (record { uses = is.uses; parked = is.parked }) t (let f = (ready_found mid port.0 k ready).1 in in_ports mid.ports port.0 f.0 f.1)
+          (let f = k.four in let l = low in omega (arith, f, l)) unused.free passed.left is.used
+
+      unparked : (q : ℕ) → found_of new.ports q ≢ Unready Dead → met.parked q ≡ []
+      unparked q lives = ⊎_elim
+          (λ (same : q ≡ port.0).
+          ap met.parked same ∙ met.none (quiet (λ dead. lives (ap (found_of new.ports) same ∙ found_same ∙ dead))))
+          (λ (ne : q ≢ port.0). met.others q ne ∙ passed.left.parked q ne ∙ is.unparked q (λ dead. lives (found_other q ne ∙ dead)))
+          (cases_eq q port.0)
+
+      -- ---- what is kept
+
+      was_kept : AreKept mid.ports mid.kept w.kept
+      was_kept = still_kept laws mid.ports mid.kept n.kept w.kept spares.kept is.kept
+
+      -- one that was kept is of another port
+      elsewhere : (e : Pending) → Contains w.kept e → e.request.port.0 ≢ port.0
+      elsewhere e here same = alive (ap (found_of mid.ports) (sym same) ∙ was_kept.dead e here)
+
+      none_kept_here : kept_at mid.kept port.0 ≡ []
+      none_kept_here = none_alive mid k port.0 alive (kept_at mid.kept port.0) refl
+
+      are_kept : AreKept new.ports new.kept z.kept
+      are_kept = subst (AreKept new.ports new.kept) (sym met.kept)
+          (more_kept port mid.ports new.ports mid.kept new.kept met.held w.kept was_kept (kept_same ∙ met.loans) kept_other
+          (λ e here. found_other e.request.port.0 (elsewhere e here) ∙ was_kept.dead e here)
+          (λ e here. let d = dies e here in (d.0, found_same ∙ d.1))
+          met.two
+          (λ a b here there. absurd (nowhere a (subst (λ (loans : List Lending). Contains loans a) none_kept_here here))))
+
+      leaves : (z.rows ≡ w.rows) × ((frame : Frame) → z.owner frame ≡ w.owner frame) × (z.next ≡ w.next)
+      leaves = deciding_leaves port w met.steps met.own
+
+      pub stands : IsMachineOf new z
+      stands = record {
+        uses = t.uses;
+        used = used;
+        parked = met.parked;
+        unparked = unparked;
+        knows = met.knows;
+        book = met.book;
+        kept = are_kept;
+        rows = leaves.0 ∙ spares.rows ∙ is.rows;
+        owner = λ frame. leaves.1 frame ∙ ap (λ f. f frame) spares.owner ∙ is.owner frame
+            ∙ ap (λ (owners : List (Option ClientId)). get_or owners frame.0 None) (sym (fates_owners fate its later (holdings_of port mid) now meets));
+        lent = met.lent;
+        next = leaves.2 ∙ spares.next ∙ is.next;
+      }
+
+-- ---- the whole
+
+module _ (laws : LawsBelow) (port : Port) (later : List Reply) (old new : Server) (k : IsKept old) (ready : state_of (found_of old.ports port.0) ≡ ReadyState) (a : HasMetFates port later old new)
+    (looks : IsFollowed (IsLooking port) AnyUse old.device a.mended.seen) where
+  abbrev from : Server
+  from = record old { device = a.mended.found }
+
+  seen_kept : IsKept (record old { device = a.mended.seen })
+  seen_kept = looking_kept old a.mended.seen port k ready laws looks
+
+  pub found_kept : IsKept from
+  found_kept = finding_kept (record old { device = a.mended.seen }) a.mended.found port seen_kept ready laws a.mended.mask a.mended.done a.mended.reads
+
+  pub over : AreOver port a.mended.done a.mended.found
+  over = found_over (record old { device = a.mended.seen }) a.mended.found port seen_kept ready laws a.mended.mask a.mended.done a.mended.reads a.mended.its
+
+  pub mid_kept : IsKept a.mid
+  mid_kept = answers_kept laws port a.mended.done a.mended.requests from a.mid found_kept ready over a.mended.each
+
+  pub settings : a.mid ≡ record from { table = a.mid.table; slots = a.mid.slots; book = a.mid.book }
+  settings = answers_settings laws port a.mended.done a.mended.requests from a.mid a.mended.each
+
+  pub mid_ready : state_of (found_of a.mid.ports port.0) ≡ ReadyState
+  mid_ready = ap (λ (s : Server). state_of (found_of s.ports port.0)) settings ∙ ready
+
+  -- nobody is named on a port whose engine is stuck
+  pub unnamed : a.mended.result.next ≡ Stuck → (a.found ≡ Unready Dead) × (a.failed ≡ None)
+  unnamed stuck = (
+    (subst (λ (way : Next). IsFoundAfter (wanted_of old.wanted port.0) port a.mended.trouble a.was way a.device new.device a.found) stuck a.is).0,
+    subst (λ (its : Option _). IsFailed (slots_at a.mid.slots port.0) its a.failed) (a.mended.mends.tells.dead stuck) a.names,
+  )
+
+  pub adds_fates : (m : Machine) → IsReached m → IsMachineOf old m → AddsFates port later old new a m
+  adds_fates m reached is = record {
+    first = x.0;
+    ended = y.ended;
+    middle = p.passes.steps;
+    fates = f.steps;
+    first_only = x.4;
+    early = record { looked = looked.0; later = finding.0; first_is = refl; seen = looked.2; seen_backed = looked.3; found = x.2; found_backed = x.3 };
+    each = y.each;
+    middle_only = p.passes.only;
+    may = laws.basic.may m f.steps (p.passes.steps ++ base) (laws.basic.may m p.passes.steps base base_may p.passes.may) (subst (λ (s : Machine). AllMay s f.steps) (sym then_is) f.may);
+    backed = laws.backed_parts old.device new.device new.device m (p.passes.steps ++ base) f.steps
+        (laws.backed_parts old.device a.mid.device new.device m base p.passes.steps base_backed p.passes.backed) (subst (λ (s : Machine). IsBacked new.device new.device s f.steps) (sym then_is) (f.backed new.device));
+    stands = subst (IsMachineOf new) (sym (laws.basic.joined m f.steps (p.passes.steps ++ base) ∙ ap (λ (s : Machine). after s f.steps) then_is))
+        (subst (λ (s : Server). IsMachineOf s (after (after n p.passes.steps) f.steps)) (sym a.server)
+        (stands laws port a.mid mid_kept mid_ready n n_reached is_mid a.mended.result.next a.found new.device p a.failed a.prospect a.mended.trouble a.was a.expects unnamed later a.now a.meets a.mode a.slots a.unused));
+    own = f.own;
+    answered = f.answered;
+    again = f.again;
+    tells = f.tells;
+  }
+    where
+      looked : (steps : List Step) × AllMay m steps × IsMachineOf (record old { device = a.mended.seen }) (after m steps) × IsBacked old.device a.mended.seen m steps × AllDevices steps
+      looked = followed_steps laws old a.mended.seen (looks_serve laws port old.device a.mended.seen looks) m reached is
+
+      finding : (steps : List Step) × AllMay (after m looked.0) steps × IsMachineOf from (after (after m looked.0) steps) × IsBacked a.mended.seen a.mended.found (after m looked.0) steps × AllDevices steps
+      finding = followed_steps laws (record old { device = a.mended.seen }) a.mended.found (finds_serve laws port a.mended.mask a.mended.done a.mended.seen a.mended.found a.mended.reads)
+          (after m looked.0) (laws.basic.reached m looked.0 reached looked.1) looked.2
+
+      x : (steps : List Step) × AllMay m steps × IsMachineOf from (after m steps) × IsBacked old.device a.mended.found m steps × AllDevices steps
+      x = (
+        finding.0 ++ looked.0,
+        laws.basic.may m finding.0 looked.0 looked.1 finding.1,
+        subst (IsMachineOf from) (sym (laws.basic.joined m finding.0 looked.0)) finding.2,
+        laws.backed_parts old.device a.mended.seen a.mended.found m looked.0 finding.0 looked.3 finding.3,
+        devices_both finding.0 looked.0 finding.4 looked.4,
+      )
+
+      reached_x : IsReached (after m x.0)
+      reached_x = laws.basic.reached m x.0 reached x.1
+
+      y : AreAnswered port a.mended.requests from a.mid (after m x.0)
+      y = each_answered laws port a.mended.done a.mended.requests from a.mid found_kept ready over a.mended.each (after m x.0) reached_x x.2
+
+      base : List Step
+      base = answers_in y.ended ++ x.0
+
+      n : Machine
+      n = after m base
+
+      base_may : AllMay m base
+      base_may = laws.basic.may m (answers_in y.ended) x.0 x.1 y.may
+
+      base_backed : IsBacked old.device a.mid.device m base
+      base_backed = laws.backed_parts old.device a.mended.found a.mid.device m x.0 (answers_in y.ended) x.3 y.backed
+
+      n_reached : IsReached n
+      n_reached = laws.basic.reached m base reached base_may
+
+      is_mid : IsMachineOf a.mid n
+      is_mid = subst (IsMachineOf a.mid) (sym (laws.basic.joined m (answers_in y.ended) x.0)) y.stands
+
+      p : IsPassed port.0 a.mended.result.next a.found a.mid.device new.device (record { uses = is_mid.uses; parked = is_mid.parked }) n
+      p = passed laws (wanted_of old.wanted port.0) port a.mended.trouble a.was a.mended.result.next a.mended.mends.accesses a.mid.device a.device new.device a.found a.mended.mends.does.slots a.is
+          (record { uses = is_mid.uses; parked = is_mid.parked }) n n_reached is_mid.knows
+
+      f : MeetsInMachine port (fate_of a.failed a.prospect) (requests_of port a.mid.book) later (holdings_of port a.mid) a.now (at_slots p.slots new.device) (after n p.passes.steps)
+      f = met laws port a.mid mid_kept mid_ready n n_reached is_mid a.mended.result.next a.found new.device p a.failed a.prospect a.mended.trouble a.was a.expects unnamed later a.now a.meets
+
+      then_is : after m (p.passes.steps ++ base) ≡ after n p.passes.steps
+      then_is = laws.basic.joined m p.passes.steps base

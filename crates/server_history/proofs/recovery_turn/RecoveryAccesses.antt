@@ -1,0 +1,224 @@
+-- The accesses of a port's turn that mends it: one by one, of what kind they are, and what they tell of the port's engines.
+use Rattle.std.proofs.Common.{ℕ, ◌≡◌, ◌≢◌, ◌<◌, ◌++◌, List, [], None, refl, sym, ◌∙◌, subst, inl, inr, arith, ⊎_elim, ◌⊎◌}
+use Rattle.std.specs.List.{All}
+use Rattle.std.proofs.lemmas.Bool.{cases_eq}
+use Rattle.std.proofs.lemmas.List.Elements.{All-append, All-nil, All-weaker}
+use Rattle.ata_types.specs.declared.Port.{Port}
+use Rattle.ata_types.specs.declared.PortState.{PortState as Shown}
+use Rattle.ata_types.specs.declared.PortState.TheVariants as shown
+use Rattle.ata_types.specs.declared.PortState.TheVariants.{Dead as DeadState, Ready as ReadyState}
+use Rattle.ata_types.specs.declared.request.RequestId.{RequestId}
+use Rattle.ata_types.specs.declared.limits.TheConstants.{READINGS}
+use Rattle.hba_regs.specs.declared.reg.PortReg.TheVariants.{Ci, Sact, Sctl}
+use Rattle.hba_regs.specs.declared.reg.Reg.TheVariants.{Px}
+use Rattle.adapter.specs.Access.{Access}
+use Rattle.adapter.specs.Access.Access.{Loading, Reading, Storing, Writing}
+use Rattle.adapter.specs.Device.{Device}
+use Rattle.adapter.specs.declared.command.Operation.{Operation}
+use Rattle.adapter.specs.declared.command.Operation.TheVariants.{Identify}
+use Rattle.agreement.specs.Driven.{IsDrivenBy, IsFollowed, IsFollowedTo, IsOf, IsToldTo, SendsNone, known}
+use Rattle.agreement.specs.Driver.{AllFree, Knows}
+use Rattle.agreement.specs.Links.{SparesRegister}
+use Rattle.agreement.specs.Slots.{Own, Uses, op_of, put}
+use Rattle.agreement.proofs.driver.Stretches.{followed_adds, followed_silent}
+use Rattle.block_machine.specs.Histories.{IsReached}
+use Rattle.block_machine.specs.Left.{after}
+use Rattle.block_machine.specs.State.{Machine}
+use Rattle.disk_page.specs.Asking.{IsAsking}
+use Rattle.driver_history.specs.Trace.{IsDriversOwn, LeavesCommand, ResetsLink}
+use Rattle.error_recovery.specs.Recovery.{IsRecovering}
+use Rattle.error_recovery.specs.declared.Next.{Next}
+use Rattle.error_recovery.specs.declared.Next.TheVariants as next
+use Rattle.host_boot.specs.Again.{BootsAgain, BootsStopped, EndsUnready, IsOfStart}
+use Rattle.host_boot.specs.Taken.{IsSurvey}
+use Rattle.host_boot.specs.declared.Booted.{Booted}
+use Rattle.host_boot.specs.declared.Found.{Found}
+use Rattle.host_boot.specs.declared.Found.TheVariants.{Ready, Unready, Unserved}
+use Rattle.identify.specs.declared.DiskInfo.{DiskInfo}
+use Rattle.identify.specs.declared.wanted.Wanted.{Wanted}
+use Rattle.port_boot.specs.States.{IsBoot, IsOfBoot}
+use Rattle.port_control.specs.Engines.{Sticks}
+use Rattle.port_control.specs.declared.Stopped.{Stopped}
+use Rattle.server_history.specs.Below.{LawsBelow}
+use Rattle.server_history.specs.Mended.{IsFoundAfter}
+use Rattle.server_history.proofs.state.TurnAccesses.{table_own}
+use Rattle.server_history.proofs.recovery_turn.LinkResets.{ResetsBy, early_resets, late_resets, ready_resets, resets_since}
+use Rattle.server_history.proofs.state.SilentOperations.{silent_more, silent_none}
+use Rattle.port_look.specs.declared.Trouble.{Trouble}
+use Rattle.port_look.specs.declared.Trouble.TheVariants.{Lost}
+use Rattle.server_history.proofs.recovery_turn.BootOrAbsence.{IsFoundAbsent, boots_or_absent}
+
+-- ---- kinds of accesses
+
+-- it is of this port, and what it loads or stores is the driver's own
+abbrev pub IsPart : Port → Access → Type 0
+IsPart port access = IsDriversOwn access × IsOf port access
+
+-- and it doesn't write PxCMD
+abbrev pub IsEarlyPart : Port → Access → Type 0
+IsEarlyPart port access = IsPart port access × LeavesCommand port access
+
+module _ (laws : LawsBelow) (port : Port) (low : port.0 < 4) where
+  pub recovering_part : (access : Access) → IsRecovering port access → IsPart port access
+  recovering_part access here = (own access here, laws.recovering_of port access here)
+    where
+      own : (access : Access) → IsRecovering port access → IsDriversOwn access
+      own (Reading r v) is = tt
+      own (Writing r v) is = tt
+      own (Loading at bytes) is = laws.recovering_loads port at bytes low is
+      own (Storing at bytes) is = laws.recovering_stores port at bytes low is
+
+  asking_own : (access : Access) → IsAsking port access → IsDriversOwn access
+  asking_own (Reading r v) is = tt
+  asking_own (Writing r v) is = tt
+  asking_own (Loading at bytes) is = let here = is.0 in let size = is.1 in omega (arith, low, here, size)
+  asking_own (Storing at bytes) is = table_own port.0 0 at bytes low (omega arith) is
+
+  booting_own : (access : Access) → IsOfBoot port access → IsDriversOwn access
+  booting_own (Reading r v) is = tt
+  booting_own (Writing r v) is = tt
+  booting_own (Loading at bytes) (inl is) = absurd is
+  booting_own (Loading at bytes) (inr is) = asking_own (Loading at bytes) is
+  booting_own (Storing at bytes) (inl is) = absurd is
+  booting_own (Storing at bytes) (inr is) = asking_own (Storing at bytes) is
+
+  pub booting_part : (access : Access) → IsOfBoot port access → IsPart port access
+  booting_part access is = (booting_own access is, laws.booting_of port access is)
+
+pub survey_part : (port : Port) (access : Access) → IsSurvey access → IsPart port access
+survey_part port (Reading (Px q r) v) is = absurd is
+survey_part port (Reading r v) is = (tt, tt)
+survey_part port (Writing r v) is = absurd is
+survey_part port (Loading at bytes) is = absurd is
+survey_part port (Storing at bytes) is = absurd is
+
+-- what comes before a boot, and the boot
+pub start_part : LawsBelow → (port : Port) → port.0 < 4 → (access : Access) → IsOfStart port access → IsPart port access
+start_part laws port low access is = ⊎_elim (survey_part port access) (booting_part laws port low access) is
+
+-- ---- a port that is booted anew, where it has to be
+
+-- Some machine agrees with a driver that uses no slot of the port.
+pub record IsGivenUp (port : Port) (d : Device) : Type 0 where
+  pub uses : Uses
+  pub parked : ℕ → List RequestId
+  pub machine : Machine
+  pub free : AllFree uses port.0
+  pub reached : IsReached machine
+  pub knows : Knows machine (known uses parked d)
+
+-- The accesses between recovery and the issues, and what they tell of a port that is dead after its boot: 64 readings in a row showed an engine that is
+-- stuck. Another boot has reset the link. Another port is sent no page by a command that its slot 0 hadn't.
+pub record AfterList (port : Port) (trouble : Trouble) (then : Next) (found : Found) (old new : Device) : Type 0 where
+  pub driven : IsDrivenBy (IsPart port) old new
+  pub sticks : found ≡ Unready DeadState → then ≢ next.Dead → Sticks port driven.accesses
+  pub stuck : found ≡ Unready DeadState → then ≢ next.Dead → (new.port port.0).notes.engine_count ≡ READINGS
+  pub resets : (token : Stopped) → then ≡ next.Restart token → found ≢ Unready DeadState → ((trouble ≡ Lost) × (found ≡ Unready shown.Absent)) ⊎ ResetsLink port driven.accesses
+  pub unreset : ((token : Stopped) → then ≢ next.Restart token) → All (SparesRegister (Px port Sctl)) driven.accesses
+  pub silent : (q : Port) (o : Operation) → q.0 ≢ port.0 → op_of o ≡ None → ((token : Stopped) → then ≡ next.Restart token → (g : IsGivenUp port old) × (g.uses q.0 0 ≡ Own o → ⊥)) → SendsNone q.0 o old new
+
+module _ (laws : LawsBelow) (port : Port) (low : port.0 < 4) (wanted : Wanted) (trouble : Trouble) where
+  module _ (token : Stopped) (old asked new : Device) (asks : IsFollowed (IsOfStart port) (λ uses. AllFree uses port.0) old asked) (then : Uses → Uses) (boots : IsFollowedTo (IsOfBoot port) (λ uses. AllFree uses port.0) then asked new) where
+    boot_silent : (q : Port) (o : Operation) → q.0 ≢ port.0 → op_of o ≡ None → (g : IsGivenUp port old) → (g.uses q.0 0 ≡ Own o → ⊥) → SendsNone q.0 o old new
+    boot_silent q o other own g none =
+        let x = (followed_adds asks g.uses g.parked g.free).adds g.machine g.reached g.knows in
+        silent_more q.0 o old asked new
+        (followed_silent asks g.uses g.parked g.machine g.free g.reached g.knows q o own (λ access is. laws.of_spares port q Ci other access (start_part laws port low access is).1) (λ access is. laws.of_spares port q Sact other access (start_part laws port low access is).1) none)
+        (followed_silent boots g.uses g.parked (after g.machine x.0) g.free (laws.basic.reached g.machine x.0 g.reached x.1) x.2 q o own
+        (λ access is. laws.of_spares port q Ci other access (laws.booting_of port access is)) (λ access is. laws.of_spares port q Sact other access (laws.booting_of port access is)) none)
+
+    boot_list : (found : Found) (by : IsDrivenBy (IsOfBoot port) asked new) → (found ≡ Unready DeadState → Sticks port by.accesses) → (found ≡ Unready DeadState → (new.port port.0).notes.engine_count ≡ READINGS)
+        → (found ≢ Unready DeadState → ResetsLink port by.accesses) → AfterList port trouble (next.Restart token) found old new
+    boot_list found by sticks stuck resets = record {
+      driven = record {
+        accesses = asks.driven.accesses ++ by.accesses;
+        all = laws.basic.does_append asks.driven.accesses by.accesses old asked new asks.driven.all by.all;
+        only = All-append (IsPart port) asks.driven.accesses by.accesses (All-weaker (IsOfStart port) (IsPart port) (start_part laws port low) asks.driven.accesses asks.driven.only)
+            (All-weaker (IsOfBoot port) (IsPart port) (booting_part laws port low) by.accesses by.only);
+      };
+      sticks = λ dead _. laws.sticks_since asks.driven.accesses by.accesses port (sticks dead);
+      stuck = λ dead _. stuck dead;
+      resets = λ _ _ lives. inr (resets_since port asks.driven.accesses by.accesses (resets lives));
+      unreset = λ never. absurd (never token refl);
+      silent = λ q o other own given. let g = given token refl in boot_silent q o other own g.0 g.1;
+    }
+
+    -- one that isn't dead has its link reset
+    lives_list : (found : Found) → found ≢ Unready DeadState → ResetsBy port asked new → AfterList port trouble (next.Restart token) found old new
+    lives_list found lives by = boot_list found by.driven (λ dead. absurd (lives dead)) (λ dead. absurd (lives dead)) (λ _. by.resets)
+
+  -- no device showed
+  absent_list : (token : Stopped) (found : Found) (old new : Device) → IsFoundAbsent wanted port trouble found old new → AfterList port trouble (next.Restart token) found old new
+  absent_list token found old new absent = record {
+    driven = record { accesses = made.accesses; all = made.all; only = All-weaker (IsOfStart port) (IsPart port) (start_part laws port low) made.accesses made.only };
+    sticks = λ dead _. absurd (lives dead);
+    stuck = λ dead _. absurd (lives dead);
+    resets = λ _ _ _. inl (absent.lost, absent.is);
+    unreset = λ never. absurd (never token refl);
+    silent = λ q o other own given.
+        let g = given token refl in
+        followed_silent absent.starts g.0.uses g.0.parked g.0.machine g.0.free g.0.reached g.0.knows q o own
+        (λ access is. laws.of_spares port q Ci other access (start_part laws port low access is).1) (λ access is. laws.of_spares port q Sact other access (start_part laws port low access is).1) g.1;
+  }
+    where
+      made : IsDrivenBy (IsOfStart port) old new
+      made = absent.starts.driven
+
+      lives : found ≡ Unready DeadState → ⊥
+      lives dead = let z : Unready shown.Absent ≡ Unready DeadState = sym absent.is ∙ dead in cc
+
+  booted_list : (token : Stopped) (booted : Booted) (old new : Device) → BootsAgain wanted port booted old new → AfterList port trouble (next.Restart token) booted.found old new
+  booted_list token booted old new b = by booted.found b.boots
+    where
+      lives : (state : Shown) → state ≢ DeadState → Unready state ≡ Unready DeadState → ⊥
+      lives state other is = other (let z : Unready state ≡ Unready DeadState = is in cc)
+
+      unready : (state : Shown) → EndsUnready wanted port state b.asked new → AfterList port trouble (next.Restart token) (Unready state) old new
+      unready shown.Dead x = ⊎_elim
+          (λ (told : IsBoot (Sticks port) port b.asked new). boot_list token old b.asked new b.asks (λ uses. uses) told.followed (Unready DeadState) told.followed.driven (λ _. told.tells) (λ _. x.ended.1) (λ lives. absurd (lives refl)))
+          (λ (told : IsToldTo (Sticks port) (IsOfBoot port) (λ uses. AllFree uses port.0) (λ uses. put uses port.0 0 (Own Identify)) b.asked new).
+          boot_list token old b.asked new b.asks (λ uses. put uses port.0 0 (Own Identify)) told.followed (Unready DeadState) told.followed.driven (λ _. told.tells) (λ _. x.ended.1) (λ lives. absurd (lives refl)))
+          x.boots
+      unready shown.Absent x = lives_list token old b.asked new b.asks (λ uses. uses) x.boots.followed (Unready shown.Absent) (lives shown.Absent (λ e. let z : shown.Absent ≡ DeadState = e in cc)) (early_resets laws port shown.Absent b.asked new (x.early tt))
+      unready shown.Foreign x = lives_list token old b.asked new b.asks (λ uses. uses) x.boots.followed (Unready shown.Foreign) (lives shown.Foreign (λ e. let z : shown.Foreign ≡ DeadState = e in cc)) (late_resets laws port b.asked new (x.late tt))
+      unready (shown.Unfit n) x =
+          lives_list token old b.asked new b.asks (λ uses. uses) x.boots.followed (Unready (shown.Unfit n)) (lives (shown.Unfit n) (λ e. let z : shown.Unfit n ≡ DeadState = e in cc))
+          (⊎_elim
+          (λ (seven : n ≡ 7). early_resets laws port (shown.Unfit n) b.asked new (x.early (inl seven)))
+          (λ (not_seven : n ≢ 7). ⊎_elim
+          (λ (eight : n ≡ 8). early_resets laws port (shown.Unfit n) b.asked new (x.early (inr eight)))
+          (λ (not_eight : n ≢ 8). late_resets laws port b.asked new (x.late (not_seven, not_eight)))
+          (cases_eq n 8))
+          (cases_eq n 7))
+      unready shown.Ready x = absurd x.ended
+
+      by : (found : Found) → BootsStopped wanted port found b.asked new → AfterList port trouble (next.Restart token) found old new
+      by Unserved x = absurd x
+      by (Ready info) x =
+          let no : Ready info ≡ Unready DeadState → ⊥ = λ e. let z : Ready info ≡ Unready DeadState = e in cc in
+          lives_list token old b.asked new b.asks (λ uses. uses) x.boots.followed (Ready info) no (ready_resets laws port b.asked new x.way)
+      by (Unready state) x = unready state x
+
+  pub after_list : (was : DiskInfo) (then : Next) (old new : Device) (found : Found) → IsFoundAfter wanted port trouble was then old new found → AfterList port trouble then found old new
+  after_list was (next.Running token) old new found is =
+      let none : found ≡ Unready DeadState → ⊥ = λ dead. let z : Ready was ≡ Unready DeadState = sym is.0 ∙ dead in cc in
+      subst (λ (d : Device). AfterList port trouble (next.Running token) found old d) (sym is.1) (record {
+        driven = record { accesses = []; all = refl; only = All-nil (IsPart port) };
+        sticks = λ dead _. absurd (none dead);
+        stuck = λ dead _. absurd (none dead);
+        resets = λ other is _. absurd (let z : next.Running token ≡ next.Restart other = is in cc);
+        unreset = λ _. All-nil (SparesRegister (Px port Sctl));
+        silent = λ q o other own given. silent_none q.0 o old;
+      })
+  after_list was (next.Restart token) old new found is = subst (λ (f : Found). AfterList port trouble (next.Restart token) f old new) is.1 (⊎_elim
+      (λ (b : BootsAgain wanted port is.0 old new). booted_list token is.0 old new b)
+      (λ (absent : IsFoundAbsent wanted port trouble is.0.found old new). absent_list token is.0.found old new absent)
+      (boots_or_absent trouble wanted port is.0 old new is.2))
+  after_list was next.Dead old new found is = subst (λ (d : Device). AfterList port trouble next.Dead found old d) (sym is.1) (record {
+    driven = record { accesses = []; all = refl; only = All-nil (IsPart port) };
+    sticks = λ _ lives. absurd (lives refl);
+    stuck = λ _ lives. absurd (lives refl);
+    resets = λ token is _. absurd (let z : next.Dead ≡ next.Restart token = is in cc);
+    unreset = λ _. All-nil (SparesRegister (Px port Sctl));
+    silent = λ q o other own given. silent_none q.0 o old;
+  })

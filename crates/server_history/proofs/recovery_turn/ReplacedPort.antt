@@ -1,0 +1,346 @@
+-- A server goes on where one port of it is found to be something else, and the others are left to the device.
+use Rattle.std.proofs.Common.{ℕ, ◌≡◌, ◌≢◌, ◌<◌, ◌≤◌, ◌+◌, ◌*◌, Bool, true, false, not, List, Option, None, Some, get_or, length, refl, sym, ◌∙◌, ap, subst, ⊎_elim, arith}
+use Rattle.std.proofs.lemmas.Bool.{cases_eq, cases_lt, false≢true}
+use Rattle.std.proofs.lemmas.List.{get_or-set_other, get_or-set_same, get_or_past, length-set}
+use Rattle.std.proofs.lemmas.List.Elements.{All-contains, All-contains_itself, All-weaker}
+use Rattle.std.specs.List.{All, Contains}
+use Rattle.std.specs.Prelude.{slice_set}
+use Rattle.ata_types.specs.declared.Port.{Port}
+use Rattle.ata_types.specs.declared.PortState.{PortState}
+use Rattle.ata_types.specs.declared.PortState.TheVariants.{Absent as AbsentState, Ready as ReadyState, Dead as DeadState}
+use Rattle.ata_types.specs.declared.request.ClientId.{ClientId}
+use Rattle.ata_types.specs.declared.request.RequestId.{RequestId}
+use Rattle.hba_regs.specs.Bits.{bit}
+use Rattle.adapter.specs.Device.{Device}
+use Rattle.adapter.specs.Rules.{HasPort, IsOn}
+use Rattle.adapter.specs.declared.command.Operation.TheVariants.{Identify}
+use Rattle.agreement.specs.Acts.{InSlots}
+use Rattle.agreement.specs.Agrees.{port_at}
+use Rattle.agreement.specs.Driven.{AnyAccess, IsDrivenBy, IsOf, LeavesPort, SendsNone}
+use Rattle.agreement.specs.Halting.{HaltsAsTaken, IsHaltedAsTaken}
+use Rattle.agreement.specs.Links.{HasDeviceOrNone, SameAdapter}
+use Rattle.block_machine.specs.Due.{is_plain}
+use Rattle.block_machine.specs.Events.{ShowsDisk}
+use Rattle.block_machine.specs.Histories.{IsReached}
+use Rattle.block_machine.specs.State.{Machine}
+use Rattle.block_machine.specs.declared.due.Mode.{Mode}
+use Rattle.dma_frames.specs.Loan.{Lending}
+use Rattle.dma_frames.specs.Table.{Table}
+use Rattle.driver_history.specs.Holds.{Runs}
+use Rattle.error_recovery.specs.Recovery.{EndsIn}
+use Rattle.error_recovery.specs.declared.Next.{Next}
+use Rattle.error_recovery.specs.declared.Next.TheVariants as next
+use Rattle.host_boot.specs.Again.{BootsAgain, BootsStopped, IsOfStart}
+use Rattle.host_boot.specs.Taken.{FoundBadDisk, IsServed, StillStandsBehind, found_of, wanted_of}
+use Rattle.host_boot.specs.declared.Booted.{Booted}
+use Rattle.host_boot.specs.declared.Found.{Found}
+use Rattle.host_boot.specs.declared.Found.TheVariants.{Unserved, Ready, Unready}
+use Rattle.host_boot.proofs.Leaving.{boots_begin}
+use Rattle.identify.specs.Wanted.{serial_of}
+use Rattle.identify.specs.declared.DiskInfo.{DiskInfo}
+use Rattle.identify.specs.declared.wanted.Wanted.{Wanted}
+use Rattle.port_boot.specs.States.{EndsAs, ShowsOwnDisk}
+use Rattle.port_control.specs.Ports.{Shows}
+use Rattle.port_control.specs.declared.PortFault.TheVariants.{EngineStuck}
+use Rattle.port_control.specs.declared.Running as running_token
+use Rattle.request_queue.specs.Entries.{Held, IsAccepted, IsInOrder}
+use Rattle.slots.specs.Uses.{Uses as PortSlots, use_at}
+use Rattle.slots.specs.declared.Use.{Use as SlotUse}
+use Rattle.server_history.specs.Below.{LawsBelow}
+use Rattle.server_history.specs.Mended.{IsFoundAfter, AreUnused}
+use Rattle.server_history.specs.Server.{HasSlots, Server, IsKept, IsMachineOf, IsPortOf, is_served, kept_at, mode_at, mode_found, mode_in, no_slots, plain_mode, slots_at, state_of, usable_of, used_for}
+use Rattle.port_look.specs.declared.Trouble.{Trouble}
+use Rattle.server_history.proofs.state.PortGrounds.{left_on}
+use Rattle.server_history.proofs.recovery_turn.OtherPorts.{Passes}
+use Rattle.server_history.proofs.state.DrivenAccesses.{driven_as}
+use Rattle.server_history.proofs.fates.RemainingBook.{WasIn}
+use Rattle.server_history.proofs.recovery_turn.FoundDisk.{boot_sees}
+use Rattle.server_history.proofs.recovery_turn.BootOrAbsence.{IsFoundAbsent, boots_or_absent}
+
+-- ---- a port
+
+-- What stands behind a port that was found so, as a server has it.
+pub record StandsAt (wanted : Wanted) (found : Found) (port : ℕ) (d : Device) : Type 0 where
+  pub behind : StillStandsBehind wanted found port d
+  pub runs : state_of found ≡ ReadyState → Runs port d
+  pub shown : FoundBadDisk (state_of found) → HasDeviceOrNone (d.port port)
+  pub own : state_of found ≡ ReadyState → ShowsOwnDisk (d.port port)
+  pub halts : state_of found ≡ ReadyState → HaltsAsTaken (d.port port)
+
+its_port : (wanted : List Wanted) (found : List Found) (port : ℕ) (d : Device) → StandsAt (wanted_of wanted port) (found_of found port) port d → IsPortOf wanted found port d
+its_port wanted found port d s = record { behind = s.behind; runs = s.runs; shown = s.shown; own = s.own; halts = s.halts }
+
+-- another port is left to the device
+other_stands : LawsBelow → (port : Port) (wanted : Wanted) (found : Found) (q : ℕ) (old new : Device) → q ≢ port.0 → IsOn old → IsDrivenBy (IsOf port) old new → SameAdapter old new
+    → (found ≢ Unready DeadState → SendsNone q Identify old new) → (IsHaltedAsTaken (old.port q) → IsHaltedAsTaken (new.port q)) → StandsAt wanted found q old → StandsAt wanted found q new
+other_stands laws port wanted found q old new other on driven same silent halts s = record {
+  behind = left_on wanted found q old new same left silent s.behind;
+  runs = λ ready.
+      let r = s.runs ready in
+      let st = left.controls.st ∙ r.st in
+      record {
+        st = st;
+        cr = left.controls.runs r.st r.cr;
+        fre = left.controls.fre ∙ r.fre;
+        bases = left.keeps.bases ∙ r.bases;
+        saw = ap (λ n. n.link_count) left.notes ∙ r.saw;
+        recorded = laws.recovery.of_recorded port q old new other driven (λ _. r.recorded) st;
+      };
+  shown = λ bad. laws.recovery.of_shown (port_at q) port old new other on driven (s.shown bad);
+  own = λ ready. laws.recovery.own_on q driven.accesses old new driven.all (s.own ready);
+  halts = λ ready. halts (λ _. s.halts ready) (left.controls.st ∙ (s.runs ready).st);
+}
+  where
+    left : LeavesPort (old.port q) (new.port q)
+    left = laws.looks.other_left port q old new other on driven
+
+pub same_over : LawsBelow → (port : Port) (old new : Device) → IsDrivenBy (IsOf port) old new → SameAdapter old new
+same_over laws port old new driven = laws.looks.same_over old new (driven_as (IsOf port) AnyAccess old new (λ access is. tt) driven)
+
+pub still_there : (port : ℕ) (old new : Device) → SameAdapter old new → HasPort old port → HasPort new port
+still_there port old new same there = (there.0, ap (λ (pi : ℕ). bit pi port) same.pi ∙ there.1)
+
+-- ---- a port that was booted anew
+
+module _ (laws : LawsBelow) (wanted : Wanted) (port : Port) (d new : Device) (on : IsOn d) (served : IsServed wanted port.0 d) where
+  -- its engine was awaited in vain
+  pub dies_then : (d.port port.0).st ≡ false → Shows EngineStuck (d.port port.0).notes → StandsAt wanted (Unready DeadState) port.0 d
+  dies_then st stuck = record {
+    behind = (served, (st, stuck));
+    runs = λ is. let z : DeadState ≡ ReadyState = is in absurd cc;
+    shown = λ bad. absurd bad;
+    own = λ is. let z : DeadState ≡ ReadyState = is in absurd cc;
+    halts = λ is. let z : DeadState ≡ ReadyState = is in absurd cc;
+  }
+
+  -- no device showed
+  absent_then : new.pi ≡ d.pi → EndsAs (serial_of wanted) AbsentState port.0 new → StandsAt wanted (Unready AbsentState) port.0 new
+  absent_then same_pi ended = record {
+    behind = ((served.0, ap (λ (pi : ℕ). bit pi port.0) same_pi ∙ served.1), ended);
+    runs = λ is. let z : AbsentState ≡ ReadyState = is in absurd cc;
+    shown = λ bad. absurd bad;
+    own = λ is. let z : AbsentState ≡ ReadyState = is in absurd cc;
+    halts = λ is. let z : AbsentState ≡ ReadyState = is in absurd cc;
+  }
+
+  module _ (booted : Booted) (b : BootsAgain wanted port booted d new) where
+    runs_as : (f : Found) → BootsStopped wanted port f b.asked new → state_of f ≡ ReadyState → Runs port.0 new
+    runs_as Unserved none is = absurd none
+    runs_as (Ready info) e is = record {
+      st = e.ready.runs.st;
+      cr = e.ready.runs.cr;
+      fre = e.ready.runs.fre;
+      bases = e.ready.runs.bases;
+      saw = e.ready.saw.1;
+      recorded = e.news.recorded e.ready.runs.st;
+    }
+    runs_as (Unready state) e is = absurd (subst (λ (s : PortState). EndsAs (serial_of wanted) s port.0 new) is e.ended)
+
+    halts_as : (f : Found) → BootsStopped wanted port f b.asked new → state_of f ≡ ReadyState → HaltsAsTaken (new.port port.0)
+    halts_as Unserved none is = absurd none
+    halts_as (Ready info) e is = e.halts
+    halts_as (Unready state) e is = absurd (subst (λ (s : PortState). EndsAs (serial_of wanted) s port.0 new) is e.ended)
+
+    shown_as : (f : Found) → booted.found ≡ f → FoundBadDisk (state_of f) → HasDeviceOrNone (new.port port.0)
+    shown_as Unserved is bad = absurd bad
+    shown_as (Ready info) is bad = absurd bad
+    shown_as (Unready state) is bad = laws.recovery.again_shown wanted port booted state d new on b bad is
+
+    pub asked_on : IsOn b.asked
+    asked_on = laws.of_on port d b.asked on (driven_as (IsOfStart port) (IsOf port) d b.asked (laws.recovery.start_of port) b.asks.driven)
+
+    own_as : state_of booted.found ≡ ReadyState → ShowsOwnDisk (new.port port.0)
+    own_as is =
+        let sees = boot_sees laws port wanted booted.found b.asked new asked_on b.boots (subst ShowsDisk (sym is) tt) in
+        laws.recovery.own_on port.0 sees.late.accesses sees.seen new sees.late.all sees.own
+
+    pub boots_then : StandsAt wanted booted.found port.0 new
+    boots_then = record {
+      behind = boots_begin wanted booted.found port.0 new (laws.recovery.again_stands wanted port booted d new b served);
+      runs = runs_as booted.found b.boots;
+      shown = shown_as booted.found refl;
+      own = own_as;
+      halts = halts_as booted.found b.boots;
+    }
+
+  -- it was found so, where it wasn't found running
+  pub stands_after : (queued : Bool) (trouble : Trouble) (was : DiskInfo) (old : Device) (then : Next) (found : Found) → EndsIn queued port then old d → IsFoundAfter wanted port trouble was then d new found → new.pi ≡ d.pi
+      → ((token : running_token.Running) → then ≡ next.Running token → StandsAt wanted (Ready was) port.0 d) → StandsAt wanted found port.0 new
+  stands_after queued trouble was old (next.Running token) found ends (is, same) same_pi runs =
+      subst (λ (f : Found). StandsAt wanted f port.0 new) (sym is) (subst (StandsAt wanted (Ready was) port.0) (sym same) (runs token refl))
+  stands_after queued trouble was old (next.Restart token) found ends (booted, is, b) same_pi runs = subst (λ (f : Found). StandsAt wanted f port.0 new) is (⊎_elim
+      (boots_then booted)
+      (λ (absent : IsFoundAbsent wanted port trouble booted.found d new). subst (λ (f : Found). StandsAt wanted f port.0 new) (sym absent.is) (absent_then same_pi absent.ended))
+      (boots_or_absent trouble wanted port booted d new b))
+  stands_after queued trouble was old next.Dead found ends (is, same) same_pi runs =
+      subst (λ (f : Found). StandsAt wanted f port.0 new) (sym is) (subst (StandsAt wanted (Unready DeadState) port.0) (sym same) (dies_then ends.0 ends.1))
+
+-- ---- the server
+
+-- a port that is served is in the list
+pub is_listed : (ports : List Found) (port : ℕ) → is_served (found_of ports port) ≡ true → port < length ports
+is_listed ports port served = ⊎_elim
+    (λ (less : port < length ports). less)
+    (λ (high : length ports ≤ port). absurd (false≢true (sym (ap is_served (get_or_past ports port Unserved high)) ∙ served)))
+    (cases_lt port (length ports))
+
+-- the server, with this device and book, and with the port found so, which takes commands so and uses these slots
+abbrev pub with_found : Port → Device → Table → Found → List (Option DiskInfo) → Mode → PortSlots → List (List Lending) → List Held → Server → Server
+with_found port device table found remembered mode its kept book s = record s {
+  device = device;
+  table = table;
+  ports = slice_set s.ports port.0 found;
+  remembered = remembered;
+  modes = slice_set s.modes port.0 mode;
+  slots = slice_set s.slots port.0 its;
+  kept = kept;
+  book = book;
+}
+
+-- What of a server has to hold then: each request was one of it before, and is of a ready port.
+pub record IsBookLeft (port : Port) (found : Found) (table : Table) (book : List Held) (s : Server) : Type 0 where
+  pub owners : table.owners ≡ s.table.owners
+  pub accepted : All (IsAccepted s.grants table) book
+  pub ordered : IsInOrder book
+  pub from : (e : Held) → Contains book e → WasIn s.book e
+  pub ready : (e : Held) → Contains book e → e.entry.port.0 ≡ port.0 → state_of found ≡ ReadyState
+
+module _ (laws : LawsBelow) (port : Port) (s : Server) (k : IsKept s) (low : port.0 < 4) (device : Device) (slots : InSlots) (whole : Passes s port slots device) (table : Table)
+    (found : Found) (remembered : List (Option DiskInfo)) (mode : Mode) (its : PortSlots) (kept : List (List Lending)) (book : List Held)
+    (served : is_served (found_of s.ports port.0) ≡ true) (stands : StandsAt (wanted_of s.wanted port.0) found port.0 device) (mode_is : mode ≡ mode_found device.cap found) (unused : AreUnused mode its)
+    (left : IsBookLeft port found table book s) where
+  abbrev then_is : Server
+  then_is = with_found port device table found remembered mode its kept book s
+
+  alike : SameAdapter s.device device
+  alike = same_over laws port s.device device whole.driven
+
+  found_here : found_of then_is.ports port.0 ≡ found
+  found_here = get_or-set_same s.ports port.0 found Unserved (is_listed s.ports port.0 served)
+
+  found_other : (q : ℕ) → q ≢ port.0 → found_of then_is.ports q ≡ found_of s.ports q
+  found_other q other = get_or-set_other s.ports port.0 q found Unserved other
+
+  mode_here : mode_at then_is.modes port.0 ≡ mode
+  mode_here = get_or-set_same s.modes port.0 mode plain_mode (let four = k.four_modes in omega (arith, four, low))
+
+  mode_other : (q : ℕ) → q ≢ port.0 → mode_at then_is.modes q ≡ mode_at s.modes q
+  mode_other q other = get_or-set_other s.modes port.0 q mode plain_mode other
+
+  slots_here : slots_at then_is.slots port.0 ≡ its
+  slots_here = get_or-set_same s.slots port.0 its no_slots (let four = k.four in omega (arith, four, low))
+
+  slots_other : (q : ℕ) → q ≢ port.0 → slots_at then_is.slots q ≡ slots_at s.slots q
+  slots_other q other = get_or-set_other s.slots port.0 q its no_slots other
+
+  -- what is used is of another port, and was used
+  used_then : (q slot : ℕ) (used : SlotUse) → used_for then_is.slots q slot ≡ Some used → (q ≢ port.0) × (used_for s.slots q slot ≡ Some used)
+  used_then q slot used is = ⊎_elim
+      (λ (same : q ≡ port.0).
+      let z : None ≡ Some used = sym (unused.free slot) ∙ ap (λ (x : PortSlots). use_at x slot) (sym slots_here) ∙ ap (λ (p : ℕ). used_for then_is.slots p slot) (sym same) ∙ is in absurd cc)
+      (λ (other : q ≢ port.0). (other, ap (λ (x : PortSlots). use_at x slot) (sym (slots_other q other)) ∙ is))
+      (cases_eq q port.0)
+
+  ports_stand : (q : ℕ) → q < 4 → IsPortOf s.wanted then_is.ports q device
+  ports_stand q small = its_port s.wanted then_is.ports q device (⊎_elim
+      (λ (same : q ≡ port.0).
+      subst (λ (p : ℕ). StandsAt (wanted_of s.wanted p) (found_of then_is.ports p) p device) (sym same) (subst (λ (f : Found). StandsAt (wanted_of s.wanted port.0) f port.0 device) (sym found_here) stands))
+      (λ (other : q ≢ port.0).
+      let was = k.behind q small in
+      subst (λ (f : Found). StandsAt (wanted_of s.wanted q) f q device) (sym (found_other q other))
+      (other_stands laws port (wanted_of s.wanted q) (found_of s.ports q) q s.device device other k.on whole.driven alike (λ alive. whole.silent q Identify refl other alive) (whole.halts q other)
+      (record { behind = was.behind; runs = was.runs; shown = was.shown; own = was.own; halts = was.halts })))
+      (cases_eq q port.0))
+
+  there_is : (q : ℕ) → is_served (found_of then_is.ports q) ≡ true → HasPort device q
+  there_is q is = still_there q s.device device alike (⊎_elim
+      (λ (same : q ≡ port.0). subst (HasPort s.device) (sym same) (k.there port.0 served))
+      (λ (other : q ≢ port.0). k.there q (ap is_served (sym (found_other q other)) ∙ is))
+      (cases_eq q port.0))
+
+  modes_are : (q : ℕ) → q < 4 → mode_at then_is.modes q ≡ mode_found device.cap (found_of then_is.ports q)
+  modes_are q small = ⊎_elim
+      (λ (same : q ≡ port.0).
+      subst (λ (p : ℕ). mode_at then_is.modes p ≡ mode_found device.cap (found_of then_is.ports p)) (sym same) (mode_here ∙ mode_is ∙ ap (λ (f : Found). mode_found device.cap f) (sym found_here)))
+      (λ (other : q ≢ port.0). mode_other q other ∙ k.modes q small ∙ (λ i. mode_found (sym alike.cap i) (sym (found_other q other) i)))
+      (cases_eq q port.0)
+
+  slots_are : (q : ℕ) → q < 4 → HasSlots then_is.ports then_is.modes then_is.slots q
+  slots_are q small = ⊎_elim
+      (λ (same : q ≡ port.0). subst (HasSlots then_is.ports then_is.modes then_is.slots) (sym same) (record {
+        places = ap (λ (x : PortSlots). length x.places) slots_here ∙ unused.places;
+        usable = ap (λ (x : PortSlots). x.usable) slots_here ∙ unused.usable ∙ ap (λ (m : Mode). m.usable) (sym mode_here);
+        unused = λ slot high. ap (λ (x : PortSlots). use_at x slot) slots_here ∙ unused.free slot;
+      }))
+      (λ (other : q ≢ port.0).
+      let was = k.slots q small in
+      record {
+        places = ap (λ (x : PortSlots). length x.places) (slots_other q other) ∙ was.places;
+        usable = ap (λ (x : PortSlots). x.usable) (slots_other q other) ∙ was.usable ∙ ap (λ (m : Mode). m.usable) (sym (mode_other q other));
+        unused = λ slot high.
+            ap (λ (x : PortSlots). use_at x slot) (slots_other q other)
+            ∙ was.unused slot (subst (λ (f : Found). usable_of f (mode_at s.modes q) ≤ slot) (found_other q other)
+            (subst (λ (m : Mode). usable_of (found_of then_is.ports q) m ≤ slot) (mode_other q other) high));
+      })
+      (cases_eq q port.0)
+
+  -- ---- the requests
+
+  ready_one : (e : Held) → Contains book e → state_of (found_of then_is.ports e.entry.port.0) ≡ ReadyState
+  ready_one e here =
+      let w = left.from e here in ⊎_elim
+      (λ (same : e.entry.port.0 ≡ port.0). ap (λ (q : ℕ). state_of (found_of then_is.ports q)) same ∙ ap state_of found_here ∙ left.ready e here same)
+      (λ (other : e.entry.port.0 ≢ port.0).
+      ap state_of (found_other e.entry.port.0 other) ∙ ap (λ (p : Port). state_of (found_of s.ports p.0)) w.port
+      ∙ All-contains (λ (x : Held). state_of (found_of s.ports x.entry.port.0) ≡ ReadyState) s.book w.was k.ready w.there)
+      (cases_eq e.entry.port.0 port.0)
+
+  handed_one : (e : Held) → Contains book e → e.entry.id.0 ≤ s.last
+  handed_one e here =
+      let w = left.from e here in
+      subst (λ (id : RequestId). id.0 ≤ s.last) (sym w.id) (All-contains (λ (x : Held). x.entry.id.0 ≤ s.last) s.book w.was k.handed_out w.there)
+
+  -- what holds of each that is left
+  each_left : (P : Held → Type 0) → ((e : Held) → Contains book e → P e) → All P book
+  each_left P one = All-weaker (Contains book) P one book (All-contains_itself book)
+
+  kinds_are : (q : Port) (slot : ℕ) (used : SlotUse) (e : Held) → used_for then_is.slots q.0 slot ≡ Some used → Contains book e → e.entry.id ≡ used.id
+      → used.queued ≡ not (is_plain (mode_in then_is q) e.entry.op)
+  kinds_are q slot used e is here same =
+      let u = used_then q.0 slot used is in
+      let w = left.from e here in
+      k.kinds q slot used w.was u.1 w.there (sym w.id ∙ same) ∙ (λ i. not (is_plain (sym (mode_other q.0 u.0) i) (sym w.op i)))
+
+  -- ---- the whole
+
+  pub replaced_kept : length remembered ≡ 4 → length kept ≡ 4 → ((q : ℕ) → length (kept_at kept q) ≤ 32) → (machine : Machine) → IsReached machine → IsMachineOf then_is machine → IsKept then_is
+  replaced_kept four_remembered four_kept few_kept machine reached is = record {
+    on = whole.on;
+    room = let room = k.room in let size = alike.size in omega (arith, room, size);
+    there = there_is;
+    behind = ports_stand;
+    four = length-set s.slots port.0 its ∙ k.four;
+    four_modes = length-set s.modes port.0 mode ∙ k.four_modes;
+    four_remembered = four_remembered;
+    four_kept = four_kept;
+    few_kept = few_kept;
+    modes = modes_are;
+    slots = slots_are;
+    kinds = kinds_are;
+    commands = λ q slot used is. let u = used_then q slot used is in whole.commands q slot used u.0 u.1;
+    alone = λ q slot used is plain.
+        let u = used_then q slot used is in
+        let was = k.alone q slot used u.1 plain in
+        (was.0, λ other ne. ap (λ (x : PortSlots). use_at x other) (slots_other q u.0) ∙ was.1 other ne);
+    rows = k.rows;
+    owners = λ frame client own.
+        let o = k.owners frame client (ap (λ (list : List (Option ClientId)). get_or list frame.0 None) (sym left.owners) ∙ own) in
+        (o.0, subst (λ (n : ℕ). 4096 * frame.0 + 4096 ≤ n) (sym alike.size) o.1);
+    accepted = left.accepted;
+    ordered = left.ordered;
+    handed_out = each_left (λ (e : Held). e.entry.id.0 ≤ s.last) handed_one;
+    ready = each_left (λ (e : Held). state_of (found_of then_is.ports e.entry.port.0) ≡ ReadyState) ready_one;
+    machine = machine;
+    reached = reached;
+    stands = is;
+  }

@@ -1,0 +1,68 @@
+-- A port that a tick restarts: what the tick owes of it.
+use Rattle.std.proofs.Common.{◌≡◌, ◌≢◌, List, sym, ap, ◌∙◌, subst, ⊎_elim}
+use Rattle.ata_types.specs.declared.Port.{Port}
+use Rattle.ata_types.specs.declared.PortState.TheVariants.{Ready as ReadyState}
+use Rattle.ata_types.specs.declared.request.Reply.{Reply}
+use Rattle.adapter.specs.declared.access.DeviceStep.{DeviceStep}
+use Rattle.agreement.specs.Driven.{AnyUse, IsFollowed}
+use Rattle.block_machine.specs.Events.{Belong, FindsAnother, Tick}
+use Rattle.block_machine.specs.Histories.{IsReached}
+use Rattle.block_machine.specs.Ports.{SameDisk}
+use Rattle.block_machine.specs.State.{Machine}
+use Rattle.host_boot.specs.Taken.{found_of}
+use Rattle.port_look.specs.Looks.{IsLooking}
+use Rattle.request_queue.specs.declared.fate.Prospect.TheVariants.{DiskLost}
+use Rattle.server_history.specs.Below.{LawsBelow}
+use Rattle.server_history.specs.Mended.{HasMetFates, IsProspect, MendsPort}
+use Rattle.server_history.specs.Server.{IsKept, IsMachineOf, Server, ports_of, state_of}
+use Rattle.server_history.specs.Turns.{InRestart, OwesTurn, RestartsPort}
+use Rattle.port_look.specs.declared.Trouble.TheVariants.{Failed, Hung, Lost}
+use Rattle.server_history.proofs.recovery_turn.MendedPort.{dead_found, disk_same, interrupted, ready_info}
+use Rattle.server_history.proofs.recovery_turn.DecidedSteps.{DecidesTurn, nobody}
+use Rattle.server_history.proofs.recovery_turn.TurnEvidence.{IsEvident}
+use Rattle.server_history.proofs.recovery_turn.DoneRequests.{found_by_masks, heeding}
+use Rattle.server_history.proofs.recovery_turn.HeededFaults.{anew}
+use Rattle.server_history.proofs.fates.FateReasons.{belong_tick}
+use Rattle.server_history.proofs.recovery_turn.RebootedPort.{restarts}
+use Rattle.server_history.proofs.recovery_turn.TurnParts.{evidence_by, faults_of}
+
+module _ (laws : LawsBelow) (port : Port) (replies : List Reply) (old new : Server) (k : IsKept old) (ready : state_of (found_of old.ports port.0) ≡ ReadyState) (r : MendsPort port replies old new)
+    (looks : IsFollowed (IsLooking port) AnyUse old.device r.settled.mended.seen) (kept : IsKept r.mid) (evident : IsEvident port replies old new r) (m : Machine) (reached : IsReached m) (is : IsMachineOf old m)
+    (d : DecidesTurn port replies old new r (evidence_by r.settled) m) (hung : r.settled.mended.trouble ≡ Hung) where
+  abbrev a : HasMetFates port r.later old r.mid
+  a = r.settled
+
+  unlost : a.mended.trouble ≢ Lost
+  unlost lost = let z : Hung ≡ Lost = sym hung ∙ lost in cc
+
+  unfailed : a.mended.trouble ≢ Failed
+  unfailed failed = let z : Hung ≡ Failed = sym hung ∙ failed in cc
+
+  pub belongs : Belong {D = DeviceStep} Tick (ports_of new) d.steps
+  belongs = belong_tick (ports_of new) d.steps (d.gives unfailed) d.belong
+
+  -- who is told Unplugged had another disk
+  another : FindsAnother d.steps (ports_of old) (ports_of new)
+  another e here =
+      let why = d.unplugged e here in
+      let told : IsProspect a.mended.trouble a.was a.found DiskLost = subst (IsProspect a.mended.trouble a.was a.found) why.0 a.expects in
+      let own = ap (ports_of new).state (sym why.1) in (
+        λ dead. told.0 (dead_found laws port replies old new k ready r looks kept (own ∙ dead)),
+        λ is_ready same.
+            let i = ready_info laws port replies old new k ready r looks kept (own ∙ is_ready) in
+            ⊎_elim unlost (λ other. other i.0 i.1 (disk_same laws port replies old new k ready r looks kept i.0 i.1 (subst (SameDisk (ports_of old) (ports_of new)) why.1 same))) told.1,
+      )
+
+  restarted : RestartsPort port evident.accesses old new m (evidence_by a) d.steps
+  restarted = record {
+    finds = found_by_masks laws port replies old new k ready r looks kept evident m reached is d;
+    boots = restarts laws port replies old new k ready r looks kept evident unfailed unlost;
+    ended = heeding laws port replies old new k ready r looks kept evident m reached is d;
+    interrupts = interrupted laws port replies old new k ready r looks kept;
+    anew = anew laws port replies old new k ready r looks kept evident m reached is d;
+    another = another;
+    disk = evident.had m is d.steps d.backed;
+  }
+
+  pub owes : OwesTurn InRestart port evident.accesses old new m (evidence_by a) d.steps
+  owes = (restarted, ap faults_of (nobody laws port replies old new k ready r looks kept unfailed))

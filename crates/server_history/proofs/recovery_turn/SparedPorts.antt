@@ -1,0 +1,180 @@
+-- What a turn that mends its port leaves of the other ports.
+use Rattle.std.proofs.Common.{ℕ, ◌≡◌, ◌≢◌, ◌==◌, Bool, true, false, not, cond, List, [], ◌∷◌, filter, get_or, set, None, Some, refl, sym, ap, ◌∙◌, subst, ⊎_elim}
+use Rattle.std.specs.List.{All, Contains}
+use Rattle.std.proofs.lemmas.Bool.{cases_Bool, cond-false, cond-true, eqb-true, ne_eqb}
+use Rattle.std.proofs.lemmas.List.{get_or-set_other}
+use Rattle.std.proofs.lemmas.List.Elements.{All-contains, All-contains_itself, All-filter, All-head, All-map, All-tail, All-weaker, filter_passes}
+use Rattle.ata_types.specs.declared.Port.{Port}
+use Rattle.ata_types.specs.declared.request.Reply.{Reply}
+use Rattle.ata_types.specs.declared.request.RequestId.{RequestId}
+use Rattle.block_machine.specs.Due.{mark_waiting, of_port, with_none, with_waiting}
+use Rattle.block_machine.specs.declared.due.Unanswered.{Unanswered}
+use Rattle.server_history.proofs.state.ListMembers.{map_in}
+use Rattle.host_boot.specs.declared.Found.TheVariants.{Unserved}
+use Rattle.request_queue.specs.Entries.{Held, IsInOrder, asks, asks_of, due_ids, is_of}
+use Rattle.request_queue.specs.Fates.{Holdings, MeetFates, MeetsFate, fate_of}
+use Rattle.request_queue.specs.declared.Entry.{Entry}
+use Rattle.request_queue.specs.declared.fate.Fate.{Fate}
+use Rattle.request_queue.specs.declared.fate.Fate.TheVariants.{Ends, GoesAgain, Waits}
+use Rattle.server_history.specs.Below.{LawsBelow}
+use Rattle.server_history.specs.Mended.{IsMended, HasMetFates, MendsPort, holdings_of, requests_of}
+use Rattle.server_history.specs.Server.{Server, IsKept, mode_in, no_slots, plain_mode, slots_at}
+use Rattle.server_history.specs.Turns.{LeavesOthers}
+use Rattle.server_history.proofs.plain_calls.IssueRounds.{each_apart, each_settings, each_slots}
+use Rattle.server_history.proofs.healthy_turn.AnswersAndIssues.{answers_apart, answers_order, answers_settings, answers_slots}
+
+-- ---- requests of another port
+
+-- the request of this id isn't of the port
+abbrev IsNoneOf : Port → RequestId → List Unanswered → Type 0
+IsNoneOf q id list = All (λ r. r.port ≡ q → r.id ≢ id) list
+
+-- whose the requests are that pass
+passing : (q : Port) (r : Unanswered) → (r.port.0 == q.0) ≡ true → r.port ≡ q
+passing q r is = ap (λ (n : ℕ). record { 0 = n }) (eqb-true r.port.0 q.0 is)
+
+module _ (q : Port) (id : RequestId) where
+  abbrev its : Unanswered → Bool
+  its r = r.port.0 == q.0
+
+  -- one that waits again is of its port still
+  still_of : (r : Unanswered) → ((mark_waiting id r).port ≡ r.port) × ((mark_waiting id r).id ≡ r.id)
+  still_of r = by (r.id.0 == id.0)
+    where
+      by : (b : Bool) → ((cond b (record r { issued = false }) r).port ≡ r.port) × ((cond b (record r { issued = false }) r).id ≡ r.id)
+      by true = (refl, refl)
+      by false = (refl, refl)
+
+  same_waiting : (r : Unanswered) → r.id ≢ id → mark_waiting id r ≡ r
+  same_waiting r other = cond-false (r.id.0 == id.0) (record r { issued = false }) r (ne_eqb r.id.0 id.0 (λ is. other (ap (λ (n : ℕ). record { 0 = n }) is)))
+
+  waiting_apart : (list : List Unanswered) → IsNoneOf q id list → of_port q (with_waiting id list) ≡ of_port q list
+  waiting_apart [] none = refl
+  waiting_apart (r ∷ list) none =
+      let more : of_port q (with_waiting id list) ≡ of_port q list = waiting_apart list (All-tail (λ r. r.port ≡ q → r.id ≢ id) r list none) in
+      ⊎_elim
+      (λ (here : its r ≡ true).
+      let same = same_waiting r (All-head (λ r. r.port ≡ q → r.id ≢ id) r list none (passing q r here)) in
+      ap (λ (x : Unanswered). filter its (x ∷ with_waiting id list)) same
+      ∙ cond-true (its r) (r ∷ of_port q (with_waiting id list)) (of_port q (with_waiting id list)) here
+      ∙ ap (λ (rest : List Unanswered). r ∷ rest) more ∙ sym (cond-true (its r) (r ∷ of_port q list) (of_port q list) here))
+      (λ (other : its r ≡ false).
+      cond-false (its (mark_waiting id r)) (mark_waiting id r ∷ of_port q (with_waiting id list)) (of_port q (with_waiting id list)) (ap (λ (p : Port). p.0 == q.0) (still_of r).0 ∙ other)
+      ∙ more ∙ sym (cond-false (its r) (r ∷ of_port q list) (of_port q list) other))
+      (cases_Bool (its r))
+
+  abbrev stays : Unanswered → Bool
+  stays r = not (r.id.0 == id.0)
+
+  none_apart : (list : List Unanswered) → IsNoneOf q id list → of_port q (with_none id list) ≡ of_port q list
+  none_apart [] none = refl
+  none_apart (r ∷ list) none =
+      let more : of_port q (with_none id list) ≡ of_port q list = none_apart list (All-tail (λ r. r.port ≡ q → r.id ≢ id) r list none) in
+      ⊎_elim
+      (λ (here : its r ≡ true).
+      let differs = All-head (λ r. r.port ≡ q → r.id ≢ id) r list none (passing q r here) in
+      ap (filter its) (cond-true (stays r) (r ∷ with_none id list) (with_none id list) (ap not (ne_eqb r.id.0 id.0 (λ is. differs (ap (λ (n : ℕ). record { 0 = n }) is)))))
+      ∙ cond-true (its r) (r ∷ of_port q (with_none id list)) (of_port q (with_none id list)) here
+      ∙ ap (λ (rest : List Unanswered). r ∷ rest) more ∙ sym (cond-true (its r) (r ∷ of_port q list) (of_port q list) here))
+      (λ (other : its r ≡ false). ⊎_elim
+      (λ (left : stays r ≡ true).
+      ap (filter its) (cond-true (stays r) (r ∷ with_none id list) (with_none id list) left)
+      ∙ cond-false (its r) (r ∷ of_port q (with_none id list)) (of_port q (with_none id list)) other ∙ more ∙ sym (cond-false (its r) (r ∷ of_port q list) (of_port q list) other))
+      (λ (gone : stays r ≡ false).
+      ap (filter its) (cond-false (stays r) (r ∷ with_none id list) (with_none id list) gone) ∙ more ∙ sym (cond-false (its r) (r ∷ of_port q list) (of_port q list) other))
+      (cases_Bool (stays r)))
+      (cases_Bool (its r))
+
+  -- and no other request comes to be of the port
+  waiting_none : (other : RequestId) (list : List Unanswered) → IsNoneOf q other list → IsNoneOf q other (with_waiting id list)
+  waiting_none other list none =
+      All-map (λ (r : Unanswered). r.port ≡ q → r.id ≢ other) (mark_waiting id) list
+      (All-weaker (λ (r : Unanswered). r.port ≡ q → r.id ≢ other) (λ (r : Unanswered). (mark_waiting id r).port ≡ q → (mark_waiting id r).id ≢ other)
+      (λ r is here same. is (sym (still_of r).0 ∙ here) (sym (still_of r).1 ∙ same)) list none)
+
+  none_none : (other : RequestId) (list : List Unanswered) → IsNoneOf q other list → IsNoneOf q other (with_none id list)
+  none_none other list none = All-filter stays (λ (r : Unanswered). r.port ≡ q → r.id ≢ other) list none
+
+module _ (laws : LawsBelow) (q : Port) where
+  -- one request met its fate
+  one_apart : (e : Held) (fate : Fate) (replies : List Reply) (old new : Holdings) → MeetsFate e fate replies old new → IsNoneOf q e.entry.id (asks_of old.book)
+      → (of_port q (asks_of new.book) ≡ of_port q (asks_of old.book)) × ((id : RequestId) → IsNoneOf q id (asks_of old.book) → IsNoneOf q id (asks_of new.book))
+  one_apart e Waits replies old new meets none =
+      let same : asks_of new.book ≡ asks_of old.book = ap (λ (h : Holdings). asks_of h.book) meets.1 in
+      (ap (of_port q) same, λ id is. subst (IsNoneOf q id) (sym same) is)
+  one_apart e GoesAgain replies old new meets none =
+      let same : asks_of new.book ≡ with_waiting e.entry.id (asks_of old.book) = ap (λ (h : Holdings). asks_of h.book) meets.1 ∙ laws.asks_requeued old.book e.entry.id in
+      (ap (of_port q) same ∙ waiting_apart q e.entry.id (asks_of old.book) none, λ id is. subst (IsNoneOf q id) (sym same) (waiting_none q e.entry.id id (asks_of old.book) is))
+  one_apart e (Ends outcome) replies old new meets none =
+      let same : asks_of new.book ≡ with_none e.entry.id (asks_of old.book) = ap asks_of meets.1 ∙ laws.asks_answered old.book e.entry.id in
+      (ap (of_port q) same ∙ none_apart q e.entry.id (asks_of old.book) none, λ id is. subst (IsNoneOf q id) (sym same) (none_none q e.entry.id id (asks_of old.book) is))
+
+  -- and so did these
+  pub fates_apart : (fate : Entry → Fate) (requests : List Held) (replies : List Reply) (old new : Holdings) → MeetFates fate requests replies old new → All (λ (e : Held). IsNoneOf q e.entry.id (asks_of old.book)) requests
+      → of_port q (asks_of new.book) ≡ of_port q (asks_of old.book)
+  fates_apart fate [] replies old new meets none = ap (λ (h : Holdings). of_port q (asks_of h.book)) meets.1
+  fates_apart fate (e ∷ requests) replies old new (mid, its, later, split, one, more) none =
+      let x = one_apart e (fate e.entry) its old mid one (All-head (λ (e : Held). IsNoneOf q e.entry.id (asks_of old.book)) e requests none) in
+      fates_apart fate requests later mid new more
+      (All-weaker (λ (e : Held). IsNoneOf q e.entry.id (asks_of old.book)) (λ (e : Held). IsNoneOf q e.entry.id (asks_of mid.book)) (λ e is. x.1 e.entry.id is) requests
+      (All-tail (λ (e : Held). IsNoneOf q e.entry.id (asks_of old.book)) e requests none))
+      ∙ x.0
+
+  -- no request of one port has the id of one of another
+  pub none_of_port : (port : Port) (book : List Held) → q ≢ port → IsInOrder book → All (λ (e : Held). IsNoneOf q e.entry.id (asks_of book)) (requests_of port book)
+  none_of_port port book ne order = All-weaker (Contains (requests_of port book)) (λ (e : Held). IsNoneOf q e.entry.id (asks_of book)) each (requests_of port book) (All-contains_itself (requests_of port book))
+    where
+      its_port : (e : Held) → Contains (requests_of port book) e → e.entry.port ≡ port
+      its_port e here = ap (λ (n : ℕ). record { 0 = n }) (eqb-true e.entry.port.0 port.0 (All-contains (λ (x : Held). is_of port x.entry ≡ true) (requests_of port book) e (filter_passes (λ (x : Held). is_of port x.entry) book) here))
+
+      booked : (e : Held) → Contains (requests_of port book) e → Contains book e
+      booked e here = All-contains (Contains book) (requests_of port book) e (All-filter (λ (x : Held). is_of port x.entry) (Contains book) book (All-contains_itself book)) here
+
+      each : (e : Held) → Contains (requests_of port book) e → IsNoneOf q e.entry.id (asks_of book)
+      each e here = All-weaker (Contains (asks_of book)) (λ (r : Unanswered). r.port ≡ q → r.id ≢ e.entry.id) (λ r there is same.
+          let y = map_in (λ (x : Held). asks x.entry) book r there in
+          let one : y.0 ≡ e = laws.one book y.0 e order y.1 (booked e here) (sym (ap (λ (u : Unanswered). u.id) y.2) ∙ same) in
+          ne (sym is ∙ ap (λ (u : Unanswered). u.port) y.2 ∙ ap (λ (x : Held). x.entry.port) one ∙ its_port e here)) (asks_of book) (All-contains_itself (asks_of book))
+
+-- ---- the whole
+
+module _ (laws : LawsBelow) (port : Port) (replies : List Reply) (old new : Server) (k : IsKept old) (r : MendsPort port replies old new) (kept : IsKept r.mid) where
+  abbrev a : HasMetFates port r.later old r.mid
+  a = r.settled
+
+  abbrev x : IsMended port old a.mid a.device
+  x = a.mended
+
+  abbrev from : Server
+  from = record old { device = x.found }
+
+  abbrev ids : List RequestId
+  ids = due_ids (mode_in r.mid port) port (asks_of r.mid.book)
+
+  -- but for device, loans, slots and book, the server was as before while requests were answered that were done
+  answered_as : a.mid ≡ record from { table = a.mid.table; slots = a.mid.slots; book = a.mid.book }
+  answered_as = answers_settings laws port x.done x.requests from a.mid x.each
+
+  issued_as : new ≡ record r.mid { device = new.device; slots = new.slots; book = new.book }
+  issued_as = each_settings laws port ids r.mid new r.issued
+
+  other_of : {X : Type 0} (list : Server → List X) (d : X) (put : X) → list r.mid ≡ set (list a.mid) port.0 put → list new ≡ list r.mid → list a.mid ≡ list old → (q : ℕ) → q ≢ port.0 → get_or (list new) q d ≡ get_or (list old) q d
+  other_of {X} list d put is later early q ne =
+      ap (λ (xs : List X). get_or xs q d) (later ∙ is) ∙ get_or-set_other (list a.mid) port.0 q put d ne ∙ ap (λ (xs : List X). get_or xs q d) early
+
+  pub leaves_others : LeavesOthers port old new
+  leaves_others = record {
+    grants = ap (λ (n : Server). n.grants) issued_as ∙ ap (λ (n : Server). n.grants) a.server ∙ ap (λ (n : Server). n.grants) answered_as;
+    wanted = ap (λ (n : Server). n.wanted) issued_as ∙ ap (λ (n : Server). n.wanted) a.server ∙ ap (λ (n : Server). n.wanted) answered_as;
+    last = ap (λ (n : Server). n.last) issued_as ∙ ap (λ (n : Server). n.last) a.server ∙ ap (λ (n : Server). n.last) answered_as;
+    found = other_of (λ (n : Server). n.ports) Unserved a.found (ap (λ (n : Server). n.ports) a.server) (ap (λ (n : Server). n.ports) issued_as) (ap (λ (n : Server). n.ports) answered_as);
+    remembered = other_of (λ (n : Server). n.remembered) None (Some a.was) (ap (λ (n : Server). n.remembered) a.server) (ap (λ (n : Server). n.remembered) issued_as) (ap (λ (n : Server). n.remembered) answered_as);
+    modes = other_of (λ (n : Server). n.modes) plain_mode a.mode (ap (λ (n : Server). n.modes) a.server) (ap (λ (n : Server). n.modes) issued_as) (ap (λ (n : Server). n.modes) answered_as);
+    slots = λ q ne. each_slots laws port ids r.mid new r.issued q ne ∙ ap (λ (n : Server). slots_at n.slots q) a.server ∙ get_or-set_other a.mid.slots port.0 q a.slots no_slots ne
+        ∙ answers_slots laws port x.done x.requests from a.mid x.each q ne;
+    book = λ q ne.
+        each_apart laws port ids r.mid new kept.ordered r.issued q ne
+        ∙ ap (λ (n : Server). of_port q (asks_of n.book)) a.server
+        ∙ fates_apart laws q (fate_of a.failed a.prospect) (requests_of port a.mid.book) r.later (holdings_of port a.mid) a.now a.meets (none_of_port laws q port a.mid.book ne (answers_order laws port x.done x.requests from a.mid k.ordered x.each))
+        ∙ answers_apart laws port x.done x.requests from a.mid k.ordered x.each q ne;
+  }

@@ -1,0 +1,237 @@
+-- A turn in which a command had failed, and nothing else, tells a plain request's fault, or leaves the port dead.
+use Rattle.std.proofs.Common.{ℕ, ◌≡◌, ◌≢◌, ◌<◌, if◌then◌else◌, Bool, true, false, eq-eqb, List, [], ◌∷◌, Option, Some, None, refl, sym, ap, ◌∙◌, subst, inl, inr, arith, ⊎_elim}
+use Rattle.std.specs.List.{All, Contains}
+use Rattle.std.specs.Prelude.{◌⊎◌, drop}
+use Rattle.std.proofs.lemmas.Bool.{cases_Bool, cases_eq, false≢true}
+use Rattle.std.proofs.lemmas.List.Elements.{All-tail, Contains-append_left, Contains-append_right}
+use Rattle.std.proofs.lemmas.List.Sorted.{Contains-permutation}
+use Rattle.ata_types.specs.declared.Port.{Port}
+use Rattle.ata_types.specs.declared.PortState.TheVariants.{Dead as DeadState, Ready as ReadyState}
+use Rattle.ata_types.specs.declared.request.Outcome.{Outcome}
+use Rattle.ata_types.specs.declared.request.Outcome.TheVariants as outcome
+use Rattle.ata_types.specs.declared.request.Reply.{Reply}
+use Rattle.ata_types.specs.declared.request.RequestId.{RequestId}
+use Rattle.hba_regs.specs.Bits.{bit}
+use Rattle.adapter.specs.Commands.{Meaning, is_queued}
+use Rattle.adapter.specs.Rules.{InUse}
+use Rattle.agreement.specs.Driven.{AnyUse, IsFollowed}
+use Rattle.agreement.specs.Facts.{ShowsFault}
+use Rattle.agreement.specs.Slots.{IsFree, IsServed, ServesRequest, Use}
+use Rattle.block_machine.specs.Events.{AllMay, answers_of, reply_of}
+use Rattle.block_machine.specs.Histories.{IsReached}
+use Rattle.block_machine.specs.Left.{after}
+use Rattle.block_machine.specs.State.{Machine, Pending}
+use Rattle.block_machine.specs.Steps.{Answer, May, Step}
+use Rattle.server_history.proofs.state.ListMembers.{contains_cases, contains_here, map_in}
+use Rattle.driver_history.specs.Histories.{IsAnsweredFaulty, IsIssuedOn}
+use Rattle.error_log.specs.declared.Failure.{Failure}
+use Rattle.error_recovery.specs.Recovery.{MayRecover, Rests, TellsRecovery}
+use Rattle.error_recovery.specs.declared.Next.{Next}
+use Rattle.error_recovery.specs.declared.Next.TheVariants as next
+use Rattle.host_boot.specs.Taken.{found_of}
+use Rattle.port_look.specs.Looks.{IsLooking}
+use Rattle.port_look.specs.declared.Trouble.{Trouble}
+use Rattle.port_look.specs.declared.Trouble.TheVariants.{Failed as Fails}
+use Rattle.request_queue.specs.Entries.{Held, is_of}
+use Rattle.request_queue.specs.Fates.{Holdings, MeetFates, MeetsFate, fate_of, fate_on, reply_to}
+use Rattle.request_queue.specs.declared.Entry.{Entry}
+use Rattle.request_queue.specs.declared.fate.Failed.{Failed}
+use Rattle.request_queue.specs.declared.fate.Fate.{Fate}
+use Rattle.request_queue.specs.declared.fate.Fate.TheVariants.{Ends}
+use Rattle.request_queue.specs.declared.fate.Prospect.{Prospect}
+use Rattle.slots.specs.declared.Use.{Use as SlotUse}
+use Rattle.server_history.specs.Below.{LawsBelow}
+use Rattle.server_history.specs.Mended.{IsFailed, IsFoundOut, IsMended, HasMetFates, MendsPort, holdings_of, requests_of, TellsMending}
+use Rattle.server_history.specs.Served.{AnswersEach, is_used}
+use Rattle.server_history.specs.Server.{Server, IsKept, IsMachineOf, ports_of, slots_at, state_of, used_for}
+use Rattle.server_history.specs.Turns.{IsOfTurn}
+use Rattle.server_history.proofs.healthy_turn.OneAnswer.{answer_kept}
+use Rattle.server_history.proofs.recovery_turn.MendedPort.{next_dead, state_new}
+use Rattle.server_history.proofs.recovery_turn.DecidedSteps.{DecidesTurn}
+use Rattle.server_history.proofs.state.SlotMasks.{has_ended}
+use Rattle.server_history.proofs.recovery_turn.FailedPort.{may_recover}
+use Rattle.server_history.proofs.recovery_turn.MendedMachine.{in_filter, mid_kept, mid_ready}
+use Rattle.server_history.proofs.any_turn.JoinedParts.{answers_there}
+use Rattle.server_history.proofs.any_turn.TurnSteps.{StandsIn, stood}
+use Rattle.server_history.proofs.state.PlacedSlots.{placed_other}
+use Rattle.server_history.proofs.recovery_turn.TurnParts.{evidence_by, until_issues}
+use Rattle.server_history.proofs.healthy_turn.AnswersAndIssues.{over_on, ready_on}
+use Rattle.server_history.proofs.state.PortSlots.{AreOver, HasSlot, IsServedBy, free_unused, issued_has, ready_found, served_request, serves_used}
+use Rattle.server_history.proofs.recovery_turn.TurnStretches.{done_over, found_kept}
+use Rattle.server_history.proofs.state.FirstMembers.{nowhere}
+
+-- ---- what wasn't done
+
+-- a slot that wasn't found done is used still
+left_used : (laws : LawsBelow) (port : Port) → port.0 < 4 → (done : ℕ) (requests : List Held) (old new : Server) → IsKept old → state_of (found_of old.ports port.0) ≡ ReadyState → AreOver port done old.device
+    → AnswersEach port done requests old new → (slot : ℕ) (used : SlotUse) → bit done slot ≡ false → used_for old.slots port.0 slot ≡ Some used → used_for new.slots port.0 slot ≡ Some used
+left_used laws port low done [] old new k ready over none slot used clear is = ap (λ (n : Server). used_for n.slots port.0 slot) none ∙ is
+left_used laws port low done (e ∷ requests) old new k ready over (mid, one, its, more) slot used clear is =
+    let four = k.four in
+    let places = (k.slots port.0 low).places in
+    let small = one.small in
+    left_used laws port low done requests mid new (answer_kept laws old mid port e k ready one (over one.slot one.small its)) (ready_on laws port done e old mid one ready) (over_on laws port done e old mid one over) more slot used clear
+    (ap (λ (n : Server). used_for n.slots port.0 slot) one.server
+    ∙ placed_other old.slots port.0 one.slot None (omega (arith, four, low)) (omega (arith, places, small)) port.0 slot (λ _ same. false≢true (sym clear ∙ ap (bit done) same ∙ its)) ∙ is)
+
+-- ---- what is told
+
+-- who ends is told so
+fate_told : (fate : Entry → Fate) (requests : List Held) (replies : List Reply) (old new : Holdings) → MeetFates fate requests replies old new → (e : Held) (o : Outcome) → Contains requests e → fate e.entry ≡ Ends o
+    → Contains replies (reply_to e o)
+fate_told fate [] replies old new none e o here ends = absurd (nowhere e here)
+fate_told fate (request ∷ requests) replies old new (mid, its, later, split, meets, more) e o here ends = subst (λ (list : List Reply). Contains list (reply_to e o)) (sym split) (⊎_elim
+    (λ (same : e ≡ request).
+    let m : MeetsFate request (Ends o) its old mid = subst (λ (f : Fate). MeetsFate request f its old mid) (ap (λ (h : Held). fate h.entry) (sym same) ∙ ends) meets in
+    Contains-append_left its later (reply_to e o) (subst (λ (list : List Reply). Contains list (reply_to e o)) (sym m.0) (contains_here (reply_to request o) [] (reply_to e o) (ap (λ (h : Held). reply_to h o) same))))
+    (λ (there : Contains requests e). Contains-append_right its later (reply_to e o) (fate_told fate requests later mid new more e o there ends))
+    (contains_cases request requests e here))
+
+-- who is answered in a turn was unanswered when it began
+pub answer_stood : LawsBelow → (port : Port) (m : Machine) (steps : List Step) → AllMay m steps → All (IsOfTurn port) steps → (e : Pending) (o : Outcome) → Contains steps (Answer e o) → StandsIn m.book e
+answer_stood laws port m [] may own e o here = absurd (nowhere (Answer e o) here)
+answer_stood laws port m (step ∷ steps) may own e o here = ⊎_elim
+    (λ (is : Answer e o ≡ step). stood laws port m steps (All-tail (IsOfTurn port) step steps own) e (subst (May (after m steps)) (sym is) may.1))
+    (λ (there : Contains steps (Answer e o)). answer_stood laws port m steps may.0 (All-tail (IsOfTurn port) step steps own) e o there)
+    (contains_cases step steps (Answer e o) here)
+
+-- the one that failed is told its error
+failed_fate : (its : Failed) (failed : Option Failed) (prospect : Prospect) (e : Entry) → failed ≡ Some its → its.id ≡ e.id → fate_of failed prospect e ≡ Ends (outcome.DeviceError its.status its.error)
+failed_fate its failed prospect e is same =
+    ap (λ (f : Option Failed). fate_of f prospect e) is
+    ∙ ap (λ (b : Bool). if b then Ends (outcome.DeviceError its.status its.error) else fate_on prospect e) (eq-eqb its.id.0 e.id.0 (ap (λ (i : RequestId). i.0) same))
+
+-- ---- the whole
+
+module _ (laws : LawsBelow) (port : Port) (replies : List Reply) (old new : Server) (k : IsKept old) (ready : state_of (found_of old.ports port.0) ≡ ReadyState) (r : MendsPort port replies old new)
+    (looks : IsFollowed (IsLooking port) AnyUse old.device r.settled.mended.seen) (kept : IsKept r.mid) (m : Machine) (reached : IsReached m) (is : IsMachineOf old m)
+    (d : DecidesTurn port replies old new r (evidence_by r.settled) m) where
+  abbrev a : HasMetFates port r.later old r.mid
+  a = r.settled
+
+  abbrev x : IsMended port old a.mid a.device
+  x = a.mended
+
+  abbrev from : Server
+  from = record old { device = x.found }
+
+  low : port.0 < 4
+  low = (ready_found old port.0 k ready).0
+
+  from_kept : IsKept from
+  from_kept = found_kept laws port replies old new k ready r looks kept
+
+  then_kept : IsKept a.mid
+  then_kept = mid_kept laws port r.later old r.mid k ready a looks
+
+  then_ready : state_of (found_of a.mid.ports port.0) ≡ ReadyState
+  then_ready = mid_ready laws port r.later old r.mid k ready a looks
+
+  -- a request that was answered so
+  answered : (e : Pending) → Contains m.book e → (done : Pending) (o : Outcome) → Contains d.steps (Answer done o) → done.request.id ≡ e.request.id → done.request ≡ e.request
+  answered e here done o there same =
+      let w = answer_stood laws port m d.steps d.may d.own done o there in
+      let one : w.was ≡ e = laws.basic.one m reached w.was e w.here here (ap (λ (i : RequestId). i.0) (ap (λ q. q.id) w.request ∙ same)) in
+      sym w.request ∙ ap (λ (y : Pending). y.request) one
+
+  -- the port's last fault was of a slot that is in use still
+  module _ (failing : x.trouble ≡ Fails) (slot : ℕ) (used : SlotUse) (its : used_for old.slots port.0 slot ≡ Some used) (plain : used.queued ≡ false) where
+    healed : TellsRecovery port x.outstanding x.queued x.result x.mends.accesses a.mid.device a.device
+    healed = subst (λ (t : Trouble). TellsMending t port x.outstanding x.queued x.result x.mends.accesses a.mid.device a.device) failing x.tells
+
+    is_zero : slot ≡ 0
+    is_zero = (k.alone port.0 slot used its plain).0
+
+    fault : ShowsFault (drop (x.found.port port.0).notes.st_set_at x.found.tape) (x.found.port port.0) port.0
+    fault = let may : MayRecover port.0 x.found = may_recover laws old x.seen x.found port x.mask x.done k ready (subst (λ (t : Trouble). IsFoundOut port t old.device x.seen) failing x.finds) looks x.reads in may.recorded.fault may.halted
+
+    unused_free : (other : ℕ) → other ≢ 0 → IsFree (x.found.port port.0) other
+    unused_free other ne = subst (λ (u : Use). IsServed from_kept.machine x.found.memory x.found.tape (x.found.port port.0) port.0 other u)
+        (free_unused from from_kept.machine port.0 from_kept.stands ready other ((k.alone port.0 slot used its plain).1 other ne)) (from_kept.stands.knows.agrees.slot port.0 other)
+
+    over_idle : (other : ℕ) → (x.found.port port.0).ci other ≡ false → (x.found.port port.0).taken other ≡ None → InUse (x.found.port port.0) other → ⊥
+    over_idle other clear free (inl issued) = false≢true (sym clear ∙ issued)
+    over_idle other clear free (inr taken) = let z : None ≡ Some taken.0 = sym free ∙ taken.1 in absurd cc
+
+    zero_used : InUse (x.found.port port.0) 0
+    zero_used = ⊎_elim
+        (λ (same : fault.fault.slot.0 ≡ 0). subst (InUse (x.found.port port.0)) same fault.used)
+        (λ (ne : fault.fault.slot.0 ≢ 0). let f = unused_free fault.fault.slot.0 ne in absurd (over_idle fault.fault.slot.0 f.issued f.free fault.used))
+        (cases_eq fault.fault.slot.0 0)
+
+    not_done : bit x.done slot ≡ false
+    not_done = ⊎_elim
+        (λ (done : bit x.done slot ≡ true).
+        let o = done_over laws port replies old new k ready r looks kept slot (let z = is_zero in omega (arith, z)) done in
+        absurd (over_idle slot o.issued o.free (subst (InUse (x.found.port port.0)) (sym is_zero) zero_used)))
+        (λ clear. clear)
+        (cases_Bool (bit x.done slot))
+
+    still : used_for a.mid.slots port.0 slot ≡ Some used
+    still = left_used laws port low x.done x.requests from a.mid from_kept ready (done_over laws port replies old new k ready r looks kept) x.each slot used not_done its
+
+    mid_queued : x.queued ≡ false
+    mid_queued = sym (x.alike slot used still) ∙ plain
+
+    outstanding : bit x.outstanding 0 ≡ true
+    outstanding = ap (bit x.outstanding) (sym is_zero) ∙ x.left slot (let z = is_zero in omega (arith, z)) ∙ ap is_used still
+
+    -- its request
+    request : IsServedBy a.mid then_kept.machine port.0 slot used.id
+    request = served_request a.mid then_kept.machine port.0 slot then_kept.stands then_ready used.id (serves_used a.mid then_kept.machine port.0 then_kept.stands then_ready slot used still)
+
+    in_its : Contains (requests_of port a.mid.book) request.request
+    in_its = in_filter (λ (y : Held). is_of port y.entry) a.mid.book request.request request.there (eq-eqb request.request.entry.port.0 port.0 request.port_is)
+
+    module _ (e : Pending) (here : Contains m.book e) (id_is : used.id ≡ e.request.id) where
+      told : (its_failure : Failure) → x.result.failed ≡ Some its_failure → IsAnsweredFaulty e d.steps
+      told its_failure named = by (subst (λ (f : Option Failure). IsFailed (slots_at a.mid.slots port.0) f a.failed) named a.names)
+        where
+          zero_named : its_failure.slot.0 ≡ 0
+          zero_named = (subst (λ (queued : Bool). Rests queued port x.outstanding x.mends.accesses a.mid.device a.device (Some its_failure)) mid_queued
+              (subst (Rests x.queued port x.outstanding x.mends.accesses a.mid.device a.device) named x.mends.tells.rests)).slot_is
+
+          by : IsFailed (slots_at a.mid.slots port.0) (Some its_failure) a.failed → IsAnsweredFaulty e d.steps
+          by (other, at, names) =
+              let z : Some other ≡ Some used = sym at ∙ ap (used_for a.mid.slots port.0) (zero_named ∙ sym is_zero) ∙ still in
+              let same : other ≡ used = cc in
+              let failed : Failed = record { id = other.id; status = its_failure.status; error = its_failure.error } in
+              let o : Outcome = outcome.DeviceError its_failure.status its_failure.error in
+              let fate = failed_fate failed a.failed a.prospect request.request.entry names (ap (λ (u : SlotUse). u.id) same ∙ sym request.id_is) in
+              let reply = fate_told (fate_of a.failed a.prospect) (requests_of port a.mid.book) r.later (holdings_of port a.mid) a.now a.meets request.request o in_its fate in
+              let w = map_in reply_of d.fates.tells.answers (reply_to request.request o) (subst (λ (list : List Reply). Contains list (reply_to request.request o)) d.fates.tells.told reply) in
+              let there = answers_there d.fates.fates w.0 (Contains-permutation d.fates.tells.answers (answers_of d.fates.fates) w.0 d.fates.tells.same w.1) in
+              let o_is : w.0.1 ≡ o = ap (λ (y : Reply). y.outcome) (sym w.2) in
+              let in_steps : Contains d.steps (Answer w.0.0 o) = subst (λ (y : Outcome). Contains d.steps (Answer w.0.0 y)) o_is (subst (λ (steps : List Step). Contains steps (Answer w.0.0 w.0.1)) (sym d.steps_are)
+              (Contains-append_right d.issuing.steps (until_issues d.fates) (Answer w.0.0 w.0.1) (Contains-append_left d.fates.fates _ (Answer w.0.0 w.0.1) there))) in
+              let its_id : w.0.0.request.id ≡ e.request.id = ap (λ (y : Reply). y.id) (sym w.2) ∙ request.id_is ∙ id_is in
+              (w.0.0, its_failure.status, its_failure.error, answered e here w.0.0 o in_steps its_id, in_steps)
+
+      faulty : IsAnsweredFaulty e d.steps ⊎ ((ports_of new).state port ≡ DeadState)
+      faulty = by x.result.next refl
+        where
+          by_failed : x.result.next ≢ next.Dead → (f : Option Failure) → x.result.failed ≡ f → IsAnsweredFaulty e d.steps
+          by_failed lives None none = absurd (healed.told mid_queued outstanding lives none)
+          by_failed lives (Some its_failure) named = told its_failure named
+
+          by : (after_it : Next) → x.result.next ≡ after_it → IsAnsweredFaulty e d.steps ⊎ ((ports_of new).state port ≡ DeadState)
+          by (next.Running token) same = inl (by_failed (λ dead. let z : next.Running token ≡ next.Dead = sym same ∙ dead in absurd cc) x.result.failed refl)
+          by (next.Restart token) same = inl (by_failed (λ dead. let z : next.Restart token ≡ next.Dead = sym same ∙ dead in absurd cc) x.result.failed refl)
+          by next.Dead same = inr (state_new laws port replies old new k ready r looks kept ∙ ap state_of (next_dead laws port replies old new k ready r looks kept same))
+
+  -- a plain request that is outstanding is told its fault
+  pub faulting : x.trouble ≡ Fails → (e : Pending) (slot : ℕ) → IsIssuedOn port m e → e.ended ≡ false → (s : ServesRequest m old.device.memory (old.device.port port.0) port.0 slot e.request.id) → is_queued s.command.operation ≡ false
+      → IsAnsweredFaulty e d.steps ⊎ ((ports_of new).state port ≡ DeadState)
+  faulting failing e slot own unended says plain = ⊎_elim
+      (λ (same : slot ≡ h.slot). faulty failing h.slot h.used h.used_is (its_kind same) e own.here h.id_is)
+      (λ (apart : slot ≢ h.slot). absurd (false≢true (sym unended ∙ has_ended laws old k m reached is port.0 ready e own.here h.slot h.used h.used_is h.id_is slot apart says)))
+      (cases_eq slot h.slot)
+    where
+      h : HasSlot old port e.request.id
+      h = issued_has old m port is k ready e own.here own.port_is own.issued
+
+      its_kind : slot ≡ h.slot → h.used.queued ≡ false
+      its_kind same =
+          let c = k.commands port.0 slot h.used (ap (used_for old.slots port.0) same ∙ h.used_is) in
+          let one = (laws.slots.one_said old.device.memory (old.device.port port.0).bases.clb slot says.command c.command says.places c.places says.told.says c.stored.told.says).0 in
+          sym c.kind ∙ ap (λ (y : Meaning). is_queued y.operation) (sym one) ∙ plain

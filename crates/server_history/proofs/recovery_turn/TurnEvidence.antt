@@ -1,0 +1,338 @@
+-- The evidence of a turn that mends its port: what stands behind each port and each fault that it names.
+use Rattle.std.proofs.Common.{ℕ, ◌≡◌, ◌≢◌, ◌<◌, ◌++◌, Bool, true, false, List, [], ◌∷◌, Option, Some, None, refl, sym, ap, ◌∙◌, subst, inl, inr, arith, ⊎_elim, ◌⊎◌}
+use Rattle.std.specs.List.{All, Contains, list_any}
+use Rattle.std.proofs.lemmas.List.Elements.{All-append, All-weaker}
+use Rattle.ata_types.specs.declared.Port.{Port}
+use Rattle.ata_types.specs.declared.PortState.TheVariants.{Dead as DeadState, Ready as ReadyState}
+use Rattle.ata_types.specs.declared.request.Reply.{Reply}
+use Rattle.ata_types.specs.declared.request.RequestId.{RequestId}
+use Rattle.ata_types.specs.declared.limits.TheConstants.{READINGS}
+use Rattle.hba_regs.specs.declared.reg.PortReg.TheVariants.{Cmd}
+use Rattle.hba_regs.specs.declared.reg.Reg.TheVariants.{Ghc, Px}
+use Rattle.adapter.specs.Access.{Access, DoesAll}
+use Rattle.adapter.specs.Device.{Device}
+use Rattle.adapter.specs.declared.command.Operation.TheVariants.{ReadLog}
+use Rattle.adapter.specs.declared.tape.Fault as tape_fault
+use Rattle.agreement.specs.Driven.{AnyUse, Grows, IsFollowed, IsOf, SendsNone}
+use Rattle.agreement.specs.Driver.{IsBacked}
+use Rattle.agreement.specs.Links.{SparesRegister}
+use Rattle.block_machine.specs.Events.{Ask, HadDisk, Served, ShowsDisk, changes_disk}
+use Rattle.adapter.specs.declared.access.DeviceStep.{DeviceStep}
+use Rattle.block_machine.specs.Left.{after}
+use Rattle.block_machine.specs.Ports.{Fault, IsServiced}
+use Rattle.block_machine.specs.State.{Machine}
+use Rattle.block_machine.specs.Steps.{Step}
+use Rattle.server_history.proofs.state.ListMembers.{contains_cases}
+use Rattle.driver_history.specs.Evidence.{IsEvidencedOf}
+use Rattle.driver_history.specs.Trace.{IsDriversOwn}
+use Rattle.error_recovery.specs.Evidence.{HasFailed}
+use Rattle.error_recovery.specs.Recovery.{EndsIn, Rests, TellsEngine}
+use Rattle.error_recovery.specs.declared.Next.{Next}
+use Rattle.error_recovery.specs.declared.Next.TheVariants as next
+use Rattle.error_log.specs.declared.Failure.{Failure}
+use Rattle.host_boot.specs.Taken.{found_of, wanted_of}
+use Rattle.host_boot.specs.declared.Found.TheVariants.{Ready, Unready}
+use Rattle.port_control.specs.Engines.{Sticks, Stops}
+use Rattle.port_look.specs.Looks.{IsLooking, LooksAt}
+use Rattle.port_look.specs.declared.Look.{Look}
+use Rattle.request_queue.specs.Entries.{Held, asks_of, due_ids}
+use Rattle.request_queue.specs.declared.fate.Failed as failed_request
+use Rattle.request_queue.specs.declared.fate.Prospect.TheVariants.{DiskLost}
+use Rattle.slots.specs.Uses.{use_at}
+use Rattle.slots.specs.declared.Use.{Use as SlotUse}
+use Rattle.server_history.specs.Below.{LawsBelow}
+use Rattle.server_history.proofs.any_turn.ShownTrouble.{grows_over}
+use Rattle.server_history.specs.Mended.{IsFailed, IsFoundAfter, IsFoundOut, IsProspect, IsMended, HasMetFates, MendsPort}
+use Rattle.server_history.specs.Served.{AnswersEach}
+use Rattle.server_history.specs.Server.{Server, IsKept, IsMachineOf, ports_of, slots_at, state_of, used_for, mode_in}
+use Rattle.server_history.specs.Turns.{IsOfCommand, LeavesOthers, NamesOnly, TellsFault, instant_of, moment_of}
+use Rattle.server_history.proofs.healthy_turn.OneAnswer.{answer_kept}
+use Rattle.server_history.proofs.recovery_turn.SparedPorts.{leaves_others}
+use Rattle.server_history.proofs.recovery_turn.MendedPort.{becomes, dead_found, dead_prospect, disk_same, interrupted, its, lost_is, names, ready_info, state_new, stuck_is, next_dead}
+use Rattle.server_history.proofs.any_turn.ToldTrouble.{given_up}
+use Rattle.server_history.proofs.recovery_turn.NamedTrouble.{failed_all, failed_only, fatal_all, fatal_only, gone_all, gone_only, loss}
+use Rattle.server_history.proofs.recovery_turn.FoundDisk.{booted_had}
+use Rattle.server_history.proofs.recovery_turn.BootOrAbsence.{boots_or_absent}
+use Rattle.server_history.proofs.state.PlacedSlots.{freed_was}
+use Rattle.server_history.proofs.recovery_turn.RecoveryAccesses.{IsEarlyPart, IsPart}
+use Rattle.server_history.proofs.recovery_turn.TurnParts.{evidence_by, faults_of, stopped_of}
+use Rattle.server_history.proofs.healthy_turn.AnswersAndIssues.{over_on, ready_on}
+use Rattle.server_history.proofs.any_turn.ShownDevice.{had_disk, shows_device}
+use Rattle.server_history.proofs.state.PortSlots.{AreOver, ready_found}
+use Rattle.server_history.proofs.recovery_turn.TurnStretches.{TurnParts, accesses_in, done_over, found_is, found_kept, mid_device, turn_parts}
+use Rattle.server_history.proofs.state.FirstMembers.{nowhere}
+use Rattle.port_look.specs.declared.Look.TheVariants as look
+use Rattle.port_look.specs.declared.Trouble.{Trouble}
+use Rattle.port_look.specs.declared.Trouble.TheVariants.{Broken, Failed, Hung, Lost}
+use Rattle.server_history.proofs.state.TurnAccesses.{look_list, look_does}
+use Rattle.host_boot.specs.Again.{BootsAgain}
+use Rattle.host_boot.specs.declared.Booted.{Booted}
+use Rattle.host_boot.specs.declared.Found.{Found}
+use Rattle.server_history.proofs.plain_calls.IssueRounds.{each_driven}
+
+-- ---- what recovery tells of the port's engine
+
+module _ (laws : LawsBelow) (port : Port) (early part late : List Access) where
+  pub engine_stops : (then : Next) → TellsEngine port then part → Contains (stopped_of port then) port → Stops port (early ++ (part ++ late))
+  engine_stops (next.Running token) engine here = laws.falls_since early (part ++ late) 0 15 port (laws.falls_then part late 0 15 port engine)
+  engine_stops (next.Restart token) engine here = laws.falls_since early (part ++ late) 0 15 port (laws.falls_then part late 0 15 port engine)
+  engine_stops next.Dead engine here = absurd (nowhere port here)
+
+  -- one that is stuck is so in recovery, or later
+  pub engine_sticks : (then : Next) → TellsEngine port then part → (then ≢ next.Dead → Sticks port late) → Sticks port (early ++ (part ++ late))
+  engine_sticks (next.Running token) engine later = laws.sticks_since early (part ++ late) port (laws.sticks_since part late port (later (λ e. let z : next.Running token ≡ next.Dead = e in cc)))
+  engine_sticks (next.Restart token) engine later = laws.sticks_since early (part ++ late) port (laws.sticks_since part late port (later (λ e. let z : next.Restart token ≡ next.Dead = e in cc)))
+  engine_sticks next.Dead engine later = laws.sticks_since early (part ++ late) port (laws.sticks_then part late port engine)
+
+  ends_stuck : (queued : Bool) (then : Next) (old new : Device) → EndsIn queued port then old new → then ≡ next.Dead → (new.port port.0).notes.engine_count ≡ READINGS
+  ends_stuck queued (next.Running token) old new ends is = let z : next.Running token ≡ next.Dead = is in absurd cc
+  ends_stuck queued (next.Restart token) old new ends is = let z : next.Restart token ≡ next.Dead = is in absurd cc
+  ends_stuck queued next.Dead old new ends is = ends.1
+
+-- ---- slots
+
+-- what a slot is used for once requests were answered, it was used for before
+pub slots_were : (laws : LawsBelow) (port : Port) → port.0 < 4 → (done : ℕ) (requests : List Held) (old new : Server) → IsKept old → state_of (found_of old.ports port.0) ≡ ReadyState → AreOver port done old.device → AnswersEach port done requests old new
+    → (slot : ℕ) (used : SlotUse) → used_for new.slots port.0 slot ≡ Some used → used_for old.slots port.0 slot ≡ Some used
+slots_were laws port low done [] old new k ready over none slot used is = ap (λ (n : Server). used_for n.slots port.0 slot) (sym none) ∙ is
+slots_were laws port low done (e ∷ requests) old new k ready over (mid, one, its, more) slot used is =
+    let was = slots_were laws port low done requests mid new (answer_kept laws old mid port e k ready one (over one.slot one.small its)) (ready_on laws port done e old mid one ready) (over_on laws port done e old mid one over) more slot used is in
+    let four = k.four in
+    let places = (k.slots port.0 low).places in
+    let small = one.small in
+    freed_was old.slots port.0 one.slot (omega (arith, four, low)) (omega (arith, places, small)) port.0 slot used (ap (λ (n : Server). used_for n.slots port.0 slot) (sym one.server) ∙ was)
+
+-- ---- the whole
+
+-- What stands behind the turn, but for its steps: its accesses, what it leaves of the other ports, and its evidence. (Where the port shows a disk after it, the machine had one in the port, or one went or came.)
+pub record IsEvident (port : Port) (replies : List Reply) (old new : Server) (r : MendsPort port replies old new) : Type 0 where
+  pub parts : TurnParts port replies old new r
+  pub accesses : List Access
+  pub accesses_are : accesses ≡ accesses_in parts
+  pub does : DoesAll accesses old.device new.device
+  pub of : All (IsOf port) accesses
+  pub own : All IsDriversOwn accesses
+  pub others : LeavesOthers port old new
+  pub silent : (q : ℕ) → q ≢ port.0 → state_of (found_of old.ports q) ≢ DeadState → SendsNone q ReadLog old.device new.device
+  pub names : NamesOnly port (evidence_by r.settled)
+  pub becomes : IsServiced (ports_of old) (evidence_by r.settled) (ports_of new) port
+  pub evidenced : (ask : Ask DeviceStep) (m : Machine) → IsEvidencedOf ask (Served replies) accesses (instant_of old m) (ports_of new) new.device (evidence_by r.settled) port
+  pub faults : (told : Fault) → Contains (evidence_by r.settled).faults told → TellsFault port accesses old new told
+  pub had : (m : Machine) → IsMachineOf old m → (steps : List Step) → IsBacked old.device new.device m steps
+      → HadDisk (moment_of old m) steps (moment_of new (after m steps)) port
+
+module _ (laws : LawsBelow) (port : Port) (replies : List Reply) (old new : Server) (k : IsKept old) (ready : state_of (found_of old.ports port.0) ≡ ReadyState) (r : MendsPort port replies old new)
+    (looks : IsFollowed (IsLooking port) AnyUse old.device r.settled.mended.seen) (kept : IsKept r.mid) where
+  abbrev a : HasMetFates port r.later old r.mid
+  a = r.settled
+
+  abbrev x : IsMended port old a.mid a.device
+  x = a.mended
+
+  abbrev part : List Access
+  part = x.mends.accesses
+
+  low : port.0 < 4
+  low = (ready_found old port.0 k ready).0
+
+  t : TurnParts port replies old new r
+  t = turn_parts laws port replies old new k ready r looks kept
+
+  -- ---- the tape grows
+
+  grown_late : Grows a.mid.device new.device
+  grown_late = laws.looks.tape.grows_more a.mid.device a.device new.device (grows_over laws part a.mid.device a.device t.does) (grows_over laws t.late.accesses a.device new.device t.late.all)
+
+  grown_seen : Grows x.seen new.device
+  grown_seen =
+      laws.looks.tape.grows_more x.seen x.found new.device (grows_over laws x.reads.driven.accesses x.seen x.found x.reads.driven.all)
+      (subst (λ (d : Device). Grows d new.device) (mid_device laws port replies old new k ready r looks kept) grown_late)
+
+  -- ---- ports
+
+  undue : (old.device.port port.0).link_due ≡ false
+  undue = ((k.behind port.0 low).runs ready).recorded.linked
+
+  -- a dead port's engine was awaited in vain, at last
+  counted : a.found ≡ Unready DeadState → (new.device.port port.0).notes.engine_count ≡ READINGS
+  counted dead = by x.result.next refl
+    where
+      by : (then : Next) → x.result.next ≡ then → (new.device.port port.0).notes.engine_count ≡ READINGS
+      by (next.Running token) is = t.stuck dead (λ e. let z : next.Running token ≡ next.Dead = sym is ∙ e in cc)
+      by (next.Restart token) is = t.stuck dead (λ e. let z : next.Restart token ≡ next.Dead = sym is ∙ e in cc)
+      by next.Dead is =
+          let still : IsFoundAfter (wanted_of old.wanted port.0) port x.trouble a.was next.Dead a.device r.mid.device a.found = subst (λ (n : Next). IsFoundAfter (wanted_of old.wanted port.0) port x.trouble a.was n a.device r.mid.device a.found) is a.is in
+          ap (λ (s : Server). (s.device.port port.0).notes.engine_count) (t.unissued dead) ∙ ap (λ (d : Device). (d.port port.0).notes.engine_count) still.1
+          ∙ ends_stuck laws port [] [] [] x.queued x.result.next a.mid.device a.device x.mends.leaves.ends is
+
+  evidenced : (ask : Ask DeviceStep) (m : Machine) → IsEvidencedOf ask (Served replies) (accesses_in t) (instant_of old m) (ports_of new) new.device (its laws port replies old new k ready r looks kept) port
+  evidenced ask m = record {
+    lost = λ here.
+        let other = lost_is port a.prospect here in
+        let e : IsProspect x.trouble a.was a.found DiskLost = subst (IsProspect x.trouble a.was a.found) other a.expects in
+        ⊎_elim
+        (λ lost. ⊎_elim (λ change. inl change) (λ more. inr (⊎_elim (λ out. inl out) (λ came. inr (inl came)) more)) (loss laws port old.device x.seen new.device k.on undue grown_seen x.trouble x.finds lost))
+        (λ another. inr (inr (inr (
+          (λ dead. e.0 (dead_found laws port replies old new k ready r looks kept dead)),
+          (λ is same. let i = ready_info laws port replies old new k ready r looks kept is in another i.0 i.1 (disk_same laws port replies old new k ready r looks kept i.0 i.1 same)),
+        ))))
+        e.1;
+    gone_all = λ _ shows. gone_all laws port old.device x.seen new.device k.on undue grown_seen x.trouble x.finds shows;
+    gone_only = λ here. (ready, gone_only laws port old.device x.seen new.device k.on undue grown_seen x.trouble x.finds here);
+    failed_all = λ _ shows. failed_all laws port old.device x.seen new.device k.on undue grown_seen x.trouble shows;
+    failed_only = λ here. (ready, failed_only laws port old.device x.seen new.device k.on undue grown_seen x.trouble x.finds here);
+    fatal_all = λ _ fatal. fatal_all laws port old.device x.seen new.device k.on undue grown_seen x.trouble x.finds fatal;
+    fatal_only = λ here. (ready, fatal_only laws port old.device x.seen new.device k.on undue grown_seen x.trouble x.finds here);
+    stopped_all = inr (interrupted laws port replies old new k ready r looks kept);
+    stopped_only = λ here. inl (engine_stops laws port t.early.accesses part t.late.accesses x.result.next x.mends.does.engine here);
+    stuck_only = λ here.
+        let dead = dead_prospect laws port replies old new k ready r looks kept (stuck_is port a.prospect here) in
+        inl (engine_sticks laws port t.early.accesses part t.late.accesses x.result.next x.mends.does.engine (t.sticks dead), counted dead);
+  }
+
+  -- ---- faults
+
+  -- Where a queued command is named, the port runs, with the disk that it had.
+  module _ (its_failure : Failure) (named : x.result.failed ≡ Some its_failure) where
+    runs_then : x.queued ≡ true → (a.found ≡ Ready a.was) × (r.mid.device ≡ a.device)
+    runs_then queued = by x.result.next refl
+      where
+        then_is : (then : Next) → x.result.next ≡ then → IsFoundAfter (wanted_of old.wanted port.0) port x.trouble a.was then a.device r.mid.device a.found
+        then_is then is = subst (λ (n : Next). IsFoundAfter (wanted_of old.wanted port.0) port x.trouble a.was n a.device r.mid.device a.found) is a.is
+
+        by : (then : Next) → x.result.next ≡ then → (a.found ≡ Ready a.was) × (r.mid.device ≡ a.device)
+        by (next.Running token) is = then_is (next.Running token) is
+        by (next.Restart token) is = let z : Some its_failure ≡ None = sym named ∙ x.mends.tells.unnamed token queued is in absurd cc
+        by next.Dead is = let z : Some its_failure ≡ None = sym named ∙ x.mends.tells.dead is in absurd cc
+
+    lives_then : x.queued ≡ true → (ports_of new).state port ≢ DeadState
+    lives_then queued dead = let z : ReadyState ≡ DeadState = sym (ap state_of (runs_then queued).0) ∙ sym (state_new laws port replies old new k ready r looks kept) ∙ dead in cc
+
+    -- so its disk sends no page of the log after that of recovery
+    quiet_then : x.queued ≡ true → SendsNone port.0 ReadLog a.device new.device
+    quiet_then queued =
+        let then = runs_then queued in
+        subst (λ (d : Device). SendsNone port.0 ReadLog d new.device) then.1
+        (t.issuing_silent (λ dead. let z : ReadyState ≡ DeadState = sym (ap state_of (found_is laws port replies old new k ready r looks kept ∙ then.0)) ∙ dead in absurd cc))
+
+    stays_failed : (fault : tape_fault.Fault) → HasFailed port part a.mid.device a.device fault → HasFailed port (accesses_in t) old.device new.device fault
+    stays_failed fault = laws.failed_stays port t.early.accesses part t.late.accesses old.device a.mid.device a.device new.device fault k.on
+        (All-weaker (IsEarlyPart port) (SparesRegister Ghc) (λ access is. laws.of_host port access is.0.1) t.early.accesses t.early.only)
+        (All-weaker (IsEarlyPart port) (SparesRegister (Px port Cmd)) (λ access is. is.1) t.early.accesses t.early.only) t.early.all t.late.all
+
+    told_so : (queued : Bool) → x.queued ≡ queued → Rests queued port x.outstanding part a.mid.device a.device (Some its_failure) → (id : RequestId)
+        → IsOfCommand queued port (accesses_in t) old.device new.device its_failure.slot.0 (record { id = id; status = its_failure.status; error = its_failure.error })
+    told_so false is rests id = (rests.fault, stays_failed rests.fault rests.has_failed, rests.at ∙ sym rests.slot_is, rests.status_is, rests.error_is)
+    told_so true is rests id = (
+      (rests.fault, stays_failed rests.fault rests.has_failed),
+      (rests.page, laws.log_stays port old.device a.mid.device a.device new.device rests.page (grows_over laws t.early.accesses old.device a.mid.device t.early.all) (quiet_then is) rests.brings, rests.tells),
+    )
+
+    tells_named : (used : SlotUse) → use_at (slots_at a.mid.slots port.0) its_failure.slot.0 ≡ Some used → TellsFault port (accesses_in t) old new (record { id = used.id; status = its_failure.status; error = its_failure.error })
+    tells_named used there =
+        let alike : used.queued ≡ x.queued = x.alike its_failure.slot.0 used there in
+        record {
+          slot = its_failure.slot.0;
+          used = used;
+          served = slots_were laws port low x.done x.requests (record old { device = x.found }) a.mid (found_kept laws port replies old new k ready r looks kept) ready (done_over laws port replies old new k ready r looks kept) x.each its_failure.slot.0 used there;
+          id_is = refl;
+          its = subst (λ (queued : Bool). IsOfCommand queued port (accesses_in t) old.device new.device its_failure.slot.0 (record { id = used.id; status = its_failure.status; error = its_failure.error })) (sym alike)
+              (told_so x.queued refl (subst (Rests x.queued port x.outstanding part a.mid.device a.device) named x.mends.tells.rests) used.id);
+          lives = λ queued. lives_then (sym alike ∙ queued);
+        }
+
+  faults : (told : Fault) → Contains (faults_of a.failed) told → TellsFault port (accesses_in t) old new told
+  faults told here = by a.failed refl here
+    where
+      by_failure : (failed : failed_request.Failed) → a.failed ≡ Some failed → (o : Option Failure) → x.result.failed ≡ o → IsFailed (slots_at a.mid.slots port.0) o a.failed
+          → TellsFault port (accesses_in t) old new (record { id = failed.id; status = failed.status; error = failed.error })
+      by_failure failed is None none names = let z : Some failed ≡ None = sym is ∙ names in absurd cc
+      by_failure failed is (Some its_failure) named names =
+          let same : failed ≡ record { id = names.0.id; status = its_failure.status; error = its_failure.error } = (let z : Some failed ≡ Some (record { id = names.0.id; status = its_failure.status; error = its_failure.error }) = sym is ∙ names.2 in cc) in
+          subst (λ (f : failed_request.Failed). TellsFault port (accesses_in t) old new (record { id = f.id; status = f.status; error = f.error })) (sym same) (tells_named its_failure named names.0 names.1)
+
+      by : (f : Option failed_request.Failed) → a.failed ≡ f → Contains (faults_of a.failed) told → TellsFault port (accesses_in t) old new told
+      by None is there = absurd (nowhere told (subst (λ (o : Option failed_request.Failed). Contains (faults_of o) told) is there))
+      by (Some failed) is there =
+          let fault : Fault = record { id = failed.id; status = failed.status; error = failed.error } in
+          let same : told ≡ fault = ⊎_elim (λ e. e) (λ none. absurd (nowhere told none)) (contains_cases fault [] told (subst (λ (o : Option failed_request.Failed). Contains (faults_of o) told) is there)) in
+          subst (TellsFault port (accesses_in t) old new) (sym same) (by_failure failed is x.result.failed refl a.names)
+
+  -- ---- disks
+
+  -- where a device showed at a moment of the turn, a disk was in
+  own_at : (accesses : List Access) (d : Device) → DoesAll accesses old.device d → (d.port port.0).ssts_det ≡ 3 → (d.port port.0).present ≡ true
+  own_at accesses d does = laws.recovery.own_on port.0 accesses old.device d does ((k.behind port.0 low).own ready)
+
+  had_at : (accesses : List Access) (d : Device) → DoesAll accesses old.device d → (d.port port.0).ssts_det ≡ 3 → Grows d new.device → (m : Machine) → IsMachineOf old m → (steps : List Step) → IsBacked old.device new.device m steps
+      → (m.present port ≡ true) ⊎ (list_any (changes_disk port) steps ≡ true)
+  had_at accesses d does shows grows m is steps backed = had_disk laws port old d new.device m accesses does (own_at accesses d does shows) is grows steps backed
+
+  grown_issuing : Grows r.mid.device new.device
+  grown_issuing = let issued = each_driven laws port (due_ids (mode_in r.mid port) port (asks_of r.mid.book)) r.mid new r.issued in grows_over laws issued.accesses r.mid.device new.device issued.all
+
+  -- a boot that finds a disk sees a device; so did the look that told of an error
+  module _ (m : Machine) (stands : IsMachineOf old m) (steps : List Step) (backed : IsBacked old.device new.device m steps) where
+    abbrev Had : Type 0
+    Had = (m.present port ≡ true) ⊎ (list_any (changes_disk port) steps ≡ true)
+
+    had_seen : (told : Look) (l : LooksAt port told old.device x.seen) → (told ≡ look.Failed) ⊎ (told ≡ look.Broken) → Had
+    had_seen told l error =
+        had_at (look_list port l.causes l.own l.status) x.seen (look_does port told old.device x.seen l) (shows_device laws port old.device x.seen told l k.on (λ lost. ⊎_elim (λ (is : told ≡ look.Failed). let z : look.Lost ≡ look.Failed = sym lost ∙ is in cc) (λ (is : told ≡ look.Broken). let z : look.Lost ≡ look.Broken = sym lost ∙ is in cc) error)) grown_seen m stands steps backed
+
+    had_booted : (booted : Booted) → BootsAgain (wanted_of old.wanted port.0) port booted a.device r.mid.device → ShowsDisk (state_of booted.found) → Had
+    had_booted booted b shows =
+        booted_had laws port old (wanted_of old.wanted port.0) booted (t.early.accesses ++ part) a.device r.mid.device new.device k.on (laws.basic.does_append t.early.accesses part old.device a.mid.device a.device t.early.all t.does)
+        (All-append (IsOf port) t.early.accesses part (All-weaker (IsEarlyPart port) (IsOf port) (λ access is. is.0.1) t.early.accesses t.early.only) (All-weaker (IsPart port) (IsOf port) (λ access is. is.1) part t.kinds))
+        b shows grown_issuing m stands steps backed
+
+    -- where no command had failed, the port was booted
+    had_stopped : x.trouble ≢ Failed → ShowsDisk (state_of a.found) → Had
+    had_stopped other shows = by x.result.next refl
+      where
+        by : (n : Next) → x.result.next ≡ n → Had
+        by (next.Running token) is = absurd ((given_up x.trouble port x.outstanding x.queued x.result x.mends.accesses a.mid.device a.device x.tells other).1 token is)
+        by next.Dead is = absurd (subst (λ (f : Found). ShowsDisk (state_of f)) (next_dead laws port replies old new k ready r looks kept is) shows)
+        by (next.Restart token) is = ⊎_elim
+            (λ boots. had_booted after.0 boots (subst (λ (f : Found). ShowsDisk (state_of f)) (sym after.1) shows))
+            (λ absent. absurd (subst (λ (f : Found). ShowsDisk (state_of f)) (sym after.1 ∙ absent.is) shows))
+            (boots_or_absent x.trouble (wanted_of old.wanted port.0) port after.0 a.device r.mid.device after.2)
+          where
+            after : IsFoundAfter (wanted_of old.wanted port.0) port x.trouble a.was (next.Restart token) a.device r.mid.device a.found
+            after = subst (λ (n : Next). IsFoundAfter (wanted_of old.wanted port.0) port x.trouble a.was n a.device r.mid.device a.found) is a.is
+
+    had : HadDisk (moment_of old m) steps (moment_of new (after m steps)) port
+    had shows = by x.trouble refl x.finds
+      where
+        shows_found : ShowsDisk (state_of a.found)
+        shows_found = subst ShowsDisk (state_new laws port replies old new k ready r looks kept) shows
+
+        by : (trouble : Trouble) → x.trouble ≡ trouble → IsFoundOut port trouble old.device x.seen → Had
+        by Failed is l = had_seen look.Failed l (inl refl)
+        by Broken is l = had_seen look.Broken l (inr refl)
+        by Lost is l = had_stopped (λ failed. let z : Lost ≡ Failed = sym is ∙ failed in cc) shows_found
+        by Hung is same = had_stopped (λ failed. let z : Hung ≡ Failed = sym is ∙ failed in cc) shows_found
+
+  -- ---- all of it
+
+  kinds : All (IsPart port) (accesses_in t)
+  kinds =
+      All-append (IsPart port) t.early.accesses (part ++ t.late.accesses) (All-weaker (IsEarlyPart port) (IsPart port) (λ access is. is.0) t.early.accesses t.early.only)
+      (All-append (IsPart port) part t.late.accesses t.kinds t.late.only)
+
+  pub evident : IsEvident port replies old new r
+  evident = record {
+    parts = t;
+    accesses = accesses_in t;
+    accesses_are = refl;
+    does = laws.basic.does_append t.early.accesses (part ++ t.late.accesses) old.device a.mid.device new.device t.early.all (laws.basic.does_append part t.late.accesses a.mid.device a.device new.device t.does t.late.all);
+    of = All-weaker (IsPart port) (IsOf port) (λ access is. is.1) (accesses_in t) kinds;
+    own = All-weaker (IsPart port) IsDriversOwn (λ access is. is.0) (accesses_in t) kinds;
+    others = leaves_others laws port replies old new k r kept;
+    silent = t.silent;
+    names = names laws port replies old new k ready r looks kept;
+    becomes = becomes laws port replies old new k ready r looks kept;
+    evidenced = evidenced;
+    faults = faults;
+    had = had;
+  }

@@ -1,0 +1,134 @@
+-- A port's turn that mends it: what it adds to a machine, and its evidence.
+use Rattle.std.proofs.Common.{◌≡◌, ◌++◌, Bool, true, false, cond, refl, List, [], ◌∷◌, Option, Some, None}
+use Rattle.std.specs.List.{All, AllZip, Contains}
+use Rattle.ata_types.specs.declared.Port.{Port}
+use Rattle.ata_types.specs.declared.request.Outcome.{Outcome}
+use Rattle.ata_types.specs.declared.request.Reply.{Reply}
+use Rattle.adapter.specs.Device.{Device, PortState}
+use Rattle.agreement.specs.Driver.{IsBacked}
+use Rattle.block_machine.specs.Events.{AllDevices, AllMay, Tells}
+use Rattle.block_machine.specs.Left.{after}
+use Rattle.block_machine.specs.Ports.{Evidence, Fault}
+use Rattle.block_machine.specs.State.{Machine, Pending}
+use Rattle.block_machine.specs.Steps.{Step, Again, Answer}
+use Rattle.error_recovery.specs.declared.Next.{Next}
+use Rattle.error_recovery.specs.declared.Next.TheVariants as next
+use Rattle.request_queue.specs.Entries.{Held}
+use Rattle.request_queue.specs.Fates.{fate_of}
+use Rattle.request_queue.specs.Machine.{IsEntry}
+use Rattle.request_queue.specs.declared.fate.Failed.{Failed}
+use Rattle.request_queue.specs.declared.fate.Fate.TheVariants.{Ends, GoesAgain}
+use Rattle.request_queue.specs.declared.fate.Prospect.{Prospect}
+use Rattle.request_queue.specs.declared.fate.Prospect.TheVariants.{SameDisk, DiskLost, Dead}
+use Rattle.server_history.specs.Fates.{DecidesOn}
+use Rattle.server_history.specs.Mended.{IsMended, HasMetFates, requests_of}
+use Rattle.server_history.specs.Served.{HasEnded, answers_in}
+use Rattle.server_history.specs.Server.{Server, IsMachineOf}
+use Rattle.port_look.specs.declared.Trouble.{Trouble}
+use Rattle.port_look.specs.declared.Trouble.TheVariants.{Broken, Hung, Lost}
+use Rattle.server_history.proofs.state.CallEvidence.{shows_failure, shows_fatal, shows_loss}
+use Rattle.std.proofs.lemmas.Bool.{false≢true}
+use Rattle.server_history.proofs.state.FirstMembers.{first_here, nowhere}
+
+-- ---- its evidence
+
+abbrev pub faults_of : Option Failed → List Fault
+faults_of None = []
+faults_of (Some failed) = record { id = failed.id; status = failed.status; error = failed.error } ∷ []
+
+abbrev pub lost_of : Port → Prospect → List Port
+lost_of port SameDisk = []
+lost_of port DiskLost = port ∷ []
+lost_of port Dead = []
+
+abbrev pub stopped_of : Port → Next → List Port
+stopped_of port (next.Running token) = port ∷ []
+stopped_of port (next.Restart token) = port ∷ []
+stopped_of port next.Dead = []
+
+abbrev pub stuck_of : Port → Prospect → List Port
+stuck_of port SameDisk = []
+stuck_of port DiskLost = []
+stuck_of port Dead = port ∷ []
+
+-- the port, where this is so
+abbrev pub named_if : Bool → Port → List Port
+named_if is port = cond is (port ∷ []) []
+
+pub is_named_if : (is : Bool) (port : Port) → is ≡ true → Contains (named_if is port) port
+is_named_if true port so = first_here port []
+is_named_if false port so = absurd (false≢true so)
+
+pub named_if_is : (is : Bool) (port : Port) → Contains (named_if is port) port → is ≡ true
+named_if_is true port here = refl
+named_if_is false port here = absurd (nowhere port here)
+
+-- Its disk was lost. Where a request is hung, nobody looked: what is told is what the port showed when the turn began.
+abbrev pub gone_of : Port → Trouble → PortState → List Port
+gone_of port Lost p = port ∷ []
+gone_of port Hung p = named_if (shows_loss p) port
+gone_of port _ p = []
+
+-- A command had failed, or there was a fatal error. Where its disk was lost, or a request is hung, the port's errors are those that it showed when the turn began.
+abbrev pub failed_of : Port → Trouble → PortState → List Port
+failed_of port Lost p = named_if (shows_failure p) port
+failed_of port Hung p = named_if (shows_failure p) port
+failed_of port _ p = port ∷ []
+
+abbrev pub fatal_of : Port → Trouble → PortState → List Port
+fatal_of port Broken p = port ∷ []
+fatal_of port Lost p = named_if (shows_fatal p) port
+fatal_of port Hung p = named_if (shows_fatal p) port
+fatal_of port _ p = []
+
+abbrev pub evidence_of : Port → Trouble → PortState → Option Failed → Prospect → Next → Evidence
+evidence_of port trouble p failed prospect next = record {
+  faults = faults_of failed;
+  lost = lost_of port prospect;
+  gone = gone_of port trouble p;
+  failed = failed_of port trouble p;
+  fatal = fatal_of port trouble p;
+  stopped = stopped_of port next;
+  stuck = stuck_of port prospect;
+}
+
+-- that of such a turn
+abbrev pub evidence_by : {port : Port} {later : List Reply} {old new : Server} → HasMetFates port later old new → Evidence
+evidence_by {port} {later} {old} a = evidence_of port a.mended.trouble (old.device.port port.0) a.failed a.prospect a.mended.result.next
+
+-- ---- its steps, but for those that issue
+
+-- The device's steps until the masks were read: those while the port was looked at, if it was, and then the others.
+pub record AddsFirst (port : Port) (old mid : Server) (new : Device) (r : IsMended port old mid new) (m : Machine) (first : List Step) : Type 0 where
+  pub looked : List Step
+  pub later : List Step
+  pub first_is : first ≡ later ++ looked
+  pub seen : IsMachineOf (record old { device = r.seen }) (after m looked)
+  pub seen_backed : IsBacked old.device r.seen m looked
+  pub found : IsMachineOf (record old { device = r.found }) (after m first)
+  pub found_backed : IsBacked old.device r.found m first
+
+-- From a machine that stands for the old server: the device's steps until the masks were read, the answers of what was done, the device's steps while the
+-- port was recovered and booted, and those that decide on its other requests. They lead to a machine that stands for the new one.
+pub record AddsFates (port : Port) (later : List Reply) (old new : Server) (a : HasMetFates port later old new) (m : Machine) : Type 0 where
+  pub first : List Step
+  pub ended : List Pending
+  pub middle : List Step
+  pub fates : List Step
+  pub first_only : AllDevices first
+  pub early : AddsFirst port old a.mid a.device a.mended m first
+  pub each : AllZip (HasEnded port) a.mended.requests ended
+  pub middle_only : AllDevices middle
+  pub may : AllMay m (fates ++ (middle ++ (answers_in ended ++ first)))
+  pub backed : IsBacked old.device new.device m (fates ++ (middle ++ (answers_in ended ++ first)))
+  pub stands : IsMachineOf new (after m (fates ++ (middle ++ (answers_in ended ++ first))))
+  pub own : All (DecidesOn port) fates
+  pub answered : (e : Pending) (outcome : Outcome) → Contains fates (Answer e outcome)
+      → (request : Held) × Contains (requests_of port a.mid.book) request × IsEntry request e × (fate_of a.failed a.prospect request.entry ≡ Ends outcome)
+  pub again : (e : Pending) → Contains fates (Again e)
+      → (request : Held) × Contains (requests_of port a.mid.book) request × IsEntry request e × (fate_of a.failed a.prospect request.entry ≡ GoesAgain)
+  pub tells : Tells fates later
+
+-- all those steps
+abbrev pub until_issues : {port : Port} {later : List Reply} {old new : Server} {a : HasMetFates port later old new} {m : Machine} → AddsFates port later old new a m → List Step
+until_issues f = f.fates ++ (f.middle ++ (answers_in f.ended ++ f.first))

@@ -1,0 +1,314 @@
+-- The accesses of a whole turn that mends its port: those before the port was recovered, recovery's, and those after it.
+use Rattle.std.proofs.Common.{ℕ, ◌≡◌, ◌≢◌, ◌<◌, ◌++◌, List, [], ◌∷◌, length, map, refl, sym, ap, ◌∙◌, subst, inl, inr, arith, ⊎_elim, ◌⊎◌}
+use Rattle.std.specs.List.{All, Contains}
+use Rattle.std.proofs.lemmas.Bool.Decides.{leb_tells}
+use Rattle.std.proofs.lemmas.List.{get_or-set_other, get_or-set_same, get_or_past}
+use Rattle.std.proofs.lemmas.List.Elements.{All-append, All-cons, All-nil, All-weaker}
+use Rattle.ata_types.specs.declared.Port.{Port}
+use Rattle.ata_types.specs.declared.PortState.TheVariants as shown
+use Rattle.ata_types.specs.declared.PortState.TheVariants.{Absent as AbsentState, Dead as DeadState, Ready as ReadyState}
+use Rattle.ata_types.specs.declared.request.Reply.{Reply}
+use Rattle.ata_types.specs.declared.request.RequestId.{RequestId}
+use Rattle.ata_types.specs.declared.limits.TheConstants.{READINGS}
+use Rattle.hba_regs.specs.declared.reg.PortReg.TheVariants.{Ci, Sact, Sctl}
+use Rattle.hba_regs.specs.declared.reg.Reg.TheVariants.{Px}
+use Rattle.adapter.specs.Access.{Access, DoesAll}
+use Rattle.adapter.specs.Access.Access.{Reading}
+use Rattle.adapter.specs.Device.{Device}
+use Rattle.adapter.specs.declared.command.Operation.TheVariants.{ReadLog}
+use Rattle.adapter.specs.Memory.{changed}
+use Rattle.adapter.proofs.Changed.{changed_other, changed_same}
+use Rattle.agreement.specs.Acts.{AnySlots, ByDeviceAlone, InSlots, Performs, at as at_slots, steps_of}
+use Rattle.agreement.specs.Agrees.{port_at}
+use Rattle.agreement.specs.Driven.{AnyUse, IsDrivenBy, IsFollowed, SendsNone}
+use Rattle.agreement.specs.GivingUp.{given_up}
+use Rattle.agreement.specs.Links.{SparesRegister}
+use Rattle.agreement.specs.Slots.{Free, Own, Use}
+use Rattle.block_machine.specs.Due.{due_of}
+use Rattle.block_machine.specs.Left.{after}
+use Rattle.block_machine.specs.declared.due.Unanswered.{Unanswered}
+use Rattle.server_history.proofs.state.ListMembers.{map_in}
+use Rattle.driver_history.specs.Trace.{LeavesCommand, ReadsMasks, ResetsLink}
+use Rattle.error_recovery.specs.Recovery.{IsRecovering, LeavesSlots}
+use Rattle.error_recovery.specs.declared.Next.{Next}
+use Rattle.error_recovery.specs.declared.Next.TheVariants as next
+use Rattle.host_boot.specs.Taken.{found_of, wanted_of}
+use Rattle.host_boot.specs.declared.Found.TheVariants.{Unready, Unserved}
+use Rattle.port_control.specs.Engines.{Sticks}
+use Rattle.port_control.specs.declared.Stopped.{Stopped}
+use Rattle.port_look.specs.Looks.{IsLooking, LooksAt}
+use Rattle.port_look.specs.declared.Look.{Look}
+use Rattle.port_look.specs.declared.Look.TheVariants as look
+use Rattle.request_queue.specs.Entries.{Held, asks, asks_of, due_ids}
+use Rattle.server_history.specs.Below.{LawsBelow}
+use Rattle.server_history.specs.Mended.{IsFoundOut, IsMended, HasMetFates, MendsPort}
+use Rattle.server_history.specs.Served.{IssuesEach, IssuesIn}
+use Rattle.server_history.specs.Server.{Server, IsKept, mode_in, state_of, used_for}
+use Rattle.port_look.specs.declared.Trouble.{Trouble}
+use Rattle.port_look.specs.declared.Trouble.TheVariants.{Broken, Failed, Hung, Lost}
+use Rattle.server_history.proofs.state.TurnAccesses.{issuing_leaves, issuing_turns, look_does, look_list, look_turns, turn_leaves}
+use Rattle.server_history.proofs.plain_calls.Looks.{finding_kept, finding_silent, found_over, looking_kept, looking_silent}
+use Rattle.server_history.proofs.state.TransferAccesses.{both_read}
+use Rattle.server_history.proofs.recovery_turn.RecoveryAccesses.{AfterList, IsEarlyPart, IsGivenUp, IsPart, after_list, recovering_part}
+use Rattle.server_history.proofs.recovery_turn.LinkResets.{recovering_spares, resets_more}
+use Rattle.server_history.proofs.plain_calls.IssueRounds.{each_driven, each_silent}
+use Rattle.server_history.proofs.healthy_turn.AnswersAndIssues.{answers_kept, answers_settings}
+use Rattle.server_history.proofs.state.SilentOperations.{silent_more}
+use Rattle.server_history.proofs.state.PortSlots.{AreOver, not_own, of_ready, ready_found}
+use Rattle.server_history.proofs.state.FirstMembers.{first_here}
+
+-- recovery's accesses were made
+pub recovery_does : (port : ℕ) (then : Next) (accesses : List Access) (old new : Device) → LeavesSlots port then accesses old new → DoesAll accesses old new
+recovery_does port (next.Running token) accesses old new p = p.does
+recovery_does port (next.Restart token) accesses old new p = p.does
+recovery_does port next.Dead accesses old new p = ⊎_elim (λ a. a.does) (λ b. ⊎_elim (λ x. x.does) (λ x. x.does) b) p
+
+-- The accesses of the turn: those until the masks were read, after which requests were answered; recovery's; and those after it, of a boot and of issues.
+-- No page of the log comes on another port that isn't dead.
+pub record TurnParts (port : Port) (replies : List Reply) (old new : Server) (r : MendsPort port replies old new) : Type 0 where
+  pub early : IsDrivenBy (IsEarlyPart port) old.device r.settled.mid.device
+  pub masks : ReadsMasks port r.settled.mended.reads.issued r.settled.mended.reads.active early.accesses
+  pub does : DoesAll r.settled.mended.mends.accesses r.settled.mid.device r.settled.device
+  pub kinds : All (IsPart port) r.settled.mended.mends.accesses
+  pub late : IsDrivenBy (IsPart port) r.settled.device new.device
+  pub sticks : r.settled.found ≡ Unready DeadState → r.settled.mended.result.next ≢ next.Dead → Sticks port late.accesses
+  pub stuck : r.settled.found ≡ Unready DeadState → r.settled.mended.result.next ≢ next.Dead → (new.device.port port.0).notes.engine_count ≡ READINGS
+  pub resets : (token : Stopped) → r.settled.mended.result.next ≡ next.Restart token → r.settled.found ≢ Unready DeadState
+      → ((r.settled.mended.trouble ≡ Lost) × (r.settled.found ≡ Unready AbsentState)) ⊎ ResetsLink port late.accesses
+  pub unreset : ((token : Stopped) → r.settled.mended.result.next ≢ next.Restart token) → All (SparesRegister (Px port Sctl)) (early.accesses ++ (r.settled.mended.mends.accesses ++ late.accesses))
+  pub unissued : r.settled.found ≡ Unready DeadState → new ≡ r.mid
+  pub silent : (q : ℕ) → q ≢ port.0 → state_of (found_of old.ports q) ≢ DeadState → SendsNone q ReadLog old.device new.device
+  pub issuing_silent : state_of (found_of r.mid.ports port.0) ≢ DeadState → SendsNone port.0 ReadLog r.mid.device new.device
+
+abbrev pub accesses_in : {port : Port} {replies : List Reply} {old new : Server} {r : MendsPort port replies old new} → TurnParts port replies old new r → List Access
+accesses_in {port} {replies} {old} {new} {r} t = t.early.accesses ++ (r.settled.mended.mends.accesses ++ t.late.accesses)
+
+-- a list with nobody in it
+nobody : {X : Type 0} (xs : List X) → ((x : X) → Contains xs x → ⊥) → xs ≡ []
+nobody [] none = refl
+nobody (x ∷ xs) none = absurd (none x (first_here x xs))
+
+module _ (laws : LawsBelow) (port : Port) (replies : List Reply) (old new : Server) (k : IsKept old) (ready : state_of (found_of old.ports port.0) ≡ ReadyState) (r : MendsPort port replies old new)
+    (looks : IsFollowed (IsLooking port) AnyUse old.device r.settled.mended.seen) (kept : IsKept r.mid) where
+  abbrev a : HasMetFates port r.later old r.mid
+  a = r.settled
+
+  abbrev x : IsMended port old a.mid a.device
+  x = a.mended
+
+  low : port.0 < 4
+  low = (ready_found old port.0 k ready).0
+
+  -- ---- the server until recovery
+
+  abbrev from : Server
+  from = record old { device = x.found }
+
+  pub seen_kept : IsKept (record old { device = x.seen })
+  seen_kept = looking_kept old x.seen port k ready laws looks
+
+  pub found_kept : IsKept from
+  found_kept = finding_kept (record old { device = x.seen }) x.found port seen_kept ready laws x.mask x.done x.reads
+
+  answered_as : a.mid ≡ record from { table = a.mid.table; slots = a.mid.slots; book = a.mid.book }
+  answered_as = answers_settings laws port x.done x.requests from a.mid x.each
+
+  -- the commands of slots that were found done are over
+  pub done_over : AreOver port x.done x.found
+  done_over = found_over (record old { device = x.seen }) x.found port seen_kept ready laws x.mask x.done x.reads x.its
+
+  pub mid_kept : IsKept a.mid
+  mid_kept = answers_kept laws port x.done x.requests from a.mid found_kept ready done_over x.each
+
+  pub mid_device : a.mid.device ≡ x.found
+  mid_device = ap (λ (n : Server). n.device) answered_as
+
+  mid_found : (q : ℕ) → found_of a.mid.ports q ≡ found_of old.ports q
+  mid_found q = ap (λ (n : Server). found_of n.ports q) answered_as
+
+  -- ---- accesses
+
+  -- one of those before recovery, and it doesn't write PxSCTL
+  abbrev IsLookingOn : Access → Type 0
+  IsLookingOn access = IsEarlyPart port access × SparesRegister (Px port Sctl) access
+
+  -- those of a look; where a request is hung there are none
+  looking : IsDrivenBy IsLookingOn old.device x.seen
+  looking = by x.trouble x.finds
+    where
+      looked : (told : Look) → LooksAt port told old.device x.seen → IsDrivenBy IsLookingOn old.device x.seen
+      looked told l = record {
+        accesses = look_list port l.causes l.own l.status;
+        all = look_does port told old.device x.seen l;
+        only = λ i d small. let t = look_turns port l.causes l.own l.status l.alone i d small in let leaves = turn_leaves port port _ t in ((t.1, leaves.0), leaves.1);
+      }
+
+      by : (trouble : Trouble) → IsFoundOut port trouble old.device x.seen → IsDrivenBy IsLookingOn old.device x.seen
+      by Failed l = looked look.Failed l
+      by Broken l = looked look.Broken l
+      by Lost l = looked look.Lost l
+      by Hung same = subst (IsDrivenBy IsLookingOn old.device) (sym same) (record { accesses = []; all = refl; only = All-nil IsLookingOn })
+
+  looking_early : All (IsEarlyPart port) looking.accesses
+  looking_early = All-weaker IsLookingOn (IsEarlyPart port) (λ access is. is.0) looking.accesses looking.only
+
+  finding : IsDrivenBy (IsEarlyPart port) x.seen x.found
+  finding =
+      let m = both_read port x.mask x.done x.seen x.found x.reads in
+      record {
+        accesses = Reading (Px port Ci) x.reads.issued ∷ Reading (Px port Sact) x.reads.active ∷ [];
+        all = (m.0, m.1, (x.found, m.2, refl));
+        only = All-cons (IsEarlyPart port) (Reading (Px port Ci) x.reads.issued) (Reading (Px port Sact) x.reads.active ∷ []) ((tt, refl), tt)
+            (All-cons (IsEarlyPart port) (Reading (Px port Sact) x.reads.active) [] ((tt, refl), tt) (All-nil (IsEarlyPart port)));
+      }
+
+  -- both, in which the masks were read at the end
+  early : IsDrivenBy (IsEarlyPart port) old.device a.mid.device
+  early = record {
+    accesses = looking.accesses ++ finding.accesses;
+    all = subst (DoesAll (looking.accesses ++ finding.accesses) old.device) (sym mid_device) (laws.basic.does_append looking.accesses finding.accesses old.device x.seen x.found looking.all finding.all);
+    only = All-append (IsEarlyPart port) looking.accesses finding.accesses looking_early finding.only;
+  }
+
+  early_spares : All (SparesRegister (Px port Sctl)) early.accesses
+  unfolding early finding
+  early_spares = All-append (SparesRegister (Px port Sctl)) looking.accesses finding.accesses
+      (All-weaker IsLookingOn (SparesRegister (Px port Sctl)) (λ access is. is.1) looking.accesses looking.only)
+      (All-cons (SparesRegister (Px port Sctl)) (Reading (Px port Ci) x.reads.issued) (Reading (Px port Sact) x.reads.active ∷ []) tt
+      (All-cons (SparesRegister (Px port Sctl)) (Reading (Px port Sact) x.reads.active) [] tt (All-nil (SparesRegister (Px port Sctl)))))
+
+  masks : ReadsMasks port x.reads.issued x.reads.active early.accesses
+  unfolding early finding
+  masks = record {
+    before = looking.accesses;
+    later = [];
+    here = refl;
+    running = All-weaker (IsEarlyPart port) (LeavesCommand port) (λ access is. is.1) looking.accesses looking_early;
+  }
+
+  afterwards : AfterList port x.trouble x.result.next a.found a.device r.mid.device
+  afterwards = after_list laws port low (wanted_of old.wanted port.0) x.trouble a.was x.result.next a.device r.mid.device a.found a.is
+
+  each : IsDrivenBy (IssuesIn port) r.mid.device new.device
+  each = each_driven laws port (due_ids (mode_in r.mid port) port (asks_of r.mid.book)) r.mid new r.issued
+
+  issuing : IsDrivenBy (IsPart port) r.mid.device new.device
+  issuing = record { accesses = each.accesses; all = each.all; only = All-weaker (IssuesIn port) (IsPart port) (λ access is. (issuing_turns laws port low access is).1) each.accesses each.only }
+
+  issuing_spares : All (SparesRegister (Px port Sctl)) issuing.accesses
+  unfolding issuing
+  issuing_spares = All-weaker (IssuesIn port) (SparesRegister (Px port Sctl)) (λ access is. (issuing_leaves port port access is).1) each.accesses each.only
+
+  -- nothing is issued on a dead port, of which there are no requests
+  none_issued : state_of (found_of r.mid.ports port.0) ≡ DeadState → new ≡ r.mid
+  none_issued dead = subst (λ (ids : List RequestId). IssuesEach port ids r.mid new) (ap (λ (us : List Unanswered). map (λ (u : Unanswered). u.id) us) (nobody (due_of (mode_in r.mid port) port (asks_of r.mid.book)) none)) r.issued
+    where
+      none : (u : Unanswered) → Contains (due_of (mode_in r.mid port) port (asks_of r.mid.book)) u → ⊥
+      none u here =
+          let due = (laws.exact (mode_in r.mid port) port (asks_of r.mid.book) u (laws.own (mode_in r.mid port) port (asks_of r.mid.book) u here)).0 here in
+          let e = map_in (λ (y : Held). asks y.entry) r.mid.book u due.here in
+          let its : e.0.entry.port ≡ port = sym (ap (λ (v : Unanswered). v.port) e.2) ∙ laws.own (mode_in r.mid port) port (asks_of r.mid.book) u here in
+          let z : ReadyState ≡ DeadState = sym (of_ready r.mid kept e.0 e.1) ∙ ap (λ (q : Port). state_of (found_of r.mid.ports q.0)) its ∙ dead in
+          absurd cc
+
+  -- ---- what the port is then
+
+  listed : port.0 < length old.ports
+  listed = ⊎_elim
+      (λ past. let z : shown.Absent ≡ ReadyState = sym (ap state_of (get_or_past old.ports port.0 Unserved past.1)) ∙ ready in absurd cc)
+      (λ within. within.1)
+      (leb_tells (length old.ports) port.0)
+
+  pub found_is : found_of r.mid.ports port.0 ≡ a.found
+  found_is =
+      let many : length a.mid.ports ≡ length old.ports = ap (λ (n : Server). length n.ports) answered_as in
+      let within : port.0 < length a.mid.ports = (let small = listed in omega (arith, small, many)) in
+      ap (λ (n : Server). found_of n.ports port.0) a.server ∙ get_or-set_same a.mid.ports port.0 a.found Unserved within
+
+  -- ---- no page of the log
+
+  module _ (q : ℕ) (other : q ≢ port.0) (lives : state_of (found_of old.ports q) ≢ DeadState) where
+    -- its slot 0 has no command of the driver's own
+    none_own : mid_kept.stands.uses q 0 ≡ Own ReadLog → ⊥
+    none_own = not_own (found_of a.mid.ports q) (used_for a.mid.slots q 0) (mid_kept.stands.uses q 0) ReadLog (λ dead. lives (ap state_of (sym (mid_found q) ∙ dead))) (mid_kept.stands.used q 0)
+
+    -- nor has it once the port's slots were given up
+    given : (token : Stopped) → x.result.next ≡ next.Restart token → (g : IsGivenUp port a.device) × (g.uses q 0 ≡ Own ReadLog → ⊥)
+    given token is =
+        let m = mid_kept.machine in
+        let s : InSlots = record { uses = mid_kept.stands.uses; parked = mid_kept.stands.parked } in
+        let p : Performs x.mends.accesses AnySlots (given_up port.0) ByDeviceAlone a.mid.device a.device = subst (λ (n : Next). LeavesSlots port.0 n x.mends.accesses a.mid.device a.device) is x.mends.does.slots in
+        let c = p.comes s m mid_kept.reached mid_kept.stands.knows tt in
+        let g = laws.slots.acts_go c.acts (at_slots s a.mid.device) (at_slots (given_up port.0 s) a.device) m mid_kept.stands.knows c.done in (
+          record {
+            uses = changed s.uses port.0 (λ slot. Free);
+            parked = (given_up port.0 s).parked;
+            machine = after m (steps_of c.acts);
+            free = λ slot. ap (λ (f : ℕ → Use). f slot) (changed_same s.uses port.0 (λ slot. Free));
+            reached = laws.basic.reached m (steps_of c.acts) mid_kept.reached g.may;
+            knows = g.knows;
+          },
+          λ own. none_own (ap (λ (f : ℕ → Use). f 0) (sym (changed_other s.uses port.0 (λ slot. Free) q other)) ∙ own),
+        )
+
+    early_silent : SendsNone q ReadLog old.device a.mid.device
+    early_silent = subst (SendsNone q ReadLog old.device) (sym mid_device)
+        (silent_more q ReadLog old.device x.seen x.found (looking_silent old x.seen port k looks q ReadLog refl (λ dead. lives (ap state_of dead)))
+        (finding_silent (record old { device = x.seen }) x.found port seen_kept ready laws x.mask x.done x.reads q ReadLog refl (λ dead. lives (ap state_of dead))))
+
+    recovery_silent : SendsNone q ReadLog a.mid.device a.device
+    recovery_silent = x.mends.leaves.others (port_at q) ReadLog other refl
+        (mid_kept.stands.uses, none_own, record { machine = mid_kept.machine; parked = mid_kept.stands.parked; reached = mid_kept.reached; knows = mid_kept.stands.knows })
+
+    later_found : found_of r.mid.ports q ≡ found_of old.ports q
+    later_found = ap (λ (n : Server). found_of n.ports q) a.server ∙ get_or-set_other a.mid.ports port.0 q a.found Unserved other ∙ mid_found q
+
+    whole_silent : SendsNone q ReadLog old.device new.device
+    whole_silent =
+        silent_more q ReadLog old.device a.mid.device new.device early_silent
+        (silent_more q ReadLog a.mid.device a.device new.device recovery_silent
+        (silent_more q ReadLog a.device r.mid.device new.device (afterwards.silent (port_at q) ReadLog other refl given)
+        (each_silent laws port (due_ids (mode_in r.mid port) port (asks_of r.mid.book)) r.mid new kept r.issued q ReadLog refl (λ dead. lives (ap state_of (sym later_found ∙ dead))))))
+
+  -- ---- the whole
+
+  late : IsDrivenBy (IsPart port) a.device new.device
+  late = record {
+    accesses = afterwards.driven.accesses ++ issuing.accesses;
+    all = laws.basic.does_append afterwards.driven.accesses issuing.accesses a.device r.mid.device new.device afterwards.driven.all issuing.all;
+    only = All-append (IsPart port) afterwards.driven.accesses issuing.accesses afterwards.driven.only issuing.only;
+  }
+
+  dead_unissued : a.found ≡ Unready DeadState → new ≡ r.mid
+  dead_unissued dead = none_issued (ap state_of (found_is ∙ dead))
+
+  late_sticks : a.found ≡ Unready DeadState → x.result.next ≢ next.Dead → Sticks port late.accesses
+  unfolding late
+  late_sticks dead lives = laws.sticks_then afterwards.driven.accesses issuing.accesses port (afterwards.sticks dead lives)
+
+  late_resets : (token : Stopped) → x.result.next ≡ next.Restart token → a.found ≢ Unready DeadState
+      → ((x.trouble ≡ Lost) × (a.found ≡ Unready AbsentState)) ⊎ ResetsLink port late.accesses
+  unfolding late
+  late_resets token is lives = ⊎_elim (λ absent. inl absent) (λ resets. inr (resets_more port [] afterwards.driven.accesses issuing.accesses resets issuing_spares)) (afterwards.resets token is lives)
+
+  late_spares : ((token : Stopped) → x.result.next ≢ next.Restart token) → All (SparesRegister (Px port Sctl)) late.accesses
+  unfolding late
+  late_spares never = All-append (SparesRegister (Px port Sctl)) afterwards.driven.accesses issuing.accesses (afterwards.unreset never) issuing_spares
+
+  pub turn_parts : TurnParts port replies old new r
+  turn_parts = record {
+    early = early;
+    masks = masks;
+    does = recovery_does port.0 x.result.next x.mends.accesses a.mid.device a.device x.mends.does.slots;
+    kinds = All-weaker (IsRecovering port) (IsPart port) (recovering_part laws port low) x.mends.accesses x.mends.does.only;
+    late = late;
+    sticks = late_sticks;
+    stuck = λ dead lives. ap (λ (n : Server). (n.device.port port.0).notes.engine_count) (dead_unissued dead) ∙ afterwards.stuck dead lives;
+    resets = late_resets;
+    unreset = λ never. All-append (SparesRegister (Px port Sctl)) early.accesses (x.mends.accesses ++ late.accesses) early_spares
+        (All-append (SparesRegister (Px port Sctl)) x.mends.accesses late.accesses
+        (All-weaker (IsRecovering port) (SparesRegister (Px port Sctl)) (recovering_spares laws port) x.mends.accesses x.mends.does.only) (late_spares never));
+    unissued = dead_unissued;
+    silent = whole_silent;
+    issuing_silent = λ lives. each_silent laws port (due_ids (mode_in r.mid port) port (asks_of r.mid.book)) r.mid new kept r.issued port.0 ReadLog refl (λ dead. lives (ap state_of dead));
+  }

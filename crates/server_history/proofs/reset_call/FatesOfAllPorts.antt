@@ -1,0 +1,372 @@
+-- Once the adapter was taken over again, requests meet their fates in the machine, one port after another.
+use Rattle.std.proofs.Common.{List, None, Option, [], ap, arith, eq-eqb, eqb-true, false, get_or, inl, inr, length, map, refl, subst, sym, true, ℕ, ⊎_elim, ◌++◌, ◌+◌, ◌<◌, ◌∙◌, ◌∷◌, ◌≡◌, ◌≢◌, ◌≤◌}
+use Rattle.std.proofs.lemmas.Bool.{cases_eq, false≢true}
+use Rattle.std.proofs.lemmas.List.{get_or-set_other, get_or-set_same, length-set, map-append}
+use Rattle.std.proofs.lemmas.List.Elements.{All-append, All-contains, All-contains_itself, All-filter, All-nil, All-weaker, Contains-append_cases, filter_passes}
+use Rattle.std.proofs.lemmas.List.Kept.{AllPairs-filter}
+use Rattle.std.proofs.lemmas.List.Sorted.{Contains-permutation, IsPermutation-append, IsPermutation-append_comm, IsPermutation-refl, IsPermutation-trans}
+use Rattle.std.specs.List.{All, AllPairs, Contains}
+use Rattle.std.specs.List.Sorted.{IsPermutation}
+use Rattle.adapter.specs.Device.{Device}
+use Rattle.adapter.specs.declared.command.Operation.TheVariants.{Identify}
+use Rattle.agreement.specs.Agrees.{port_at}
+use Rattle.agreement.specs.Driven.{known}
+use Rattle.agreement.specs.Driver.{IsBacked, Knows}
+use Rattle.agreement.specs.Slots.{Free, Own, Serves, Uses}
+use Rattle.ata_types.specs.declared.Port.{Port}
+use Rattle.ata_types.specs.declared.PortState.TheVariants.{Dead}
+use Rattle.ata_types.specs.declared.request.ClientId.{ClientId}
+use Rattle.ata_types.specs.declared.request.Frame.{Frame}
+use Rattle.ata_types.specs.declared.request.Outcome.{Outcome}
+use Rattle.ata_types.specs.declared.request.Reply.{Reply}
+use Rattle.ata_types.specs.declared.request.RequestId.{RequestId}
+use Rattle.server_history.proofs.state.ListMembers.{contains_there}
+use Rattle.block_machine.specs.Events.{AllMay, IsToldBefore, answers_of, reply_of}
+use Rattle.block_machine.specs.Histories.{IsReached}
+use Rattle.block_machine.specs.Left.{after}
+use Rattle.block_machine.specs.State.{Machine, Pending}
+use Rattle.block_machine.specs.Steps.{Again, Answer, Step}
+use Rattle.dma_frames.specs.Loan.{Lending}
+use Rattle.dma_frames.specs.Table.{lent_to, owner_of}
+use Rattle.host_boot.specs.Taken.{IsLeft as SlotLeft, found_of}
+use Rattle.host_boot.specs.declared.Found.{Found}
+use Rattle.host_boot.specs.declared.Found.TheVariants.{Unready}
+use Rattle.identify.specs.declared.DiskInfo.{DiskInfo}
+use Rattle.request_queue.specs.Entries.{Held, IsAccepted, IsEarlier, IsInOrder, is_of, requeued}
+use Rattle.request_queue.specs.Fates.{Holdings, MeetFates, MeetsFate, fate_of}
+use Rattle.request_queue.specs.Machine.{IsBook, IsEntry}
+use Rattle.request_queue.specs.declared.Entry.{Entry}
+use Rattle.request_queue.specs.declared.fate.Fate.{Fate}
+use Rattle.request_queue.specs.declared.fate.Fate.TheVariants.{Ends, GoesAgain, Waits}
+use Rattle.request_queue.specs.declared.fate.Prospect.{Prospect}
+use Rattle.request_queue.specs.declared.fate.Prospect.TheVariants.{Dead as NoEnd, DiskLost, SameDisk}
+use Rattle.server_history.proofs.recovery_turn.MendedMachine.{deciding_leaves, in_filter}
+use Rattle.server_history.proofs.any_turn.JoinedParts.{all_pairs_append, answers_append, answers_there}
+use Rattle.server_history.proofs.state.FirstMembers.{first_here, nowhere}
+use Rattle.server_history.proofs.fates.MoreKeptLoans.{more_kept}
+use Rattle.server_history.proofs.fates.MetFates.{meet, tame}
+use Rattle.server_history.proofs.fates.RemainingBook.{IsLeft, WasIn, ends_of, fated, was_itself, was_more}
+use Rattle.server_history.specs.Below.{LawsBelow}
+use Rattle.server_history.specs.Fates.{DecidesOn, MayMeet, MeetsInMachine, keeps_fate}
+use Rattle.server_history.specs.Mended.{holdings_of, requests_of}
+use Rattle.server_history.specs.Resets.{IsProspectAnew, SettlePorts, SettlesPort, with_holdings}
+use Rattle.server_history.specs.Server.{AreKept, Server, kept_at, remembered_at}
+
+-- ---- a port's requests
+
+pub of_requests : (port : Port) (book : List Held) (e : Held) → Contains (requests_of port book) e → Contains book e × (e.entry.port ≡ port)
+of_requests port book e here = (
+  All-contains (Contains book) (requests_of port book) e (All-filter (λ (x : Held). is_of port x.entry) (Contains book) book (All-contains_itself book)) here,
+  ap port_at (eqb-true e.entry.port.0 port.0 (All-contains (λ (x : Held). is_of port x.entry ≡ true) (requests_of port book) e (filter_passes (λ (x : Held). is_of port x.entry) book) here)),
+)
+
+pub in_requests : (port : Port) (book : List Held) (e : Held) → Contains book e → e.entry.port.0 ≡ port.0 → Contains (requests_of port book) e
+in_requests port book e here same = in_filter (λ (x : Held). is_of port x.entry) book e here (eq-eqb e.entry.port.0 port.0 same)
+
+-- one that is none of those that meet their fates stays as it is
+fates_spare : LawsBelow → (fate : Entry → Fate) (requests : List Held) (replies : List Reply) (old new : Holdings) → MeetFates fate requests replies old new → (e : Held) → Contains old.book e
+    → ((r : Held) → Contains requests r → e.entry.id ≢ r.entry.id) → Contains new.book e
+fates_spare laws fate [] replies old new (none, is) e here apart = subst (λ (h : Holdings). Contains h.book e) (sym is) here
+fates_spare laws fate (request ∷ requests) replies old new (mid, its, later, split, meets, more) e here apart =
+    fates_spare laws fate requests later mid new more e (spared (fate request.entry) meets) (λ r there. apart r (contains_there request requests r there))
+  where
+    differs : e.entry.id ≢ request.entry.id
+    differs = apart request (first_here request requests)
+
+    spared : (f : Fate) → MeetsFate request f its old mid → Contains mid.book e
+    spared Waits m = subst (λ (h : Holdings). Contains h.book e) (sym m.1) here
+    spared GoesAgain m = subst (λ (h : Holdings). Contains h.book e) (sym m.1) (laws.others old.book request.entry.id requeued e here differs)
+    spared (Ends o) m = subst (λ (book : List Held). Contains book e) (sym m.1) ((laws.left old.book request.entry.id e).1 (here, differs))
+
+-- a slot that was left so serves no request
+pub serves_none : (ports : List Found) (uses : Uses) (port slot : ℕ) → SlotLeft ports uses port slot → (id : RequestId) → uses port slot ≡ Serves id → ⊥
+serves_none ports uses port slot (inl free) id serves = let z : Free ≡ Serves id = sym free ∙ serves in absurd cc
+serves_none ports uses port slot (inr (zero_is, own, dead)) id serves = let z : Own Identify ≡ Serves id = sym own ∙ ap (uses port) (sym zero_is) ∙ serves in absurd cc
+
+-- ---- what is so on the way
+
+-- the port is ready with the disk that it had
+abbrev pub HasItsDisk : List (Option DiskInfo) → List Found → ℕ → Type 0
+HasItsDisk remembered ports port = IsProspectAnew (remembered_at remembered port) (found_of ports port) SameDisk
+
+-- The requests of ports below this number met their fates: what is parked of the others is issued, and of those none is, but of dead ones; and who is left of them is of a ready port
+-- that has its disk.
+pub record IsFatedTo (n : ℕ) (c : Server) (m : Machine) : Type 0 where
+  pub four_kept : length c.kept ≡ 4
+  pub uses : Uses
+  pub left : (port slot : ℕ) → SlotLeft c.ports uses port slot
+  pub parked : ℕ → List RequestId
+  pub knows : Knows m (known uses parked c.device)
+  pub unparked : (port : ℕ) → port < n → found_of c.ports port ≢ Unready Dead → parked port ≡ []
+  pub its : (port : ℕ) → n ≤ port → (id : RequestId) → Contains (parked port) id
+      → (e : Held) × Contains c.book e × (e.entry.id ≡ id) × (e.entry.issued ≡ true) × (e.entry.port.0 ≡ port)
+  pub book : IsBook c.book m.book
+  pub kept : AreKept c.ports c.kept m.kept
+  pub unkept : (port : ℕ) → n ≤ port → kept_at c.kept port ≡ []
+  pub rows : m.rows ≡ c.grants
+  pub owner : (frame : Frame) → m.owner frame ≡ owner_of c.table frame
+  pub lent : (frame : Frame) → m.lent frame ≡ lent_to c.table frame
+  pub next : m.next ≡ c.last + 1
+  pub ordered : IsInOrder c.book
+  pub accepted : All (IsAccepted c.grants c.table) c.book
+  pub alive : (e : Held) → Contains c.book e → e.entry.port.0 < n → HasItsDisk c.remembered c.ports e.entry.port.0
+
+-- ---- one port
+
+module _ (laws : LawsBelow) (n : ℕ) (low : n < 4) (replies : List Reply) (old mid : Server) (m : Machine) (reached : IsReached m) (s : SettlesPort (port_at n) replies old mid) (at : IsFatedTo n old m) where
+  abbrev port : Port
+  port = port_at n
+
+  abbrev fate : Entry → Fate
+  fate = fate_of None s.prospect
+
+  abbrev its : List Held
+  its = requests_of port old.book
+
+  abbrev was : Option DiskInfo
+  was = remembered_at old.remembered n
+
+  abbrev found : Found
+  found = found_of old.ports n
+
+  may_meet : MayMeet port fate its (holdings_of port old) old.grants (known at.uses at.parked old.device) m
+  may_meet = record {
+    reached = reached;
+    knows = at.knows;
+    book = at.book;
+    lent = at.lent;
+    ordered = at.ordered;
+    accepted = at.accepted;
+    here = of_requests port old.book;
+    earlier = AllPairs-filter IsEarlier (λ (x : Held). is_of port x.entry) old.book at.ordered.ordered;
+    unserved = λ e here never q slot serves. serves_none old.ports at.uses q slot (at.left q slot) e.entry.id serves;
+    parked = λ quiet id here. let w = at.its n (omega arith) id here in (w.0, in_requests port old.book w.0 w.1 w.4, w.2, w.3);
+  }
+
+  pub met : MeetsInMachine port fate its replies (holdings_of port old) s.now (known at.uses at.parked old.device) m
+  met = meet laws port None s.prospect old.grants its replies (holdings_of port old) s.now (known at.uses at.parked old.device) m may_meet s.meets
+
+  pub left : IsLeft port fate old.grants its (holdings_of port old) s.now
+  left = fated laws port None s.prospect old.grants its replies (holdings_of port old) s.now
+      (record { here = of_requests port old.book; earlier = may_meet.earlier; ordered = at.ordered; accepted = at.accepted }) s.meets
+
+  abbrev z : Machine
+  z = after m met.steps
+
+  -- ---- loans that are kept
+
+  -- they are of a dead port
+  dies : (e : Pending) → Contains met.held e → (e.request.port ≡ port) × (found ≡ Unready Dead)
+  dies e here = (x.2.port ∙ (of_requests port old.book x.0 x.1).1, by s.prospect refl)
+    where
+      x : (request : Held) × Contains its request × IsEntry request e × (keeps_fate (fate request.entry) request.entry ≡ true)
+      x = met.whose e here
+
+      lives : s.prospect ≢ NoEnd → ⊥
+      lives other = false≢true (sym ((tame None s.prospect x.0.entry).alive other) ∙ x.3)
+
+      by : (p : Prospect) → s.prospect ≡ p → found ≡ Unready Dead
+      by SameDisk same = absurd (lives (λ dead. let y : SameDisk ≡ NoEnd = sym same ∙ dead in absurd cc))
+      by DiskLost same = absurd (lives (λ dead. let y : DiskLost ≡ NoEnd = sym same ∙ dead in absurd cc))
+      by NoEnd same = subst (IsProspectAnew was found) same s.expects
+
+  quiet : found ≢ Unready Dead → (e : Entry) → keeps_fate (fate e) e ≡ false
+  quiet lives e = (tame None s.prospect e).alive (λ dead. lives (subst (IsProspectAnew was found) dead s.expects))
+
+  abbrev new : Server
+  new = with_holdings port s.now old
+
+  are_kept : AreKept new.ports new.kept z.kept
+  are_kept = subst (AreKept new.ports new.kept) (sym met.kept)
+      (more_kept port old.ports old.ports old.kept new.kept met.held m.kept at.kept
+      (get_or-set_same old.kept n s.now.kept [] (let four = at.four_kept in omega (arith, four, low)) ∙ met.loans)
+      (λ q ne. get_or-set_other old.kept n q s.now.kept [] ne) at.kept.dead dies met.two
+      (λ a b here there. absurd (nowhere a (subst (λ (loans : List Lending). Contains loans a) (at.unkept n (omega arith)) here))))
+
+  -- ---- who is left
+
+  its_then : (q : ℕ) → n + 1 ≤ q → (id : RequestId) → Contains (met.parked q) id → (e : Held) × Contains s.now.book e × (e.entry.id ≡ id) × (e.entry.issued ≡ true) × (e.entry.port.0 ≡ q)
+  its_then q high id here =
+      let other : q ≢ n = λ same. omega (arith, high, same) in
+      let w = at.its q (omega (arith, high)) id (subst (λ (ids : List RequestId). Contains ids id) (met.others q other) here) in (
+        w.0,
+        fates_spare laws fate its replies (holdings_of port old) s.now s.meets w.0 w.1 (λ r there same.
+            let o = of_requests port old.book r there in
+            let one : w.0 ≡ r = laws.one old.book w.0 r at.ordered w.1 o.0 same in
+            other (sym w.4 ∙ ap (λ (x : Held). x.entry.port.0) one ∙ ap (λ (p : Port). p.0) o.1)),
+        w.2,
+        w.3,
+        w.4,
+      )
+
+  alive_then : (e : Held) → Contains s.now.book e → e.entry.port.0 < n + 1 → HasItsDisk old.remembered old.ports e.entry.port.0
+  alive_then e here lt = ⊎_elim
+      (λ (same : e.entry.port.0 ≡ n). subst (HasItsDisk old.remembered old.ports) (sym same) (by same s.prospect refl s.expects))
+      (λ (ne : e.entry.port.0 ≢ n). subst (λ (p : Port). HasItsDisk old.remembered old.ports p.0) (sym w.port) (at.alive w.was w.there (let own = ap (λ (p : Port). p.0) w.port in omega (arith, lt, ne, own))))
+      (cases_eq e.entry.port.0 n)
+    where
+      w : WasIn old.book e
+      w = left.from e here
+
+      none : e.entry.port.0 ≡ n → (s.prospect ≡ SameDisk → ⊥) → ⊥
+      none own other =
+          let end = ends_of None s.prospect other w.was.entry in
+          left.gone w.was end.0 (in_requests port old.book w.was w.there (ap (λ (p : Port). p.0) (sym w.port) ∙ own)) end.1 e here w.id
+
+      by : e.entry.port.0 ≡ n → (p : Prospect) → s.prospect ≡ p → IsProspectAnew was found p → HasItsDisk old.remembered old.ports n
+      by own SameDisk is x = x
+      by own DiskLost is x = absurd (none own (λ same. let y : DiskLost ≡ SameDisk = sym is ∙ same in absurd cc))
+      by own NoEnd is x = absurd (none own (λ same. let y : NoEnd ≡ SameDisk = sym is ∙ same in absurd cc))
+
+  leaves : (z.rows ≡ m.rows) × ((frame : Frame) → z.owner frame ≡ m.owner frame) × (z.next ≡ m.next)
+  leaves = deciding_leaves port m met.steps met.own
+
+  pub fated_one : IsFatedTo (n + 1) mid z
+  fated_one = subst (λ (c : Server). IsFatedTo (n + 1) c z) (sym s.server) (record {
+    four_kept = length-set old.kept n s.now.kept ∙ at.four_kept;
+    uses = at.uses;
+    left = at.left;
+    parked = met.parked;
+    knows = met.knows;
+    unparked = λ q lt lives. ⊎_elim
+        (λ (same : q ≡ n). ap met.parked same ∙ met.none (quiet (λ dead. lives (ap (found_of old.ports) same ∙ dead))))
+        (λ (ne : q ≢ n). met.others q ne ∙ at.unparked q (omega (arith, lt, ne)) lives)
+        (cases_eq q n);
+    its = its_then;
+    book = met.book;
+    kept = are_kept;
+    unkept = λ q high. get_or-set_other old.kept n q s.now.kept [] (λ same. omega (arith, high, same)) ∙ at.unkept q (omega (arith, high));
+    rows = leaves.0 ∙ at.rows;
+    owner = λ frame. leaves.1 frame ∙ at.owner frame ∙ ap (λ (owners : List (Option ClientId)). get_or owners frame.0 None) (sym left.owners);
+    lent = met.lent;
+    next = leaves.2 ∙ at.next;
+    ordered = left.ordered;
+    accepted = left.accepted;
+    alive = alive_then;
+  })
+
+-- ---- one port after another
+
+-- The request, which was in the book, has this fate, by what its port is.
+pub record HasFate (c : Server) (e : Pending) (f : Fate) : Type 0 where
+  pub request : Held
+  pub entry : IsEntry request e
+  pub from : WasIn c.book request
+  pub prospect : Prospect
+  pub expects : IsProspectAnew (remembered_at c.remembered e.request.port.0) (found_of c.ports e.request.port.0) prospect
+  pub fate : fate_of None prospect request.entry ≡ f
+
+-- a step that decides on a request of some port
+abbrev pub Decides : Step → Type 0
+Decides step = (port : Port) × DecidesOn port step
+
+-- Requests of so many ports, of which the first has this number, met their fates by steps that decide on them; these are told by port, and then by id.
+pub record AreFated (n : ℕ) (found : List Found) (replies : List Reply) (old new : Server) (m : Machine) : Type 0 where
+  pub steps : List Step
+  pub may : AllMay m steps
+  pub backed : (d : Device) → IsBacked d d m steps
+  pub fated : IsFatedTo (n + length found) new (after m steps)
+  pub decides : All Decides steps
+  pub answered : (e : Pending) (o : Outcome) → Contains steps (Answer e o) → HasFate old e (Ends o)
+  pub again : (e : Pending) → Contains steps (Again e) → HasFate old e GoesAgain
+  pub answers : List (Pending × Outcome)
+  pub permuted : IsPermutation answers (answers_of steps)
+  pub ordered : AllPairs IsToldBefore answers
+  pub high : All (λ a. n ≤ a.0.request.port.0) answers
+  pub told : replies ≡ map reply_of answers
+  pub from : (e : Held) → Contains new.book e → WasIn old.book e
+  pub owners : new.table.owners ≡ old.table.owners
+  pub settings : new ≡ record old { table = new.table; kept = new.kept; book = new.book }
+
+module _ (laws : LawsBelow) (n : ℕ) (low : n < 4) (found : Found) (rest : List Found) (replies its later : List Reply) (split : replies ≡ its ++ later) (old mid new : Server) (m : Machine) (reached : IsReached m)
+    (s : SettlesPort (port_at n) its old mid) (at : IsFatedTo n old m) where
+  abbrev one : MeetsInMachine (port_at n) (fate_of None s.prospect) (requests_of (port_at n) old.book) its (holdings_of (port_at n) old) s.now (known at.uses at.parked old.device) m
+  one = met laws n low its old mid m reached s at
+
+  -- a request of the port has its fate
+  its_fate : (e : Pending) (f : Fate) → (request : Held) × Contains (requests_of (port_at n) old.book) request × IsEntry request e × (fate_of None s.prospect request.entry ≡ f) → HasFate old e f
+  its_fate e f (request, here, entry, is) =
+      let its = of_requests (port_at n) old.book request here in
+      let own : e.request.port ≡ port_at n = entry.port ∙ its.1 in
+      record {
+        request = request;
+        entry = entry;
+        from = was_itself old.book request its.0;
+        prospect = s.prospect;
+        expects = subst (λ (p : Port). IsProspectAnew (remembered_at old.remembered p.0) (found_of old.ports p.0) s.prospect) (sym own) s.expects;
+        fate = is;
+      }
+
+  one_left : IsLeft (port_at n) (fate_of None s.prospect) old.grants (requests_of (port_at n) old.book) (holdings_of (port_at n) old) s.now
+  one_left = left laws n low its old mid m reached s at
+
+  mid_from : (e : Held) → Contains mid.book e → WasIn old.book e
+  mid_from e here = one_left.from e (subst (λ (c : Server). Contains c.book e) s.server here)
+
+  as_before : (e : Pending) (f : Fate) → HasFate mid e f → HasFate old e f
+  as_before e f has = record {
+    request = has.request;
+    entry = has.entry;
+    from = was_more old.book mid.book has.request mid_from has.from;
+    prospect = has.prospect;
+    expects = subst (λ (c : Server). IsProspectAnew (remembered_at c.remembered e.request.port.0) (found_of c.ports e.request.port.0) has.prospect) s.server has.expects;
+    fate = has.fate;
+  }
+
+  -- those that are told first are of this port
+  told_here : All (λ a. a.0.request.port.0 ≡ n) one.tells.answers
+  told_here = All-weaker (Contains one.tells.answers) (λ a. a.0.request.port.0 ≡ n)
+      (λ a here.
+      let w = one.answered a.0 a.1 (answers_there one.steps a (Contains-permutation one.tells.answers (answers_of one.steps) a one.tells.same here)) in
+      ap (λ (p : Port). p.0) (w.2.port ∙ (of_requests (port_at n) old.book w.0 w.1).1))
+      one.tells.answers (All-contains_itself one.tells.answers)
+
+  pub fated_more : AreFated (n + 1) rest later mid new (after m one.steps) → AreFated n (found ∷ rest) replies old new m
+  fated_more r = record {
+    steps = r.steps ++ one.steps;
+    may = laws.basic.may m r.steps one.steps one.may r.may;
+    backed = λ d. laws.backed_parts d d d m one.steps r.steps (one.backed d) (r.backed d);
+    fated = subst (IsFatedTo (n + length (found ∷ rest)) new) (sym (laws.basic.joined m r.steps one.steps)) (subst (λ (k : ℕ). IsFatedTo k new (after (after m one.steps) r.steps)) (omega arith) r.fated);
+    decides = All-append Decides r.steps one.steps r.decides (All-weaker (DecidesOn (port_at n)) Decides (λ step is. (port_at n, is)) one.steps one.own);
+    answered = λ e o here. ⊎_elim (λ late. as_before e (Ends o) (r.answered e o late)) (λ early. its_fate e (Ends o) (one.answered e o early)) (Contains-append_cases r.steps one.steps (Answer e o) here);
+    again = λ e here. ⊎_elim (λ late. as_before e GoesAgain (r.again e late)) (λ early. its_fate e GoesAgain (one.again e early)) (Contains-append_cases r.steps one.steps (Again e) here);
+    answers = one.tells.answers ++ r.answers;
+    permuted = subst (IsPermutation (one.tells.answers ++ r.answers)) (sym (answers_append r.steps one.steps))
+        (IsPermutation-trans _ _ _ (IsPermutation-append_comm one.tells.answers r.answers) (IsPermutation-append _ _ _ _ r.permuted one.tells.same));
+    ordered = all_pairs_append IsToldBefore one.tells.answers r.answers one.tells.ordered r.ordered (λ a b here there.
+        let first = All-contains (λ x. x.0.request.port.0 ≡ n) one.tells.answers a told_here here in
+        let later_on = All-contains (λ x. n + 1 ≤ x.0.request.port.0) r.answers b r.high there in
+        inl (omega (arith, first, later_on)));
+    high = All-append (λ a. n ≤ a.0.request.port.0) one.tells.answers r.answers
+        (All-weaker (λ a. a.0.request.port.0 ≡ n) (λ a. n ≤ a.0.request.port.0) (λ a is. omega (arith, is)) one.tells.answers told_here)
+        (All-weaker (λ a. n + 1 ≤ a.0.request.port.0) (λ a. n ≤ a.0.request.port.0) (λ a is. omega (arith, is)) r.answers r.high);
+    told = split ∙ ap (λ (list : List Reply). list ++ later) one.tells.told ∙ ap (λ (list : List Reply). map reply_of one.tells.answers ++ list) r.told ∙ sym (map-append reply_of one.tells.answers r.answers);
+    from = λ e here. was_more old.book mid.book e (λ x there. mid_from x there) (r.from e here);
+    owners = r.owners ∙ ap (λ (c : Server). c.table.owners) s.server ∙ one_left.owners;
+    settings = r.settings ∙ ap (λ (c : Server). record c { table = new.table; kept = new.kept; book = new.book }) s.server;
+  }
+
+pub fate_all : LawsBelow → (found : List Found) (n : ℕ) → n + length found ≤ 4 → (replies : List Reply) (old new : Server) → SettlePorts n found replies old new → (m : Machine) → IsReached m → IsFatedTo n old m
+    → AreFated n found replies old new m
+fate_all laws [] n few replies old new (none, same) m reached at = record {
+  steps = [];
+  may = tt;
+  backed = λ d. laws.backed_none d m;
+  fated = subst (λ (c : Server). IsFatedTo (n + 0) c m) (sym same) (subst (λ (k : ℕ). IsFatedTo k old m) (omega arith) at);
+  decides = All-nil Decides;
+  answered = λ e o here. absurd (nowhere (Answer e o) here);
+  again = λ e here. absurd (nowhere (Again e) here);
+  answers = [];
+  permuted = IsPermutation-refl [];
+  ordered = λ i j d lt below. absurd (omega (arith, lt, below));
+  high = All-nil (λ a. n ≤ a.0.request.port.0);
+  told = none;
+  from = λ e here. was_itself old.book e (subst (λ (c : Server). Contains c.book e) same here);
+  owners = ap (λ (c : Server). c.table.owners) same;
+  settings = same ∙ ap (λ (c : Server). record old { table = c.table; kept = c.kept; book = c.book }) (sym same);
+}
+fate_all laws (found ∷ rest) n few replies old new (mid, its, later, split, one, more) m reached at =
+    let low : n < 4 = omega (arith, few) in
+    let first = met laws n low its old mid m reached one at in
+    fated_more laws n low found rest replies its later split old mid new m reached one at
+    (fate_all laws rest (n + 1) (omega (arith, few)) later mid new more (after m first.steps) (laws.basic.reached m first.steps reached first.may) (fated_one laws n low its old mid m reached one at))

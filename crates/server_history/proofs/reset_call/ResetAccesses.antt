@@ -1,0 +1,400 @@
+-- The accesses of a reset that ended, and the devices that they lead to.
+use Rattle.std.proofs.Common.{ℕ, suc, ◌≡◌, ◌≢◌, ◌+◌, ◌<◌, ◌++◌, true, false, List, [], ◌∷◌, refl, sym, ap, ◌∙◌, subst, arith}
+use Rattle.std.specs.List.{All}
+use Rattle.std.proofs.lemmas.List.Elements.{All-append, All-cons, All-head, All-nil, All-tail, All-weaker}
+use Rattle.ata_types.specs.declared.Port.{Port}
+use Rattle.ata_types.specs.declared.request.Reply.{Reply}
+use Rattle.hba_regs.specs.Bits.{bit}
+use Rattle.hba_regs.specs.declared.reg.PortReg.TheVariants.{Cmd, Is as PortIs, Sctl, Serr}
+use Rattle.hba_regs.specs.declared.reg.Reg.{Reg}
+use Rattle.hba_regs.specs.declared.reg.Reg.TheVariants.{Bohc, Cap, Cap2, Ghc, Is, Pi, Px, Vs}
+use Rattle.adapter.specs.Access.{Access, Does, DoesAll, noted, written}
+use Rattle.adapter.specs.Access.Access.{Loading, Reading, Storing, Writing}
+use Rattle.adapter.specs.Device.{Device}
+use Rattle.adapter.specs.Rules.{IsOn}
+use Rattle.adapter.specs.Steps.{Steps}
+use Rattle.agreement.specs.Agrees.{port_at}
+use Rattle.agreement.specs.Driven.{Grows, IsControl, IsDrivenBy, IsOf}
+use Rattle.agreement.specs.Errors.{IsFatalOf}
+use Rattle.agreement.specs.Facts.{IsFaultOf, RunsWell}
+use Rattle.agreement.specs.Links.{PlugsNone, SparesRegister}
+use Rattle.error_recovery.specs.Evidence.{GainsRunning, ShowsTrouble}
+use Rattle.driver_history.specs.Histories.{IsOnAndTells, ServesPort}
+use Rattle.driver_history.specs.Parts.{HasTurnIn, IsOfOther}
+use Rattle.driver_history.specs.Trace.{IsDriversOwn, IsOfPorts, ResetsLink}
+use Rattle.host_boot.specs.Resets.{BeginsReset, IsOfReset}
+use Rattle.host_boot.specs.Taken.{GoesOver, IsServed, IsSurvey, StandsBehind, found_of, wanted_of}
+use Rattle.host_boot.specs.declared.Found.{Found}
+use Rattle.host_boot.specs.declared.Found.TheVariants.{Unserved, Ready, Unready}
+use Rattle.identify.specs.declared.DiskInfo.{DiskInfo}
+use Rattle.port_boot.specs.States.{GetsReady, IsOfBoot}
+use Rattle.port_control.specs.Engines.{Sticks}
+use Rattle.port_control.specs.Ports.{WritesCommand}
+use Rattle.request_queue.specs.Entries.{asks_of, due_ids}
+use Rattle.server_history.specs.Below.{LawsBelow}
+use Rattle.server_history.specs.Resets.{IsTakenAgain, IssuePorts, ResetsServer, SettlePorts}
+use Rattle.server_history.specs.Served.{IssuesIn}
+use Rattle.server_history.specs.Server.{Server, is_served, mode_in, ports_of}
+use Rattle.server_history.specs.Stalled.{KeepsBooks}
+use Rattle.server_history.proofs.reset_call.BootedPorts.{DidBoot, IsOfFound, TookTurn, WentBy, command_boots, went_by}
+use Rattle.server_history.proofs.state.TurnAccesses.{issuing_turns}
+use Rattle.server_history.proofs.state.DrivenAccesses.{driven_as}
+use Rattle.server_history.proofs.recovery_turn.LastingTrouble.{issuing_leaves, ready_shows}
+use Rattle.server_history.proofs.recovery_turn.RecoveryAccesses.{booting_part}
+use Rattle.server_history.proofs.recovery_turn.ReplacedPort.{is_listed}
+use Rattle.server_history.proofs.recovery_turn.LinkResets.{ready_resets, resets_more, resets_since}
+use Rattle.server_history.proofs.plain_calls.IssueRounds.{each_driven, each_settings}
+use Rattle.server_history.proofs.any_turn.ShownTrouble.{LeavesTrouble, StaysOn, grows_over, on_over, stays_on}
+use Rattle.server_history.proofs.recovery_turn.HealthyPort.{ready_well}
+
+-- ---- what is left of the server
+
+-- while requests meet their fates
+pub settles_as : (port : ℕ) (found : List Found) (replies : List Reply) (old new : Server) → SettlePorts port found replies old new → new ≡ record old { table = new.table; kept = new.kept; book = new.book }
+settles_as port [] replies old new is = is.1 ∙ ap (λ (n : Server). record old { table = n.table; kept = n.kept; book = n.book }) (sym is.1)
+settles_as port (found ∷ rest) replies old new (mid, its, later, are, one, more) =
+    settles_as (port + 1) rest later mid new more ∙ ap (λ (n : Server). record n { table = new.table; kept = new.kept; book = new.book }) one.server
+
+-- an access that issues requests of one of these ports, which is ready; the first of them has this number
+abbrev pub IsOfReady : ℕ → List Found → Access → Type 0
+IsOfReady first ports access = (port : Port) × (k : ℕ) × (info : DiskInfo) × (port.0 ≡ first + k) × (found_of ports k ≡ Ready info) × IssuesIn port access
+
+ready_later : (first : ℕ) (found : Found) (rest : List Found) (access : Access) → IsOfReady (first + 1) rest access → IsOfReady first (found ∷ rest) access
+ready_later first found rest access (port, k, info, at, is, its) = (port, suc k, info, (omega (arith, at)), is, its)
+
+module _ (laws : LawsBelow) where
+  -- while what is due is issued
+  pub issues_as : (port : ℕ) (found : List Found) (old new : Server) → IssuePorts port found old new → new ≡ record old { device = new.device; slots = new.slots; book = new.book }
+  issues_as port [] old new none = none ∙ ap (λ (n : Server). record old { device = n.device; slots = n.slots; book = n.book }) (sym none)
+  issues_as port (Ready info ∷ rest) old new (mid, all, more) =
+      issues_as (port + 1) rest mid new more
+      ∙ ap (λ (n : Server). record n { device = new.device; slots = new.slots; book = new.book }) (each_settings laws (port_at port) (due_ids (mode_in old (port_at port)) (port_at port) (asks_of old.book)) old mid all)
+  issues_as port (Unserved ∷ rest) old new more = issues_as (port + 1) rest old new more
+  issues_as port (Unready state ∷ rest) old new more = issues_as (port + 1) rest old new more
+
+  -- and the accesses of that
+  pub issues_driven : (first : ℕ) (found : List Found) (old new : Server) → IssuePorts first found old new → IsDrivenBy (IsOfReady first found) old.device new.device
+  issues_driven first [] old new none = record { accesses = []; all = ap (λ (n : Server). n.device) none; only = All-nil (IsOfReady first []) }
+  issues_driven first (Ready info ∷ rest) old new (mid, all, more) =
+      let early = each_driven laws (port_at first) (due_ids (mode_in old (port_at first)) (port_at first) (asks_of old.book)) old mid all in
+      let late = issues_driven (first + 1) rest mid new more in
+      record {
+        accesses = early.accesses ++ late.accesses;
+        all = laws.basic.does_append early.accesses late.accesses old.device mid.device new.device early.all late.all;
+        only = All-append (IsOfReady first (Ready info ∷ rest)) early.accesses late.accesses
+            (All-weaker (IssuesIn (port_at first)) (IsOfReady first (Ready info ∷ rest)) (λ access is. (port_at first, 0, info, (omega arith), refl, is)) early.accesses early.only)
+            (All-weaker (IsOfReady (first + 1) rest) (IsOfReady first (Ready info ∷ rest)) (ready_later first (Ready info) rest) late.accesses late.only);
+      }
+  issues_driven first (Unserved ∷ rest) old new more = driven_as (IsOfReady (first + 1) rest) (IsOfReady first (Unserved ∷ rest)) old.device new.device (ready_later first Unserved rest) (issues_driven (first + 1) rest old new more)
+  issues_driven first (Unready state ∷ rest) old new more =
+      driven_as (IsOfReady (first + 1) rest) (IsOfReady first (Unready state ∷ rest)) old.device new.device (ready_later first (Unready state) rest) (issues_driven (first + 1) rest old new more)
+
+-- ---- whether the adapter interrupts
+
+noted_same : (r : Reg) (v : ℕ) (d : Device) → (noted r v d).ie ≡ d.ie
+noted_same (Px port r) v d = refl
+noted_same Cap v d = refl
+noted_same Ghc v d = refl
+noted_same Is v d = refl
+noted_same Pi v d = refl
+noted_same Vs v d = refl
+noted_same Cap2 v d = refl
+noted_same Bohc v d = refl
+
+written_same : (r : Reg) (v : ℕ) (d : Device) → r ≢ Ghc → (written r v d).ie ≡ d.ie
+written_same (Px port r) v d other = refl
+written_same Cap v d other = refl
+written_same Ghc v d other = absurd (other refl)
+written_same Is v d other = refl
+written_same Pi v d other = refl
+written_same Vs v d other = refl
+written_same Cap2 v d other = refl
+written_same Bohc v d other = refl
+
+module _ (laws : LawsBelow) where
+  steps_same : (old new : Device) → old.hr ≡ false → Steps old new → new.ie ≡ old.ie
+  steps_same old new off steps = ((laws.basic.keeps old new steps).on off).ie
+
+  interrupts_one : (access : Access) (old new : Device) → old.hr ≡ false → SparesRegister Ghc access → Does access old new → new.ie ≡ old.ie
+  interrupts_one (Reading r v) old new off spares does = ap (λ (d : Device). d.ie) does.effect ∙ noted_same r v does.mid ∙ steps_same old does.mid off does.steps
+  interrupts_one (Writing r v) old new off spares does = ap (λ (d : Device). d.ie) does.effect ∙ written_same r v does.mid spares ∙ steps_same old does.mid off does.steps
+  interrupts_one (Loading at bytes) old new off spares does = steps_same old new off does.steps
+  interrupts_one (Storing at bytes) old new off spares does = ap (λ (d : Device). d.ie) does.effect ∙ steps_same old does.mid off does.steps
+
+  -- it does so still over accesses that don't write GHC
+  interrupts_over : (accesses : List Access) (old new : Device) → IsOn old → All (SparesRegister Ghc) accesses → DoesAll accesses old new → new.ie ≡ old.ie
+  interrupts_over [] old new on all is = ap (λ (d : Device). d.ie) is
+  interrupts_over (access ∷ accesses) old new on all (mid, does, rest) =
+      let spares = All-head (SparesRegister Ghc) access accesses all in
+      interrupts_over accesses mid new (laws.looks.access_on access old mid on (stays_on access spares) does) (All-tail (SparesRegister Ghc) access accesses all) rest
+      ∙ interrupts_one access old mid on.no_reset spares does
+
+-- ---- kinds of accesses
+
+reset_own : (access : Access) → IsOfReset access → IsDriversOwn access
+reset_own (Reading r v) is = tt
+reset_own (Writing r v) is = tt
+reset_own (Loading at bytes) is = absurd is
+reset_own (Storing at bytes) is = absurd is
+
+survey_own : (access : Access) → IsSurvey access → IsDriversOwn access
+survey_own (Reading r v) is = tt
+survey_own (Writing r v) is = tt
+survey_own (Loading at bytes) is = absurd is
+survey_own (Storing at bytes) is = absurd is
+
+survey_spares : (access : Access) → IsSurvey access → SparesRegister Ghc access
+survey_spares (Reading r v) is = tt
+survey_spares (Writing r v) is = absurd is
+survey_spares (Loading at bytes) is = tt
+survey_spares (Storing at bytes) is = tt
+
+module _ (Such : Port → Type 0) where
+  reset_of : (access : Access) → IsOfReset access → IsOfPorts Such access
+  reset_of (Reading (Px port r) v) is = absurd is
+  reset_of (Reading r v) is = tt
+  reset_of (Writing (Px port r) v) is = absurd is
+  reset_of (Writing r v) is = tt
+  reset_of (Loading at bytes) is = tt
+  reset_of (Storing at bytes) is = tt
+
+  survey_of : (access : Access) → IsSurvey access → IsOfPorts Such access
+  survey_of (Reading (Px port r) v) is = absurd is
+  survey_of (Reading r v) is = tt
+  survey_of (Writing r v) is = absurd is
+  survey_of (Loading at bytes) is = tt
+  survey_of (Storing at bytes) is = tt
+
+  its_of : (port : Port) → Such port → (access : Access) → IsOf port access → IsOfPorts Such access
+  its_of port such (Reading (Px at r) v) is = subst Such (sym is) such
+  its_of port such (Reading r v) is = tt
+  its_of port such (Writing (Px at r) v) is = subst Such (sym is) such
+  its_of port such (Writing r v) is = tt
+  its_of port such (Loading at bytes) is = tt
+  its_of port such (Storing at bytes) is = tt
+
+-- a write of GHC is no write of a port's register, and one with AE and without HR leaves the adapter on
+enabling_leaves : (port : Port) → LeavesTrouble port (Writing Ghc 0x80000002)
+enabling_leaves port = (
+  (λ e. let z : Ghc ≡ Px port PortIs = e in cc),
+  (λ e. let z : Ghc ≡ Px port Serr = e in cc),
+  (λ e. let z : Ghc ≡ Px port Cmd = e in cc),
+  (λ e. let z : Ghc ≡ Px port Sctl = e in cc),
+  λ v is. let same : 0x80000002 ≡ v = (let z : Writing Ghc 0x80000002 ≡ Writing Ghc v = is in cc) in subst (λ (n : ℕ). (bit n 31 ≡ true) × (bit n 0 ≡ false)) same (refl, refl),
+)
+
+-- those of another port leave this one
+other_leaves : LawsBelow → (port : Port) (access : Access) → IsOfOther port access → LeavesTrouble port access
+other_leaves laws port access (at, apart, is) = (
+  laws.of_spares at port PortIs apart access is,
+  laws.of_spares at port Serr apart access is,
+  laws.of_spares at port Cmd apart access is,
+  laws.of_spares at port Sctl apart access is,
+  stays_on access (laws.of_host at access is),
+)
+
+-- ---- the whole
+
+served_if : (found : Found) → found ≢ Unserved → is_served found ≡ true
+served_if Unserved other = absurd (other refl)
+served_if (Ready info) other = refl
+served_if (Unready state) other = refl
+
+module _ (laws : LawsBelow) (s new : Server) (replies : List Reply) (k : KeepsBooks s) (r : ResetsServer replies s new) where
+  abbrev t : IsTakenAgain s r.taken
+  t = r.takes
+
+  abbrev pub ports : List Found
+  ports = t.host.ports
+
+  abbrev way : GoesOver ports t.idle r.taken.device
+  way = t.takes.way
+
+  -- ---- what it is then
+
+  ports_taken : r.taken.ports ≡ ports
+  ports_taken = ap (λ (n : Server). n.ports) t.server
+
+  settled : r.settled ≡ record r.taken { table = r.settled.table; kept = r.settled.kept; book = r.settled.book }
+  settled = settles_as 0 r.taken.ports replies r.taken r.settled r.settles
+
+  issued : new ≡ record r.settled { device = new.device; slots = new.slots; book = new.book }
+  issued = issues_as laws 0 r.taken.ports r.settled new r.issues
+
+  pub ports_new : new.ports ≡ ports
+  ports_new = ap (λ (n : Server). n.ports) issued ∙ ap (λ (n : Server). n.ports) settled ∙ ports_taken
+
+  device_settled : r.settled.device ≡ r.taken.device
+  device_settled = ap (λ (n : Server). n.device) settled
+
+  -- ---- its accesses
+
+  pub went : WentBy 0 ports way.surveyed way.booted
+  went = went_by laws 0 ports way.surveyed way.booted way.boots
+
+  pub issues : IsDrivenBy (IsOfReady 0 ports) r.taken.device new.device
+  issues = subst (λ (d : Device). IsDrivenBy (IsOfReady 0 ports) d new.device) device_settled
+      (subst (λ (found : List Found). IsDrivenBy (IsOfReady 0 found) r.settled.device new.device) ports_taken (issues_driven laws 0 r.taken.ports r.settled new r.issues))
+
+  abbrev first : List Access
+  first = t.resets.followed.driven.accesses
+
+  abbrev survey : List Access
+  survey = way.surveys.accesses
+
+  abbrev last : List Access
+  last = Writing Ghc 0x80000002 ∷ issues.accesses
+
+  abbrev pub accesses : List Access
+  accesses = first ++ (Writing Ghc 0x80000000 ∷ (survey ++ (went.driven.accesses ++ last)))
+
+  last_does : DoesAll last way.booted new.device
+  last_does = (r.taken.device, way.enables, issues.all)
+
+  pub does : DoesAll accesses s.device new.device
+  does = laws.basic.does_append first (Writing Ghc 0x80000000 ∷ (survey ++ (went.driven.accesses ++ last))) s.device t.idle new.device t.resets.followed.driven.all (
+    way.switched,
+    way.switches,
+    laws.basic.does_append survey (went.driven.accesses ++ last) way.switched way.surveyed new.device way.surveys.all
+        (laws.basic.does_append went.driven.accesses last way.surveyed way.booted new.device went.driven.all last_does),
+  )
+
+  each : (P : Access → Type 0) → ((access : Access) → IsOfReset access → P access) → P (Writing Ghc 0x80000000) → ((access : Access) → IsSurvey access → P access)
+      → ((access : Access) → IsOfFound 0 ports access → P access) → P (Writing Ghc 0x80000002) → ((access : Access) → IsOfReady 0 ports access → P access) → All P accesses
+  each P resets on surveys boots enables issuing =
+      All-append P first (Writing Ghc 0x80000000 ∷ (survey ++ (went.driven.accesses ++ last))) (All-weaker IsOfReset P resets first t.resets.followed.driven.only)
+      (All-cons P (Writing Ghc 0x80000000) (survey ++ (went.driven.accesses ++ last)) on
+      (All-append P survey (went.driven.accesses ++ last) (All-weaker IsSurvey P surveys survey way.surveys.only)
+      (All-append P went.driven.accesses last (All-weaker (IsOfFound 0 ports) P boots went.driven.accesses went.driven.only)
+      (All-cons P (Writing Ghc 0x80000002) issues.accesses enables (All-weaker (IsOfReady 0 ports) P issuing issues.accesses issues.only)))))
+
+  -- ---- whose they are
+
+  pub low_of : (port : Port) (n : ℕ) → port.0 ≡ 0 + n → found_of ports n ≢ Unserved → port.0 < 4
+  low_of port n at other = let listed = is_listed ports n (served_if (found_of ports n) other) in let four = t.four in omega (arith, at, listed, four)
+
+  served_then : (port : ℕ) → port < 4 → (found : Found) → found ≢ Unserved → StandsBehind (wanted_of s.wanted port) found port r.taken.device → IsServed (wanted_of s.wanted port) port s.device
+  served_then port low Unserved other stands = absurd (other refl)
+  served_then port low (Ready info) other stands = (stands.0.0, ap (λ (pi : ℕ). bit pi port) (sym t.resets.same.pi) ∙ ap (λ (pi : ℕ). bit pi port) (sym t.takes.same.pi) ∙ stands.0.1)
+  served_then port low (Unready state) other stands = (stands.0.0, ap (λ (pi : ℕ). bit pi port) (sym t.resets.same.pi) ∙ ap (λ (pi : ℕ). bit pi port) (sym t.takes.same.pi) ∙ stands.0.1)
+
+  -- a port that was found to be anything was served before
+  pub was_served : (port : ℕ) → port < 4 → found_of ports port ≢ Unserved → is_served (found_of s.ports port) ≡ true
+  was_served port low other = (k.served port low).1 (served_then port low (found_of ports port) other (t.takes.stands port low))
+
+  -- and one that was served is found to be something
+  pub is_found : (port : ℕ) → is_served (found_of s.ports port) ≡ true → found_of ports port ≢ Unserved
+  is_found port served unserved =
+      let low = k.few port served in
+      let its = (k.served port low).0 served in
+      (subst (λ (f : Found). StandsBehind (wanted_of s.wanted port) f port r.taken.device) unserved (t.takes.stands port low)).0
+      (its.0, ap (λ (pi : ℕ). bit pi port) t.takes.same.pi ∙ ap (λ (pi : ℕ). bit pi port) t.resets.same.pi ∙ its.1)
+
+  number_is : (port : Port) (n : ℕ) → port.0 ≡ 0 + n → n ≡ port.0
+  number_is port n at = omega (arith, at)
+
+  serves : (port : Port) (n : ℕ) → port.0 ≡ 0 + n → found_of ports n ≢ Unserved → ServesPort (ports_of s) port
+  serves port n at other = was_served port.0 (low_of port n at other) (subst (λ (q : ℕ). found_of ports q ≢ Unserved) (number_is port n at) other)
+
+  ready_other : (n : ℕ) (info : DiskInfo) → found_of ports n ≡ Ready info → found_of ports n ≢ Unserved
+  ready_other n info is unserved = let z : Ready info ≡ Unserved = sym is ∙ unserved in cc
+
+  pub own : All IsDriversOwn accesses
+  own = each IsDriversOwn reset_own tt survey_own
+      (λ access (port, n, at, its). (booting_part laws port (low_of port n at its.0) access its.1).0) tt
+      (λ access (port, n, info, at, is, its). (issuing_turns laws port (low_of port n at (ready_other n info is)) access its).1.0)
+
+  pub of : All (IsOfPorts (ServesPort (ports_of s))) accesses
+  of = each (IsOfPorts (ServesPort (ports_of s))) (reset_of (ServesPort (ports_of s))) tt (survey_of (ServesPort (ports_of s)))
+      (λ access (port, n, at, its). its_of (ServesPort (ports_of s)) port (serves port n at its.0) access (laws.booting_of port access its.1)) tt
+      (λ access (port, n, info, at, is, its). its_of (ServesPort (ports_of s)) port (serves port n at (ready_other n info is)) access (laws.issuing_of port its.0 access its.2))
+
+  pub begins : BeginsReset accesses
+  begins = record { rest = _; here = ap (λ (list : List Access). list ++ (Writing Ghc 0x80000000 ∷ (survey ++ (went.driven.accesses ++ last)))) t.resets.awaited.here }
+
+  -- ---- the adapter
+
+  issuing_host : (access : Access) → IsOfReady 0 ports access → SparesRegister Ghc access
+  issuing_host access (port, n, info, at, is, its) = laws.of_host port access (laws.issuing_of port its.0 access its.2)
+
+  pub tells : IsOnAndTells new.device
+  tells =
+      let spares = All-weaker (IsOfReady 0 ports) (SparesRegister Ghc) issuing_host issues.accesses issues.only in (
+        on_over laws issues.accesses r.taken.device new.device t.takes.on (All-weaker (SparesRegister Ghc) StaysOn stays_on issues.accesses spares) issues.all,
+        interrupts_over laws issues.accesses r.taken.device new.device t.takes.on spares issues.all ∙ t.takes.interrupts,
+      )
+
+  surveyed_on : IsOn way.surveyed
+  surveyed_on =
+      let switched = laws.switches_on 0x80000000 t.idle way.switched t.resets.idle.no_reset refl refl way.switches in
+      on_over laws survey way.switched way.surveyed switched (All-weaker IsSurvey StaysOn (λ access is. stays_on access (survey_spares access is)) survey way.surveys.only) way.surveys.all
+
+  last_leaves : (port : Port) → All (LeavesTrouble port) last
+  last_leaves port = All-cons (LeavesTrouble port) (Writing Ghc 0x80000002) issues.accesses (enabling_leaves port)
+      (All-weaker (IsOfReady 0 ports) (LeavesTrouble port) (λ access (q, n, info, at, is, its). issuing_leaves q port access its) issues.accesses issues.only)
+
+  -- ---- a port
+
+  module _ (port : Port) (low : port.0 < 4) where
+    pub turn : TookTurn port (found_of ports port.0) went.driven.accesses way.surveyed way.booted
+    turn = went.each port port.0 (omega arith) (let four = t.four in omega (arith, low, four))
+
+    abbrev its : HasTurnIn port way.surveyed way.booted
+    its = turn.turn
+
+    -- what resets its link in its part does so in the whole
+    pub resets : ResetsLink port turn.turn.turn → ResetsLink port accesses
+    resets is =
+        let later = All-weaker (IsOfOther port) (SparesRegister (Px port Sctl)) (λ access other. (other_leaves laws port access other).3) its.later its.others_later in
+        let part = subst (ResetsLink port) turn.all (resets_more port its.before its.turn its.later is later) in
+        resets_since port first (Writing Ghc 0x80000000 ∷ (survey ++ (went.driven.accesses ++ last))) (resets_since port (Writing Ghc 0x80000000 ∷ []) (survey ++ (went.driven.accesses ++ last))
+        (resets_more port survey went.driven.accesses last part (All-weaker (LeavesTrouble port) (SparesRegister (Px port Sctl)) (λ access leaves. leaves.3) last (last_leaves port))))
+
+    -- and what tells of an engine that is stuck
+    pub sticks : Sticks port turn.turn.turn → Sticks port accesses
+    sticks is =
+        let part = subst (Sticks port) turn.all (laws.sticks_since its.before (its.turn ++ its.later) port (laws.sticks_then its.turn its.later port is)) in
+        laws.sticks_since first (Writing Ghc 0x80000000 ∷ (survey ++ (went.driven.accesses ++ last))) port (laws.sticks_since (Writing Ghc 0x80000000 ∷ []) (survey ++ (went.driven.accesses ++ last)) port
+        (laws.sticks_since survey (went.driven.accesses ++ last) port (laws.sticks_then went.driven.accesses last port part)))
+
+    -- one that is ready
+    module _ (info : DiskInfo) (is : found_of ports port.0 ≡ Ready info) where
+      pub did : DidBoot port (Ready info) turn.turn.turn turn.turn.start turn.turn.end
+      did = subst (λ (f : Found). DidBoot port f turn.turn.turn turn.turn.start turn.turn.end) is turn.did
+
+      abbrev stopped : Device
+      stopped = did.1.0
+
+      abbrev gets : GetsReady port stopped its.end
+      gets = did.1.2
+
+      start_on : IsOn its.start
+      start_on = on_over laws its.before way.surveyed its.start surveyed_on (All-weaker (IsOfOther port) StaysOn (λ access other. (other_leaves laws port access other).4) its.before its.others) its.first
+
+      stopped_on : IsOn stopped
+      stopped_on = laws.of_on port its.start stopped start_on (driven_as (IsControl WritesCommand port) (IsOf port) its.start stopped (λ access x. laws.booting_of port access (command_boots port access x)) did.1.1)
+
+      end_on : IsOn its.end
+      end_on = laws.of_on port stopped its.end stopped_on (driven_as (IsOfBoot port) (IsOf port) stopped its.end (laws.booting_of port) (ready_resets laws port stopped its.end gets).driven)
+
+      early : Grows s.device stopped
+      early =
+          laws.looks.tape.grows_more s.device t.idle stopped (grows_over laws first s.device t.idle t.resets.followed.driven.all)
+          (laws.looks.tape.grows_more t.idle way.switched stopped (laws.looks.tape.access_grows (Writing Ghc 0x80000000) t.idle way.switched way.switches)
+          (laws.looks.tape.grows_more way.switched way.surveyed stopped (grows_over laws survey way.switched way.surveyed way.surveys.all)
+          (laws.looks.tape.grows_more way.surveyed its.start stopped (grows_over laws its.before way.surveyed its.start its.first) (grows_over laws did.1.1.accesses its.start stopped did.1.1.all))))
+
+      later : IsDrivenBy (LeavesTrouble port) its.end new.device
+      later = record {
+        accesses = its.later ++ last;
+        all = laws.basic.does_append its.later last its.end way.booted new.device its.last last_does;
+        only = All-append (LeavesTrouble port) its.later last (All-weaker (IsOfOther port) (LeavesTrouble port) (other_leaves laws port) its.later its.others_later) (last_leaves port);
+      }
+
+      -- what came since ST was set is shown
+      pub shows : ShowsTrouble port.0 s.device new.device
+      shows = ready_shows laws port s.device stopped its.end new.device stopped_on gets later
+
+      -- and where nothing did, it runs well
+      pub goes_well : PlugsNone port.0 s.device new.device → (GainsRunning (IsFaultOf port.0) port.0 s.device new.device → ⊥) → (GainsRunning (IsFatalOf port.0) port.0 s.device new.device → ⊥) → RunsWell (new.device.port port.0)
+      goes_well = ready_well laws port s.device stopped its.end new.device stopped_on gets later end_on early

@@ -1,0 +1,296 @@
+-- From a machine that stands for the old server, steps of the device, and Release among them, lead to one that knows the adapter as it was taken over again.
+use Rattle.std.proofs.Common.{Bool, List, None, Option, Some, [], ap, arith, eq-eqb, eqb-true, false, get_or, inl, inr, length, map, refl, subst, sym, true, ℕ, ⊎_elim, ◌&&◌, ◌++◌, ◌+◌, ◌==◌, ◌∙◌, ◌∷◌, ◌≡◌, ◌≤◌}
+use Rattle.std.proofs.lemmas.Bool.{and_from, and_parts, cases_Bool, cond-false, cond-true, false≢true}
+use Rattle.std.proofs.lemmas.List.{get_or_default}
+use Rattle.std.proofs.lemmas.List.Elements.{All-contains, All-contains_itself, All-filter, Contains-append_left, Contains-append_right, Contains-get_or, filter_passes}
+use Rattle.std.specs.List.{All, Contains, count_by, list_any}
+use Rattle.std.specs.Prelude.{filter}
+use Rattle.adapter.specs.Access.{Access}
+use Rattle.adapter.specs.Device.{Device}
+use Rattle.adapter.specs.Idle.{IsIdle}
+use Rattle.agreement.specs.Acts.{steps_of}
+use Rattle.agreement.specs.Driven.{IsFollowedTo, known}
+use Rattle.agreement.specs.Driver.{IsBacked, Known, Knows}
+use Rattle.agreement.specs.Slots.{Free, Serves, Uses}
+use Rattle.agreement.specs.Spares.{SparesBook}
+use Rattle.ata_types.specs.declared.grant.GrantRow.{GrantRow}
+use Rattle.ata_types.specs.declared.request.ClientId.{ClientId}
+use Rattle.ata_types.specs.declared.request.Frame.{Frame}
+use Rattle.ata_types.specs.declared.request.RequestId.{RequestId}
+use Rattle.server_history.proofs.state.ListMembers.{into_map, map_in, none_of}
+use Rattle.block_machine.specs.Confined.{WithinLimits}
+use Rattle.block_machine.specs.Events.{AllDevices, AllMay}
+use Rattle.block_machine.specs.Histories.{IsReached}
+use Rattle.block_machine.specs.Left.{after}
+use Rattle.block_machine.specs.State.{Machine, Pending}
+use Rattle.block_machine.specs.Steps.{Release, Step, after_step, is_lent_to}
+use Rattle.dma_frames.specs.Loan.{Lending}
+use Rattle.dma_frames.specs.Table.{Table, lent_to, owner_of}
+use Rattle.host_boot.specs.Taken.{unused}
+use Rattle.host_boot.specs.declared.Found.{Found}
+use Rattle.request_queue.specs.Entries.{Held, IsAccepted, IsInOrder}
+use Rattle.request_queue.specs.Machine.{IsBook, IsEntry}
+use Rattle.server_history.proofs.plain_calls.Acceptances.{any_in}
+use Rattle.server_history.proofs.recovery_turn.MendedMachine.{in_filter}
+use Rattle.server_history.proofs.state.HistorySteps.{book_on, still_kept}
+use Rattle.server_history.proofs.state.FirstMembers.{nowhere}
+use Rattle.server_history.proofs.state.PairedLists.{at_left}
+use Rattle.server_history.specs.Below.{LawsBelow}
+use Rattle.server_history.specs.Ended.{ResetLaws}
+use Rattle.server_history.specs.Kept.{IsKeptIn, TakesBack}
+use Rattle.server_history.specs.Mended.{requests_of}
+use Rattle.server_history.specs.Resets.{IsTakenAgain, MaySettle}
+use Rattle.server_history.specs.Server.{AreKept, IsMachineOf, Server, kept_at}
+use Rattle.server_history.specs.Stalled.{KeepsBooks}
+
+-- ---- stretches of the device
+
+-- The machine follows by steps of the device alone.
+pub record IsStretch (k later : Known) (m : Machine) : Type 0 where
+  pub steps : List Step
+  pub only : AllDevices steps
+  pub may : AllMay m steps
+  pub backed : IsBacked k.device later.device m steps
+  pub knows : Knows (after m steps) later
+
+pub stretch : {May : Access → Type 0} {Fits : Uses → Type 0} {next : Uses → Uses} {old new : Device} → LawsBelow → IsFollowedTo May Fits next old new → (uses : Uses) (parked : ℕ → List RequestId) → Fits uses → (m : Machine) → IsReached m
+    → Knows m (known uses parked old) → IsStretch (known uses parked old) (known (next uses) parked new) m
+stretch {May} {Fits} {next} {old} {new} laws a uses parked fits m reached knows =
+    let c = a.comes (record { uses = uses; parked = parked }) m reached knows fits in
+    let g = laws.slots.acts_go c.acts (known uses parked old) (known (next uses) parked new) m knows c.done in
+    record { steps = steps_of c.acts; only = c.tells.only; may = g.may; backed = g.backed; knows = g.knows }
+
+-- ---- an idle adapter
+
+-- the ids of the port's requests that are issued
+abbrev pub is_issued_on : ℕ → Pending → Bool
+is_issued_on port e = e.issued && (e.request.port.0 == port)
+
+abbrev pub issued_on : Machine → ℕ → List RequestId
+issued_on m port = map (λ (e : Pending). e.request.id) (filter (is_issued_on port) m.book)
+
+pub in_issued : (m : Machine) (port : ℕ) (e : Pending) → Contains m.book e → e.issued ≡ true → e.request.port.0 ≡ port → Contains (issued_on m port) e.request.id
+in_issued m port e here issued own =
+    into_map (λ (x : Pending). x.request.id) (filter (is_issued_on port) m.book) e (in_filter (is_issued_on port) m.book e here (and_from e.issued (e.request.port.0 == port) issued (eq-eqb e.request.port.0 port own)))
+
+pub issued_in : (m : Machine) (port : ℕ) (id : RequestId) → Contains (issued_on m port) id → (e : Pending) × Contains m.book e × (e.request.id ≡ id) × (e.issued ≡ true) × (e.request.port.0 ≡ port)
+issued_in m port id here =
+    let w = map_in (λ (x : Pending). x.request.id) (filter (is_issued_on port) m.book) id here in
+    let passes = and_parts w.0.issued (w.0.request.port.0 == port) (All-contains (λ (x : Pending). is_issued_on port x ≡ true) (filter (is_issued_on port) m.book) w.0 (filter_passes (is_issued_on port) m.book) w.1) in (
+      w.0,
+      All-contains (Contains m.book) (filter (is_issued_on port) m.book) w.0 (All-filter (is_issued_on port) (Contains m.book) m.book (All-contains_itself m.book)) w.1,
+      sym w.2,
+      passes.0,
+      eqb-true w.0.request.port.0 port passes.1,
+    )
+
+-- the ids of all that the device may move, and of others
+abbrev all_ids : Machine → ℕ → List RequestId
+all_ids m port = map (λ (e : Pending). e.request.id) m.book ++ map (λ (e : Pending). e.request.id) m.kept
+
+-- Where the adapter is idle, every slot was given up.
+gives_up : (k : Known) (m : Machine) → Knows m k → IsIdle k.device → Knows m (known unused (all_ids m) k.device)
+gives_up k m knows rest = record {
+  agrees = record {
+    slot = λ port slot. let p = rest.port port in record { issued = p.ci slot; free = p.taken slot; unarmed = p.sact slot };
+    apart = λ port slot other_port other_slot id serves. let z : Free ≡ Serves id = serves in absurd cc;
+    received = knows.agrees.received;
+    disk = knows.agrees.disk;
+    memory = knows.agrees.memory;
+    sectors = knows.agrees.sectors;
+  };
+  have = λ port e moves own. inl (⊎_elim
+      (λ booked. Contains-append_left (map (λ (x : Pending). x.request.id) m.book) (map (λ (x : Pending). x.request.id) m.kept) e.request.id (into_map (λ (x : Pending). x.request.id) m.book e booked.0))
+      (λ held. Contains-append_right (map (λ (x : Pending). x.request.id) m.book) (map (λ (x : Pending). x.request.id) m.kept) e.request.id (into_map (λ (x : Pending). x.request.id) m.kept e held))
+      moves);
+}
+
+-- Where none is kept, only issued requests have to be remembered as parked.
+parks_issued : (uses : Uses) (parked : ℕ → List RequestId) (d : Device) (m : Machine) → Knows m (known uses parked d) → m.kept ≡ [] → Knows m (known uses (issued_on m) d)
+parks_issued uses parked d m knows none = record {
+  agrees = knows.agrees;
+  have = λ port e moves own. inl (⊎_elim
+      (λ booked. in_issued m port e booked.0 booked.1 own)
+      (λ held. absurd (nowhere e (subst (λ (es : List Pending). Contains es e) none held)))
+      moves);
+}
+
+-- ---- the kept loans
+
+-- What the machine lends once the kept requests' frames are given back is what the server lends.
+module _ (laws : ResetLaws) (found : List Found) (kept : List (List Lending)) (table later : Table) (m : Machine) (reached : IsReached m) (lent : (frame : Frame) → m.lent frame ≡ lent_to table frame) (are : AreKept found kept m.kept)
+    (back : TakesBack table later (IsKeptIn kept)) where
+  limits : WithinLimits m
+  limits = subst WithinLimits (sym reached.is) (laws.below.living.limits reached.first reached.past reached.starts reached.legal)
+
+  is_lent : (id : RequestId) (o : Option RequestId) → is_lent_to id o ≡ true → o ≡ Some id
+  is_lent id None is = absurd (false≢true is)
+  is_lent id (Some other) is = ap (λ (n : ℕ). Some (record { 0 = n })) (eqb-true other.0 id.0 is)
+
+  -- its frames are lent to it
+  lent_out : (e : Pending) → Contains m.kept e → (frame : Frame) → Contains e.request.asked.frames.items frame → m.lent frame ≡ Some e.request.id
+  lent_out e here frame (i, small, is) =
+      ap m.lent (sym is ∙ get_or_default e.request.asked.frames.items i _ _ small) ∙ limits.lent e (inr here) i small
+
+  -- the machine's kept request lends this frame
+  by_kept : (frame : Frame) → (e : Pending) → Contains m.kept e → is_lent_to e.request.id (m.lent frame) ≡ true → (loan : Lending) × IsKeptIn kept loan × Contains loan.frames frame
+  by_kept frame e here is =
+      let f = laws.own_frame m frame e reached (inr here) (is_lent e.request.id (m.lent frame) is) in
+      let l = are.loan e here in
+      (l.0, (e.request.port.0, l.1), subst (λ (frames : List Frame). Contains frames frame) (sym l.2.1) (subst (Contains e.request.asked.frames.items) f.2 (Contains-get_or e.request.asked.frames.items f.0 _ f.1)))
+
+  lends_then : (frame : Frame) → (after_step m Release).lent frame ≡ lent_to later frame
+  lends_then frame = ⊎_elim
+      (λ (some : list_any (λ (e : Pending). is_lent_to e.request.id (m.lent frame)) m.kept ≡ true).
+      let w = any_in (λ (e : Pending). is_lent_to e.request.id (m.lent frame)) m.kept some in
+      let l = by_kept frame w.0 w.1 w.2 in
+      cond-true (list_any (λ (e : Pending). is_lent_to e.request.id (m.lent frame)) m.kept) None (m.lent frame) some ∙ sym (back.none l.0 frame l.1 l.2))
+      (λ (none : list_any (λ (e : Pending). is_lent_to e.request.id (m.lent frame)) m.kept ≡ false).
+      cond-false (list_any (λ (e : Pending). is_lent_to e.request.id (m.lent frame)) m.kept) None (m.lent frame) none ∙ lent frame
+      ∙ sym (back.others frame (λ loan its there. not_kept none loan its there)))
+      (cases_Bool (list_any (λ (e : Pending). is_lent_to e.request.id (m.lent frame)) m.kept))
+    where
+      not_kept : list_any (λ (e : Pending). is_lent_to e.request.id (m.lent frame)) m.kept ≡ false → (loan : Lending) → IsKeptIn kept loan → Contains loan.frames frame → ⊥
+      not_kept none loan (port, its) there =
+          let e = are.whose port loan its in
+          let out = lent_out e.0 e.1 frame (subst (λ (frames : List Frame). Contains frames frame) e.3.1 there) in
+          false≢true (sym (none_of (λ (x : Pending). is_lent_to x.request.id (m.lent frame)) m.kept e.0 none e.1)
+          ∙ ap (is_lent_to e.0.request.id) out ∙ eq-eqb e.0.request.id.0 e.0.request.id.0 refl)
+
+-- ---- the whole
+
+-- The steps of the device until the adapter is idle, Release, and those while it is taken over; and what the machine has of the server then.
+pub record IsRetaken (s taken : Server) (uses : Uses) (m : Machine) : Type 0 where
+  pub first : List Step
+  pub first_only : AllDevices first
+  pub second : List Step
+  pub second_only : AllDevices second
+  pub may : AllMay m (second ++ Release ∷ first)
+  pub backed : IsBacked s.device taken.device m (second ++ Release ∷ first)
+  pub knows : Knows (after m (second ++ Release ∷ first)) (known uses (issued_on (after m (second ++ Release ∷ first))) taken.device)
+  pub book : IsBook s.book (after m (second ++ Release ∷ first)).book
+  pub kept : (after m (second ++ Release ∷ first)).kept ≡ []
+  pub rows : (after m (second ++ Release ∷ first)).rows ≡ s.grants
+  pub owner : (frame : Frame) → (after m (second ++ Release ∷ first)).owner frame ≡ owner_of s.table frame
+  pub lent : (frame : Frame) → (after m (second ++ Release ∷ first)).lent frame ≡ lent_to taken.table frame
+  pub next : (after m (second ++ Release ∷ first)).next ≡ s.last + 1
+
+module _ (laws : ResetLaws) (s taken : Server) (takes : IsTakenAgain s taken) (m : Machine) (reached : IsReached m) (is : IsMachineOf s m) where
+  abbrev down : IsStretch (known is.uses is.parked s.device) (known is.uses is.parked takes.idle) m
+  down = stretch laws.below takes.resets.followed is.uses is.parked tt m reached is.knows
+
+  abbrev idle : Machine
+  idle = after m down.steps
+
+  idle_reached : IsReached idle
+  idle_reached = laws.below.basic.reached m down.steps reached down.may
+
+  down_spares : SparesBook m idle
+  down_spares = laws.below.basic.spares m down.steps down.only
+
+  idle_kept : AreKept s.ports s.kept idle.kept
+  idle_kept = still_kept laws.below s.ports s.kept m.kept idle.kept down_spares.kept is.kept
+
+  abbrev free : Machine
+  free = after_step idle Release
+
+  free_reached : IsReached free
+  free_reached = laws.below.basic.reached idle (Release ∷ []) idle_reached (tt, tt)
+
+  free_knows : Knows free (known unused (all_ids idle) takes.idle)
+  free_knows = laws.released (known unused (all_ids idle) takes.idle) idle (all_ids idle) idle_reached (gives_up (known is.uses is.parked takes.idle) idle down.knows takes.resets.idle)
+      (λ e here port slot serves. let z : Free ≡ Serves e.request.id = serves in absurd cc) (λ port other here lives. here)
+
+  abbrev up : IsStretch (known unused (all_ids idle) takes.idle) (known takes.takes.uses (all_ids idle) taken.device) free
+  up = stretch laws.below takes.takes.followed unused (all_ids idle) refl free free_reached free_knows
+
+  abbrev last : Machine
+  last = after free up.steps
+
+  up_spares : SparesBook free last
+  up_spares = laws.below.basic.spares free up.steps up.only
+
+  none_kept : last.kept ≡ []
+  none_kept = up_spares.kept
+
+  abbrev steps : List Step
+  steps = up.steps ++ Release ∷ down.steps
+
+  last_is : after m steps ≡ last
+  last_is = laws.below.basic.joined m up.steps (Release ∷ down.steps)
+
+  lent_then : (frame : Frame) → last.lent frame ≡ lent_to taken.table frame
+  lent_then frame = ap (λ f. f frame) up_spares.lent
+      ∙ lends_then laws s.ports s.kept s.table taken.table idle idle_reached (λ f. ap (λ g. g f) down_spares.lent ∙ is.lent f) idle_kept takes.back frame
+
+  pub retaken : IsRetaken s taken takes.takes.uses m
+  retaken = record {
+    first = down.steps;
+    first_only = down.only;
+    second = up.steps;
+    second_only = up.only;
+    may = laws.below.basic.may m up.steps (Release ∷ down.steps) (down.may, tt) up.may;
+    backed = laws.below.backed_parts s.device takes.idle taken.device m (Release ∷ down.steps) up.steps
+        (laws.below.backed_parts s.device takes.idle takes.idle m down.steps (Release ∷ []) down.backed (laws.below.backed_own takes.idle idle Release (λ none. none))) up.backed;
+    knows = subst (λ (n : Machine). Knows n (known takes.takes.uses (issued_on n) taken.device)) (sym last_is) (parks_issued takes.takes.uses (all_ids idle) taken.device last up.knows none_kept);
+    book = subst (λ (n : Machine). IsBook s.book n.book) (sym last_is) (book_on s.book free.book last.book up_spares.book (book_on s.book m.book idle.book down_spares.book is.book));
+    kept = ap (λ (n : Machine). n.kept) last_is ∙ none_kept;
+    rows = ap (λ (n : Machine). n.rows) last_is ∙ up_spares.rows ∙ down_spares.rows ∙ is.rows;
+    owner = λ frame. ap (λ (n : Machine). n.owner frame) last_is ∙ ap (λ f. f frame) up_spares.owner ∙ ap (λ f. f frame) down_spares.owner ∙ is.owner frame;
+    lent = λ frame. ap (λ (n : Machine). n.lent frame) last_is ∙ lent_then frame;
+    next = ap (λ (n : Machine). n.next) last_is ∙ up_spares.next ∙ down_spares.next ∙ is.next;
+  }
+
+-- ---- its requests may meet their fates
+
+-- so each is as it was accepted still
+accepted_then : (grants : List GrantRow) (old new : Table) (entries : List Held) (m : Machine) → WithinLimits m → IsBook entries m.book → ((frame : Frame) → m.lent frame ≡ lent_to new frame) → new.owners ≡ old.owners
+    → All (IsAccepted grants old) entries → All (IsAccepted grants new) entries
+accepted_then grants old new entries m limits book lent owners accepted i d small =
+    let e = get_or entries i d in
+    let a = accepted i d small in
+    let y = at_left IsEntry entries m.book book e (Contains-get_or entries i d small) in
+    record {
+      client_from = a.client_from;
+      client_to = a.client_to;
+      sectors = a.sectors;
+      first = a.first;
+      frames = a.frames;
+      row = a.row;
+      clients = a.clients;
+      own = λ k f inside. ap (λ (list : List (Option ClientId)). get_or list (get_or e.frames k f).0 None) owners ∙ a.own k f inside;
+      apart = a.apart;
+      lent = subst (λ (frames : List Frame). All (λ f. lent_to new f ≡ Some e.entry.id) frames) y.2.frames
+          (λ k f inside. let g = get_or y.0.request.asked.frames.items k f in
+          sym (lent g) ∙ ap m.lent (get_or_default y.0.request.asked.frames.items k f _ inside) ∙ limits.lent y.0 (inl y.1) k inside ∙ ap Some y.2.id);
+    }
+
+module _ (laws : ResetLaws) (s taken : Server) (booked : KeepsBooks s) (takes : IsTakenAgain s taken) where
+  its : IsRetaken s taken takes.takes.uses booked.machine
+  its = retaken laws s taken takes booked.machine booked.reached booked.stands
+
+  abbrev end : Machine
+  end = after booked.machine (its.second ++ Release ∷ its.first)
+
+  end_limits : WithinLimits end
+  end_limits =
+      let r = laws.below.basic.reached booked.machine (its.second ++ Release ∷ its.first) booked.reached its.may in
+      subst WithinLimits (sym r.is) (laws.below.living.limits r.first r.past r.starts r.legal)
+
+  pub book_same : taken.book ≡ s.book
+  book_same = ap (λ (t : Server). t.book) takes.server
+
+  pub grants_same : taken.grants ≡ s.grants
+  grants_same = ap (λ (t : Server). t.grants) takes.server
+
+  pub accepted_still : All (IsAccepted s.grants taken.table) s.book
+  accepted_still = accepted_then s.grants s.table taken.table s.book end end_limits its.book its.lent takes.back.owners booked.accepted
+
+  pub may_settle : MaySettle taken
+  may_settle = record {
+    four_kept = takes.four_kept;
+    ordered = subst IsInOrder (sym book_same) booked.ordered;
+    accepted = subst (λ (grants : List GrantRow). All (IsAccepted grants taken.table) taken.book) (sym grants_same) (subst (All (IsAccepted s.grants taken.table)) (sym book_same) accepted_still);
+    places = λ port. subst (λ (book : List Held). length (kept_at taken.kept port.0) + count_by (λ (e : Held). e.entry.issued) (requests_of port book) ≤ 32) (sym book_same)
+        (subst (λ (loans : List Lending). length loans + count_by (λ (e : Held). e.entry.issued) (requests_of port s.book) ≤ 32) (sym (takes.unkept port.0)) (let few = booked.places port in omega (arith, few)));
+  }

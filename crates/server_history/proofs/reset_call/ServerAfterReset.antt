@@ -1,0 +1,203 @@
+-- Once all requests met their fates, a machine stands for the server, which keeps what a server keeps.
+use Rattle.std.proofs.Common.{List, None, Option, Some, [], ap, arith, get_or, length, refl, subst, sym, true, ℕ, ⊎_elim, ◌*◌, ◌++◌, ◌+◌, ◌<◌, ◌∙◌, ◌∷◌, ◌≡◌, ◌≢◌, ◌≤◌}
+use Rattle.std.proofs.lemmas.Bool.{cases_lt}
+use Rattle.std.proofs.lemmas.List.Elements.{All-contains, All-contains_itself, All-weaker}
+use Rattle.std.specs.List.{All, Contains}
+use Rattle.adapter.specs.Device.{Device}
+use Rattle.agreement.specs.Agrees.{port_at}
+use Rattle.ata_types.specs.declared.Port.{Port}
+use Rattle.ata_types.specs.declared.PortState.TheVariants.{Dead, Ready as ReadyState}
+use Rattle.ata_types.specs.declared.request.ClientId.{ClientId}
+use Rattle.ata_types.specs.declared.request.Reply.{Reply}
+use Rattle.ata_types.specs.declared.request.RequestId.{RequestId}
+use Rattle.block_machine.specs.Histories.{IsReached}
+use Rattle.block_machine.specs.Left.{IsRow, after}
+use Rattle.block_machine.specs.State.{Machine}
+use Rattle.block_machine.specs.Steps.{Release, Step}
+use Rattle.host_boot.specs.Taken.{IsLeft as SlotLeft, IsLeft as SlotLeft, TakesOver, found_of, wanted_of}
+use Rattle.host_boot.specs.declared.Found.{Found}
+use Rattle.host_boot.specs.declared.Found.TheVariants.{Unready}
+use Rattle.identify.specs.declared.wanted.Wanted.{Wanted}
+use Rattle.request_queue.specs.Entries.{Held}
+use Rattle.request_queue.specs.Machine.{IsBook, IsEntry}
+use Rattle.server_history.proofs.start.NewServer.{left_as, none_are_kept}
+use Rattle.server_history.proofs.failed_reset.ServerBook.{all_settle_on}
+use Rattle.server_history.proofs.reset_call.FatesOfAllPorts.{AreFated, HasItsDisk, IsFatedTo, fate_all}
+use Rattle.server_history.proofs.fates.MetFates.{nobody}
+use Rattle.server_history.proofs.start.TakenOverPorts.{behind, four, ports_on, served_there}
+use Rattle.server_history.proofs.reset_call.IssuesOfAllPorts.{AreReissued, all_reissued, settled_then}
+use Rattle.server_history.proofs.fates.RemainingBook.{WasIn}
+use Rattle.server_history.proofs.reset_call.RetakenMachine.{IsRetaken, issued_in, issued_on, may_settle, retaken}
+use Rattle.server_history.specs.Ended.{ResetLaws}
+use Rattle.server_history.proofs.state.PairedLists.{at_right}
+use Rattle.server_history.specs.Resets.{IsTakenAgain, IssuePorts, MaySettle, SettlePorts}
+use Rattle.server_history.specs.Server.{HasSlots, IsKept, IsMachineOf, IsSettled, Server, is_served, mode_at, mode_found, state_of, used_for}
+use Rattle.server_history.specs.Stalled.{KeepsBooks}
+
+module _ (laws : ResetLaws) (s taken settled : Server) (booked : KeepsBooks s) (takes : IsTakenAgain s taken) (replies : List Reply) (settles : SettlePorts 0 taken.ports replies taken settled) (m : Machine) (reached : IsReached m)
+    (is : IsMachineOf s m) where
+  pub its_retaken : IsRetaken s taken takes.takes.uses m
+  its_retaken = retaken laws s taken takes m reached is
+
+  abbrev pub base : List Step
+  base = its_retaken.second ++ Release ∷ its_retaken.first
+
+  abbrev pub mid : Machine
+  mid = after m base
+
+  mid_reached : IsReached mid
+  mid_reached = laws.below.basic.reached m base reached its_retaken.may
+
+  -- ---- what was taken over
+
+  pub ports_are : taken.ports ≡ takes.host.ports
+  ports_are = ap (λ (c : Server). c.ports) takes.server
+
+  may : MaySettle taken
+  may = may_settle laws s taken booked takes
+
+  begin : IsFatedTo 0 taken mid
+  begin = record {
+    four_kept = takes.four_kept;
+    uses = takes.takes.uses;
+    left = λ port slot. subst (λ (ports : List Found). SlotLeft ports takes.takes.uses port slot) (sym ports_are) (takes.takes.left port slot);
+    parked = issued_on mid;
+    knows = its_retaken.knows;
+    unparked = λ port lt. absurd (omega (arith, lt));
+    its = λ port high id here.
+        let p = issued_in mid port id here in
+        let h = at_right IsEntry s.book mid.book its_retaken.book p.0 p.1 in
+        (h.0, subst (λ (book : List Held). Contains book h.0) (sym (ap (λ (c : Server). c.book) takes.server)) h.1, sym h.2.id ∙ p.2, sym h.2.issued ∙ p.3, ap (λ (q : Port). q.0) (sym h.2.port) ∙ p.4);
+    book = subst (λ (book : List Held). IsBook book mid.book) (sym (ap (λ (c : Server). c.book) takes.server)) its_retaken.book;
+    kept = none_are_kept taken.ports taken.kept mid.kept its_retaken.kept takes.unkept;
+    unkept = λ port high. takes.unkept port;
+    rows = its_retaken.rows ∙ sym (ap (λ (c : Server). c.grants) takes.server);
+    owner = λ frame. its_retaken.owner frame ∙ ap (λ (owners : List (Option ClientId)). get_or owners frame.0 None) (sym takes.back.owners);
+    lent = its_retaken.lent;
+    next = its_retaken.next ∙ ap (λ (k : ℕ). k + 1) (sym (ap (λ (c : Server). c.last) takes.server));
+    ordered = may.ordered;
+    accepted = may.accepted;
+    alive = λ e here lt. absurd (omega (arith, lt));
+  }
+
+  many : length taken.ports ≡ 4
+  many = ap (λ (ports : List Found). length ports) ports_are ∙ takes.four
+
+  pub its_fated : AreFated 0 taken.ports replies taken settled mid
+  its_fated = fate_all laws.below taken.ports 0 (let few = many in omega (arith, few)) replies taken settled settles mid mid_reached begin
+
+  abbrev pub z : Machine
+  z = after mid its_fated.steps
+
+  pub all_fated : IsFatedTo 4 settled z
+  all_fated = subst (λ (k : ℕ). IsFatedTo k settled z) (let few = many in omega (arith, few)) its_fated.fated
+
+  -- ---- the machine
+
+  pub ports_then : settled.ports ≡ takes.host.ports
+  ports_then = ap (λ (c : Server). c.ports) its_fated.settings ∙ ports_are
+
+  pub unused_then : (port slot : ℕ) → used_for settled.slots port slot ≡ None
+  unused_then port slot = ap (λ (c : Server). used_for c.slots port slot) its_fated.settings ∙ takes.unused port slot
+
+  -- who is left was unanswered before
+  pub was_in : (e : Held) → Contains settled.book e → WasIn s.book e
+  was_in e here = subst (λ (book : List Held). WasIn book e) (ap (λ (c : Server). c.book) takes.server) (its_fated.from e here)
+
+  pub low : (e : Held) → Contains settled.book e → e.entry.port.0 < 4
+  low e here =
+      let w = was_in e here in
+      subst (λ (p : Port). p.0 < 4) (sym w.port) (booked.few w.was.entry.port.0 (All-contains (λ (x : Held). is_served (found_of s.ports x.entry.port.0) ≡ true) s.book w.was booked.asked w.there))
+
+  unparked : (port : ℕ) → found_of settled.ports port ≢ Unready Dead → all_fated.parked port ≡ []
+  unparked port lives = ⊎_elim
+      (λ (below : port < 4). all_fated.unparked port below lives)
+      (λ (high : 4 ≤ port). nobody (all_fated.parked port) (λ id here.
+      let w = all_fated.its port high id here in
+      let small = low w.0 w.1 in
+      let own = w.4 in omega (arith, small, own, high)))
+      (cases_lt port 4)
+
+  pub stands_regained : IsMachineOf settled z
+  stands_regained = record {
+    uses = all_fated.uses;
+    used = λ port slot. left_as settled.ports settled.ports settled.slots all_fated.uses port slot refl (unused_then port slot) (all_fated.left port slot);
+    parked = all_fated.parked;
+    unparked = unparked;
+    knows = all_fated.knows;
+    book = all_fated.book;
+    kept = all_fated.kept;
+    rows = all_fated.rows;
+    owner = all_fated.owner;
+    lent = all_fated.lent;
+    next = all_fated.next;
+  }
+
+  pub z_reached : IsReached z
+  z_reached = laws.below.basic.reached mid its_fated.steps mid_reached its_fated.may
+
+  -- ---- what it keeps
+
+  pub wanted_then : settled.wanted ≡ s.wanted
+  wanted_then = ap (λ (c : Server). c.wanted) its_fated.settings ∙ ap (λ (c : Server). c.wanted) takes.server
+
+  pub device_then : settled.device ≡ taken.device
+  device_then = ap (λ (c : Server). c.device) its_fated.settings
+
+  over : TakesOver settled.wanted takes.host takes.idle settled.device
+  over = subst (λ (d : Device). TakesOver settled.wanted takes.host takes.idle d) (sym device_then) (subst (λ (wanted : List Wanted). TakesOver wanted takes.host takes.idle taken.device) (sym wanted_then) takes.takes)
+
+  size_then : settled.device.size ≡ s.device.size
+  size_then = over.same.size ∙ takes.resets.same.size
+
+  pub its_disk : (e : Held) → Contains settled.book e → HasItsDisk settled.remembered settled.ports e.entry.port.0
+  its_disk e here = all_fated.alive e here (low e here)
+
+  pub keeps_all : IsKept settled
+  keeps_all = record {
+    on = over.on;
+    room = let room = booked.room in let size = size_then in omega (arith, room, size);
+    there = λ port served.
+        let below = four laws.taken settled takes.host takes.idle takes.resets.idle over ports_then takes.four port served in
+        (below, served_there (wanted_of settled.wanted port) (found_of settled.ports port) port settled.device (behind laws.taken settled takes.host takes.idle takes.resets.idle over ports_then takes.four port below) served);
+    behind = ports_on laws.taken settled takes.host takes.idle takes.resets.idle over ports_then takes.four;
+    four = ap (λ (c : Server). length c.slots) its_fated.settings ∙ takes.four_slots;
+    four_modes = ap (λ (c : Server). length c.modes) its_fated.settings ∙ takes.four_modes;
+    four_remembered = ap (λ (c : Server). length c.remembered) its_fated.settings ∙ takes.four_remembered;
+    four_kept = all_fated.four_kept;
+    few_kept = λ port. let p = (all_settle_on laws.below taken.ports 0 (let few = many in omega (arith, few)) replies taken settled settles (may_settle laws s taken booked takes)).places (port_at port) in omega (arith, p);
+    modes = λ port below. subst (λ (c : Server). mode_at c.modes port ≡ mode_found c.device.cap (found_of c.ports port)) (sym its_fated.settings)
+        (takes.modes port below ∙ ap (λ (ports : List Found). mode_found taken.device.cap (found_of ports port)) (sym ports_are));
+    slots = λ port below. subst (λ (c : Server). HasSlots c.ports c.modes c.slots port) (sym its_fated.settings)
+        (record { places = takes.places port below; usable = takes.usable port below; unused = λ slot high. takes.unused port slot });
+    kinds = λ port slot used e its. absurd (let y : None ≡ Some used = sym (unused_then port.0 slot) ∙ its in cc);
+    commands = λ port slot used its. absurd (let y : None ≡ Some used = sym (unused_then port slot) ∙ its in cc);
+    alone = λ port slot used its. absurd (let y : None ≡ Some used = sym (unused_then port slot) ∙ its in cc);
+    rows = subst (All IsRow) (sym (ap (λ (c : Server). c.grants) its_fated.settings ∙ ap (λ (c : Server). c.grants) takes.server)) booked.rows;
+    owners = λ frame client own.
+        let o = booked.owners frame client (ap (λ (list : List (Option ClientId)). get_or list frame.0 None) (sym (its_fated.owners ∙ takes.back.owners)) ∙ own) in
+        (o.0, subst (λ (n : ℕ). 4096 * frame.0 + 4096 ≤ n) (sym size_then) o.1);
+    accepted = all_fated.accepted;
+    ordered = all_fated.ordered;
+    handed_out = All-weaker (Contains settled.book) (λ (e : Held). e.entry.id.0 ≤ settled.last)
+        (λ e here.
+        let w = was_in e here in
+        let most = All-contains (λ (x : Held). x.entry.id.0 ≤ s.last) s.book w.was booked.handed_out w.there in
+        let id = ap (λ (i : RequestId). i.0) w.id in
+        let last = ap (λ (c : Server). c.last) its_fated.settings ∙ ap (λ (c : Server). c.last) takes.server in omega (arith, most, id, last))
+        settled.book (All-contains_itself settled.book);
+    ready = All-weaker (Contains settled.book) (λ (e : Held). state_of (found_of settled.ports e.entry.port.0) ≡ ReadyState)
+        (λ e here. ap state_of (its_disk e here).3) settled.book (All-contains_itself settled.book);
+    machine = z;
+    reached = z_reached;
+    stands = stands_regained;
+  }
+
+  -- ---- what is due is issued
+
+  module _ (new : Server) (issues : IssuePorts 0 taken.ports settled new) where
+    pub its_reissued : AreReissued laws.below settled keeps_all z z_reached stands_regained 4 new
+    its_reissued = all_reissued laws.below settled keeps_all z z_reached stands_regained taken.ports (ap (λ (c : Server). c.ports) its_fated.settings) many new issues
+
+    pub settled_at_last : IsSettled new
+    settled_at_last = settled_then laws.below settled keeps_all z z_reached stands_regained new its_reissued

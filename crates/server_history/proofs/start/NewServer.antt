@@ -1,0 +1,301 @@
+-- A new server keeps what a server keeps, and a history without calls leads to it.
+use Rattle.std.proofs.Common.{ℕ, ◌≡◌, ◌+◌, ◌*◌, ◌<◌, ◌≤◌, true, false, List, [], length, Option, Some, None, slice_index, refl, sym, ◌∙◌, ap, subst, arith, inl, inr, ⊎_elim}
+use Rattle.std.specs.List.{All, AllPairs, Contains}
+use Rattle.std.proofs.lemmas.Bool.{false≢true, cases_lt}
+use Rattle.std.proofs.lemmas.List.Elements.{All-contains, All-nil}
+use Rattle.ata_types.specs.declared.PortState.{PortState}
+use Rattle.ata_types.specs.declared.PortState.TheVariants.{Absent, Ready as ReadyState, Unfit}
+use Rattle.ata_types.specs.declared.Port.{Port}
+use Rattle.ata_types.specs.declared.grant.GrantRow.{GrantRow}
+use Rattle.ata_types.specs.declared.request.ClientId.{ClientId}
+use Rattle.ata_types.specs.declared.request.Frame.{Frame}
+use Rattle.ata_types.specs.declared.request.RequestId.{RequestId}
+use Rattle.adapter.specs.Device.{Device}
+use Rattle.adapter.specs.Idle.{IsIdle, TellsDisks}
+use Rattle.agreement.specs.Agrees.{SameSectors}
+use Rattle.agreement.specs.Driven.{known}
+use Rattle.agreement.specs.Driver.{Knows, idle}
+use Rattle.agreement.specs.Slots.{Free, Uses}
+use Rattle.agreement.specs.Spares.{AllFurther, SparesBook}
+use Rattle.agreement.proofs.relation.IdleAgreement.{idle_knows}
+use Rattle.agreement.proofs.steps.SparedBook.{steps_spare}
+use Rattle.block_machine.specs.Histories.{IsReached}
+use Rattle.block_machine.specs.Left.{after, IsRow, IsStart}
+use Rattle.block_machine.specs.Ports.{AreFit, IsMode}
+use Rattle.block_machine.specs.State.{Disk, Machine, Pending}
+use Rattle.block_machine.specs.Rules.{DifferInName}
+use Rattle.block_machine.proofs.HistoryLemmas.{reached_more}
+use Rattle.dma_frames.specs.Loan.{Lending}
+use Rattle.dma_frames.specs.Table.{owner_of}
+use Rattle.host_boot.specs.Taken.{StillStandsBehind, IsLeft, StandsBehind, TakesOver, found_of, wanted_of}
+use Rattle.host_boot.specs.declared.Found.{Found}
+use Rattle.host_boot.specs.declared.Found.TheVariants.{Unserved, Ready, Unready}
+use Rattle.host_boot.specs.declared.Host.{Host}
+use Rattle.identify.specs.Page.{number_of}
+use Rattle.identify.specs.declared.Unfit.{Unfit as Fault}
+use Rattle.identify.specs.declared.Unfit.TheVariants as fault
+use Rattle.identify.specs.Wanted.{serial_of}
+use Rattle.identify.specs.declared.wanted.Wanted.{Wanted}
+use Rattle.port_boot.specs.States.{EndsAs, IsUnfit}
+use Rattle.agreement.specs.Facts.{RunsWell, Undisturbed}
+use Rattle.server_history.proofs.state.PortSlots.{its_mode, ready_found, stood_mode}
+use Rattle.server_history.proofs.state.ServerInstant.{holds_with, slots}
+use Rattle.server_history.specs.Ended.{TakenLaws}
+use Rattle.server_history.specs.Histories.{HasBegun}
+use Rattle.block_machine.specs.Due.{NoneDue}
+use Rattle.request_queue.specs.Entries.{Held, IsAccepted, IsInOrder, asks_of}
+use Rattle.request_queue.specs.Machine.{IsBook}
+use Rattle.slots.specs.Uses.{Uses as PortSlots}
+use Rattle.server_history.specs.Server.{Server, AreUsesOf, IsKept, IsMachineOf, IsNewServer, IsPortOf, IsSettled, IsUsedAs, is_served, AreKept, AreOfTwo, kept_at, mode_in, ports_of, state_of, use_of, used_for}
+use Rattle.agreement.proofs.driver.Stretches.{followed_adds}
+use Rattle.server_history.proofs.start.TakenOverPorts.{behind, found_is, four, none_past, ports_on, served_there}
+use Rattle.server_history.proofs.state.FirstMembers.{nowhere}
+
+-- ---- the machine of an idle device
+
+-- what a disk holds, or zeros where it doesn't tell
+abbrev told_bytes : Option (ℕ → List ℕ) → Disk
+told_bytes None k b = 0
+told_bytes (Some told) k b = slice_index (told k) b
+
+-- the device's disks and client frames, with these grants and owners
+abbrev machine_of : Device → List GrantRow → (Frame → Option ClientId) → Machine
+machine_of d rows owner = record {
+  present = λ port. (d.port port.0).present;
+  disk_ids = λ port. (d.port port.0).disk.name;
+  sizes = λ port. (d.port port.0).disk.size;
+  disks = λ port. told_bytes (d.port port.0).disk.sectors;
+  book = [];
+  kept = [];
+  lent = λ frame. None;
+  memory = λ frame b. d.memory (4096 * frame.0 + b);
+  rows = rows;
+  owner = owner;
+  next = 1;
+}
+
+machine_knows : (d : Device) (rows : List GrantRow) (owner : Frame → Option ClientId) → IsStart (machine_of d rows owner) → IsIdle d
+    → TellsDisks d → Knows (machine_of d rows owner) (idle d)
+machine_knows d rows owner start is told =
+    idle_knows (machine_of d rows owner) d start is (λ q. record { present = refl; id = refl; size = refl }) (λ f b low small. refl) sectors
+  where
+    sectors : d.telling ≡ true → (port : ℕ) → SameSectors (machine_of d rows owner) (d.port port).disk port
+    sectors tells q =
+        let t = told tells q in
+        record { told = t.0; tells = t.1; same = λ k b inside small. sym (ap (λ (s : Option (ℕ → List ℕ)). told_bytes s k b) t.1) }
+
+-- ---- steps of the device
+
+-- steps that spare the book leave a machine to begin with
+start_on : (m later : Machine) → IsStart m → SparesBook m later → IsStart later
+start_on m later s spares = record {
+  book = subst (λ (es : List Pending). AllFurther es later.book) s.book spares.book;
+  kept = subst (λ (es : List Pending). AllFurther es later.kept) s.kept spares.kept;
+  lent = λ frame. ap (λ (lent : Frame → Option RequestId). lent frame) spares.lent ∙ s.lent frame;
+  next = spares.next ∙ s.next;
+  few = subst (λ (rows : List GrantRow). length rows ≤ 64) (sym spares.rows) s.few;
+  rows = subst (AllPairs DifferInName) (sym spares.rows) s.rows;
+  configured = λ row here. s.configured row (subst (λ (rows : List GrantRow). Contains rows row) spares.rows here);
+  owned = λ frame client own. s.owned frame client (sym (ap (λ (owner : Frame → Option ClientId). owner frame) spares.owner) ∙ own);
+}
+
+-- ---- the ports
+
+-- a page's fault has a number from 1 to 6
+numbered : (f : Fault) → (1 ≤ number_of f) × (number_of f ≤ 9)
+numbered fault.BadChecksum = (omega arith, omega arith)
+numbered fault.Word83 = (omega arith, omega arith)
+numbered fault.No48Bit = (omega arith, omega arith)
+numbered fault.SectorSize = (omega arith, omega arith)
+numbered fault.NoFlush = (omega arith, omega arith)
+numbered fault.NoSectors = (omega arith, omega arith)
+
+unfit_numbered : (n port : ℕ) (d : Device) → IsUnfit n port d → (1 ≤ n) × (n ≤ 9)
+unfit_numbered n port d (inl (is, shown)) = (omega (arith, is), omega (arith, is))
+unfit_numbered n port d (inr (inl (is, shown))) = (omega (arith, is), omega (arith, is))
+unfit_numbered n port d (inr (inr (inl (is, saw, count)))) = (omega (arith, is), omega (arith, is))
+unfit_numbered n port d (inr (inr (inr (page, has, (f, first, is))))) = let b = numbered f in (omega (arith, is, b.0), omega (arith, is, b.1))
+
+-- a cause to be unfit is one that there is
+cause_is : (wanted : Wanted) (found : Found) (port cause : ℕ) (d : Device) → StandsBehind wanted found port d → state_of found ≡ Unfit cause → (1 ≤ cause) × (cause ≤ 9)
+cause_is wanted Unserved port cause d s is = absurd (let z : Absent ≡ Unfit cause = is in cc)
+cause_is wanted (Ready info) port cause d s is = absurd (let z : ReadyState ≡ Unfit cause = is in cc)
+cause_is wanted (Unready state) port cause d s is = unfit_numbered cause port d ((subst (λ (x : PortState). EndsAs (serial_of wanted) x port d) is s.1).1)
+
+-- what is known of ports at each moment of a call makes them fit
+pub kept_fit : (s : Server) → IsKept s → AreFit (ports_of s)
+kept_fit s k = record {
+  few = λ port served. (k.there port.0 served).0;
+  absent = λ port other. absent_is (found_of s.ports port.0) other;
+  slots = λ port ready. (its_mode s port.0 k (ready_found s port.0 k ready).0).0;
+  causes = λ port cause is. caused (found_of s.ports port.0) port cause is refl;
+}
+  where
+    absent_is : (f : Found) → is_served f ≡ false → state_of f ≡ Absent
+    absent_is Unserved other = refl
+    absent_is (Ready info) other = absurd (false≢true (sym other))
+    absent_is (Unready state) other = absurd (false≢true (sym other))
+
+    caused : (f : Found) (port : Port) (cause : ℕ) → state_of f ≡ Unfit cause → found_of s.ports port.0 ≡ f → (1 ≤ cause) × (cause ≤ 9)
+    caused Unserved port cause is e = absurd (let z : Absent ≡ Unfit cause = is in cc)
+    caused (Ready info) port cause is e = absurd (let z : ReadyState ≡ Unfit cause = is in cc)
+    caused (Unready state) port cause is e =
+        cause_is (wanted_of s.wanted port.0) (Unready state) port.0 cause s.device
+        (subst (λ (f : Found). StillStandsBehind (wanted_of s.wanted port.0) f port.0 s.device) e (k.behind port.0 (k.there port.0 (ap is_served e)).0).behind) is
+
+-- ---- slots
+
+-- a slot that was left as it was is used as a server without requests has it
+pub left_as : (ports found : List Found) (slots : List PortSlots) (uses : Uses) (port slot : ℕ) → found_of found port ≡ found_of ports port → used_for slots port slot ≡ None → IsLeft ports uses port slot
+    → IsUsedAs (found_of found port) (used_for slots port slot) (uses port slot)
+left_as ports found list uses port slot same none (inl free) = λ _. free ∙ sym (ap use_of none)
+left_as ports found list uses port slot same none (inr (zero_is, own, dead)) = λ alive. absurd (alive (same ∙ dead))
+
+-- where no request is kept, no loan is
+pub none_are_kept : (found : List Found) (kept : List (List Lending)) (requests : List Pending) → requests ≡ [] → ((port : ℕ) → kept_at kept port ≡ []) → AreKept found kept requests
+none_are_kept found kept requests none empty = record {
+  dead = λ e here. absurd (nobody e here);
+  loan = λ e here. absurd (nobody e here);
+  whose = λ port loan here. absurd (nowhere loan (subst (λ (loans : List Lending). Contains loans loan) (empty port) here));
+  apart = λ port. subst (AllPairs AreOfTwo) (sym (empty port)) (λ i j d lt small. absurd (omega (arith, small)));
+}
+  where
+    nobody : (e : Pending) → Contains requests e → ⊥
+    nobody e here = nowhere e (subst (λ (es : List Pending). Contains es e) none here)
+
+-- no requests are in order
+none_in_order : IsInOrder []
+none_in_order = record {
+  ordered = λ i j d lt small. absurd (omega (arith, small));
+  clients = λ k d small. absurd (omega (arith, small));
+  few = λ client. omega arith;
+  issues = λ k d small. absurd (omega (arith, small));
+}
+
+-- ---- the whole
+
+module _ (laws : TakenLaws) (s : Server) (host : Host) (d : Device) (is : IsIdle d) (told : TellsDisks d) (taken : TakesOver s.wanted host d s.device) (n : IsNewServer host s) where
+  ports_as : (port : ℕ) → port < 4 → IsPortOf s.wanted s.ports port s.device
+  ports_as port low = ports_on laws s host d is taken n.ports n.four port low
+
+  stood : (port : ℕ) → port < 4 → StandsBehind (wanted_of s.wanted port) (found_of s.ports port) port s.device
+  stood port low = behind laws s host d is taken n.ports n.four port low
+
+  found_as : (port : ℕ) → found_of s.ports port ≡ found_of host.ports port
+  found_as port = found_is laws s host d is taken n.ports n.four port
+
+  low_as : (port : ℕ) → is_served (found_of s.ports port) ≡ true → port < 4
+  low_as port served = four laws s host d is taken n.ports n.four port served
+
+  abbrev first_machine : Machine
+  first_machine = machine_of d s.grants (owner_of s.table)
+
+  start : IsStart first_machine
+  start = record {
+    book = refl;
+    kept = refl;
+    lent = λ frame. refl;
+    next = refl;
+    few = n.few;
+    rows = n.names;
+    configured = λ row here. All-contains (λ (row : GrantRow). IsRow row) s.grants row n.rows here;
+    owned = λ frame client own. let c = n.clients frame client own in (c.0, c.1, (n.owners frame client own).0, c.2);
+  }
+
+  reached_first : IsReached first_machine
+  reached_first = record { first = first_machine; past = []; starts = start; legal = tt; is = refl }
+
+  uses_are : AreUsesOf s taken.uses
+  uses_are port slot = left_as host.ports s.ports s.slots taken.uses port slot (found_as port) (n.unused port slot) (taken.left port slot)
+
+  stands_for : (m : Machine) → IsStart m → SparesBook first_machine m → Knows m (known taken.uses (λ port. []) s.device) → IsMachineOf s m
+  stands_for m begun spares knows = record {
+    uses = taken.uses;
+    used = uses_are;
+    parked = λ port. [];
+    unparked = λ port alive. refl;
+    knows = knows;
+    book = subst (λ (book : List Held). IsBook book m.book) (sym n.book) (subst (λ (es : List Pending). IsBook [] es) (sym begun.book) tt);
+    kept = none_are_kept s.ports s.kept m.kept begun.kept n.unkept;
+    rows = spares.rows;
+    owner = λ frame. ap (λ (owner : Frame → Option ClientId). owner frame) spares.owner;
+    lent = λ frame. begun.lent frame ∙ sym (n.lent frame);
+    next = begun.next ∙ ap (λ (k : ℕ). k + 1) (sym n.last);
+  }
+
+  ports_fit : AreFit (ports_of s)
+  ports_fit = record {
+    few = λ port served. low_as port.0 served;
+    absent = λ port other. absent_is (found_of s.ports port.0) other;
+    slots = λ port ready. ⊎_elim
+        (λ (low : port.0 < 4). subst IsMode (sym (n.modes port.0 low)) (stood_mode (wanted_of s.wanted port.0) (found_of s.ports port.0) port.0 s.device (ports_as port.0 low).behind).0)
+        (λ (high : 4 ≤ port.0). absurd (let z : Absent ≡ ReadyState = sym (ap state_of (found_as port.0 ∙ none_past host.ports port.0 (let l = n.four in omega (arith, l, high)))) ∙ ready in cc))
+        (cases_lt port.0 4);
+    causes = λ port cause is. ⊎_elim
+        (λ (low : port.0 < 4). cause_is (wanted_of s.wanted port.0) (found_of s.ports port.0) port.0 cause s.device (stood port.0 low) is)
+        (λ (high : 4 ≤ port.0). absurd (let z : Absent ≡ Unfit cause = sym (ap state_of (found_as port.0 ∙ none_past host.ports port.0 (let l = n.four in omega (arith, l, high)))) ∙ is in cc))
+        (cases_lt port.0 4);
+  }
+    where
+      absent_is : (f : Found) → is_served f ≡ false → state_of f ≡ Absent
+      absent_is Unserved other = refl
+      absent_is (Ready info) other = absurd (false≢true (sym other))
+      absent_is (Unready state) other = absurd (false≢true (sym other))
+
+  kept_by : (m : Machine) → IsReached m → IsMachineOf s m → IsKept s
+  kept_by m reached stands = record {
+    on = taken.on;
+    room = n.room;
+    there = λ port served. let low = low_as port served in (low, served_there (wanted_of s.wanted port) (found_of s.ports port) port s.device (stood port low) served);
+    behind = ports_as;
+    rows = n.rows;
+    owners = n.owners;
+    four = n.four_slots;
+    four_modes = n.four_modes;
+    four_remembered = n.four_remembered;
+    four_kept = n.four_kept;
+    few_kept = λ port. let none = ap length (n.unkept port) in omega (arith, none);
+    slots = λ port low. record { places = n.places port low; usable = n.usable port low; unused = λ slot high. n.unused port slot };
+    modes = n.modes;
+    kinds = λ port slot used e is. absurd (let z : None ≡ Some used = sym (n.unused port.0 slot) ∙ is in cc);
+    commands = λ port slot used is. absurd (let z : None ≡ Some used = sym (n.unused port slot) ∙ is in cc);
+    alone = λ port slot used is. absurd (let z : None ≡ Some used = sym (n.unused port slot) ∙ is in cc);
+    accepted = subst (λ (book : List Held). All (IsAccepted s.grants s.table) book) (sym n.book) (All-nil (IsAccepted s.grants s.table));
+    ordered = subst IsInOrder (sym n.book) none_in_order;
+    handed_out = subst (λ (book : List Held). All (λ e. e.entry.id.0 ≤ s.last) book) (sym n.book) (All-nil (λ (e : Held). e.entry.id.0 ≤ s.last));
+    ready = subst (λ (book : List Held). All (λ e. state_of (found_of s.ports e.entry.port.0) ≡ ReadyState) book) (sym n.book) (All-nil (λ (e : Held). state_of (found_of s.ports e.entry.port.0) ≡ ReadyState));
+    machine = m;
+    reached = reached;
+    stands = stands;
+  }
+
+  -- nothing is asked, so nothing is due
+  none_due : (port : Port) → NoneDue (mode_in s port) (asks_of s.book) port
+  none_due port = subst (λ (book : List Held). NoneDue (mode_in s port) (asks_of book) port) (sym n.book) (λ r own due. nowhere r due.here)
+
+  pub new_server : IsSettled s × HasBegun s
+  new_server =
+      let x = (followed_adds taken.followed (λ port slot. Free) (λ port. []) refl).adds first_machine reached_first (machine_knows d s.grants (owner_of s.table) start is told) in
+      let later : Machine = after first_machine x.0 in
+      let spares : SparesBook first_machine later = steps_spare first_machine x.0 x.3.only in
+      let begun : IsStart later = start_on first_machine later start spares in
+      let stands : IsMachineOf s later = stands_for later begun spares x.2 in
+      let reached : IsReached later = reached_more first_machine x.0 reached_first x.1 in
+      let kept : IsKept s = kept_by later reached stands in (
+        record { kept = kept; issued = none_due },
+        (
+          record { device = s.device; moment = record { machine = later; ports = ports_of s } },
+          record {
+            history = ((begun, ports_fit), ((slots s kept later reached stands, holds_with s kept later reached stands), (kept.on, taken.interrupts)));
+            stands = record { device_is = refl; ports_are = refl; machine = stands };
+          },
+        ),
+      )
+
+-- ---- a new server
+
+pub new_well : TakenLaws → (s : Server) (host : Host) (idle : Device) (port : Port) → IsKept s → IsIdle idle → TakesOver s.wanted host idle s.device → s.ports ≡ host.ports
+    → state_of (found_of s.ports port.0) ≡ ReadyState → Undisturbed port.0 idle s.device → RunsWell (s.device.port port.0)
+new_well laws s host idle port k rest taken same ready calm =
+    let found = (ready_found s port.0 k ready).1 in
+    laws.well s.wanted host port.0 found.0 idle s.device rest taken (ap (λ (ports : List Found). found_of ports port.0) (sym same) ∙ found.1) calm

@@ -1,0 +1,96 @@
+-- Steps that answer requests, and that answer none.
+use Rattle.std.proofs.Common.{◌≡◌, List, [], ◌∷◌, ◌++◌, map, refl, sym, ap, ◌∙◌, subst, ⊎_elim}
+use Rattle.std.specs.List.{AllZip, Contains}
+use Rattle.std.proofs.lemmas.List.Elements.{Contains-append_cases, Contains-append_left, Contains-append_right}
+use Rattle.ata_types.specs.declared.Port.{Port}
+use Rattle.ata_types.specs.declared.request.Outcome.{Outcome}
+use Rattle.ata_types.specs.declared.request.Outcome.TheVariants.{Ok}
+use Rattle.ata_types.specs.declared.request.Reply.{Reply}
+use Rattle.block_machine.specs.declared.due.Mode.{Mode}
+use Rattle.block_machine.specs.Events.{AllDevices, AllMay, IsDevices, answers_of, reply_of}
+use Rattle.block_machine.specs.Left.{after}
+use Rattle.block_machine.specs.State.{Pending, Machine}
+use Rattle.block_machine.specs.Steps.{Step, Issue, Answer, May, after_step}
+use Rattle.server_history.proofs.state.ListMembers.{contains_cases, contains_here, contains_there, without_in}
+use Rattle.request_queue.specs.Entries.{Held}
+use Rattle.server_history.specs.Served.{HasEnded, IssuesOnly, answers_in, done_reply}
+use Rattle.server_history.specs.Below.{LawsBelow}
+use Rattle.server_history.proofs.state.FirstMembers.{nowhere}
+
+-- ---- steps
+
+-- steps that may come may come in two parts
+pub may_parts : LawsBelow → (m : Machine) (late early : List Step) → AllMay m (late ++ early) → AllMay m early × AllMay (after m early) late
+may_parts laws m [] early may = (may, tt)
+may_parts laws m (step ∷ late) early may =
+    let x = may_parts laws m late early may.0 in
+    (x.0, (x.1, subst (λ (n : Machine). May n step) (laws.basic.joined m late early) may.1))
+
+-- ---- answers
+
+-- the device answers nobody
+pub no_answer : (steps : List Step) → AllDevices steps → (e : Pending) (o : Outcome) → Contains steps (Answer e o) → ⊥
+no_answer [] only e o here = nowhere (Answer e o) here
+no_answer (step ∷ steps) only e o here = ⊎_elim
+    (λ (is : Answer e o ≡ step). subst IsDevices (sym is) only.1)
+    (λ (there : Contains steps (Answer e o)). no_answer steps only.0 e o there)
+    (contains_cases step steps (Answer e o) here)
+
+pub no_answer_issuing : (mode : Mode) (port : Port) (steps : List Step) → IssuesOnly mode port steps → (e : Pending) (o : Outcome) → Contains steps (Answer e o) → ⊥
+no_answer_issuing mode port [] only e o here = nowhere (Answer e o) here
+no_answer_issuing mode port (Issue its x ∷ steps) only e o here = ⊎_elim
+    (λ (is : Answer e o ≡ Issue its x). absurd (let z : Answer e o ≡ Issue its x = is in cc))
+    (λ (there : Contains steps (Answer e o)). no_answer_issuing mode port steps only.2 e o there)
+    (contains_cases (Issue its x) steps (Answer e o) here)
+no_answer_issuing mode port (step ∷ steps) only e o here = ⊎_elim
+    (λ (is : Answer e o ≡ step). subst IsDevices (sym is) only.0)
+    (λ (there : Contains steps (Answer e o)). no_answer_issuing mode port steps only.1 e o there)
+    (contains_cases step steps (Answer e o) here)
+
+-- the answers of these alone
+pub answered_in : (ended : List Pending) (e : Pending) (o : Outcome) → Contains (answers_in ended) (Answer e o) → Contains ended e × (o ≡ Ok)
+answered_in [] e o here = absurd (nowhere (Answer e o) here)
+answered_in (x ∷ ended) e o here = ⊎_elim
+    (λ (rest : Contains (answers_in ended) (Answer e o)). let r = answered_in ended e o rest in (contains_there x ended e r.0, r.1))
+    (λ (last : Contains (Answer x Ok ∷ []) (Answer e o)). ⊎_elim
+    (λ (is : Answer e o ≡ Answer x Ok). let a : e ≡ x = cc in let b : o ≡ Ok = cc in (contains_here x ended e a, b))
+    (λ none. absurd (nowhere (Answer e o) none))
+    (contains_cases (Answer x Ok) [] (Answer e o) last))
+    (Contains-append_cases (answers_in ended) (Answer x Ok ∷ []) (Answer e o) here)
+
+pub in_answered : (ended : List Pending) (e : Pending) → Contains ended e → Contains (answers_in ended) (Answer e Ok)
+in_answered [] e here = absurd (nowhere e here)
+in_answered (x ∷ ended) e here = ⊎_elim
+    (λ (is : e ≡ x). Contains-append_right (answers_in ended) (Answer x Ok ∷ []) (Answer e Ok) (contains_here (Answer x Ok) [] (Answer e Ok) (ap (λ (y : Pending). Answer y Ok) is)))
+    (λ (there : Contains ended e). Contains-append_left (answers_in ended) (Answer x Ok ∷ []) (Answer e Ok) (in_answered ended e there))
+    (contains_cases x ended e here)
+
+-- as they are told
+abbrev pub with_ok : Pending → Pending × Outcome
+with_ok e = (e, Ok)
+
+pub told_so : (port : Port) (requests : List Held) (ended : List Pending) → AllZip (HasEnded port) requests ended → map done_reply requests ≡ map reply_of (map with_ok ended)
+told_so port [] [] each = refl
+told_so port [] (p ∷ ended) each = absurd each
+told_so port (e ∷ requests) [] each = absurd each
+told_so port (e ∷ requests) (p ∷ ended) each =
+    (λ i. record { id = sym each.0.entry.id i; client = sym each.0.entry.client i; outcome = Ok } ∷ map done_reply requests)
+    ∙ ap (λ (replies : List Reply). reply_of (p, Ok) ∷ replies) (told_so port requests ended each.1)
+
+-- who is answered was unanswered before
+pub ended_stood : LawsBelow → (m : Machine) (ended : List Pending) → AllMay m (answers_in ended) → (p : Pending) → Contains ended p → Contains m.book p
+ended_stood laws m [] may p here = absurd (nowhere p here)
+ended_stood laws m (x ∷ ended) may p here = ⊎_elim
+    (λ (is : p ≡ x). subst (Contains m.book) (sym is) parts.0.1)
+    (λ (there : Contains ended p). (without_in x.request.id m.book p (ended_stood laws (after_step m (Answer x Ok)) ended parts.1 p there)).0)
+    (contains_cases x ended p here)
+  where
+    parts : AllMay m (Answer x Ok ∷ []) × AllMay (after_step m (Answer x Ok)) (answers_in ended)
+    parts = may_parts laws m (answers_in ended) (Answer x Ok ∷ []) may
+
+-- nor do steps that issue requests
+pub issuing_answers : (mode : Mode) (port : Port) (late base : List Step) → IssuesOnly mode port late → answers_of (late ++ base) ≡ answers_of base
+issuing_answers mode port [] base only = refl
+issuing_answers mode port (Issue its e ∷ late) base only = issuing_answers mode port late base only.2
+issuing_answers mode port (Answer e o ∷ late) base only = absurd only.0
+issuing_answers mode port (step ∷ late) base only = issuing_answers mode port late base only.1

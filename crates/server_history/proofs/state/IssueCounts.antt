@@ -1,0 +1,52 @@
+-- A ready port has as many requests issued as slots.
+use Rattle.std.proofs.Common.{ℕ, zero, suc, ◌≡◌, ◌≢◌, ◌≤◌, ◌+◌, ◌==◌, ◌&&◌, Bool, true, false, cond, if◌then◌else◌, List, [], ◌∷◌, refl, sym, ap, ◌∙◌, subst, arith, le_refl}
+use Rattle.std.specs.Prelude.{count_by}
+use Rattle.std.proofs.lemmas.List.Sums.{sum_by-cons}
+use Rattle.ata_types.specs.declared.Port.{Port}
+use Rattle.ata_types.specs.declared.PortState.TheVariants.{Dead, Ready as ReadyState}
+use Rattle.ata_types.specs.declared.request.RequestId.{RequestId}
+use Rattle.agreement.specs.Agrees.{HaveSlots}
+use Rattle.agreement.specs.Slots.{Uses, is_serving, serving_count}
+use Rattle.block_machine.specs.Due.{issued_count}
+use Rattle.block_machine.specs.declared.due.Unanswered.{Unanswered}
+use Rattle.host_boot.specs.Taken.{found_of}
+use Rattle.host_boot.specs.declared.Found.TheVariants.{Unready}
+use Rattle.request_queue.specs.Entries.{Held, asks, asks_of, is_of}
+use Rattle.server_history.specs.Below.{LawsBelow}
+use Rattle.server_history.specs.Mended.{requests_of}
+use Rattle.server_history.specs.Server.{Server, IsKept, kept_at, state_of}
+use Rattle.server_history.proofs.state.DueRequests.{same_book}
+use Rattle.server_history.proofs.state.KeptLoans.{none_alive}
+use Rattle.server_history.proofs.state.PortSlots.{none_kept, not_dead, used_serves, used_small}
+
+few_serve : (uses : Uses) (port n : ℕ) → serving_count uses port n ≤ n
+few_serve uses port zero = le_refl 0
+few_serve uses port (suc n) = by (is_serving (uses port n)) (few_serve uses port n)
+  where
+    by : (b : Bool) → serving_count uses port n ≤ n → (if b then suc (serving_count uses port n) else serving_count uses port n) ≤ suc n
+    by true few = omega (arith, few)
+    by false few = omega (arith, few)
+
+-- those that are issued of the port's, and those of the port that are issued
+same_count : (port : Port) (book : List Held) → count_by (λ (e : Held). e.entry.issued) (requests_of port book) ≡ issued_count (asks_of book) port
+same_count port [] = refl
+same_count port (e ∷ book) = by (is_of port e.entry) (same_count port book) ∙ sym (sum_by-cons (λ (u : Unanswered). cond (u.port.0 == port.0 && u.issued) 1 0) (asks e.entry) (asks_of book))
+  where
+    by : (own : Bool) → count_by (λ (x : Held). x.entry.issued) (requests_of port book) ≡ issued_count (asks_of book) port
+        → count_by (λ (x : Held). x.entry.issued) (cond own (e ∷ requests_of port book) (requests_of port book)) ≡ cond (own && e.entry.issued) 1 0 + issued_count (asks_of book) port
+    by true same = sum_by-cons (λ (x : Held). cond x.entry.issued 1 0) e (requests_of port book) ∙ ap (λ (n : ℕ). cond e.entry.issued 1 0 + n) same
+    by false same = omega (arith, same)
+
+pub places : LawsBelow → (s : Server) (port : Port) → IsKept s → state_of (found_of s.ports port.0) ≡ ReadyState
+    → (kept_at s.kept port.0 ≡ []) × (count_by (λ (e : Held). e.entry.issued) (requests_of port s.book) ≤ 32)
+places laws s port k ready = (none_alive s k port.0 alive (kept_at s.kept port.0) refl, subst (λ (n : ℕ). n ≤ 32) (sym counts) (few_serve k.stands.uses port.0 32))
+  where
+    alive : found_of s.ports port.0 ≢ Unready Dead
+    alive = not_dead s port.0 ready
+
+    counts : count_by (λ (e : Held). e.entry.issued) (requests_of port s.book) ≡ serving_count k.stands.uses port.0 32
+    counts =
+        same_count port s.book ∙ ap (λ (us : List Unanswered). issued_count us port) (sym (same_book s.book k.machine.book k.stands.book))
+        ∙ sym (laws.recovery.counted k.stands.uses k.machine s.device k.reached k.stands.knows.agrees port (none_kept s k.machine port k.stands alive) 32
+        (subst (λ (ids : List RequestId). HaveSlots k.stands.uses k.machine port.0 ids) (k.stands.unparked port.0 alive) (k.stands.knows.have port.0))
+        (λ slot id serves. let u = used_serves s k.machine port.0 k.stands ready slot id serves in used_small s port.0 slot u.0 k ready u.1))

@@ -1,0 +1,88 @@
+-- How many loans of a port may be kept: one of each of its requests that is issued, beside those that are.
+use Rattle.std.proofs.Common.{ℕ, ◌≡◌, ◌≤◌, ◌+◌, Bool, true, false, cond, if◌then◌else◌, List, [], ◌∷◌, map, sym, ap, ◌∙◌, subst, arith, le_refl, ⊎_elim}
+use Rattle.std.specs.Prelude.{count_by, filter}
+use Rattle.std.specs.List.{Contains}
+use Rattle.std.proofs.lemmas.Bool.{cond-false, false≢true}
+use Rattle.std.proofs.lemmas.List.Sums.{sum_by-cons}
+use Rattle.ata_types.specs.declared.Port.{Port}
+use Rattle.ata_types.specs.declared.request.Outcome.{Outcome}
+use Rattle.ata_types.specs.declared.request.Outcome.TheVariants as outcome
+use Rattle.ata_types.specs.declared.request.RequestId.{RequestId}
+use Rattle.server_history.proofs.state.ListMembers.{contains_cases}
+use Rattle.request_queue.specs.Entries.{Held, at, has_id, is_of, requeued}
+use Rattle.request_queue.specs.Fates.{keeps_loan}
+use Rattle.request_queue.specs.declared.Entry.{Entry}
+use Rattle.server_history.specs.Mended.{requests_of}
+use Rattle.server_history.proofs.state.FirstMembers.{nowhere}
+
+-- how many requests of the port are issued
+abbrev pub issued_of : Port → List Held → ℕ
+issued_of port book = count_by (λ (e : Held). e.entry.issued) (requests_of port book)
+
+-- one, if it is an issued one of the port
+abbrev pub counts : Port → Held → ℕ
+counts port e = cond (is_of port e.entry) (cond e.entry.issued 1 0) 0
+
+-- the first, and the others
+pub issued_first : (port : Port) (e : Held) (book : List Held) → issued_of port (e ∷ book) ≡ counts port e + issued_of port book
+issued_first port e book = by (is_of port e.entry)
+  where
+    by : (own : Bool) → count_by (λ (x : Held). x.entry.issued) (cond own (e ∷ requests_of port book) (requests_of port book)) ≡ cond own (cond e.entry.issued 1 0) 0 + issued_of port book
+    by true = sum_by-cons (λ (x : Held). cond x.entry.issued 1 0) e (requests_of port book)
+    by false = omega arith
+
+-- of fewer requests no more are issued
+pub fewer_issued : (port : Port) (passes : Held → Bool) (book : List Held) → issued_of port (filter passes book) ≤ issued_of port book
+fewer_issued port passes [] = le_refl 0
+fewer_issued port passes (x ∷ book) = by (passes x) (fewer_issued port passes book)
+  where
+    first : issued_of port (x ∷ book) ≡ counts port x + issued_of port book
+    first = issued_first port x book
+
+    by : (b : Bool) → issued_of port (filter passes book) ≤ issued_of port book → issued_of port (cond b (x ∷ filter passes book) (filter passes book)) ≤ issued_of port (x ∷ book)
+    by true less = let left = issued_first port x (filter passes book) in let right = first in omega (arith, less, left, right)
+    by false less = let right = first in omega (arith, less, right)
+
+-- and fewer by one that is left out
+pub one_fewer : (port : Port) (passes : Held → Bool) (book : List Held) (e : Held) → Contains book e → passes e ≡ false → counts port e + issued_of port (filter passes book) ≤ issued_of port book
+one_fewer port passes [] e here out = absurd (nowhere e here)
+one_fewer port passes (x ∷ book) e here out = ⊎_elim
+    (λ (same : e ≡ x).
+    let gone : filter passes (x ∷ book) ≡ filter passes book = cond-false (passes x) (x ∷ filter passes book) (filter passes book) (ap passes (sym same) ∙ out) in
+    let less = fewer_issued port passes book in
+    let right = issued_first port x book in
+    subst (λ (list : List Held). counts port e + issued_of port list ≤ issued_of port (x ∷ book)) (sym gone)
+    (subst (λ (y : Held). counts port y + issued_of port (filter passes book) ≤ issued_of port (x ∷ book)) (sym same) (omega (arith, less, right))))
+    (λ (there : Contains book e). by (passes x) (one_fewer port passes book e there out))
+    (contains_cases x book e here)
+  where
+    by : (b : Bool) → counts port e + issued_of port (filter passes book) ≤ issued_of port book
+        → counts port e + issued_of port (cond b (x ∷ filter passes book) (filter passes book)) ≤ issued_of port (x ∷ book)
+    by true less = let left = issued_first port x (filter passes book) in let right = issued_first port x book in omega (arith, less, left, right)
+    by false less = let right = issued_first port x book in omega (arith, less, right)
+
+-- where one waits again, no more are issued
+pub requeued_issued : (port : Port) (id : RequestId) (book : List Held) → issued_of port (map (at id requeued) book) ≤ issued_of port book
+requeued_issued port id [] = le_refl 0
+requeued_issued port id (x ∷ book) =
+    let rest = requeued_issued port id book in
+    let one = by (has_id id x) in
+    let left = issued_first port (at id requeued x) (map (at id requeued) book) in
+    let right = issued_first port x book in
+    omega (arith, rest, one, left, right)
+  where
+    own : (b : Bool) → cond b (cond false 1 0) 0 ≤ cond b (cond x.entry.issued 1 0) 0
+    own true = omega arith
+    own false = le_refl 0
+
+    by : (b : Bool) → counts port (if b then record x { entry = requeued x.entry } else x) ≤ counts port x
+    by true = own (is_of port x.entry)
+    by false = le_refl (counts port x)
+
+-- only an issued request's loan is kept
+pub kept_issued : (o : Outcome) (e : Entry) → keeps_loan o e ≡ true → e.issued ≡ true
+kept_issued outcome.Ok e is = absurd (false≢true is)
+kept_issued (outcome.DeviceError status error) e is = absurd (false≢true is)
+kept_issued outcome.Aborted e is = absurd (false≢true is)
+kept_issued outcome.Unplugged e is = absurd (false≢true is)
+kept_issued outcome.PortDead e is = is

@@ -1,0 +1,389 @@
+-- What the slots of ports are used for, and how that of a ready port is given up.
+use Rattle.std.proofs.Common.{ℕ, Bool, ◌&&◌, ◌≡◌, ◌≢◌, ◌≤◌, ◌<◌, ◌+◌, ◌/◌, ◌%◌, ◌⊎◌, true, false, not, List, Option, None, Some, inl, inr, refl, sym, ap, ◌∙◌, subst, ⊎_elim, arith}
+use Rattle.std.specs.List.{Contains}
+use Rattle.std.specs.Prelude.{if◌then◌else◌, min}
+use Rattle.std.proofs.Math.Nat.{min-eq_left, min-eq_right, min-le_left, min-le_right}
+use Rattle.identify.specs.declared.wanted.Wanted.{Wanted}
+use Rattle.std.proofs.lemmas.Bool.{cases_Bool, cases_eq, cases_lt, false≢true}
+use Rattle.std.proofs.lemmas.List.Elements.{All-contains}
+use Rattle.ata_types.specs.declared.Port.{Port}
+use Rattle.ata_types.specs.declared.PortState.TheVariants.{Absent, Dead, Ready as ReadyState}
+use Rattle.std.specs.Prelude.{IsSome}
+use Rattle.ata_types.specs.declared.request.Op.{Op}
+use Rattle.ata_types.specs.declared.request.Op.TheVariants.{Read, Write, Trim, Flush}
+use Rattle.ata_types.specs.declared.request.RequestId.{RequestId}
+use Rattle.adapter.specs.Commands.{Meaning}
+use Rattle.hba_regs.specs.Bits.{bit}
+use Rattle.adapter.specs.Device.{Device, PortState}
+use Rattle.adapter.specs.declared.command.Operation.{Operation}
+use Rattle.block_machine.specs.Due.{IsDue, is_plain}
+use Rattle.block_machine.specs.Ports.{IsMode}
+use Rattle.block_machine.specs.State.{Machine, Pending, unanswered}
+use Rattle.block_machine.specs.Steps.{Issue, May, MayMove, NoneKept}
+use Rattle.block_machine.specs.declared.due.Mode.{Mode}
+use Rattle.block_machine.specs.declared.due.Unanswered.{Unanswered}
+use Rattle.agreement.specs.Driven.{AgreesWith}
+use Rattle.agreement.specs.Slots.{Armed, Free, Own, Serves, Use, IsDropped, IsEnded, IsOver, IsServed, ServesRequest, Stage}
+use Rattle.command_table.specs.Written.{IsUnused}
+use Rattle.host_boot.specs.Taken.{StillStandsBehind, found_of, wanted_of}
+use Rattle.host_boot.specs.declared.Found.{Found}
+use Rattle.host_boot.specs.declared.Found.TheVariants.{Unserved, Ready, Unready}
+use Rattle.identify.specs.declared.DiskInfo.{DiskInfo}
+use Rattle.request_queue.specs.Entries.{Held, asks, asks_of}
+use Rattle.request_queue.specs.Machine.{IsEntry}
+use Rattle.std.proofs.lemmas.List.{get_or_past}
+use Rattle.slots.specs.Uses.{Uses as PortSlots, IsLowestFree, IsTaken, use_at}
+use Rattle.slots.specs.declared.Use.{Use as SlotUse}
+use Rattle.server_history.specs.Served.{is_used}
+use Rattle.server_history.specs.Server.{Server, IsKept, IsMachineOf, IsUsedAs, is_served, mode_at, mode_found, mode_in, no_slots, slots_at, state_of, usable_of, use_of, used_for}
+use Rattle.server_history.specs.Below.{LawsBelow}
+use Rattle.server_history.proofs.state.DueRequests.{asked_alike, same_book}
+use Rattle.server_history.proofs.state.PairedLists.{at_left, at_right}
+use Rattle.server_history.proofs.state.FirstMembers.{nowhere}
+
+-- ---- ready ports
+
+-- a ready port is one of the four, and was found with a disk
+pub ready_found : (s : Server) (port : ℕ) → IsKept s → state_of (found_of s.ports port) ≡ ReadyState → (port < 4) × ((info : DiskInfo) × (found_of s.ports port ≡ Ready info))
+ready_found s port k ready = by (found_of s.ports port) refl
+  where
+    low : is_served (found_of s.ports port) ≡ true → port < 4
+    low served = (k.there port served).0
+
+    by : (found : Found) → found_of s.ports port ≡ found → (port < 4) × ((info : DiskInfo) × (found_of s.ports port ≡ Ready info))
+    by Unserved is = let x : Absent ≡ ReadyState = sym (ap state_of is) ∙ ready in absurd cc
+    by (Ready info) is = (low (ap is_served is), (info, is))
+    by (Unready state) is =
+        let state_is : state ≡ ReadyState = sym (ap state_of is) ∙ ready in
+        let P : Found → Type 0 = λ f. StillStandsBehind (wanted_of s.wanted port) f port s.device in
+        absurd (subst P (is ∙ ap Unready state_is) (k.behind port (low (ap is_served is))).behind).1
+
+-- it isn't dead
+pub not_dead : (s : Server) (port : ℕ) → state_of (found_of s.ports port) ≡ ReadyState → found_of s.ports port ≢ Unready Dead
+not_dead s port ready is = let z : Dead ≡ ReadyState = sym (ap state_of is) ∙ ready in cc
+
+-- a request of the book is of a ready port
+pub of_ready : (s : Server) → IsKept s → (e : Held) → Contains s.book e → state_of (found_of s.ports e.entry.port.0) ≡ ReadyState
+of_ready s k e here = All-contains (λ (x : Held). state_of (found_of s.ports x.entry.port.0) ≡ ReadyState) s.book e k.ready here
+
+-- ---- how a port takes commands
+
+-- a disk that was found takes one command at a time at least
+abbrev TakesSome : Found → Type 0
+TakesSome (Ready info) = 1 ≤ info.depth
+TakesSome _ = Unit {0}
+
+takes_some : (wanted : Wanted) (found : Found) (port : ℕ) (d : Device) → StillStandsBehind wanted found port d → TakesSome found
+takes_some wanted Unserved port d behind = tt
+takes_some wanted (Ready info) port d behind = let depth = behind.1.fit.tells.depth in omega (arith, depth)
+takes_some wanted (Unready state) port d behind = tt
+
+some_min : (a b : ℕ) → 1 ≤ a → 1 ≤ b → 1 ≤ min a b
+some_min a b x y = ⊎_elim
+    (λ (less : a < b). subst (λ (n : ℕ). 1 ≤ n) (sym (min-eq_left (omega (arith, less)))) x)
+    (λ (most : b ≤ a). subst (λ (n : ℕ). 1 ≤ n) (sym (min-eq_right most)) y)
+    (cases_lt a b)
+
+-- with such a disk, a port has 1 to 32 usable slots, no more than the adapter has, and one where commands aren't queued
+abbrev FitsIn : ℕ → Mode → Type 0
+FitsIn cap mode = IsMode mode × (mode.usable ≤ cap / 256 % 32 + 1)
+
+mode_fit : (cap : ℕ) (found : Found) → TakesSome found → FitsIn cap (mode_found cap found)
+mode_fit cap Unserved some = ((omega arith, omega arith, λ plain. refl), omega arith)
+mode_fit cap (Ready info) some = by (bit cap 30 && info.ncq)
+  where
+    many : ℕ
+    many = cap / 256 % 32 + 1
+
+    most : min many (min info.depth 32) ≤ min info.depth 32
+    most = min-le_right many (min info.depth 32)
+
+    by : (b : Bool) → FitsIn cap (if b then record { queued = true; usable = min (cap / 256 % 32 + 1) (min info.depth 32) } else record { queued = false; usable = 1 })
+    by true = (
+      (some_min many (min info.depth 32) (omega arith) (some_min info.depth 32 some (omega arith)), (let l = min-le_right info.depth 32 in omega (arith, most, l)), λ plain. let z : true ≡ false = plain in absurd cc),
+      min-le_left many (min info.depth 32),
+    )
+    by false = ((omega arith, omega arith, λ plain. refl), omega arith)
+mode_fit cap (Unready state) some = ((omega arith, omega arith, λ plain. refl), omega arith)
+
+pub stood_mode : (wanted : Wanted) (found : Found) (port : ℕ) (d : Device) → StillStandsBehind wanted found port d → IsMode (mode_found d.cap found) × ((mode_found d.cap found).usable ≤ d.cap / 256 % 32 + 1)
+stood_mode wanted found port d behind = mode_fit d.cap found (takes_some wanted found port d behind)
+
+pub its_mode : (s : Server) (port : ℕ) → IsKept s → port < 4 → IsMode (mode_at s.modes port) × ((mode_at s.modes port).usable ≤ s.device.cap / 256 % 32 + 1)
+its_mode s port k low =
+    subst (λ (m : Mode). IsMode m × (m.usable ≤ s.device.cap / 256 % 32 + 1)) (sym (k.modes port low)) (stood_mode (wanted_of s.wanted port) (found_of s.ports port) port s.device (k.behind port low).behind)
+
+-- a ready port may use the slots of its mode
+pub usable_ready : (s : Server) (port : ℕ) (k : IsKept s) → state_of (found_of s.ports port) ≡ ReadyState → usable_of (found_of s.ports port) (mode_at s.modes port) ≡ (mode_at s.modes port).usable
+usable_ready s port k ready = ap (λ (f : Found). usable_of f (mode_at s.modes port)) (ready_found s port k ready).1.1
+
+pub not_true : (b : Bool) → not b ≡ true → b ≡ false
+not_true false is = refl
+not_true true is = absurd (false≢true is)
+
+pub not_false : (b : Bool) → not b ≡ false → b ≡ true
+not_false true is = refl
+not_false false is = absurd (false≢true (sym is))
+
+-- what isn't plain is a read or a write
+pub queued_op : (mode : Mode) (op : Op) → is_plain mode op ≡ false → (op ≡ Read) ⊎ (op ≡ Write)
+queued_op mode Read queued = inl refl
+queued_op mode Write queued = inr refl
+queued_op mode Trim queued = absurd (false≢true (sym queued))
+queued_op mode Flush queued = absurd (false≢true (sym queued))
+
+-- ---- slots
+
+-- but on a dead port, a slot has no command of the driver's own
+pub not_own : (found : Found) (used : Option SlotUse) (u : Use) (o : Operation) → found ≢ Unready Dead → IsUsedAs found used u → u ≡ Own o → ⊥
+not_own found None u o other is own = let z : Free ≡ Own o = sym (is other) ∙ own in cc
+not_own found (Some used) u o other is own = let z : Serves used.id ≡ Own o = sym (is other) ∙ own in cc
+
+-- no request is kept of a port that isn't dead
+pub none_kept : (s : Server) (m : Machine) (port : Port) → IsMachineOf s m → found_of s.ports port.0 ≢ Unready Dead → NoneKept m port
+none_kept s m port is other e here own = other (ap (λ (q : Port). found_of s.ports q.0) (sym own) ∙ is.kept.dead e here)
+
+-- used, or not
+pub used_or_not : (used : Option SlotUse) → ((u : SlotUse) × (used ≡ Some u)) ⊎ (used ≡ None)
+used_or_not None = inr refl
+used_or_not (Some u) = inl (u, refl)
+
+-- a used slot is one that the port may use
+pub used_low : (s : Server) (port slot : ℕ) (u : SlotUse) → IsKept s → port < 4 → used_for s.slots port slot ≡ Some u → slot < usable_of (found_of s.ports port) (mode_at s.modes port)
+used_low s port slot u k low used =
+    let usable = usable_of (found_of s.ports port) (mode_at s.modes port) in ⊎_elim
+    (λ (less : slot < usable). less)
+    (λ (high : usable ≤ slot). let z : None ≡ Some u = sym ((k.slots port low).unused slot high) ∙ used in absurd cc)
+    (cases_lt slot usable)
+
+-- a used slot is one of the 32 of one of the four ports
+pub used_there : (s : Server) (port slot : ℕ) (u : SlotUse) → IsKept s → used_for s.slots port slot ≡ Some u → (port < 4) × (slot < 32)
+used_there s port slot u k used = (
+  low,
+  ⊎_elim
+      (λ (small : slot < 32). small)
+      (λ (high : 32 ≤ slot).
+      let many = (k.slots port low).places in
+      let z : None ≡ Some u = sym (get_or_past (slots_at s.slots port).places slot None (omega (arith, many, high))) ∙ used in absurd cc)
+      (cases_lt slot 32),
+)
+  where
+    low : port < 4
+    low = ⊎_elim
+        (λ (small : port < 4). small)
+        (λ (high : 4 ≤ port).
+        let four = k.four in
+        let none = get_or_past s.slots port no_slots (omega (arith, four, high)) in
+        let z : None ≡ Some u = sym (ap (λ (x : PortSlots). use_at x slot) none) ∙ used in absurd cc)
+        (cases_lt port 4)
+
+-- and that port is ready
+pub used_ready : (s : Server) (port slot : ℕ) (u : SlotUse) → IsKept s → used_for s.slots port slot ≡ Some u → state_of (found_of s.ports port) ≡ ReadyState
+used_ready s port slot u k used = by (found_of s.ports port) refl
+  where
+    unused : usable_of (found_of s.ports port) (mode_at s.modes port) ≡ 0 → ⊥
+    unused none = let low = used_low s port slot u k (used_there s port slot u k used).0 used in omega (arith, low, none)
+
+    by : (f : Found) → found_of s.ports port ≡ f → state_of f ≡ ReadyState
+    by Unserved is = absurd (unused (ap (λ (f : Found). usable_of f (mode_at s.modes port)) is))
+    by (Ready info) is = refl
+    by (Unready state) is = absurd (unused (ap (λ (f : Found). usable_of f (mode_at s.modes port)) is))
+
+pub busy_used : (used : Option SlotUse) → is_used used ≡ true → (u : SlotUse) × (used ≡ Some u)
+busy_used None busy = absurd (false≢true busy)
+busy_used (Some u) busy = (u, refl)
+
+module _ (s : Server) (m : Machine) (port : ℕ) (is : IsMachineOf s m) (ready : state_of (found_of s.ports port) ≡ ReadyState) where
+  -- a slot of a ready port is used as the server has it
+  pub ready_use : (slot : ℕ) → is.uses port slot ≡ use_of (used_for s.slots port slot)
+  ready_use slot = is.used port slot (not_dead s port ready)
+
+  pub serves_used : (slot : ℕ) (u : SlotUse) → used_for s.slots port slot ≡ Some u → is.uses port slot ≡ Serves u.id
+  serves_used slot u used = ready_use slot ∙ ap use_of used
+
+  pub free_unused : (slot : ℕ) → used_for s.slots port slot ≡ None → is.uses port slot ≡ Free
+  free_unused slot unused = ready_use slot ∙ ap use_of unused
+
+  -- what serves a request is used for it
+  pub used_serves : (slot : ℕ) (id : RequestId) → is.uses port slot ≡ Serves id → (u : SlotUse) × (used_for s.slots port slot ≡ Some u) × (u.id ≡ id)
+  used_serves slot id serves = ⊎_elim
+      (λ (x : (u : SlotUse) × (used_for s.slots port slot ≡ Some u)). let z : Serves x.0.id ≡ Serves id = sym (serves_used slot x.0 x.1) ∙ serves in (x.0, x.1, cc))
+      (λ (none : used_for s.slots port slot ≡ None). let z : Free ≡ Serves id = sym (free_unused slot none) ∙ serves in absurd cc)
+      (used_or_not (used_for s.slots port slot))
+
+-- a request of a ready port that the device may move is unanswered
+pub still_booked : (s : Server) (m : Machine) (port : ℕ) → IsMachineOf s m → state_of (found_of s.ports port) ≡ ReadyState → (e : Pending) → MayMove m e → e.request.port.0 ≡ port
+    → Contains m.book e × (e.issued ≡ true)
+still_booked s m port is ready e (inl booked) own = booked
+still_booked s m port is ready e (inr kept) own = absurd (not_dead s port ready (ap (λ (q : ℕ). found_of s.ports q) (sym own) ∙ is.kept.dead e kept))
+
+-- what the machine has of the request that a slot serves
+pub served_by : (s : Server) (m : Machine) (port slot : ℕ) → (is : IsMachineOf s m) → (id : RequestId) → is.uses port slot ≡ Serves id
+    → ServesRequest m s.device.memory (s.device.port port) port slot id
+served_by s m port slot is id serves =
+    subst (λ (u : Use). IsServed m s.device.memory s.device.tape (s.device.port port) port slot u) serves (is.knows.agrees.slot port slot)
+
+-- A request that a slot serves: in the machine, and in the server's book.
+pub record IsServedBy (s : Server) (m : Machine) (port slot : ℕ) (id : RequestId) : Type 0 where
+  pub serves : ServesRequest m s.device.memory (s.device.port port) port slot id
+  pub here : Contains m.book serves.pending
+  pub issued : serves.pending.issued ≡ true
+  pub request : Held
+  pub there : Contains s.book request
+  pub entry : IsEntry request serves.pending
+  pub id_is : request.entry.id ≡ id
+  pub port_is : request.entry.port.0 ≡ port
+
+pub served_request : (s : Server) (m : Machine) (port slot : ℕ) → (is : IsMachineOf s m) → state_of (found_of s.ports port) ≡ ReadyState → (id : RequestId) → is.uses port slot ≡ Serves id → IsServedBy s m port slot id
+served_request s m port slot is ready id serves =
+    let x : ServesRequest m s.device.memory (s.device.port port) port slot id = served_by s m port slot is id serves in
+    let booked = still_booked s m port is ready x.pending x.moves x.port_is in
+    let e = at_right IsEntry s.book m.book is.book x.pending booked.0 in
+    record {
+      serves = x;
+      here = booked.0;
+      issued = booked.1;
+      request = e.0;
+      there = e.1;
+      entry = e.2;
+      id_is = sym e.2.id ∙ x.id_is;
+      port_is = ap (λ (p : Port). p.0) (sym e.2.port) ∙ x.port_is;
+    }
+
+-- ---- what is issued has a slot
+
+-- a used slot of a ready port is one of the 32
+pub used_small : (s : Server) (port slot : ℕ) (u : SlotUse) → IsKept s → state_of (found_of s.ports port) ≡ ReadyState → used_for s.slots port slot ≡ Some u → slot < 32
+used_small s port slot u k ready used =
+    let low = (ready_found s port k ready).0 in
+    let few = (its_mode s port k low).0.1 in
+    let small = used_low s port slot u k low used in
+    let same = usable_ready s port k ready in
+    omega (arith, few, small, same)
+
+-- A request of a ready port that is issued has a slot.
+pub record HasSlot (s : Server) (port : Port) (id : RequestId) : Type 0 where
+  pub slot : ℕ
+  pub small : slot < 32
+  pub used : SlotUse
+  pub used_is : used_for s.slots port.0 slot ≡ Some used
+  pub id_is : used.id ≡ id
+
+pub issued_has : (s : Server) (m : Machine) (port : Port) → (is : IsMachineOf s m) → IsKept s → state_of (found_of s.ports port.0) ≡ ReadyState → (e : Pending) → Contains m.book e
+    → e.request.port ≡ port → e.issued ≡ true → HasSlot s port e.request.id
+issued_has s m port is k ready e here own issued = ⊎_elim
+    (λ (parked : Contains (is.parked port.0) e.request.id).
+    absurd (nowhere e.request.id (subst (λ (ids : List RequestId). Contains ids e.request.id) (is.unparked port.0 (not_dead s port.0 ready)) parked)))
+    (λ (w : (slot : ℕ) × (is.uses port.0 slot ≡ Serves e.request.id)).
+    let x = used_serves s m port.0 is ready w.0 e.request.id w.1 in
+    record { slot = w.0; small = used_small s port.0 w.0 x.0 k ready x.1; used = x.0; used_is = x.1; id_is = x.2 })
+    (is.knows.have port.0 e (inl (here, issued)) (ap (λ (p : Port). p.0) own))
+
+-- ---- a request that is due finds a free slot
+
+module _ (laws : LawsBelow) (s : Server) (e : Held) (k : IsKept s) (here : Contains s.book e) (due : IsDue (mode_in s e.entry.port) (asks_of s.book) (asks e.entry)) where
+  abbrev port : Port
+  port = e.entry.port
+
+  abbrev mode : Mode
+  mode = mode_in s port
+
+  ready : state_of (found_of s.ports port.0) ≡ ReadyState
+  ready = of_ready s k e here
+
+  x : (p : Pending) × Contains k.machine.book p × IsEntry e p
+  x = at_left IsEntry s.book k.machine.book k.stands.book e here
+
+  abbrev p : Pending
+  p = x.0
+
+  may : May k.machine (Issue mode p)
+  may = (
+    x.1,
+    (let B : List Unanswered → Type 0 = λ book. IsDue mode book (unanswered p) in
+        let R : Unanswered → Type 0 = λ r. IsDue mode (asks_of s.book) r in
+        subst B (sym (same_book s.book k.machine.book k.stands.book)) (subst R (sym (asked_alike e p x.2)) due)),
+    none_kept s k.machine p.request.port k.stands (not_dead s p.request.port.0 (ap (λ (q : Port). state_of (found_of s.ports q.0)) x.2.port ∙ ready)),
+  )
+
+  use_known : (slot : ℕ) → k.stands.uses p.request.port.0 slot ≡ use_of (used_for s.slots port.0 slot)
+  use_known slot = ap (λ (q : Port). k.stands.uses q.0 slot) x.2.port ∙ ready_use s k.machine port.0 k.stands ready slot
+
+  not_armed : (used : Option SlotUse) → use_of used ≡ Armed → ⊥
+  not_armed None is = let z : Free ≡ Armed = is in cc
+  not_armed (Some used) is = let z : Serves used.id ≡ Armed = is in cc
+
+  never_own : (used : Option SlotUse) (o : Operation) → use_of used ≡ Own o → ⊥
+  never_own None o is = let z : Free ≡ Own o = is in cc
+  never_own (Some used) o is = let z : Serves used.id ≡ Own o = is in cc
+
+  free_none : (used : Option SlotUse) → use_of used ≡ Free → used ≡ None
+  free_none None is = refl
+  free_none (Some used) is = let z : Serves used.id ≡ Free = is in absurd cc
+
+  own_none : (o : Operation) → k.stands.uses p.request.port.0 0 ≡ Own o → ⊥
+  own_none o is = never_own (used_for s.slots port.0 0) o (sym (use_known 0) ∙ is)
+
+  armed_none : (slot : ℕ) → k.stands.uses p.request.port.0 slot ≡ Armed → ⊥
+  armed_none slot is = not_armed (used_for s.slots port.0 slot) (sym (use_known slot) ∙ is)
+
+  -- a plain one finds slot 0 free
+  pub plain_free : is_plain mode e.entry.op ≡ true → used_for s.slots port.0 0 ≡ None
+  plain_free plain = free_none (used_for s.slots port.0 0) (sym (use_known 0) ∙ laws.slots.plain_free k.stands.uses k.machine s.device k.reached k.stands.knows.agrees mode p may own_none armed_none (ap (is_plain mode) x.2.op ∙ plain))
+
+  -- and a queued one some usable slot
+  pub queued_free : is_plain mode e.entry.op ≡ false → (slot : ℕ) × (slot < mode.usable) × (used_for s.slots port.0 slot ≡ None)
+  queued_free queued =
+      let f = laws.slots.queued_free k.stands.uses k.machine s.device k.reached k.stands.knows.agrees mode p may own_none armed_none (ap (is_plain mode) x.2.op ∙ queued) in
+      (f.0, f.1, free_none (used_for s.slots port.0 f.0) (sym (use_known f.0) ∙ f.2))
+
+  low : port.0 < 4
+  low = (ready_found s port.0 k ready).0
+
+  -- so not all are taken
+  pub never_full : ((slot : ℕ) → slot < (slots_at s.slots port.0).usable → IsTaken (slots_at s.slots port.0) slot) → ⊥
+  never_full all = ⊎_elim
+      (λ (plain : is_plain mode e.entry.op ≡ true). free_taken 0 (let some = (its_mode s port.0 k low).0.0 in some) (plain_free plain))
+      (λ (queued : is_plain mode e.entry.op ≡ false). let f = queued_free queued in free_taken f.0 f.1 f.2)
+      (cases_Bool (is_plain mode e.entry.op))
+    where
+      some_not : (used : Option SlotUse) → used ≡ None → IsSome used → ⊥
+      some_not None is some = absurd (false≢true some)
+      some_not (Some u) is some = let z : Some u ≡ None = is in cc
+
+      free_taken : (slot : ℕ) → slot < mode.usable → used_for s.slots port.0 slot ≡ None → ⊥
+      free_taken slot small free =
+          let z : IsSome (used_for s.slots port.0 slot) = all slot (subst (λ (n : ℕ). slot < n) (sym (k.slots port.0 low).usable) small) in
+          some_not (used_for s.slots port.0 slot) free z
+
+  -- The lowest free slot is one of the adapter's, and slot 0 for a plain command; some machine agrees with a driver that doesn't use it.
+  pub lowest_may : (slot : ℕ) → IsLowestFree (slots_at s.slots port.0) slot
+      → (slot < mode.usable) × (slot < 32) × (slot ≤ s.device.cap / 256 % 32) × (is_plain mode e.entry.op ≡ true → slot ≡ 0) × AgreesWith (IsUnused port.0 slot) s.device
+  lowest_may slot lowest = (
+    small,
+    (let few = fit.0.1 in omega (arith, few, small)),
+    (let few = fit.1 in omega (arith, few, small)),
+    (λ plain. ⊎_elim (λ (head : slot ≡ 0). head) (λ (other : slot ≢ 0). absurd (taken_not (plain_free plain) (lowest.2 0 (omega (arith, other))))) (cases_eq slot 0)),
+    (k.stands.uses, free_unused s k.machine port.0 k.stands ready slot lowest.1, record { machine = k.machine; parked = k.stands.parked; reached = k.reached; knows = k.stands.knows }),
+  )
+    where
+      fit : IsMode mode × (mode.usable ≤ s.device.cap / 256 % 32 + 1)
+      fit = its_mode s port.0 k low
+
+      small : slot < mode.usable
+      small = subst (λ (n : ℕ). slot < n) (k.slots port.0 low).usable lowest.0
+
+      taken_not : used_for s.slots port.0 0 ≡ None → IsTaken (slots_at s.slots port.0) 0 → ⊥
+      taken_not free some = let y : false ≡ true = subst (λ (o : Option SlotUse). IsSome o) free some in false≢true y
+
+-- ---- a slot is given up
+
+-- the commands of these slots are over
+abbrev pub AreOver : Port → ℕ → Device → Type 0
+AreOver port done d = (slot : ℕ) → slot < 32 → bit done slot ≡ true → IsOver (d.port port.0) slot
+
+-- a command that is over has ended, or was dropped
+pub stage_over : (memory : ℕ → ℕ) (p : PortState) (port slot : ℕ) (e : Pending) (c : Meaning) (places : List ℕ) → Stage memory p port slot e c places → IsOver p slot → IsEnded p slot e ⊎ IsDropped p slot e
+stage_over memory p port slot e c places (inl w) over = absurd (false≢true (sym over.issued ∙ w.issued))
+stage_over memory p port slot e c places (inr (inl t)) over = let x : None ≡ Some t.command = sym over.free ∙ t.taken in absurd cc
+stage_over memory p port slot e c places (inr (inr left)) over = left

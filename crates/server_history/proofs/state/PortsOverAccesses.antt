@@ -1,0 +1,77 @@
+-- What accesses leave of ports, as a server has them.
+use Rattle.std.proofs.Common.{ℕ, suc, ◌≡◌, ◌≢◌, List, arith}
+use Rattle.ata_types.specs.declared.Port.{Port}
+use Rattle.ata_types.specs.declared.PortState.TheVariants.{Absent, Ready as ReadyState, Foreign, Unfit, Dead}
+use Rattle.adapter.specs.Access.{Access, Does}
+use Rattle.adapter.specs.Access.Access.{Reading, Writing, Loading, Storing}
+use Rattle.adapter.specs.Device.{Device}
+use Rattle.adapter.specs.Rules.{IsOn}
+use Rattle.adapter.specs.declared.command.Operation.TheVariants.{Identify}
+use Rattle.agreement.specs.Agrees.{port_at}
+use Rattle.agreement.specs.Driven.{IsDrivenBy, IsOf, LeavesPort, SendsNone}
+use Rattle.agreement.specs.Halting.{IsHaltedAsTaken}
+use Rattle.agreement.specs.Links.{SameAdapter}
+use Rattle.agreement.proofs.driver.PortAccesses.{other_left}
+use Rattle.server_history.proofs.state.DrivenAccesses.{by_one}
+use Rattle.host_boot.specs.Taken.{StillStandsBehind, found_of, wanted_of}
+use Rattle.host_boot.specs.declared.Found.{Found}
+use Rattle.host_boot.specs.declared.Found.TheVariants.{Unserved, Ready, Unready}
+use Rattle.identify.specs.declared.wanted.Wanted.{Wanted}
+use Rattle.port_look.specs.Services.{IsService}
+use Rattle.server_history.specs.Below.{LawsBelow}
+use Rattle.server_history.specs.Server.{IsPortOf, state_of}
+use Rattle.server_history.proofs.state.PortGrounds.{left_on, ready_on}
+use Rattle.server_history.proofs.state.RunningPorts.{runs_on, shown_on}
+
+-- ---- loads and stores
+
+-- the access loads or stores bytes
+abbrev pub IsOfBytes : Access → Type 0
+IsOfBytes (Loading at bytes) = Unit {0}
+IsOfBytes (Storing at bytes) = Unit {0}
+IsOfBytes access = ⊥
+
+bytes_of : (port : Port) (access : Access) → IsOfBytes access → IsOf port access
+bytes_of port (Loading at bytes) is = tt
+bytes_of port (Storing at bytes) is = tt
+bytes_of port (Reading r v) is = absurd is
+bytes_of port (Writing r v) is = absurd is
+
+pub bytes_serve : (access : Access) → IsOfBytes access → IsService access
+bytes_serve (Loading at bytes) is = tt
+bytes_serve (Storing at bytes) is = tt
+bytes_serve (Reading r v) is = absurd is
+bytes_serve (Writing r v) is = absurd is
+
+-- they leave every port to the device
+pub bytes_leave : (access : Access) (old new : Device) → IsOfBytes access → IsOn old → Does access old new → (port : ℕ) → LeavesPort (old.port port) (new.port port)
+bytes_leave access old new is on does port =
+    other_left (port_at (suc port)) old new (by_one (IsOf (port_at (suc port))) access old new (bytes_of (port_at (suc port)) access is) does) port
+    (λ same. absurd (omega (arith, same))) on
+
+-- ---- what stands behind a port
+
+-- over accesses that serve ports, where the port is left to the device, unless it is ready, and a halt is of a taken command still
+pub port_on : LawsBelow → (wanted : List Wanted) (found : List Found) (port : ℕ) (old new : Device) → SameAdapter old new → IsOn old → IsDrivenBy IsService old new
+    → (state_of (found_of found port) ≢ ReadyState → LeavesPort (old.port port) (new.port port))
+    → (found_of found port ≢ Unready Dead → SendsNone port Identify old new) → (IsHaltedAsTaken (old.port port) → IsHaltedAsTaken (new.port port)) → IsPortOf wanted found port old → IsPortOf wanted found port new
+port_on laws wanted found port old new same on by left silent halts is =
+    record {
+      behind = behind (found_of found port) left silent is.behind;
+      runs = λ ready. runs_on laws.looks (port_at port) old new on by (is.runs ready);
+      shown = λ bad. shown_on laws.looks (port_at port) old new on by (is.shown bad);
+      own = λ ready. laws.recovery.own_on port by.accesses old new by.all (is.own ready);
+      halts = λ ready. halts (λ _. is.halts ready) (runs_on laws.looks (port_at port) old new on by (is.runs ready)).st;
+    }
+  where
+    behind : (f : Found) → (state_of f ≢ ReadyState → LeavesPort (old.port port) (new.port port)) → (f ≢ Unready Dead → SendsNone port Identify old new)
+        → StillStandsBehind (wanted_of wanted port) f port old → StillStandsBehind (wanted_of wanted port) f port new
+    behind Unserved left silent stays = left_on (wanted_of wanted port) Unserved port old new same (left (λ e. let z : Absent ≡ ReadyState = e in cc)) silent stays
+    behind (Ready info) left silent stays =
+        let c = laws.looking.services_controls port old new on by in
+        ready_on (wanted_of wanted port) info port old new same c.0 c.1 c.2 (silent (λ e. let z : Ready info ≡ Unready Dead = e in cc)) stays
+    behind (Unready ReadyState) left silent stays = absurd stays.1
+    behind (Unready Absent) left silent stays = left_on (wanted_of wanted port) (Unready Absent) port old new same (left (λ e. let z : Absent ≡ ReadyState = e in cc)) silent stays
+    behind (Unready Foreign) left silent stays = left_on (wanted_of wanted port) (Unready Foreign) port old new same (left (λ e. let z : Foreign ≡ ReadyState = e in cc)) silent stays
+    behind (Unready (Unfit n)) left silent stays = left_on (wanted_of wanted port) (Unready (Unfit n)) port old new same (left (λ e. let z : Unfit n ≡ ReadyState = e in cc)) silent stays
+    behind (Unready Dead) left silent stays = left_on (wanted_of wanted port) (Unready Dead) port old new same (left (λ e. let z : Dead ≡ ReadyState = e in cc)) silent stays

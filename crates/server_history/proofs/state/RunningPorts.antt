@@ -1,0 +1,100 @@
+-- A ready port runs on while ports are served.
+use Rattle.std.proofs.Common.{ℕ, ◌≡◌, ◌≢◌, ◌+◌, ◌%◌, Bool, true, false, nat_eq, refl, ap, ◌∙◌, subst, ⊎_elim}
+use Rattle.std.specs.Prelude.{min, if◌then◌else◌}
+use Rattle.std.proofs.lemmas.Bool.{cases_eq}
+use Rattle.ata_types.specs.declared.Port.{Port}
+use Rattle.ata_types.specs.declared.limits.TheConstants.{READINGS}
+use Rattle.hba_regs.specs.declared.reg.Reg.{Reg}
+use Rattle.hba_regs.specs.declared.reg.Reg.TheVariants.{Px}
+use Rattle.hba_regs.specs.declared.reg.PortReg.TheVariants.{Clb, Clbu, Fb, Fbu, Cmd, Ssts, Sctl}
+use Rattle.adapter.specs.Access.{Access, Does, Reads, note}
+use Rattle.adapter.specs.Access.Access.{Reading, Writing, Loading, Storing}
+use Rattle.adapter.specs.Device.{Notes, PortState, Device}
+use Rattle.adapter.specs.Rules.{IsOn}
+use Rattle.block_machine.proofs.Keeps.{same_port}
+use Rattle.agreement.specs.Driven.{IsDrivenBy}
+use Rattle.agreement.specs.Links.{HasDeviceOrNone, LeavesControls, SparesRegister}
+use Rattle.agreement.proofs.device.PortControls.{access_controls}
+use Rattle.agreement.proofs.device.PortNotes.{access_notes, notes_read}
+use Rattle.agreement.proofs.device.ShownDevice.{access_shown}
+use Rattle.agreement.specs.Noted.{SparesReading}
+use Rattle.port_control.specs.Ports.{programmed}
+use Rattle.port_look.specs.Laws.{Laws}
+use Rattle.port_look.specs.Services.{IsService}
+use Rattle.port_look.proofs.Recording.{services_recorded}
+use Rattle.port_look.proofs.Serving.{services_keep, spares_port}
+use Rattle.driver_history.specs.Holds.{Runs}
+
+-- the engine runs, and its areas and its device were found
+record Holds (port : ℕ) (d : Device) : Type 0 where
+  st : (d.port port).st ≡ true
+  cr : (d.port port).cr ≡ true
+  fre : (d.port port).fre ≡ true
+  bases : (d.port port).bases ≡ programmed port
+  saw : (d.port port).notes.link_count ≡ READINGS
+
+-- a count of 64 stays, whatever PxSSTS shows
+counts_on : (v : ℕ) (p : PortState) → p.notes.link_count ≡ READINGS → (note Ssts v p).link_count ≡ READINGS
+counts_on v p is = by (nat_eq p.sctl_det 0) (nat_eq (v % 16) 3) p.notes.link_count is
+  where
+    by : (free seen : Bool) (n : ℕ) → n ≡ READINGS → (if free then (if seen then READINGS else min READINGS (n + 1)) else n) ≡ READINGS
+    by false seen n e = e
+    by true true n e = refl
+    by true false n e = ap (λ (k : ℕ). min READINGS (k + 1)) e
+
+pub link_still : (port : Port) (access : Access) (old new : Device) → IsOn old → SparesRegister (Px port Sctl) access → Does access old new → (old.port port.0).notes.link_count ≡ READINGS → (new.port port.0).notes.link_count ≡ READINGS
+link_still port access old new on spares does saw = by access spares does
+  where
+    spared : (a : Access) → SparesRegister (Px port Sctl) a → Does a old new → SparesReading (Px port Ssts) a → (new.port port.0).notes.link_count ≡ READINGS
+    spared a its did other = ((access_notes port a old new did).link other).1 its ∙ saw
+
+    read : (r : Reg) (v : ℕ) → Does (Reading r v) old new → (new.port port.0).notes.link_count ≡ READINGS
+    read (Px p Ssts) v did = ⊎_elim
+        (λ (e : p.0 ≡ port.0).
+        let same : Reads (Px port Ssts) v old new = subst (λ (q : Port). Reads (Px q Ssts) v old new) (same_port p port e) did in
+        ap (λ (n : Notes). n.link_count) (notes_read port Ssts v old new on.no_reset same) ∙ counts_on v (old.port port.0) saw)
+        (λ (ne : p.0 ≢ port.0). spared (Reading (Px p Ssts) v) tt did (λ q. ne (let same : p ≡ port = (let z : Px p Ssts ≡ Px port Ssts = q in cc) in ap (λ (x : Port). x.0) same)))
+        (cases_eq p.0 port.0)
+    read r v did = spared (Reading r v) tt did (λ q. absurd cc)
+
+    by : (a : Access) → SparesRegister (Px port Sctl) a → Does a old new → (new.port port.0).notes.link_count ≡ READINGS
+    by (Writing r v) its did = spared (Writing r v) its did tt
+    by (Loading at bytes) its did = spared (Loading at bytes) its did tt
+    by (Storing at bytes) its did = spared (Storing at bytes) its did tt
+    by (Reading r v) its did = read r v did
+
+each : (port : Port) (access : Access) (old new : Device) → IsOn old → IsService access → Does access old new → Holds port.0 old → Holds port.0 new
+each port access old new on is does h =
+    let left : LeavesControls access port (old.port port.0) (new.port port.0) = access_controls port access old new on.no_reset does in
+    let command = left.command (spares_port port Cmd (λ e. cc) (λ e. cc) (λ e. cc) access is) in
+    let list = left.list (spares_port port Clb (λ e. cc) (λ e. cc) (λ e. cc) access is) in
+    let list_upper = left.list_upper (spares_port port Clbu (λ e. cc) (λ e. cc) (λ e. cc) access is) in
+    let received = left.received (spares_port port Fb (λ e. cc) (λ e. cc) (λ e. cc) access is) in
+    let received_upper = left.received_upper (spares_port port Fbu (λ e. cc) (λ e. cc) (λ e. cc) access is) in
+    record {
+      st = command.0 ∙ h.st;
+      cr = command.3 h.st h.cr;
+      fre = command.1 ∙ h.fre;
+      bases = (λ i. record { clb = list.0 i; fb = received.0 i; clb_set = list.1 i; clbu_set = list_upper i; fb_set = received.1 i; fbu_set = received_upper i }) ∙ h.bases;
+      saw = link_still port access old new on (spares_port port Sctl (λ e. cc) (λ e. cc) (λ e. cc) access is) does h.saw;
+    }
+
+-- a device shows still, or none is in
+pub shown_on : Laws → (port : Port) (old new : Device) → IsOn old → IsDrivenBy IsService old new → HasDeviceOrNone (old.port port.0) → HasDeviceOrNone (new.port port.0)
+shown_on laws port old new on driven =
+    (services_keep laws (λ x y. HasDeviceOrNone (x.port port.0) → HasDeviceOrNone (y.port port.0)) (λ d h. h) (λ x y z p q h. q (p h))
+    (λ access x y ready is does. access_shown port access x y ready.no_reset (spares_port port Sctl (λ e. cc) (λ e. cc) (λ e. cc) access is) does) old new on driven).0
+
+pub runs_on : Laws → (port : Port) (old new : Device) → IsOn old → IsDrivenBy IsService old new → Runs port.0 old → Runs port.0 new
+runs_on laws port old new on driven r = record {
+  st = h.st;
+  cr = h.cr;
+  fre = h.fre;
+  bases = h.bases;
+  saw = h.saw;
+  recorded = services_recorded laws port.0 old new driven (λ _. r.recorded) h.st;
+}
+  where
+    h : Holds port.0 new
+    h = (services_keep laws (λ x y. Holds port.0 x → Holds port.0 y) (λ d x. x) (λ x y z p q k. q (p k)) (λ access x y ready is does. each port access x y ready is does) old new on driven).0
+        (record { st = r.st; cr = r.cr; fre = r.fre; bases = r.bases; saw = r.saw })

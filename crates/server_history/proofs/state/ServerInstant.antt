@@ -1,0 +1,178 @@
+-- What holds at the instant of a server that keeps what it keeps.
+use Rattle.std.proofs.Common.{ℕ, ◌≡◌, ◌≢◌, ◌<◌, ◌≤◌, not, true, false, Option, Some, None, inl, inr, refl, sym, ap, ◌∙◌, subst, arith}
+use Rattle.std.specs.Prelude.{◌↔◌}
+use Rattle.std.specs.List.{Contains}
+use Rattle.std.proofs.lemmas.Bool.{false≢true}
+use Rattle.ata_types.specs.declared.Port.{Port}
+use Rattle.ata_types.specs.declared.PortState.TheVariants.{Absent, Ready as ReadyState, Foreign, Unfit, Dead}
+use Rattle.ata_types.specs.declared.request.Op.{Op}
+use Rattle.adapter.specs.Device.{Device}
+use Rattle.agreement.specs.Acts.{InSlots}
+use Rattle.agreement.specs.Links.{HasDeviceOrNone}
+use Rattle.agreement.specs.Slots.{Free}
+use Rattle.block_machine.specs.Due.{is_plain}
+use Rattle.block_machine.specs.declared.due.Mode.{Mode}
+use Rattle.block_machine.specs.Histories.{Instant, IsReached}
+use Rattle.block_machine.specs.State.{Machine, Pending}
+use Rattle.driver_history.specs.Holds.{HasNothing, HasRequests, HoldsOf, HoldsWith, IsClients, IsOfKind, NoneWaits, Runs, ServesIn}
+use Rattle.host_boot.specs.Taken.{FoundBadDisk, IsServed as IsServedPort, StillStandsBehind, found_of, wanted_of}
+use Rattle.host_boot.specs.declared.Found.{Found}
+use Rattle.host_boot.specs.declared.Found.TheVariants.{Unserved, Ready, Unready}
+use Rattle.identify.specs.declared.DiskInfo.{DiskInfo}
+use Rattle.identify.specs.declared.wanted.Wanted.{Wanted}
+use Rattle.request_queue.specs.Entries.{Held}
+use Rattle.request_queue.specs.Machine.{IsEntry}
+use Rattle.slots.specs.declared.Use.{Use as SlotUse}
+use Rattle.server_history.specs.Server.{StandsAlone, Server, IsKept, IsMachineOf, is_served, mode_at, mode_found, mode_in, ports_of, disk_in, disk_of, remembered_at, sectors_of, serial_of, state_of, trims_of, usable_of, use_of, used_for}
+use Rattle.server_history.proofs.state.PortSlots.{free_unused, none_kept, not_dead, of_ready, ready_use, usable_ready, used_serves}
+use Rattle.server_history.proofs.state.PairedLists.{at_right}
+
+-- what is used for a client's request or for none
+clients : (used : Option SlotUse) → IsClients (use_of used)
+clients None = inl refl
+clients (Some used) = inr (used.id, refl)
+
+-- the port is served where it was found so
+pub served_is : (wanted : Wanted) (found : Found) (port : ℕ) (d : Device) → StillStandsBehind wanted found port d → (is_served found ≡ true) ↔ IsServedPort wanted port d
+served_is wanted Unserved port d s = ((λ yes. absurd (false≢true yes)), (λ served. absurd (s.0 served)))
+served_is wanted (Ready info) port d s = ((λ yes. s.0), (λ served. refl))
+served_is wanted (Unready state) port d s = ((λ yes. s.0), (λ served. refl))
+
+module _ (s : Server) (k : IsKept s) (m : Machine) (reached : IsReached m) (is : IsMachineOf s m) where
+  abbrev pub slots : InSlots
+  slots = record { uses = is.uses; parked = is.parked }
+
+  abbrev pub instant : Instant Device
+  instant = record { device = s.device; moment = record { machine = m; ports = ports_of s } }
+
+  none_waits : (port : Port) → state_of (found_of s.ports port.0) ≢ ReadyState → NoneWaits m port
+  none_waits port other e here own =
+      let a = at_right IsEntry s.book m.book is.book e here in
+      other (ap (λ (q : Port). state_of (found_of s.ports q.0)) (sym own ∙ a.2.port) ∙ of_ready s k a.0 a.1)
+
+  module _ (port : Port) (low : port.0 < 4) where
+    -- it isn't dead
+    alive : (f : Found) → found_of s.ports port.0 ≡ f → f ≢ Unready Dead → found_of s.ports port.0 ≢ Unready Dead
+    alive f e other dead = other (sym e ∙ dead)
+
+    -- a port that isn't ready uses no slot
+    nothing : (f : Found) → found_of s.ports port.0 ≡ f → usable_of f (mode_at s.modes port.0) ≡ 0 → f ≢ Unready Dead → HasNothing slots port.0
+    nothing f e none other = record {
+      free = λ slot.
+          is.used port.0 slot (alive f e other)
+          ∙ ap use_of ((k.slots port.0 low).unused slot (subst (λ (n : ℕ). n ≤ slot) (sym (ap (λ (x : Found). usable_of x (mode_at s.modes port.0)) e ∙ none)) (omega arith)));
+      unparked = is.unparked port.0 (alive f e other);
+    }
+
+    module _ (info : DiskInfo) (found : found_of s.ports port.0 ≡ Ready info) where
+      ready : state_of (found_of s.ports port.0) ≡ ReadyState
+      ready = ap state_of found
+
+      disk_is : disk_in s port ≡ Some info
+      disk_is = ap (λ (f : Found). disk_of f (remembered_at s.remembered port.0)) found
+
+      abbrev mode : Mode
+      mode = mode_in s port
+
+      -- a slot that serves a request is used for it, and the request is in the book
+      serving : (slot : ℕ) (e : Pending) → ServesIn slots instant port slot e → (u : SlotUse) × (used_for s.slots port.0 slot ≡ Some u) × ((h : Held) × Contains s.book h × IsEntry h e × (h.entry.id ≡ u.id))
+      serving slot e serves =
+          let u = used_serves s m port.0 is ready slot e.request.id serves.serves in
+          let h = at_right IsEntry s.book m.book is.book e serves.here in
+          (u.0, u.1, (h.0, h.1, h.2, sym h.2.id ∙ sym u.2))
+
+      -- whether a command is queued
+      kind_is : (slot : ℕ) (e : Pending) → ServesIn slots instant port slot e → (u : SlotUse) → used_for s.slots port.0 slot ≡ Some u → u.queued ≡ not (is_plain mode e.request.asked.op)
+      kind_is slot e serves u used =
+          let x = serving slot e serves in
+          let same : Some x.0 ≡ Some u = sym x.1 ∙ used in
+          let alike : x.0 ≡ u = cc in
+          k.kinds port slot u x.2.0 used x.2.1 (x.2.3 ∙ ap (λ (v : SlotUse). v.id) alike) ∙ ap (λ (o : Op). not (is_plain mode o)) (sym x.2.2.op)
+
+      kind : (slot : ℕ) (e : Pending) → ServesIn slots instant port slot e → e.ended ≡ false → IsOfKind mode s.device port.0 slot e
+      kind slot e serves unended =
+          let x = serving slot e serves in
+          let h = k.commands port.0 slot x.0 x.1 in
+          record { command = h.command; places = h.places; told = h.stored.told; kind = h.kind ∙ kind_is slot e serves x.0 x.1 }
+
+      -- a slot beyond the usable ones is free
+      unused : (slot : ℕ) → mode.usable ≤ slot → is.uses port.0 slot ≡ Free
+      unused slot high = free_unused s m port.0 is ready slot ((k.slots port.0 low).unused slot (subst (λ (n : ℕ). n ≤ slot) (sym (usable_ready s port.0 k ready)) high))
+
+      -- a plain one is alone
+      alone : (slot : ℕ) (e : Pending) → ServesIn slots instant port slot e → is_plain mode e.request.asked.op ≡ true → (slot ≡ 0) × ((other : ℕ) → other ≢ 0 → is.uses port.0 other ≡ Free)
+      alone slot e serves plain = (a.0, λ other ne. free_unused s m port.0 is ready other (a.1 other ne))
+        where
+          x : (u : SlotUse) × (used_for s.slots port.0 slot ≡ Some u) × ((h : Held) × Contains s.book h × IsEntry h e × (h.entry.id ≡ u.id))
+          x = serving slot e serves
+
+          a : StandsAlone s.slots port.0 slot
+          a = k.alone port.0 slot x.0 x.1 (kind_is slot e serves x.0 x.1 ∙ ap not plain)
+
+      requests : HasRequests slots instant port mode
+      requests = record {
+        clients = λ slot. subst IsClients (sym (ready_use s m port.0 is ready slot)) (clients (used_for s.slots port.0 slot));
+        low = unused;
+        unparked = is.unparked port.0 (not_dead s port.0 ready);
+        kinds = kind;
+        alone = alone;
+      }
+
+    shown_as : (f : Found) → found_of s.ports port.0 ≡ f → FoundBadDisk (state_of f) → HasDeviceOrNone (s.device.port port.0)
+    shown_as f e bad = (k.behind port.0 low).shown (subst (λ (x : Found). FoundBadDisk (state_of x)) (sym e) bad)
+
+    of : (f : Found) → found_of s.ports port.0 ≡ f → StillStandsBehind (wanted_of s.wanted port.0) f port.0 s.device → (state_of f ≡ ReadyState → Runs port.0 s.device)
+        → HoldsOf (wanted_of s.wanted port.0) slots instant port (is_served f) (state_of f)
+    of Unserved e behind runs = record {
+      absent = ap state_of e;
+      idle = behind.1;
+      slots = nothing Unserved e refl (λ x. cc);
+      waits = none_waits port (λ ready. let z : Absent ≡ ReadyState = sym (ap state_of e) ∙ ready in absurd cc);
+      kept = none_kept s m port is (alive Unserved e (λ x. cc));
+    }
+    of (Ready info) e behind runs = record {
+      on = k.on;
+      runs = runs refl;
+      info = info;
+      disk = behind.1;
+      shows = record { serial = ap serial_of (disk_is info e); sectors = ap sectors_of (disk_is info e); trims = ap trims_of e; mode = k.modes port.0 low ∙ ap (mode_found s.device.cap) e };
+      slots = requests info e;
+      kept = none_kept s m port is (alive (Ready info) e (λ x. cc));
+    }
+    of (Unready ReadyState) e behind runs = absurd behind.1
+    of (Unready Absent) e behind runs = record {
+      on = k.on;
+      ends = behind.1;
+      shown = λ bad. absurd bad;
+      slots = nothing (Unready Absent) e refl (λ x. cc);
+      waits = none_waits port (λ ready. let z : Absent ≡ ReadyState = sym (ap state_of e) ∙ ready in absurd cc);
+      kept = none_kept s m port is (alive (Unready Absent) e (λ x. cc));
+    }
+    of (Unready Foreign) e behind runs = record {
+      on = k.on;
+      ends = behind.1;
+      shown = λ bad. shown_as (Unready Foreign) e bad;
+      slots = nothing (Unready Foreign) e refl (λ x. cc);
+      waits = none_waits port (λ ready. let z : Foreign ≡ ReadyState = sym (ap state_of e) ∙ ready in absurd cc);
+      kept = none_kept s m port is (alive (Unready Foreign) e (λ x. cc));
+    }
+    of (Unready (Unfit n)) e behind runs = record {
+      on = k.on;
+      ends = behind.1;
+      shown = λ bad. shown_as (Unready (Unfit n)) e bad;
+      slots = nothing (Unready (Unfit n)) e refl (λ x. cc);
+      waits = none_waits port (λ ready. let z : Unfit n ≡ ReadyState = sym (ap state_of e) ∙ ready in absurd cc);
+      kept = none_kept s m port is (alive (Unready (Unfit n)) e (λ x. cc));
+    }
+    of (Unready Dead) e behind runs = record {
+      why = inl behind.1;
+      waits = λ on. none_waits port (λ ready. let z : Dead ≡ ReadyState = sym (ap state_of e) ∙ ready in absurd cc);
+    }
+
+  pub holds_with : HoldsWith s.wanted slots instant
+  holds_with = record {
+    knows = is.knows;
+    served = λ port low. served_is (wanted_of s.wanted port.0) (found_of s.ports port.0) port.0 s.device (k.behind port.0 low).behind;
+    on = inl k.on;
+    port = λ port low. let b = k.behind port.0 low in of port low (found_of s.ports port.0) refl b.behind b.runs;
+  }

@@ -1,0 +1,46 @@
+-- What the masks show of a slot whose command is over, and of one whose bytes say a request still that another slot serves.
+use Rattle.std.proofs.Common.{ℕ, ◌≡◌, ◌≢◌, true, Some, None, sym, ap, ◌∙◌, subst, inl, inr, ⊎_elim}
+use Rattle.std.specs.List.{Contains}
+use Rattle.std.proofs.lemmas.Bool.{false≢true}
+use Rattle.ata_types.specs.declared.PortState.TheVariants.{Ready as ReadyState}
+use Rattle.ata_types.specs.declared.request.RequestId.{RequestId}
+use Rattle.agreement.specs.Slots.{IsFree, IsServed, Serves, ServesRequest, Stage, Use}
+use Rattle.block_machine.specs.Histories.{IsReached}
+use Rattle.block_machine.specs.State.{Machine, Pending}
+use Rattle.host_boot.specs.Taken.{found_of}
+use Rattle.slots.specs.declared.Use.{Use as SlotUse}
+use Rattle.server_history.specs.Below.{LawsBelow}
+use Rattle.server_history.specs.Server.{Server, IsKept, IsMachineOf, state_of, used_for}
+use Rattle.server_history.proofs.state.SlotCommands.{one_said}
+use Rattle.server_history.proofs.state.PortSlots.{free_unused, ready_found, serves_used, still_booked, used_or_not}
+
+-- ---- bytes of another slot
+
+-- Where a slot of a ready port serves a request, bytes of another slot may say its command still: then it has ended, and that slot isn't used.
+module _ (laws : LawsBelow) (s : Server) (k : IsKept s) (m : Machine) (reached : IsReached m) (is : IsMachineOf s m) (n : ℕ) (ready : state_of (found_of s.ports n) ≡ ReadyState) (e : Pending) (here : Contains m.book e)
+    (its : ℕ) (used : SlotUse) (used_is : used_for s.slots n its ≡ Some used) (id_is : used.id ≡ e.request.id) (slot : ℕ) (apart : slot ≢ its)
+    (says : ServesRequest m s.device.memory (s.device.port n) n slot e.request.id) where
+  pub unused : used_for s.slots n slot ≡ None
+  unused = ⊎_elim
+      (λ (y : (u : SlotUse) × (used_for s.slots n slot ≡ Some u)).
+      let same : e.request.id ≡ y.0.id = one_said laws s k m is n slot y.0 e.request.id ready y.1 says in
+      let there = serves_used s m n is ready slot y.0 y.1 ∙ ap Serves (sym same) in
+      let own = serves_used s m n is ready its used used_is ∙ ap Serves id_is in
+      absurd (apart (is.knows.agrees.apart n slot n its e.request.id there own).1))
+      (λ none. none)
+      (used_or_not (used_for s.slots n slot))
+
+  pub is_free : IsFree (s.device.port n) slot
+  is_free = subst (λ (u : Use). IsServed m s.device.memory s.device.tape (s.device.port n) n slot u) (free_unused s m n is ready slot unused) (is.knows.agrees.slot n slot)
+
+  pub has_ended : e.ended ≡ true
+  has_ended = ap (λ (y : Pending). y.ended) (sym same) ∙ by says.stage
+    where
+      same : says.pending ≡ e
+      same = laws.basic.one m reached says.pending e (still_booked s m n is ready says.pending says.moves says.port_is).0 here (ap (λ (i : RequestId). i.0) says.id_is)
+
+      by : Stage s.device.memory (s.device.port n) n slot says.pending says.command says.places → says.pending.ended ≡ true
+      by (inl waits) = absurd (false≢true (sym is_free.issued ∙ waits.issued))
+      by (inr (inl taken)) = let z : None ≡ Some taken.command = sym is_free.free ∙ taken.taken in absurd cc
+      by (inr (inr (inl ended))) = ended.ended
+      by (inr (inr (inr dropped))) = absurd (false≢true (sym dropped.stopped ∙ ((k.behind n (ready_found s n k ready).0).runs ready).st))

@@ -1,0 +1,89 @@
+-- What is stored for a slot stays so while another is issued in.
+use Rattle.std.proofs.Common.{ℕ, ◌≡◌, ◌≢◌, ◌⊎◌, ◌<◌, ◌≤◌, ◌+◌, ◌*◌, length, List, inl, inr, refl, subst, ⊎_elim, arith}
+use Rattle.std.proofs.lemmas.Bool.{cases_eq, cases_lt}
+use Rattle.ata_types.specs.declared.Port.{Port}
+use Rattle.ata_types.specs.declared.memory.TheConstants.{PORT_BYTES, SCRATCH, TABLES, TABLE_BYTES}
+use Rattle.hba_regs.specs.declared.reg.PortReg.TheVariants.{Cmd, Clb}
+use Rattle.hba_regs.specs.declared.reg.Reg.TheVariants.{Px}
+use Rattle.adapter.specs.Access.{Access}
+use Rattle.adapter.specs.Access.Access.{Storing}
+use Rattle.agreement.specs.Links.{SparesRegister}
+use Rattle.agreement.specs.Places.{IsTable}
+use Rattle.agreement.specs.Readying.{LeavesStored}
+use Rattle.command_table.specs.Written.{IsBlockStore, IsTableStore}
+use Rattle.ncq.specs.Tasks.{IsIssuing}
+use Rattle.port_look.specs.Services.{IsService}
+use Rattle.port_look.proofs.Serving.{spares_ghc, spares_port}
+use Rattle.server_history.proofs.state.TransferAccesses.{issuing_serves}
+
+-- the slots are two
+abbrev pub AreApart : (port slot other k : ℕ) → Type 0
+AreApart port slot other k = other ≡ port → k ≡ slot → ⊥
+
+-- a byte of the slot's header or table
+abbrev pub IsWithin : (port slot place : ℕ) → Type 0
+IsWithin port slot place =
+    ((PORT_BYTES * port + 32 * slot ≤ place) × (place < PORT_BYTES * port + 32 * slot + 32))
+    ⊎ ((PORT_BYTES * port + TABLES + TABLE_BYTES * slot ≤ place) × (place < PORT_BYTES * port + TABLES + TABLE_BYTES * slot + TABLE_BYTES))
+
+pub of_table : (port slot place : ℕ) → IsTable port slot place → IsWithin port slot place
+of_table port slot place (inl t) = inl (omega (arith, t.0), omega (arith, t.1))
+of_table port slot place (inr (inl t)) = inl (omega (arith, t.0), omega (arith, t.1))
+of_table port slot place (inr (inr t)) = inr (omega (arith, t.0), omega (arith, t.1))
+
+-- and one of the scratch frame
+abbrev IsBeyond : (port place : ℕ) → Type 0
+IsBeyond port place = (PORT_BYTES * port + SCRATCH ≤ place) × (place < PORT_BYTES * port + SCRATCH + 512)
+
+pub of_store : (port slot at place : ℕ) (bytes : List ℕ) → IsTableStore port slot (Storing at bytes) → at ≤ place → place < at + length bytes → IsWithin port slot place
+of_store port slot at place bytes (inl h) from to = inl (omega (arith, h.0, from), omega (arith, h.0, h.1, to))
+of_store port slot at place bytes (inr t) from to = inr (omega (arith, t.0, from), omega (arith, t.1, to))
+
+-- of two slots none is the other's
+pub never_both : (port slot other k place : ℕ) → port < 4 → slot < 32 → other < 4 → k < 32 → AreApart port slot other k → IsWithin port slot place → IsWithin other k place → ⊥
+never_both port slot other k place a b c d apart x y = ⊎_elim
+    (λ (same : other ≡ port). ⊎_elim (λ (its : k ≡ slot). apart same its) (λ (ne : k ≢ slot). same_port same ne x y) (cases_eq k slot))
+    (λ (ne : other ≢ port). other_port ne x y)
+    (cases_eq other port)
+  where
+    same_port : other ≡ port → k ≢ slot → IsWithin port slot place → IsWithin other k place → ⊥
+    same_port same ne (inl h) (inl i) = omega (arith, a, b, c, d, same, ne, h.0, h.1, i.0, i.1)
+    same_port same ne (inl h) (inr i) = omega (arith, a, b, c, d, same, ne, h.0, h.1, i.0, i.1)
+    same_port same ne (inr h) (inl i) = omega (arith, a, b, c, d, same, ne, h.0, h.1, i.0, i.1)
+    same_port same ne (inr h) (inr i) = omega (arith, a, b, c, d, same, ne, h.0, h.1, i.0, i.1)
+
+    other_port : other ≢ port → IsWithin port slot place → IsWithin other k place → ⊥
+    other_port ne (inl h) (inl i) = omega (arith, a, b, c, d, ne, h.0, h.1, i.0, i.1)
+    other_port ne (inl h) (inr i) = omega (arith, a, b, c, d, ne, h.0, h.1, i.0, i.1)
+    other_port ne (inr h) (inl i) = omega (arith, a, b, c, d, ne, h.0, h.1, i.0, i.1)
+    other_port ne (inr h) (inr i) = omega (arith, a, b, c, d, ne, h.0, h.1, i.0, i.1)
+
+-- an access that serves ports leaves what is stored for a slot, if its store misses header and table
+pub service_leaves_stored : (other : Port) (k : ℕ) (access : Access) → IsService access
+    → ((at : ℕ) (bytes : List ℕ) (place : ℕ) → access ≡ Storing at bytes → IsTable other.0 k place → at ≤ place → place < at + length bytes → ⊥) → LeavesStored other k access
+service_leaves_stored other k access is misses = record {
+  host = spares_ghc access is;
+  start = λ v e. absurd (subst (SparesRegister (Px other Cmd)) e (spares_port other Cmd (λ e. cc) (λ e. cc) (λ e. cc) access is) refl);
+  list = spares_port other Clb (λ e. cc) (λ e. cc) (λ e. cc) access is;
+  table = λ at bytes e place t from to. misses at bytes place e t from to;
+}
+
+-- the block of a trim is no byte of a header or table
+never_beyond : (port other k place : ℕ) → port < 4 → other < 4 → k < 32 → IsBeyond port place → IsWithin other k place → ⊥
+never_beyond port other k place a b c block (inl h) = ⊎_elim
+    (λ (less : other < port). omega (arith, a, b, c, less, block.0, block.1, h.0, h.1))
+    (λ (most : port ≤ other). omega (arith, a, b, c, most, block.0, block.1, h.0, h.1))
+    (cases_lt other port)
+never_beyond port other k place a b c block (inr h) = ⊎_elim
+    (λ (less : other < port). omega (arith, a, b, c, less, block.0, block.1, h.0, h.1))
+    (λ (most : port ≤ other). omega (arith, a, b, c, most, block.0, block.1, h.0, h.1))
+    (cases_lt other port)
+
+-- what issues in one slot leaves what is stored for another
+pub issuing_leaves_stored : (port other : Port) (slot k : ℕ) → port.0 < 4 → slot < 32 → other.0 < 4 → k < 32 → AreApart port.0 slot other.0 k → (access : Access) → IsIssuing port slot access → LeavesStored other k access
+issuing_leaves_stored port other slot k a b c d apart access is = service_leaves_stored other k access (issuing_serves port slot access is) (λ at bytes place e t from to.
+    ⊎_elim
+    (λ (table : IsTableStore port.0 slot (Storing at bytes)). never_both port.0 slot other.0 k place a b c d apart (of_store port.0 slot at place bytes table from to) (of_table other.0 k place t))
+    (λ (block : IsBlockStore port.0 slot (Storing at bytes)).
+    never_beyond port.0 other.0 k place a c d (let here = block.1 in let size = block.2 in (omega (arith, here, from), omega (arith, here, size, to))) (of_table other.0 k place t))
+    (subst (IsIssuing port slot) e is))

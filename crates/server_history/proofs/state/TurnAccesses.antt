@@ -1,0 +1,213 @@
+-- What the accesses of a port's turn in a service are, one by one, and of what kind.
+use Rattle.std.proofs.Common.{zero, suc, ℕ, ◌≡◌, ◌≢◌, ◌⊎◌, ◌+◌, ◌≤◌, ◌<◌, ◌++◌, ◌==◌, ap, true, false, List, [], ◌∷◌, length, refl, sym, ◌∙◌, subst, inl, inr, arith, ⊎_elim}
+use Rattle.std.specs.List.{All}
+use Rattle.std.proofs.lemmas.Bool.{cases_Bool, cases_eq, false≢true}
+use Rattle.std.proofs.lemmas.Nat.Bits.{bit_at-zero}
+use Rattle.std.proofs.lemmas.List.Elements.{All-append, All-cons, All-nil, All-weaker}
+use Rattle.ata_types.specs.declared.Port.{Port}
+use Rattle.ata_types.specs.declared.request.Reply.{Reply}
+use Rattle.ata_types.specs.declared.memory.TheConstants.{DRIVER_BYTES}
+use Rattle.hba_regs.specs.Bits.{bit}
+use Rattle.hba_regs.specs.declared.reg.Reg.TheVariants as reg
+use Rattle.hba_regs.specs.declared.reg.Reg.TheVariants.{Px}
+use Rattle.hba_regs.specs.declared.reg.PortReg.TheVariants.{Is, Cmd, Ssts, Sctl, Sact, Ci}
+use Rattle.adapter.specs.Access.{Access, Does, DoesAll}
+use Rattle.adapter.specs.Access.Access.{Reading, Writing, Loading, Storing}
+use Rattle.adapter.specs.Device.{Device}
+use Rattle.adapter.specs.Memory as memory
+use Rattle.adapter.specs.Rules.{IsOn}
+use Rattle.adapter.specs.Steps.{Steps}
+use Rattle.agreement.specs.Driven.{IsBitOf, IsDrivenBy, IsOf}
+use Rattle.agreement.specs.Facts.{RunsWell, Undisturbed}
+use Rattle.command_table.specs.Written.{IsStoreWithBlock, IsTableStore}
+use Rattle.driver_history.specs.Histories.{IssuesOn}
+use Rattle.ncq.specs.Tasks.{IsIssuing}
+use Rattle.driver_history.specs.Trace.{IsDriversOwn, LeavesCommand, LeavesEngine, ReadsMasks}
+use Rattle.server_history.specs.Below.{LawsBelow}
+use Rattle.server_history.specs.Served.{Checks, HasNone, HasTurn, IsMaskOf, IssuesIn, is_used}
+use Rattle.slots.specs.Uses.{Uses as PortSlots, use_at}
+use Rattle.server_history.proofs.state.TransferAccesses.{both_read, issues_serve}
+use Rattle.port_look.specs.Looks.{LooksAt}
+use Rattle.port_look.specs.Services.{IsService}
+use Rattle.port_look.specs.declared.Look.{Look}
+use Rattle.port_look.specs.declared.Look.TheVariants.{Undisturbed as Calm}
+use Rattle.port_look.proofs.Seeing.{seen_well}
+use Rattle.port_look.proofs.Serving.{spares_port}
+
+-- ---- the device's steps
+
+-- as a load of no bytes
+pub none_loaded : (old new : Device) → Steps old new → Does (Loading 0 []) old new
+unfolding memory.bytes_at
+none_loaded old new steps = record { steps = steps; shows = refl }
+
+-- ---- kinds of accesses
+
+-- it serves ports, is of this one, and what it loads or stores is the driver's own
+abbrev pub IsTurn : Port → Access → Type 0
+IsTurn port access = IsService access × (IsDriversOwn access × IsOf port access)
+
+-- header and table of a slot lie in the driver's frames
+pub table_own : (port slot at : ℕ) (bytes : List ℕ) → port < 4 → slot < 32 → IsTableStore port slot (Storing at bytes) → at + length bytes ≤ DRIVER_BYTES
+table_own port slot at bytes low small (inl h) = omega (arith, low, small, h.0, h.1)
+table_own port slot at bytes low small (inr h) = omega (arith, low, small, h.0, h.1)
+
+-- and so does a trim's block
+stored_own : (port slot at : ℕ) (bytes : List ℕ) → port < 4 → slot < 32 → IsStoreWithBlock port slot (Storing at bytes) → at + length bytes ≤ DRIVER_BYTES
+stored_own port slot at bytes low small (inl table) = table_own port slot at bytes low small table
+stored_own port slot at bytes low small (inr block) = let here = block.1 in let size = block.2 in omega (arith, low, here, size)
+
+issuing_on : (port : Port) (slot : ℕ) → port.0 < 4 → slot < 32 → (access : Access) → IsIssuing port slot access → IssuesOn port access
+issuing_on port slot low small (Writing r v) here = here.0
+issuing_on port slot low small (Storing at bytes) here = stored_own port.0 slot at bytes low small here
+issuing_on port slot low small (Reading r v) here = absurd here
+issuing_on port slot low small (Loading at bytes) here = absurd here
+
+pub issuing_is : (port : Port) → port.0 < 4 → (access : Access) → IssuesIn port access → IssuesOn port access
+issuing_is port low access here = issuing_on port here.0 low here.1 access here.2
+
+pub issuing_turns : LawsBelow → (port : Port) → port.0 < 4 → (access : Access) → IssuesIn port access → IsTurn port access
+issuing_turns laws port low access here = (issues_serve port access here, (own access (issuing_is port low access here), laws.issuing_of port here.0 access here.2))
+  where
+    own : (access : Access) → IssuesOn port access → IsDriversOwn access
+    own (Writing r v) on = tt
+    own (Storing at bytes) on = on
+    own (Reading r v) on = tt
+    own (Loading at bytes) on = absurd on
+
+-- what serves ports writes neither PxCMD nor PxSCTL, nor GHC
+service_leaves : (port : Port) (access : Access) → IsService access → LeavesEngine port access
+service_leaves port access here = (spares_port port Cmd (λ e. cc) (λ e. cc) (λ e. cc) access here, spares_port port Sctl (λ e. cc) (λ e. cc) (λ e. cc) access here)
+
+pub issuing_leaves : (port other : Port) (access : Access) → IssuesIn port access → LeavesEngine other access
+issuing_leaves port other access here = service_leaves other access (issues_serve port access here)
+
+pub turn_leaves : (port other : Port) (access : Access) → IsTurn port access → LeavesEngine other access
+turn_leaves port other access here = service_leaves other access here.0
+
+-- ---- a port's turn
+
+-- some slot is used
+abbrev pub IsBusy : PortSlots → Type 0
+IsBusy slots = (slot : ℕ) × (slot < 32) × (is_used (use_at slots slot) ≡ true)
+
+pub bit_zero : (k : ℕ) → bit 0 k ≡ false
+bit_zero k = ap (λ (n : ℕ). n == 1) (bit_at-zero k)
+
+-- so the mask has its bit
+unmasked : (slots : PortSlots) (mask : ℕ) → IsMaskOf slots mask → HasNone mask → IsBusy slots → ⊥
+unmasked slots mask its none busy = false≢true (sym (none busy.0 busy.1) ∙ its busy.0 busy.1 ∙ busy.2)
+
+-- a mask has a bit of these, or it has none
+pub none_or_some : (n mask : ℕ) → ((slot : ℕ) → slot < n → bit mask slot ≡ false) ⊎ ((slot : ℕ) × (slot < n) × (bit mask slot ≡ true))
+none_or_some zero mask = inl (λ slot small. absurd (omega (arith, small)))
+none_or_some (suc n) mask = ⊎_elim
+    (λ (none : (slot : ℕ) → slot < n → bit mask slot ≡ false). ⊎_elim
+    (λ (here : bit mask n ≡ true). inr (n, omega arith, here))
+    (λ (clear : bit mask n ≡ false). inl (λ slot small. ⊎_elim
+    (λ (same : slot ≡ n). ap (bit mask) same ∙ clear)
+    (λ (other : slot ≢ n). none slot (omega (arith, small, other)))
+    (cases_eq slot n)))
+    (cases_Bool (bit mask n)))
+    (λ (some : (slot : ℕ) × (slot < n) × (bit mask slot ≡ true)). let small = some.1 in inr (some.0, omega (arith, small), some.2))
+    (none_or_some n mask)
+
+module _ (port : Port) where
+  -- a look, access by access
+  abbrev pub look_list : (causes own status : ℕ) → List Access
+  look_list causes own status =
+      Reading (Px port Is) causes ∷ Writing (Px port Is) causes ∷ Writing reg.Is own ∷ Reading (Px port Ssts) status ∷ []
+
+  pub look_turns : (causes own status : ℕ) → IsBitOf port.0 own → All (IsTurn port) (look_list causes own status)
+  look_turns causes own status alone =
+      All-cons (IsTurn port) (Reading (Px port Is) causes) (Writing (Px port Is) causes ∷ Writing reg.Is own ∷ Reading (Px port Ssts) status ∷ []) (tt, (tt, refl))
+      (All-cons (IsTurn port) (Writing (Px port Is) causes) (Writing reg.Is own ∷ Reading (Px port Ssts) status ∷ []) (inr (port, inl refl), (tt, refl))
+      (All-cons (IsTurn port) (Writing reg.Is own) (Reading (Px port Ssts) status ∷ []) (inl refl, (tt, alone))
+      (All-cons (IsTurn port) (Reading (Px port Ssts) status) [] (tt, (tt, refl)) (All-nil (IsTurn port)))))
+
+  pub look_does : (look : Look) (old new : Device) → (l : LooksAt port look old new) → DoesAll (look_list l.causes l.own l.status) old new
+  look_does look old new l = (l.seen, l.reads, (l.cleared, l.clears, (l.acknowledged, l.acknowledges, (new, l.shows, refl))))
+
+  -- The accesses of a turn. Where the port goes well, the look tells nothing; and where slots were checked, they read the masks.
+  pub record TurnList (slots : PortSlots) (replies : List Reply) (old new : Device) (t : HasTurn port slots replies old new) : Type 0 where
+    pub driven : IsDrivenBy (IsTurn port) old new
+    pub of : All (IsOf port) driven.accesses
+    pub own : All IsDriversOwn driven.accesses
+    pub leaves : All (LeavesEngine port) driven.accesses
+    pub calm : IsOn old → RunsWell (old.port port.0) → Undisturbed port.0 old new → t.look ≡ Calm
+    pub masks : t.look ≡ Calm → IsBusy slots → (mask : ℕ) × IsMaskOf slots mask × ((c : Checks port slots mask replies t.seen new) × ReadsMasks port c.reads.issued c.reads.active driven.accesses)
+
+  module _ (laws : LawsBelow) (low : port.0 < 4) (slots : PortSlots) (replies : List Reply) (old new : Device) (t : HasTurn port slots replies old new) where
+    of_all : (driven : IsDrivenBy (IsTurn port) old new) → All (IsOf port) driven.accesses
+    of_all driven = All-weaker (IsTurn port) (IsOf port) (λ access is. is.1.1) driven.accesses driven.only
+
+    own_all : (driven : IsDrivenBy (IsTurn port) old new) → All IsDriversOwn driven.accesses
+    own_all driven = All-weaker (IsTurn port) IsDriversOwn (λ access is. is.1.0) driven.accesses driven.only
+
+    leaves_all : (driven : IsDrivenBy (IsTurn port) old new) → All (LeavesEngine port) driven.accesses
+    leaves_all driven = All-weaker (IsTurn port) (LeavesEngine port) (turn_leaves port port) driven.accesses driven.only
+
+    -- it was looked at, and that was all
+    looked : (replies ≡ []) × (new ≡ t.seen) → (t.look ≡ Calm → IsBusy slots → ⊥) → TurnList slots replies old new t
+    looked stop never = record {
+      driven = driven;
+      of = of_all driven;
+      own = own_all driven;
+      leaves = leaves_all driven;
+      calm = λ on well undisturbed. (seen_well laws.looks port t.look old t.seen t.looks on well (subst (Undisturbed port.0 old) stop.1 undisturbed)).0;
+      masks = λ is busy. absurd (never is busy);
+    }
+      where
+        driven : IsDrivenBy (IsTurn port) old new
+        driven = subst (IsDrivenBy (IsTurn port) old) (sym stop.1) (record {
+          accesses = look_list t.looks.causes t.looks.own t.looks.status;
+          all = look_does t.look old t.seen t.looks;
+          only = look_turns t.looks.causes t.looks.own t.looks.status t.looks.alone;
+        })
+
+    module _ (calm : t.look ≡ Calm) (some : HasNone (t.calm calm).mask → ⊥) where
+      abbrev c : Checks port slots (t.calm calm).mask replies t.seen new
+      c = (t.calm calm).checks some
+
+      -- the accesses that come after the masks
+      more : IsDrivenBy (IsTurn port) c.read new
+      more = record { accesses = c.over.accesses; all = c.over.all; only = λ i e small. issuing_turns laws port low _ (c.over.only i e small) }
+
+      abbrev early : List Access
+      early = look_list t.looks.causes t.looks.own t.looks.status
+
+      abbrev late : List Access
+      late = Reading (Px port Ci) c.reads.issued ∷ Reading (Px port Sact) c.reads.active ∷ more.accesses
+
+      leaves : All (LeavesCommand port) early
+      leaves i e small = (turn_leaves port port _ (look_turns t.looks.causes t.looks.own t.looks.status t.looks.alone i e small)).0
+
+      checked_driven : IsDrivenBy (IsTurn port) old new
+      checked_driven = record {
+        accesses = early ++ late;
+        all = laws.basic.does_append early late old t.seen new (look_does t.look old t.seen t.looks) (let r = both_read port (t.calm calm).mask c.done t.seen c.read c.reads in (r.0, r.1, (c.read, r.2, more.all)));
+        only = All-append (IsTurn port) early late (look_turns t.looks.causes t.looks.own t.looks.status t.looks.alone)
+            (All-cons (IsTurn port) (Reading (Px port Ci) c.reads.issued) (Reading (Px port Sact) c.reads.active ∷ more.accesses) (tt, (tt, refl))
+            (All-cons (IsTurn port) (Reading (Px port Sact) c.reads.active) more.accesses (tt, (tt, refl)) more.only));
+      }
+
+      masks_there : ReadsMasks port c.reads.issued c.reads.active checked_driven.accesses
+      unfolding checked_driven
+      masks_there = record { before = early; later = more.accesses; here = refl; running = leaves }
+
+    checked : (calm : t.look ≡ Calm) → (HasNone (t.calm calm).mask → ⊥) → TurnList slots replies old new t
+    checked calm some = record {
+      driven = checked_driven calm some;
+      of = of_all (checked_driven calm some);
+      own = own_all (checked_driven calm some);
+      leaves = leaves_all (checked_driven calm some);
+      calm = λ _ _ _. calm;
+      masks = λ _ _. ((t.calm calm).mask, (t.calm calm).its, (c calm some, masks_there calm some));
+    }
+
+    pub turn_list : TurnList slots replies old new t
+    turn_list =
+        let calm = t.quiet in ⊎_elim
+        (λ (none : HasNone (t.calm calm).mask). looked ((t.calm calm).idle none) (λ _ busy. unmasked slots (t.calm calm).mask (t.calm calm).its none busy))
+        (λ some. checked calm (λ none. false≢true (sym (none some.0 some.1) ∙ some.2)))
+        (none_or_some 32 (t.calm calm).mask)

@@ -1,0 +1,322 @@
+-- The turn of a port that isn't ready, in a service: it is looked at, and that is all; or it is booted then.
+use Rattle.std.proofs.Common.{ℕ, ◌≡◌, ◌≢◌, ◌<◌, ◌≤◌, ◌++◌, Bool, true, false, List, [], refl, sym, ap, ◌∙◌, subst, inl, inr, arith, ⊎_elim, ◌⊎◌}
+use Rattle.std.proofs.lemmas.Bool.{cases_Bool, cases_eq}
+use Rattle.std.proofs.lemmas.List.{get_or-set_other}
+use Rattle.std.proofs.lemmas.List.Elements.{All-nil, All-weaker, Contains-append_cases}
+use Rattle.std.specs.List.{Contains, list_any}
+use Rattle.ata_types.specs.declared.Port.{Port}
+use Rattle.ata_types.specs.declared.PortState.{PortState}
+use Rattle.ata_types.specs.declared.PortState.TheVariants.{Absent, Dead as DeadState, Foreign, Ready as ReadyState, Unfit}
+use Rattle.ata_types.specs.declared.request.RequestId.{RequestId}
+use Rattle.hba_regs.specs.declared.reg.PortReg.TheVariants.{Cmd, Is, Sctl}
+use Rattle.adapter.specs.Access.{Access}
+use Rattle.adapter.specs.Device.{Device}
+use Rattle.adapter.specs.declared.command.Operation.TheVariants.{Identify, ReadLog}
+use Rattle.agreement.specs.Agrees.{port_at}
+use Rattle.agreement.specs.Driven.{AnyUse, IsDrivenBy, IsFollowed, IsOf}
+use Rattle.agreement.specs.Driver.{IsBacked}
+use Rattle.agreement.specs.Slots.{Free, Serves}
+use Rattle.agreement.specs.Spares.{SparesBook}
+use Rattle.block_machine.specs.Due.{NoneDue}
+use Rattle.block_machine.specs.Events.{AllDevices, AllMay, HadDisk, ShowsDisk, changes_disk}
+use Rattle.block_machine.specs.Histories.{IsReached}
+use Rattle.block_machine.specs.Left.{after}
+use Rattle.block_machine.specs.State.{Machine, Pending}
+use Rattle.block_machine.specs.Steps.{Step}
+use Rattle.block_machine.specs.declared.due.Mode.{Mode}
+use Rattle.driver_history.specs.Trace.{IsDriversOwn, LeavesEngine}
+use Rattle.error_recovery.specs.declared.Next.{Next}
+use Rattle.error_recovery.specs.declared.Next.TheVariants as next
+use Rattle.host_boot.specs.Taken.{StillStandsBehind, found_of, wanted_of}
+use Rattle.host_boot.specs.declared.Found.{Found}
+use Rattle.host_boot.specs.declared.Found.TheVariants.{Unready, Unserved}
+use Rattle.port_look.specs.Looks.{IsLooking}
+use Rattle.port_look.specs.Services.{IsService}
+use Rattle.request_queue.specs.Entries.{asks_of}
+use Rattle.server_history.specs.Below.{LawsBelow}
+use Rattle.server_history.specs.Server.{AreKept, IsKept, IsMachineOf, IsPortOf, IsSettled, Server, is_served, mode_at, mode_in, plain_mode, state_of, usable_of, use_of}
+use Rattle.server_history.specs.Tried.{BootsOnce, IsFoundAnew, IsLookedAt, TriesPort}
+use Rattle.server_history.specs.Turns.{HasPart, InTry, TriesUnready, moment_of}
+use Rattle.port_look.specs.declared.Trouble.TheVariants.{Hung}
+use Rattle.server_history.proofs.unready_turn.AnotherBoot.{accesses, after_it, book_left, does, found_then, its_stand, listed, looking_part, low, never_ready, no_disk, only, others, silent, stuck_if, tells, then_is, unready, until, until_of, whole}
+use Rattle.server_history.proofs.state.DrivenAccesses.{driven_as}
+use Rattle.server_history.proofs.unready_turn.IdleLook.{looked_stands}
+use Rattle.server_history.proofs.state.HistorySteps.{book_on, still_kept}
+use Rattle.server_history.proofs.state.PlainHalts.{followed_halts}
+use Rattle.server_history.proofs.recovery_turn.RecoveredDevice.{IsPassed, devices_both, passed, uses_then}
+use Rattle.server_history.proofs.state.FirstMembers.{nowhere}
+use Rattle.server_history.proofs.plain_calls.Looks.{looked_kept, looking_silent, looking_spares}
+use Rattle.server_history.proofs.fates.MetFates.{nobody}
+use Rattle.server_history.proofs.recovery_turn.CallPart.{none_due_unready, unlooked}
+use Rattle.server_history.proofs.state.PortsOverAccesses.{port_on}
+use Rattle.server_history.proofs.recovery_turn.RecoveryAccesses.{IsPart}
+use Rattle.server_history.proofs.recovery_turn.TurnParts.{stopped_of}
+use Rattle.server_history.proofs.recovery_turn.ReplacedPort.{replaced_kept}
+use Rattle.server_history.proofs.state.RunningPorts.{shown_on}
+use Rattle.server_history.proofs.healthy_turn.ServedPort.{followed_steps, looks_serve}
+use Rattle.server_history.proofs.recovery_turn.FoundDisk.{booted_had}
+use Rattle.server_history.proofs.unready_turn.TurnAsCall.{boot_does, rests_does}
+use Rattle.server_history.proofs.unready_turn.TriedPort.{AddsTried, TellsTried, makes_try}
+
+-- ---- it was booted
+
+module _ (laws : LawsBelow) (s new : Server) (seen : Device) (port : Port) (state : PortState) (t : IsSettled s) (is : found_of s.ports port.0 ≡ Unready state) (lives : state ≢ DeadState)
+    (looks : IsFollowed (IsLooking port) AnyUse s.device seen) (b : BootsOnce port (record s { device = seen }) new) where
+  abbrev k : IsKept s
+  k = t.kept
+
+  abbrev then : Server
+  then = then_is laws s new seen port state k is lives looks b
+
+  abbrev part : List Access
+  part = b.anew.gives_up.mends.accesses
+
+  small : port.0 < 4
+  small = low laws s seen port state k is lives looks
+
+  alive : found_of s.ports port.0 ≢ Unready DeadState
+  alive dead = lives (let z : Unready state ≡ Unready DeadState = sym is ∙ dead in cc)
+
+  -- ---- the machine
+
+  module _ (m : Machine) (reached : IsReached m) (stood : IsMachineOf s m) where
+    looked : (steps : List Step) × AllMay m steps × IsMachineOf (record s { device = seen }) (after m steps) × IsBacked s.device seen m steps × AllDevices steps
+    looked = followed_steps laws s seen (looks_serve laws port s.device seen looks) m reached stood
+
+    abbrev n : Machine
+    n = after m looked.0
+
+    abbrev at : IsMachineOf (record s { device = seen }) n
+    at = looked.2
+
+    p : IsPassed port.0 b.anew.result.next b.found seen new.device (record { uses = at.uses; parked = at.parked }) n
+    p = passed laws (wanted_of s.wanted port.0) port Hung no_disk b.anew.result.next part seen b.anew.stopped new.device b.found b.anew.gives_up.mends.does.slots (after_it laws s new seen port state k is lives looks b)
+        (record { uses = at.uses; parked = at.parked }) n (laws.basic.reached m looked.0 reached looked.1) at.knows
+
+    abbrev w : Machine
+    w = after n p.passes.steps
+
+    spares : SparesBook n w
+    spares = laws.basic.spares n p.passes.steps p.passes.only
+
+    -- no slot of it served a request, and none was parked
+    none_served : (slot : ℕ) (id : RequestId) → at.uses port.0 slot ≡ Serves id → ⊥
+    none_served slot id serves =
+        let none = (k.slots port.0 small).unused slot (subst (λ (f : Found). usable_of f (mode_at s.modes port.0) ≤ slot) (sym is) (omega arith)) in
+        let z : Free ≡ Serves id = sym (ap use_of none) ∙ sym (at.used port.0 slot alive) ∙ serves in absurd cc
+
+    unparked : (q : ℕ) → found_of then.ports q ≢ Unready DeadState → p.slots.parked q ≡ []
+    unparked q other = ⊎_elim
+        (λ (same : q ≡ port.0).
+        ap p.slots.parked same ∙ nobody (p.slots.parked port.0) (λ id here. ⊎_elim
+        (λ served. let slot = laws.slots.served at.uses port.0 32 id served in none_served slot.0 id slot.2)
+        (λ parked. nowhere id (subst (λ (ids : List RequestId). Contains ids id) (at.unparked port.0 alive) parked))
+        (Contains-append_cases _ (at.parked port.0) id (p.left.its id here))))
+        (λ (ne : q ≢ port.0). p.left.parked q ne ∙ at.unparked q (λ dead. other (get_or-set_other s.ports port.0 q b.found Unserved ne ∙ dead)))
+        (cases_eq q port.0)
+
+    was_kept : AreKept s.ports s.kept w.kept
+    was_kept = still_kept laws s.ports s.kept n.kept w.kept spares.kept at.kept
+
+    -- a request that is kept is of another port
+    elsewhere : (e : Pending) → Contains w.kept e → e.request.port.0 ≢ port.0
+    elsewhere e here same = alive (ap (found_of s.ports) (sym same) ∙ was_kept.dead e here)
+
+    stands : IsMachineOf then w
+    stands = record {
+      uses = p.slots.uses;
+      used = uses_then port.0 b.anew.result.next b.found s.ports s.slots b.slots (record { uses = at.uses; parked = at.parked }) p.slots (listed laws s new seen port state k is lives looks b)
+          (let four = k.four in let l = small in omega (arith, four, l)) b.unused.free p.left at.used;
+      parked = p.slots.parked;
+      unparked = unparked;
+      knows = p.passes.knows;
+      book = book_on s.book n.book w.book spares.book at.book;
+      kept = record {
+        dead = λ e here. get_or-set_other s.ports port.0 e.request.port.0 b.found Unserved (elsewhere e here) ∙ was_kept.dead e here;
+        loan = was_kept.loan;
+        whose = was_kept.whose;
+        apart = was_kept.apart;
+      };
+      rows = spares.rows ∙ at.rows;
+      owner = λ frame. ap (λ f. f frame) spares.owner ∙ at.owner frame;
+      lent = λ frame. ap (λ f. f frame) spares.lent ∙ at.lent frame;
+      next = spares.next ∙ at.next;
+    }
+
+    steps : List Step
+    steps = p.passes.steps ++ looked.0
+
+    may : AllMay m steps
+    unfolding steps
+    may = laws.basic.may m p.passes.steps looked.0 looked.1 p.passes.may
+
+    then_stands : IsMachineOf then (after m steps)
+    unfolding steps
+    then_stands = subst (IsMachineOf then) (sym (laws.basic.joined m p.passes.steps looked.0)) stands
+
+    backed : IsBacked s.device new.device m steps
+    unfolding steps
+    backed = laws.backed_parts s.device seen new.device m looked.0 p.passes.steps looked.3 p.passes.backed
+
+    devices : AllDevices steps
+    unfolding steps
+    devices = devices_both p.passes.steps looked.0 p.passes.only looked.4
+
+    -- where it shows a disk then, one was in
+    had : HadDisk (moment_of s m) steps (moment_of then (after m steps)) port
+    had shows = by b.anew.result.next b.anew.is (subst (λ (f : Found). ShowsDisk (state_of f)) (found_then laws s new seen port state k is lives looks b) shows)
+      where
+        by : (after_it : Next) → IsFoundAnew (wanted_of s.wanted port.0) port after_it b.anew.stopped new.device b.found → ShowsDisk (state_of b.found) → (m.present port ≡ true) ⊎ (list_any (changes_disk port) steps ≡ true)
+        by (next.Running token) none disk = absurd none
+        by next.Dead (dead, same) disk = absurd (subst (λ (f : Found). ShowsDisk (state_of f)) dead disk)
+        by (next.Restart token) (booted, so, boots) disk =
+            booted_had laws port s (wanted_of s.wanted port.0) booted (looks.driven.accesses ++ part) b.anew.stopped new.device new.device k.on (until laws s new seen port state k is lives looks b)
+            (until_of laws s new seen port state k is lives looks b) boots (subst (λ (f : Found). ShowsDisk (state_of f)) (sym so) disk) (laws.looks.tape.grows_none new.device) m stood steps backed
+
+    adds : AddsTried port s then m
+    adds = record { steps = steps; only = devices; may = may; stands = then_stands; backed = backed; disk = inr had }
+
+  -- ---- the server
+
+  kept_then : IsKept then
+  kept_then =
+      let w = whole laws s new seen port state k is lives looks b in
+      replaced_kept laws port s k small new.device w.0 w.1 s.table b.found s.remembered b.mode b.slots s.kept s.book (ap is_served is) (its_stand laws s new seen port state k is lives looks b) b.anew.mode_is b.unused
+      (book_left laws s new seen port state k is lives looks b) k.four_remembered k.four_kept k.few_kept (after k.machine (steps k.machine k.reached k.stands)) (laws.basic.reached k.machine _ k.reached (may k.machine k.reached k.stands))
+      (then_stands k.machine k.reached k.stands)
+
+  none_due : (q : Port) → NoneDue (mode_in then q) (asks_of s.book) q
+  none_due q = ⊎_elim
+      (λ (same : q.0 ≡ port.0).
+      subst (λ (x : Port). NoneDue (mode_in then q) (asks_of s.book) x) (ap (λ (x : ℕ). record { 0 = x }) (sym same)) (none_due_unready s k port (unready laws s new seen port state k is lives looks b) (mode_in then q)))
+      (λ (other : q.0 ≢ port.0). subst (λ (mode : Mode). NoneDue mode (asks_of s.book) q) (sym (get_or-set_other s.modes port.0 q.0 b.mode plain_mode other)) (t.issued q))
+      (cases_eq q.0 port.0)
+
+  settled_then : IsSettled then
+  settled_then = record { kept = kept_then; issued = none_due }
+
+  part_then : HasPart InTry port [] s then
+  part_then =
+      let its = only laws s new seen port state k is lives looks b in
+      record {
+        accesses = accesses laws s new seen port state k is lives looks b;
+        does = does laws s new seen port state k is lives looks b;
+        of = All-weaker (IsPart port) (IsOf port) (λ access x. x.1) _ its;
+        own = All-weaker (IsPart port) IsDriversOwn (λ access x. x.0) _ its;
+        others = others laws s new seen port state k is lives looks b;
+        silent = silent laws s new seen port state k is lives looks b;
+        makes = λ m reached stood. makes_try laws port s k (unready laws s new seen port state k is lives looks b) then settled_then (stopped_of port b.anew.result.next) (stuck_if port b.found) _ (tells laws s new seen port state k is lives looks b) (boot_does laws s new seen port state k is lives looks b) m stood
+            (adds m reached stood);
+      }
+
+  pub booted_turn : HasPart InTry port [] s new × IsSettled new
+  booted_turn = subst (λ (x : Server). HasPart InTry port [] s x × IsSettled x) (sym b.server) (part_then, settled_then)
+
+-- ---- it was looked at, and that is all
+
+-- a look leaves the engine of each port
+leaving : (port q : Port) (access : Access) → IsLooking port access → LeavesEngine q access
+leaving port q access its = (looking_spares port q Cmd (λ e. let z : Is ≡ Cmd = e in cc) access its, looking_spares port q Sctl (λ e. let z : Is ≡ Sctl = e in cc) access its)
+
+module _ (laws : LawsBelow) (s : Server) (seen : Device) (port : Port) (state : PortState) (t : IsSettled s) (is : found_of s.ports port.0 ≡ Unready state) (looks : IsFollowed (IsLooking port) AnyUse s.device seen) where
+  abbrev rest : Server
+  rest = record s { device = seen }
+
+  never : state_of (found_of s.ports port.0) ≢ ReadyState
+  never ready = never_ready s port state t.kept is (sym (ap state_of is) ∙ ready)
+
+  rests_told : TellsTried port [] [] looks.driven.accesses s rest
+  rests_told = record {
+    its_stopped = All-nil (λ q. q ≡ port);
+    its_stuck = All-nil (λ q. q ≡ port);
+    becomes = (
+      λ dead. (refl, refl, refl, refl, refl, refl),
+      λ alive. (record { served = refl; stuck = λ dead. absurd (alive dead); dies = λ here. absurd (nowhere port here); keeps = λ other. (refl, refl) }, inl (refl, refl, refl, refl, refl, refl)),
+    );
+    engine = inl (All-weaker (IsLooking port) (LeavesEngine port) (leaving port port) looks.driven.accesses looks.driven.only);
+    stops = λ here. absurd (nowhere port here);
+    sticks = λ here. absurd (nowhere port here);
+  }
+
+  -- ---- the server
+
+  serves : IsDrivenBy IsService s.device seen
+  serves = driven_as (IsLooking port) IsService s.device seen (laws.looking.looking_service port) looks.driven
+
+  module _ (lives : state ≢ DeadState) (result : Bool) (l : IsLookedAt state port result s.device seen) (none : result ≡ false) where
+    its_port : IsPortOf s.wanted s.ports port.0 seen
+    its_port =
+        let was = t.kept.behind port.0 (low laws s seen port state t.kept is lives looks) in
+        record {
+          behind = subst (λ (f : Found). StillStandsBehind (wanted_of s.wanted port.0) f port.0 seen) (sym is)
+              (looked_stands laws (wanted_of s.wanted port.0) port state result s.device seen t.kept.on lives l none (laws.looking.services_same s.device seen serves)
+              (looking_silent s seen port t.kept looks port.0 Identify refl (λ dead. lives (let z : Unready state ≡ Unready DeadState = sym is ∙ dead in cc)))
+              (subst (λ (f : Found). StillStandsBehind (wanted_of s.wanted port.0) f port.0 s.device) is was.behind));
+          runs = λ ready. absurd (never ready);
+          shown = λ bad. shown_on laws.looks port s.device seen t.kept.on serves (was.shown bad);
+          own = λ ready. absurd (never ready);
+          halts = λ ready. absurd (never ready);
+        }
+
+    other_port : (q : ℕ) → q < 4 → q ≢ port.0 → IsPortOf s.wanted s.ports q seen
+    other_port q small other =
+        port_on laws s.wanted s.ports q s.device seen (laws.looking.services_same s.device seen serves) t.kept.on serves
+        (λ _. laws.looks.other_left port q s.device seen other t.kept.on (driven_as (IsLooking port) (IsOf port) s.device seen (laws.looking.looking_of port) looks.driven))
+        (looking_silent s seen port t.kept looks q Identify refl)
+        (followed_halts laws (port_at q) (IsLooking port) s t.kept seen looks (λ access its. (leaving port (port_at q) access its).0))
+        (t.kept.behind q small)
+
+    pub rests_kept : IsKept rest
+    rests_kept = looked_kept s seen port t.kept laws looks (λ q small. ⊎_elim
+        (λ (same : q ≡ port.0). subst (λ (x : ℕ). IsPortOf s.wanted s.ports x seen) (sym same) its_port)
+        (λ (other : q ≢ port.0). other_port q small other)
+        (cases_eq q port.0))
+
+  module _ (result : Bool) (l : IsLookedAt state port result s.device seen) (none : result ≡ false) (kept : IsKept rest) where
+    rests_settled : IsSettled rest
+    rests_settled = record { kept = kept; issued = t.issued }
+
+    pub rests : HasPart InTry port [] s rest × IsSettled rest
+    rests = (
+      record {
+        accesses = looks.driven.accesses;
+        does = looks.driven.all;
+        of = All-weaker (IsLooking port) (IsOf port) (laws.looking.looking_of port) looks.driven.accesses looks.driven.only;
+        own = All-weaker (IsLooking port) IsDriversOwn (λ access its. (looking_part laws port access its).0) looks.driven.accesses looks.driven.only;
+        others = record { grants = refl; wanted = refl; last = refl; found = λ q ne. refl; remembered = λ q ne. refl; modes = λ q ne. refl; slots = λ q ne. refl; book = λ q ne. refl };
+        silent = λ q other alive. looking_silent s seen port t.kept looks q ReadLog refl (λ dead. alive (ap state_of dead));
+        makes = λ m reached stood.
+            let x = followed_steps laws s seen (looks_serve laws port s.device seen looks) m reached stood in
+            makes_try laws port s t.kept never rest rests_settled [] [] looks.driven.accesses rests_told (rests_does s port state t.kept is laws seen result l none looks.driven.accesses looks.driven.only looks.driven.all) m stood
+            (record { steps = x.0; only = x.4; may = x.1; stands = x.2; backed = x.3; disk = inl (refl, refl, refl, refl, refl, refl) });
+      },
+      rests_settled,
+    )
+
+-- ---- the whole
+
+dead_or_not : (state : PortState) → (state ≡ DeadState) ⊎ (state ≢ DeadState)
+dead_or_not Absent = inr (λ is. let z : Absent ≡ DeadState = is in cc)
+dead_or_not ReadyState = inr (λ is. let z : ReadyState ≡ DeadState = is in cc)
+dead_or_not Foreign = inr (λ is. let z : Foreign ≡ DeadState = is in cc)
+dead_or_not (Unfit n) = inr (λ is. let z : Unfit n ≡ DeadState = is in cc)
+dead_or_not DeadState = inl refl
+
+-- A dead port isn't looked at. Another one is, and booted where what it was looked at for was found.
+pub turns : LawsBelow → (s new : Server) (port : Port) → IsSettled s → (tries : TriesPort port s new) → (tries.state ≢ DeadState → IsFollowed (IsLooking port) AnyUse s.device tries.seen)
+    → HasPart InTry port [] s new × IsSettled new
+turns laws s new port t tries looks = ⊎_elim
+    (λ (dead : tries.state ≡ DeadState).
+    let l = subst (λ (state : PortState). IsLookedAt state port tries.result s.device tries.seen) dead tries.looks in
+    whole_rest l.0 (unlooked port s.device tries.seen l.1) (subst (λ (d : Device). IsKept (record s { device = d })) (sym l.1) t.kept))
+    (λ (lives : tries.state ≢ DeadState). ⊎_elim
+    (λ (found : tries.result ≡ true). booted_turn laws s new tries.seen port tries.state t tries.is lives (looks lives) (tries.boots found))
+    (λ (none : tries.result ≡ false). whole_rest none (looks lives) (rests_kept laws s tries.seen port tries.state t tries.is (looks lives) lives tries.result tries.looks none))
+    (cases_Bool tries.result))
+    (dead_or_not tries.state)
+  where
+    whole_rest : tries.result ≡ false → IsFollowed (IsLooking port) AnyUse s.device tries.seen → IsKept (record s { device = tries.seen }) → HasPart InTry port [] s new × IsSettled new
+    whole_rest none its kept = subst (λ (n : Server). HasPart InTry port [] s n × IsSettled n) (sym (tries.left none)) (rests laws s tries.seen port tries.state t tries.is its tries.result tries.looks none kept)
+
+pub tried : LawsBelow → (s new : Server) (port : Port) → IsSettled s → (tries : TriesPort port s new) → (tries.state ≢ DeadState → IsFollowed (IsLooking port) AnyUse s.device tries.seen) → TriesUnready port s new × IsSettled new
+tried laws s new port t tries looks = let x = turns laws s new port t tries looks in (record { does = tries; part = x.0 }, x.1)

@@ -1,0 +1,169 @@
+-- What stands behind a port that isn't ready goes on over a look that found nothing: but for what was read of PxIS and PxSSTS, the port is left to the device.
+use Rattle.std.proofs.Common.{ℕ, ◌≡◌, ◌≢◌, ◌≤◌, ◌%◌, ◌==◌, ◌||◌, Bool, true, false, not, List, length, inl, inr, refl, sym, ap, ◌∙◌, subst, eq-eqb, eqb-true}
+use Rattle.std.proofs.lemmas.Bool.{false≢true}
+use Rattle.ata_types.specs.declared.Port.{Port}
+use Rattle.ata_types.specs.declared.PortState.{PortState as Shown}
+use Rattle.ata_types.specs.declared.PortState.TheVariants.{Absent, Dead, Foreign, Ready as ReadyState, Unfit}
+use Rattle.ata_types.specs.declared.limits.TheConstants.{READINGS}
+use Rattle.hba_regs.specs.Bits.{bit}
+use Rattle.hba_regs.specs.declared.reg.PortReg.TheVariants.{Is, Ssts}
+use Rattle.hba_regs.specs.declared.reg.Reg.TheVariants.{Px}
+use Rattle.adapter.specs.Access.{Reads}
+use Rattle.adapter.specs.Access.Access.{Reading}
+use Rattle.adapter.specs.Device.{Device, Notes, PortState}
+use Rattle.adapter.specs.Kept.{KeepsControls, KeepsPort}
+use Rattle.adapter.specs.Rules.{IsOn}
+use Rattle.adapter.specs.Seen.{SeenAt}
+use Rattle.adapter.specs.declared.command.Operation.TheVariants.{Identify}
+use Rattle.agreement.specs.Driven.{LeavesPort, SendsNone}
+use Rattle.agreement.specs.Links.{SameAdapter}
+use Rattle.host_boot.specs.Taken.{StillStandsBehind}
+use Rattle.host_boot.specs.declared.Found.TheVariants.{Unready}
+use Rattle.identify.specs.Wanted.{serial_of}
+use Rattle.identify.specs.declared.wanted.Wanted.{Wanted}
+use Rattle.port_boot.specs.States.{EndsAs, HasPage, IsUnfit}
+use Rattle.port_control.specs.Ports.{IsStopped, SawDevice}
+use Rattle.port_look.specs.Glances.{FindsChange}
+use Rattle.server_history.specs.Below.{LawsBelow}
+use Rattle.server_history.specs.Tried.{IsLookedAt}
+use Rattle.server_history.proofs.state.PortGrounds.{left_on}
+use Rattle.server_history.proofs.state.RunningPorts.{link_still}
+
+-- ---- what was read
+
+-- what PxSSTS was read to show, where a port in such a state is what it was
+abbrev pub ShowsAsBefore : Shown → ℕ → Type 0
+ShowsAsBefore Absent v = v % 16 ≢ 3
+ShowsAsBefore state v = v % 16 ≡ 3
+
+-- nothing is told of a change, and a device shows
+pub unchanged : (one other there : Bool) → (one || other || not there) ≡ false → (one ≡ false) × (there ≡ true)
+unchanged true other there is = absurd (false≢true (sym is))
+unchanged false true there is = absurd (false≢true (sym is))
+unchanged false false true is = (refl, refl)
+unchanged false false false is = absurd (false≢true (sym is))
+
+pub unequal : (m n : ℕ) → (m == n) ≡ false → m ≢ n
+unequal m n is same = false≢true (sym is ∙ eq-eqb m n same)
+
+-- ---- a reading of PxSSTS
+
+-- the device, with what readings noted of its ports before
+abbrev noted_before : Device → Device → Device
+noted_before old new = record new { port = λ q. record (new.port q) { notes = (old.port q).notes } }
+
+-- a port is left to the device, but for what was noted
+but_notes : (noted : Notes) (old new : PortState) → KeepsPort old new → KeepsControls old new → LeavesPort (record old { notes = noted }) (record new { notes = noted })
+but_notes noted old new k c = record {
+  keeps = record { bases = k.bases; st = k.st; fre = k.fre; cr = k.cr; fr = k.fr; ci = k.ci; sact = k.sact; idle = k.idle; fallen = k.fallen; free = k.free };
+  controls = record { st = c.st; fre = c.fre; sctl_det = c.sctl_det; ie = c.ie; is = c.is; serr_n = c.serr_n; serr_x = c.serr_x; runs = c.runs };
+  notes = refl;
+}
+
+-- PxIS may have been read, and nothing else
+abbrev SameButAcknowledged : Notes → Notes → Type 0
+SameButAcknowledged old new = new ≡ record old { acknowledged = new.acknowledged }
+
+module _ (laws : LawsBelow) (wanted : Wanted) (port : Port) (first old new : Device) (v : ℕ) (on : IsOn old) (same : SameAdapter first new)
+    (left : LeavesPort (first.port port.0) (record (old.port port.0) { notes = (first.port port.0).notes })) (noted : SameButAcknowledged (first.port port.0).notes (old.port port.0).notes)
+    (reads : Reads (Px port Ssts) v old new) (silent : SendsNone port.0 Identify first new) where
+  at : SeenAt port.0 Ssts v old new
+  at = laws.looking.seen port Ssts v old new reads on.no_reset
+
+  abbrev was : Notes
+  was = (first.port port.0).notes
+
+  abbrev now : Notes
+  now = (new.port port.0).notes
+
+  abbrev before : Device
+  before = noted_before first new
+
+  shown : now.last_ssts ≡ v
+  shown = ap (λ (n : Notes). n.last_ssts) at.notes
+
+  busy : now.busy_count ≡ was.busy_count
+  busy = ap (λ (n : Notes). n.busy_count) at.notes ∙ ap (λ (n : Notes). n.busy_count) noted
+
+  commands : now.command_count ≡ was.command_count
+  commands = ap (λ (n : Notes). n.command_count) at.notes ∙ ap (λ (n : Notes). n.command_count) noted
+
+  file : now.last_tfd ≡ was.last_tfd
+  file = ap (λ (n : Notes). n.last_tfd) at.notes ∙ ap (λ (n : Notes). n.last_tfd) noted
+
+  signature : now.last_sig ≡ was.last_sig
+  signature = ap (λ (n : Notes). n.last_sig) at.notes ∙ ap (λ (n : Notes). n.last_sig) noted
+
+  written : now.sctl_written_at ≡ was.sctl_written_at
+  written = ap (λ (n : Notes). n.sctl_written_at) at.notes ∙ ap (λ (n : Notes). n.sctl_written_at) noted
+
+  counted : was.link_count ≡ READINGS → now.link_count ≡ READINGS
+  counted count = link_still port (Reading (Px port Ssts) v) old new on tt reads (ap (λ (n : Notes). n.link_count) noted ∙ count)
+
+  -- but for that, the port is left to the device
+  left_before : LeavesPort (first.port port.0) (before.port port.0)
+  left_before =
+      laws.looking.leaves_more (first.port port.0) (record (old.port port.0) { notes = was }) (before.port port.0) left
+      (but_notes was (old.port port.0) (new.port port.0) (at.keeps.port port.0) (at.keeps.on.controls port.0))
+
+  stopped : IsStopped (before.port port.0) → IsStopped (new.port port.0)
+  stopped s = record { halted = record { st = s.halted.st; cr = s.halted.cr; ci = s.halted.ci; taken = s.halted.taken }; sact = s.sact }
+
+  paged : (page : List ℕ) → HasPage port.0 before page → HasPage port.0 new page
+  paged page h = record {
+    before = h.before;
+    move = h.move;
+    later = h.later;
+    here = h.here;
+    since = subst (λ (n : ℕ). n ≤ length h.before) (sym written) h.since;
+    is_move = h.is_move;
+    last = h.last;
+    bytes = h.bytes;
+  }
+
+  saw : v % 16 ≡ 3 → SawDevice was → SawDevice now
+  saw shows s = (ap (λ (n : ℕ). n % 16) shown ∙ shows, counted s.1)
+
+  unfit : v % 16 ≡ 3 → (n : ℕ) → IsUnfit n port.0 before → IsUnfit n port.0 new
+  unfit shows n (inl (is, its)) = inl (is, (saw shows its.0, busy ∙ its.1))
+  unfit shows n (inr (inl (is, (other, its)))) = inr (inl (is, (other, (saw shows its.0, ap idle file ∙ its.1, signature ∙ its.2, its.3))))
+    where
+      idle : ℕ → Bool
+      idle tfd = bit tfd 7 || bit tfd 3
+  unfit shows n (inr (inr (inl (is, its, count)))) = inr (inr (inl (is, saw shows its, commands ∙ count)))
+  unfit shows n (inr (inr (inr (page, has, fault)))) = inr (inr (inr (page, paged page has, fault)))
+
+  ends : (state : Shown) → state ≢ Dead → ShowsAsBefore state v → EndsAs (serial_of wanted) state port.0 before → EndsAs (serial_of wanted) state port.0 new
+  ends Absent lives out (s, its) = (stopped s, ((λ shows. out (sym (ap (λ (n : ℕ). n % 16) shown) ∙ shows)), counted its.1))
+  ends (Unfit n) lives shows (s, its) = (stopped s, unfit shows n its)
+  ends Foreign lives shows (s, (page, has, other)) = (stopped s, (page, paged page has, other))
+  ends Dead lives shows e = absurd (lives refl)
+  ends ReadyState lives shows none = absurd none
+
+  stands : (state : Shown) → state ≢ Dead → ShowsAsBefore state v → StillStandsBehind wanted (Unready state) port.0 first → StillStandsBehind wanted (Unready state) port.0 new
+  stands state lives shows s =
+      let x = left_on wanted (Unready state) port.0 first before (record { telling = same.telling; size = same.size; cap = same.cap; pi = same.pi }) left_before (λ _. silent) s in
+      (x.0, ends state lives shows x.1)
+
+-- ---- a look
+
+pub looked_stands : (laws : LawsBelow) (wanted : Wanted) (port : Port) (state : Shown) (result : Bool) (old new : Device) → IsOn old → state ≢ Dead → IsLookedAt state port result old new → result ≡ false → SameAdapter old new
+    → SendsNone port.0 Identify old new → StillStandsBehind wanted (Unready state) port.0 old → StillStandsBehind wanted (Unready state) port.0 new
+looked_stands laws wanted port state result old new on lives looks none same silent s = by state lives looks s
+  where
+    change : (its : Shown) → its ≢ Dead → (ShowsAsBefore its ≡ (λ v. v % 16 ≡ 3)) → FindsChange port result old new → StillStandsBehind wanted (Unready its) port.0 old → StillStandsBehind wanted (Unready its) port.0 new
+    change its alive kind f behind =
+        let first = laws.looking.seen port Is f.causes old f.seen f.reads on.no_reset in
+        let there = laws.looks.access_on (Reading (Px port Is) f.causes) old f.seen on (λ v e. absurd cc) f.reads in
+        let link : (f.status % 16) ≡ 3 = eqb-true (f.status % 16) 3 (unchanged (bit f.causes 6) (bit f.causes 22) (f.status % 16 == 3) (sym f.tells ∙ none)).1 in
+        let was : Notes = (old.port port.0).notes in
+        let noted : SameButAcknowledged was (f.seen.port port.0).notes =
+        first.notes ∙ ap (λ (yes : Bool). record was { acknowledged = yes }) (sym (ap (λ (n : Notes). n.acknowledged) first.notes)) in
+        stands laws wanted port old f.seen new f.status there same (but_notes was (old.port port.0) (f.seen.port port.0) (first.keeps.port port.0) (first.keeps.on.controls port.0)) noted f.shows silent its alive (subst (λ (P : ℕ → Type 0). P f.status) (sym kind) link) behind
+
+    by : (its : Shown) → its ≢ Dead → IsLookedAt its port result old new → StillStandsBehind wanted (Unready its) port.0 old → StillStandsBehind wanted (Unready its) port.0 new
+    by Absent alive f behind = stands laws wanted port old old new f.status on same (laws.looking.leaves_none (old.port port.0)) refl f.reads silent Absent alive (unequal (f.status % 16) 3 (sym f.tells ∙ none)) behind
+    by Foreign alive f behind = change Foreign alive refl f behind
+    by (Unfit cause) alive f behind = change (Unfit cause) alive refl f behind
+    by Dead alive f behind = absurd (alive refl)
+    by ReadyState alive f behind = absurd behind.1

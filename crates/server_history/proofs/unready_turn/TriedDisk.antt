@@ -1,0 +1,164 @@
+-- A service in which no disk of a port comes tries what is there, where the port isn't ready: by how it was looked at, and booted.
+use Rattle.std.proofs.Common.{true, false, sym, ℕ, ◌≡◌, ◌≢◌, ◌++◌, List, [], ◌∷◌, refl, ◌∙◌, subst, inl, inr, ⊎_elim, ◌⊎◌}
+use Rattle.std.proofs.lemmas.Bool.{cases_Bool, cases_eq, false≢true}
+use Rattle.std.proofs.lemmas.List.Elements.{All-head, All-tail}
+use Rattle.std.specs.List.{All}
+use Rattle.ata_types.specs.declared.Port.{Port}
+use Rattle.ata_types.specs.declared.PortState.{PortState as Shown}
+use Rattle.ata_types.specs.declared.PortState.TheVariants.{Absent, Dead, Foreign, Ready as ReadyState, Unfit}
+use Rattle.hba_regs.specs.declared.reg.PortReg.TheVariants.{Is, Sctl, Serr, Ssts}
+use Rattle.hba_regs.specs.declared.reg.Reg.TheVariants.{Px}
+use Rattle.adapter.specs.Access.{Access, DoesAll, Reads}
+use Rattle.adapter.specs.Access.Access.{Reading, Writing}
+use Rattle.adapter.specs.Device.{Device, PortState}
+use Rattle.adapter.specs.Rules.{IsOn}
+use Rattle.agreement.specs.Driven.{Grows}
+use Rattle.agreement.specs.Errors.{NoneComes}
+use Rattle.agreement.specs.Links.{IsPlugging, PlugsNone}
+use Rattle.agreement.specs.Vacant.{IsFreshIfShown, IsVacant}
+use Rattle.block_machine.specs.Events.{ShowsDisk}
+use Rattle.driver_history.specs.Evidence.{Gains, ShowsChange}
+use Rattle.driver_history.specs.Histories.{IsFreshOrUnshown}
+use Rattle.driver_history.specs.Trace.{ResetsLink}
+use Rattle.host_boot.specs.Again.{BootsStopped, EndsUnready}
+use Rattle.host_boot.specs.declared.Found.{Found}
+use Rattle.host_boot.specs.declared.Found.TheVariants.{Ready, Unready, Unserved}
+use Rattle.identify.specs.Wanted.{serial_of}
+use Rattle.identify.specs.declared.DiskInfo.{DiskInfo}
+use Rattle.identify.specs.declared.wanted.Wanted.{Wanted}
+use Rattle.port_boot.specs.States.{EndsAs, EndsEarly, EndsLate, TellsFault}
+use Rattle.port_control.specs.Ports.{HasClearErrors}
+use Rattle.port_look.specs.Looks.{IsLooking}
+use Rattle.server_history.specs.Below.{LawsBelow}
+use Rattle.server_history.specs.Server.{state_of}
+use Rattle.server_history.proofs.any_turn.ToldTrouble.{is_plugging, one_or_none}
+use Rattle.server_history.proofs.any_turn.HeededTrouble.{gains_none}
+use Rattle.server_history.proofs.plain_calls.Looks.{looking_spares}
+use Rattle.server_history.proofs.any_turn.ShownTrouble.{grows_over, on_one}
+use Rattle.server_history.proofs.any_turn.ShownDevice.{stays_so}
+
+-- ---- accesses in which no disk comes
+
+-- accesses lead to a device between them
+split : (early late : List Access) (old new : Device) → DoesAll (early ++ late) old new → (mid : Device) × DoesAll early old mid × DoesAll late mid new
+split [] late old new does = (old, refl, does)
+split (access ∷ early) late old new (next, one, rest) = let x = split early late next new rest in (x.0, (next, one, x.1), x.2)
+
+module _ (laws : LawsBelow) (port : Port) where
+  -- the first and the second of two parts, each by accesses
+  pub none_parts : (old mid new : Device) → Grows old mid → Grows mid new → NoneComes port.0 old new → NoneComes port.0 old mid × NoneComes port.0 mid new
+  none_parts old mid new early late none = laws.looks.tape.comes_parts port.0 old mid new early.0 late.0 early.1 late.1 none
+
+  pub stays_vacant : (accesses : List Access) (old new : Device) → DoesAll accesses old new → NoneComes port.0 old new → IsVacant (old.port port.0) → IsVacant (new.port port.0)
+  stays_vacant = stays_so laws port IsVacant (laws.vacant_on port)
+
+  -- once the link was reset, the first FIS of a disk that shows has come
+  reset_fresh : (accesses : List Access) (old new : Device) → ResetsLink port accesses → DoesAll accesses old new → NoneComes port.0 old new → IsFreshIfShown (new.port port.0)
+  reset_fresh accesses old new r does none =
+      let rest = r.between ++ (Writing (Px port Sctl) r.ending ∷ r.later) in
+      let x = split r.before (Writing (Px port Sctl) r.sending ∷ rest) old new (subst (λ (list : List Access). DoesAll list old new) r.here does) in
+      let sent = x.2.0 in
+      let early = laws.looks.tape.grows_more old x.0 sent (grows_over laws r.before old x.0 x.1) (laws.looks.tape.access_grows (Writing (Px port Sctl) r.sending) x.0 sent x.2.1) in
+      stays_so laws port IsFreshIfShown (laws.fresh_on port) rest sent new x.2.2 (none_parts old sent new early (grows_over laws rest sent new x.2.2) none).1 (laws.fresh_reset port r.sending x.0 sent r.sends x.2.1)
+
+  fresh_or_gone : (p : PortState) → IsFreshIfShown p → IsFreshOrUnshown p
+  fresh_or_gone p fresh = ⊎_elim (λ (shows : p.ssts_det ≡ 3). inl (fresh shows)) (λ (gone : p.ssts_det ≢ 3). inr gone) (cases_eq p.ssts_det 3)
+
+  pub reset_fresh_or_gone : (accesses : List Access) (old new : Device) → ResetsLink port accesses → DoesAll accesses old new → NoneComes port.0 old new → IsFreshOrUnshown (new.port port.0)
+  reset_fresh_or_gone accesses old new r does none = fresh_or_gone (new.port port.0) (reset_fresh accesses old new r does none)
+
+  -- a device that showed, and shows no more, has gone
+  pub has_gone : (v : ℕ) (old new : Device) → IsOn old → Reads (Px port Ssts) v old new → (old.port port.0).ssts_det ≡ 3 → (new.port port.0).ssts_det ≢ 3 → Gains (IsPlugging port.0) old new
+  has_gone v old new on reads shows gone =
+      let grows = laws.looks.tape.access_grows (Reading (Px port Ssts) v) old new reads in
+      ⊎_elim
+      (λ found. record { gained = grows.0; tape = grows.1; entry = found.0; here = found.1; is = found.2 })
+      (λ none. absurd (gone (⊎_elim (λ same. same.det ∙ shows) (λ up. up.det)
+      (laws.looks.access_link port (Reading (Px port Ssts) v) old new on.no_reset tt reads (record { gained = grows.0; tape = grows.1; none = none })))))
+      (one_or_none (IsPlugging port.0) (is_plugging port.0) grows.0)
+
+-- ---- a look
+
+-- what isn't shown in PxSERR hasn't come, and X is shown still
+record KeepsChange (port : ℕ) (old new : Device) : Type 0 where
+  disk : (new.port port).serr_n ≡ false → ((old.port port).serr_n ≡ false) × PlugsNone port old new
+  came : (old.port port).serr_x ≡ true → (new.port port).serr_x ≡ true
+
+module _ (laws : LawsBelow) (port : Port) where
+  change_over : (accesses : List Access) (old new : Device) → IsOn old → All (IsLooking port) accesses → DoesAll accesses old new → KeepsChange port.0 old new
+  change_over [] old new on all is = subst (KeepsChange port.0 old) (sym is) (record { disk = λ clear. (clear, laws.looks.tape.plugs_none port.0 old); came = λ came. came })
+  change_over (access ∷ accesses) old new on all (mid, does, rest) =
+      let its = All-head (IsLooking port) access accesses all in
+      let spares = looking_spares port port Serr (λ e. let z : Is ≡ Serr = e in cc) access its in
+      let later = change_over accesses mid new (on_one laws port access old mid on (laws.of_host port access (laws.looking.looking_of port access its)) does) (All-tail (IsLooking port) access accesses all) rest in
+      record {
+        disk = λ clear.
+            let l = later.disk clear in
+            let e = laws.trouble.shows_disk port access old mid on.no_reset spares does l.0 in (e.0, laws.looks.tape.plugs_more port.0 old mid new e.1 l.1);
+        came = λ came. later.came ((laws.looks.access_news port access old mid on.no_reset spares does).1 came);
+      }
+
+  -- what the link told before, and what came, is shown still
+  pub change_shown : (accesses : List Access) (old new : Device) → IsOn old → All (IsLooking port) accesses → DoesAll accesses old new → ShowsChange (old.port port.0) ⊎ Gains (IsPlugging port.0) old new → ShowsChange (new.port port.0)
+  change_shown accesses old new on all does trouble = ⊎_elim
+      (λ (is : (new.port port.0).serr_n ≡ true). inl is)
+      (λ (clear : (new.port port.0).serr_n ≡ false).
+      let none = keeps.disk clear in ⊎_elim
+      (λ change. ⊎_elim (λ went. absurd (false≢true (sym none.0 ∙ went))) (λ came. inr (keeps.came came)) change)
+      (λ gains. absurd (gains_none (IsPlugging port.0) old new none.1.gained none.1.tape none.1.none gains))
+      trouble)
+      (cases_Bool ((new.port port.0).serr_n))
+    where
+      keeps : KeepsChange port.0 old new
+      keeps = change_over accesses old new on all does
+
+-- ---- a boot
+
+-- what a boot finds shows a disk, or no device, or a dead port
+pub shows_or_not : (found : Found) → ShowsDisk (state_of found) ⊎ ((state_of found ≡ Absent) ⊎ (found ≡ Unready Dead))
+shows_or_not Unserved = inr (inl refl)
+shows_or_not (Ready info) = inl tt
+shows_or_not (Unready Absent) = inr (inl refl)
+shows_or_not (Unready ReadyState) = inl tt
+shows_or_not (Unready Foreign) = inl tt
+shows_or_not (Unready (Unfit n)) = inl tt
+shows_or_not (Unready Dead) = inr (inr refl)
+
+module _ (wanted : Wanted) (port : Port) (old new : Device) where
+  -- where the port is ready then, it found a disk that fits
+  pub boot_ready : (found : Found) → BootsStopped wanted port found old new → state_of found ≡ ReadyState → (info : DiskInfo) × (found ≡ Ready info)
+  boot_ready Unserved none is = absurd none
+  boot_ready (Ready info) e is = (info, refl)
+  boot_ready (Unready state) e is = absurd (subst (λ (its : Shown). EndsAs (serial_of wanted) its port.0 new) is e.ended)
+
+  -- A boot that finds a disk leaves nothing of before in PxSERR; and where no disk came, no link is due.
+  pub record LeavesClear : Type 0 where
+    pub clear : HasClearErrors port.0 old new
+    pub undue : NoneComes port.0 old new → (new.port port.0).link_due ≡ false
+
+  early_clear : (state : Shown) → state ≢ Absent → EndsEarly port state old new → LeavesClear
+  early_clear state other e = let f = e.found (λ none. other (subst (TellsFault state) none e.told)) in record { clear = f.clear; undue = f.undue }
+
+  late_clear : EndsLate port old new → LeavesClear
+  late_clear e = record { clear = e.clear; undue = λ none. e.undue }
+
+  unready_clear : (state : Shown) → EndsUnready wanted port state old new → ShowsDisk state → LeavesClear
+  unready_clear Absent x shows = absurd shows
+  unready_clear Dead x shows = absurd shows
+  unready_clear ReadyState x shows = absurd x.ended
+  unready_clear Foreign x shows = late_clear (x.late tt)
+  unready_clear (Unfit n) x shows = ⊎_elim
+      (λ (seven : n ≡ 7). early_clear (Unfit n) no (x.early (inl seven)))
+      (λ (not_seven : n ≢ 7). ⊎_elim
+      (λ (eight : n ≡ 8). early_clear (Unfit n) no (x.early (inr eight)))
+      (λ (not_eight : n ≢ 8). late_clear (x.late (not_seven, not_eight)))
+      (cases_eq n 8))
+      (cases_eq n 7)
+    where
+      no : Unfit n ≢ Absent
+      no is = let z : Unfit n ≡ Absent = is in cc
+
+  pub boot_clear : (found : Found) → BootsStopped wanted port found old new → ShowsDisk (state_of found) → LeavesClear
+  boot_clear Unserved none shows = absurd none
+  boot_clear (Ready info) e shows = record { clear = e.news.clear; undue = λ none. (e.news.recorded e.ready.runs.st).linked }
+  boot_clear (Unready state) e shows = unready_clear state e shows

@@ -1,0 +1,169 @@
+-- A port that isn't ready is looked at, and booted where its disk may have come, or may be another: a part of a service, after which the server goes on.
+use Rattle.std.proofs.Common.{◌≡◌, ◌≢◌, List, [], refl, sym, ap, ◌∙◌, subst, inl, inr, arith, ◌⊎◌}
+use Rattle.std.proofs.lemmas.List.Elements.{All-cons, All-nil}
+use Rattle.std.proofs.lemmas.List.Sorted.{IsPermutation-refl}
+use Rattle.std.specs.List.{All, Contains}
+use Rattle.std.specs.List.Sorted.{IsPermutation}
+use Rattle.ata_types.specs.declared.Port.{Port}
+use Rattle.ata_types.specs.declared.PortState.TheVariants.{Absent, Dead, Ready as ReadyState}
+use Rattle.ata_types.specs.declared.request.Outcome.TheVariants.{Unplugged}
+use Rattle.ata_types.specs.declared.limits.TheConstants.{READINGS}
+use Rattle.adapter.specs.Access.{Access}
+use Rattle.adapter.specs.declared.access.DeviceStep.{DeviceStep}
+use Rattle.agreement.specs.Driver.{IsBacked}
+use Rattle.agreement.specs.Errors.{NoneComes}
+use Rattle.block_machine.specs.Events.{AllDevices, AllGrounded, AllMay, HadDisk, Served, Service, Tells, UnplugsAll}
+use Rattle.block_machine.specs.Left.{after}
+use Rattle.block_machine.specs.Ports.{Evidence, IsInterrupted, IsServiced, SamePort}
+use Rattle.block_machine.specs.State.{Machine}
+use Rattle.block_machine.specs.Steps.{Step}
+use Rattle.driver_history.specs.Evidence.{IsEvidencedOf}
+use Rattle.driver_history.specs.Histories.{LosesNoTrouble, RunsWellAnew, TriesDisk}
+use Rattle.driver_history.specs.Holds.{NoneWaits}
+use Rattle.driver_history.specs.Trace.{LeavesEngine, ResetsLink}
+use Rattle.driver_history.specs.Parts.{EndsLinked}
+use Rattle.host_boot.specs.Taken.{found_of}
+use Rattle.port_control.specs.Engines.{Sticks, Stops}
+use Rattle.request_queue.specs.Entries.{Held}
+use Rattle.request_queue.specs.Machine.{IsEntry}
+use Rattle.server_history.specs.Below.{LawsBelow}
+use Rattle.server_history.specs.Server.{IsKept, IsMachineOf, IsSettled, Server, mode_in, ports_of, state_of}
+use Rattle.server_history.specs.Turns.{InService, InTry, IsOfTurn, MakesTurn, NamesOnly, OwesTurn, TiesTurn, instant_of, moment_of}
+use Rattle.server_history.proofs.state.AnswerSteps.{no_answer}
+use Rattle.server_history.proofs.state.DueRequests.{none_issued}
+use Rattle.server_history.proofs.state.DeviceSteps.{devices_belong, devices_last, devices_lawful}
+use Rattle.server_history.proofs.state.FirstMembers.{nowhere}
+use Rattle.server_history.proofs.healthy_turn.CallPart.{device_grounded, device_own, devices_all, devices_answers}
+use Rattle.server_history.proofs.plain_calls.IssueRounds.{devices_issue_none}
+use Rattle.server_history.proofs.state.PortSlots.{of_ready}
+use Rattle.server_history.proofs.state.PairedLists.{at_right}
+
+-- the evidence of such a turn: whether the port was stopped, and whether it got stuck
+abbrev pub evidence_tried : List Port → List Port → Evidence
+evidence_tried stopped stuck = record { faults = []; lost = []; gone = []; failed = []; fatal = []; stopped = stopped; stuck = stuck }
+
+-- What is told of the port then, by accesses that led to this device.
+pub record TellsTried (port : Port) (stopped stuck : List Port) (accesses : List Access) (old new : Server) : Type 0 where
+  pub its_stopped : All (λ q. q ≡ port) stopped
+  pub its_stuck : All (λ q. q ≡ port) stuck
+  pub becomes : IsServiced (ports_of old) (evidence_tried stopped stuck) (ports_of new) port
+  pub engine : All (LeavesEngine port) accesses ⊎ IsInterrupted (evidence_tried stopped stuck) port
+  pub stops : Contains stopped port → Stops port accesses
+  pub sticks : Contains stuck port → Sticks port accesses × ((new.device.port port.0).notes.engine_count ≡ READINGS)
+
+-- The device's steps lead a machine that stands for the one server to one that stands for the other.
+pub record AddsTried (port : Port) (old new : Server) (m : Machine) : Type 0 where
+  pub steps : List Step
+  pub only : AllDevices steps
+  pub may : AllMay m steps
+  pub stands : IsMachineOf new (after m steps)
+  pub backed : IsBacked old.device new.device m steps
+  pub disk : SamePort (ports_of old) (ports_of new) port ⊎ HadDisk (moment_of old m) steps (moment_of new (after m steps)) port
+
+-- What the turn has done of the port besides: where no disk of it came, what is there was tried, after which no link is due; it was booted anew, unless it is what it was, or dead or
+-- absent; and no trouble of it is lost.
+pub record DoesTried (port : Port) (evidence : Evidence) (accesses : List Access) (old new : Server) : Type 0 where
+  pub tries : (m : Machine) → NoneComes port.0 old.device new.device → TriesDisk accesses (instant_of old m) (ports_of new) new.device port
+  pub linked : (m : Machine) → EndsLinked port (instant_of old m) (ports_of new) new.device
+  pub boots : SamePort (ports_of old) (ports_of new) port ⊎ (((ports_of new).state port ≡ Dead) ⊎ (((ports_of new).state port ≡ Absent) ⊎ ResetsLink port accesses))
+  pub trouble : (m : Machine) → LosesNoTrouble evidence (instant_of old m) (ports_of new) new.device port
+  pub well : (m : Machine) → RunsWellAnew evidence accesses (instant_of old m) (ports_of new) new.device port
+
+-- ---- what such a turn makes of a machine
+
+module _ (laws : LawsBelow) (port : Port) (old : Server) (k : IsKept old) (unready : state_of (found_of old.ports port.0) ≢ ReadyState) where
+  -- none of its requests is unanswered
+  pub none_held : (e : Held) → Contains old.book e → e.entry.port ≢ port
+  none_held e here same = unready (ap (λ (q : Port). state_of (found_of old.ports q.0)) (sym same) ∙ of_ready old k e here)
+
+  module _ (m : Machine) (is : IsMachineOf old m) (steps : List Step) (only : AllDevices steps) where
+    pub none_waits : NoneWaits (after m steps) port
+    none_waits e here same =
+        let b = laws.basic.found_before m.book (after m steps).book e (laws.basic.spares m steps only).book here in
+        let h = at_right IsEntry old.book m.book is.book b.0 b.1 in
+        none_held h.0 h.1 (sym h.2.port ∙ ap (λ r. r.port) (sym b.2.request) ∙ same)
+
+  module _ (new : Server) (settled : IsSettled new) (stopped stuck : List Port) (accesses : List Access) (t : TellsTried port stopped stuck accesses old new)
+      (did : DoesTried port (evidence_tried stopped stuck) accesses old new) where
+    abbrev its : Evidence
+    its = evidence_tried stopped stuck
+
+    names : NamesOnly port its
+    names = record {
+      lost = All-nil (λ q. q ≡ port);
+      gone = All-nil (λ q. q ≡ port);
+      failed = All-nil (λ q. q ≡ port);
+      fatal = All-nil (λ q. q ≡ port);
+      stopped = t.its_stopped;
+      stuck = t.its_stuck;
+    }
+
+    evidenced : (m : Machine) → IsEvidencedOf Service (Served []) accesses (instant_of old m) (ports_of new) new.device its port
+    evidenced m = record {
+      lost = λ here. absurd (nowhere port here);
+      gone_all = λ ready. absurd (unready ready);
+      gone_only = λ here. absurd (nowhere port here);
+      failed_all = λ ready. absurd (unready ready);
+      failed_only = λ here. absurd (nowhere port here);
+      fatal_all = λ ready. absurd (unready ready);
+      fatal_only = λ here. absurd (nowhere port here);
+      stopped_all = t.engine;
+      stopped_only = λ here. inl (t.stops here);
+      stuck_only = λ here. inl (t.sticks here);
+    }
+
+    module _ (m : Machine) (is : IsMachineOf old m) (x : AddsTried port old new m) where
+      tells : Tells x.steps []
+      tells = record {
+        answers = [];
+        same = subst (IsPermutation []) (sym (devices_answers x.steps x.only)) (IsPermutation-refl []);
+        ordered = λ i j d lt below. absurd (omega (arith, lt, below));
+        told = refl;
+      }
+
+      unplugs : UnplugsAll x.steps (after m x.steps)
+      unplugs = record { emptied = λ e other here. absurd (no_answer x.steps x.only e Unplugged here); alike = λ e other here. absurd (no_answer x.steps x.only e Unplugged here) }
+
+      owes : OwesTurn InTry port accesses old new m its x.steps
+      owes = (devices_all (AllGrounded its) (device_grounded its) tt x.steps x.only, refl, refl)
+
+      ties : TiesTurn InTry port [] accesses old new m its x.steps
+      ties = (
+        record {
+          ties = record {
+            finds = λ ready. absurd (unready ready);
+            faults = λ alone. absurd (unready alone.ready);
+            tries = λ served comes. did.tries m comes;
+            boots = (λ ready. absurd (unready ready), did.boots);
+            trouble = did.trouble m;
+            well = did.well m;
+          };
+          heeds = λ ready. absurd (unready ready);
+        },
+        did.linked m,
+      )
+
+      pub makes_try : MakesTurn InTry port [] accesses old new m
+      makes_try = record {
+        steps = x.steps;
+        evidence = its;
+        may = x.may;
+        stands = x.stands;
+        backed = x.backed;
+        own = devices_all (All (IsOfTurn port)) (λ step base device rest. All-cons (IsOfTurn port) step base (device_own port step device) rest) (All-nil (IsOfTurn port)) x.steps x.only;
+        belong = devices_belong {D = DeviceStep} Service (ports_of new) x.steps x.only;
+        last = devices_last x.steps x.only;
+        names = names;
+        lawful = devices_lawful (moment_of old m) its (ports_of new) x.steps x.only;
+        owes = owes;
+        tells = tells;
+        unplugs = unplugs;
+        becomes = t.becomes;
+        disk = x.disk;
+        keeps = inr (none_waits m is x.steps x.only);
+        issues = λ _. none_issued new (after m x.steps) x.stands x.steps (λ id. devices_issue_none id x.steps x.only) (mode_in new port) port (settled.issued port);
+        evidenced = evidenced m;
+        faults = λ told here. absurd (nowhere told here);
+        ties = ties;
+        finds = λ other. absurd (let z : InTry ≡ InService = other in cc);
+      }

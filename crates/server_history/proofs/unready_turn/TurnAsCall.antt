@@ -1,0 +1,270 @@
+-- What the turn of a port that isn't ready has done of it: where no disk of it came, what is there was tried; it was booted anew, unless it is what it was; and no trouble of it is lost.
+use Rattle.std.proofs.Common.{◌<◌, ◌≡◌, ◌≢◌, ◌++◌, ◌%◌, ◌==◌, Bool, true, false, List, [], ◌∷◌, refl, sym, ap, ◌∙◌, subst, inl, inr, eqb-true, ⊎_elim, ◌⊎◌}
+use Rattle.std.proofs.lemmas.Bool.{false≢true}
+use Rattle.std.specs.List.{All}
+use Rattle.ata_types.specs.declared.Port.{Port}
+use Rattle.ata_types.specs.declared.PortState.{PortState}
+use Rattle.ata_types.specs.declared.PortState.TheVariants.{Absent, Dead as DeadState, Ready as ReadyState}
+use Rattle.hba_regs.specs.Bits.{bit}
+use Rattle.hba_regs.specs.declared.reg.PortReg.TheVariants.{Is, Ssts}
+use Rattle.hba_regs.specs.declared.reg.Reg.TheVariants.{Px}
+use Rattle.adapter.specs.Access.{Access, DoesAll}
+use Rattle.adapter.specs.Access.Access.{Reading}
+use Rattle.adapter.specs.Device.{Device}
+use Rattle.adapter.specs.Rules.{IsOn}
+use Rattle.agreement.specs.Driven.{AnyUse, IsFollowed, IsDrivenBy}
+use Rattle.agreement.specs.Errors.{NoneComes, IsFatalOf}
+use Rattle.agreement.specs.Facts.{IsFaultOf, RunsWell}
+use Rattle.agreement.specs.Links.{PlugsNone}
+use Rattle.agreement.specs.Vacant.{IsVacant}
+use Rattle.block_machine.specs.Events.{ShowsDisk}
+use Rattle.block_machine.specs.Ports.{Evidence, IsInterrupted}
+use Rattle.block_machine.specs.State.{Machine}
+use Rattle.driver_history.specs.Histories.{IsUnfitOrForeign, IsFreshOrUnshown, TriesDisk}
+use Rattle.driver_history.specs.Trace.{ResetsLink}
+use Rattle.driver_history.specs.Parts.{EndsLinked}
+use Rattle.error_recovery.specs.Evidence.{GainsRunning, ShowsTrouble}
+use Rattle.error_recovery.specs.declared.Next.{Next}
+use Rattle.error_recovery.specs.declared.Next.TheVariants as next
+use Rattle.host_boot.specs.Again.{BootsAgain}
+use Rattle.host_boot.specs.Taken.{FoundBadDisk, found_of, wanted_of}
+use Rattle.host_boot.specs.declared.Booted.{Booted}
+use Rattle.host_boot.specs.declared.Found.{Found}
+use Rattle.host_boot.specs.declared.Found.TheVariants.{Ready, Unready}
+use Rattle.identify.specs.declared.DiskInfo.{DiskInfo}
+use Rattle.port_control.specs.declared.Stopped.{Stopped}
+use Rattle.port_look.specs.Glances.{FindsChange, FindsDevice}
+use Rattle.port_look.specs.Looks.{IsLooking}
+use Rattle.server_history.specs.Below.{LawsBelow}
+use Rattle.server_history.specs.Server.{IsKept, Server, is_served, ports_of, state_of}
+use Rattle.server_history.specs.Tried.{BootsOnce, IsFoundAnew, IsLookedAt}
+use Rattle.server_history.specs.Turns.{instant_of}
+use Rattle.port_look.specs.declared.Trouble.TheVariants.{Hung, Lost}
+use Rattle.server_history.proofs.unready_turn.AnotherBoot.{interrupted, never_ready, stuck_if, whole, accesses, afterwards, does, found_then, then_is, until, until_of}
+use Rattle.server_history.proofs.state.DrivenAccesses.{by_none}
+use Rattle.server_history.proofs.unready_turn.IdleLook.{unchanged, unequal}
+use Rattle.server_history.proofs.recovery_turn.LastingTrouble.{boot_shows}
+use Rattle.server_history.proofs.recovery_turn.TurnParts.{stopped_of}
+use Rattle.server_history.proofs.recovery_turn.LinkResets.{resets_since}
+use Rattle.server_history.proofs.any_turn.ShownTrouble.{LeavesTrouble, grows_over}
+use Rattle.server_history.proofs.recovery_turn.FoundDisk.{SeesOver, booted_sees}
+use Rattle.server_history.proofs.unready_turn.TriedDisk.{LeavesClear, boot_clear, boot_ready, change_shown, has_gone, none_parts, reset_fresh_or_gone, shows_or_not, stays_vacant}
+use Rattle.server_history.proofs.unready_turn.TriedPort.{DoesTried, evidence_tried}
+use Rattle.server_history.proofs.recovery_turn.HealthyPort.{booted_well}
+use Rattle.server_history.proofs.unready_turn.UnfitPort.{found_bad}
+
+-- ---- a port in which a disk was found that isn't served
+
+module _ (s : Server) (port : Port) (state : PortState) (k : IsKept s) (is : found_of s.ports port.0 ≡ Unready state) where
+  bad_found : IsUnfitOrForeign (ports_of s) port → FoundBadDisk (state_of (found_of s.ports port.0))
+  bad_found bad = found_bad (state_of (found_of s.ports port.0)) bad
+
+  -- no disk is in then, where none shows
+  vacant : IsUnfitOrForeign (ports_of s) port → (s.device.port port.0).ssts_det ≢ 3 → IsVacant (s.device.port port.0)
+  vacant bad out = ⊎_elim
+      (λ (shows : (s.device.port port.0).ssts_det ≡ 3). absurd (out shows))
+      (λ (gone : (s.device.port port.0).present ≡ false). record { out = gone; det = out })
+      ((k.behind port.0 (k.there port.0 (ap is_served is)).0).shown (bad_found bad))
+
+  -- ---- it was looked at, and that is all
+
+  module _ (laws : LawsBelow) (seen : Device) (result : Bool) (l : IsLookedAt state port result s.device seen) (none : result ≡ false) where
+    device_found : (ports_of s).state port ≡ Absent → FindsDevice port result s.device seen
+    device_found absent = subst (λ (its : PortState). IsLookedAt its port result s.device seen) (sym (ap state_of is) ∙ absent) l
+
+    change_found : IsUnfitOrForeign (ports_of s) port → FindsChange port result s.device seen
+    change_found bad = ⊎_elim
+        (λ foreign. subst (λ (its : PortState). IsLookedAt its port result s.device seen) (sym (ap state_of is) ∙ foreign) l)
+        (λ unfit. subst (λ (its : PortState). IsLookedAt its port result s.device seen) (sym (ap state_of is) ∙ unfit.1) l)
+        bad
+
+    -- an absent one shows none then
+    gone : (ports_of s).state port ≡ Absent → (seen.port port.0).ssts_det ≢ 3
+    gone absent shows =
+        let f = device_found absent in
+        unequal (f.status % 16) 3 (sym f.tells ∙ none) (laws.looks.shown_after port Ssts f.status s.device seen k.on.no_reset f.reads ∙ shows)
+
+    still_there : NoneComes port.0 s.device seen → IsUnfitOrForeign (ports_of s) port → (s.device.port port.0).ssts_det ≢ 3 → ⊥
+    still_there comes bad out =
+        let f = change_found bad in
+        let on = laws.looks.access_on (Reading (Px port Is) f.causes) s.device f.seen k.on (λ v e. absurd cc) f.reads in
+        let link = eqb-true (f.status % 16) 3 (unchanged (bit f.causes 6) (bit f.causes 22) (f.status % 16 == 3) (sym f.tells ∙ none)).1 in
+        (stays_vacant laws port (Reading (Px port Is) f.causes ∷ Reading (Px port Ssts) f.status ∷ []) s.device seen (f.seen, f.reads, (seen, f.shows, refl)) comes (vacant bad out)).det
+        (sym (laws.looks.shown_after port Ssts f.status f.seen seen on.no_reset f.shows) ∙ link)
+
+    still_same : IsUnfitOrForeign (ports_of s) port → (s.device.port port.0).serr_x ≡ true → ⊥
+    still_same bad came =
+        let f = change_found bad in
+        let told = (laws.looks.changes_told port f.causes s.device f.seen k.on.no_reset f.reads).1 came in
+        false≢true (sym (unchanged (bit f.causes 6) (bit f.causes 22) (f.status % 16 == 3) (sym f.tells ∙ none)).0 ∙ told)
+
+    rests_tries : NoneComes port.0 s.device seen → (made : List Access) (m : Machine) → TriesDisk made (instant_of s m) (ports_of s) seen port
+    rests_tries comes made m = record {
+      shown = λ absent shows. let f = device_found absent in inr (inr (has_gone laws port f.status s.device seen k.on f.reads shows (gone absent)));
+      absent = λ absent shows fresh. inr (inr (gone absent));
+      missing = λ bad out. absurd (still_there comes bad out);
+      changed = λ bad came. absurd (still_same bad came);
+    }
+
+    -- but for that, the port is what it was
+    pub rests_does : (made : List Access) → All (IsLooking port) made → DoesAll made s.device seen → DoesTried port (evidence_tried [] []) made s (record s { device = seen })
+    rests_does made only did = record {
+      tries = λ m comes. rests_tries comes made m;
+      linked = λ m bad came comes. absurd (still_same bad came);
+      boots = inl (refl, refl, refl, refl, refl, refl);
+      trouble = λ m. record {
+        errors = λ ready. absurd (never ready);
+        changes = λ _ trouble. inr (change_shown laws port made s.device seen k.on only did trouble);
+        fault = λ ready. absurd (never ready);
+        fatal = λ ready. absurd (never ready);
+        disk = λ ready. absurd (never ready);
+      };
+      well = λ m _ ready. absurd (never ready);
+    }
+      where
+        never : state_of (found_of s.ports port.0) ≢ ReadyState
+        never ready = never_ready s port state k is (sym (ap state_of is) ∙ ready)
+
+-- ---- it was booted
+
+module _ (laws : LawsBelow) (s new : Server) (seen : Device) (port : Port) (state : PortState) (k : IsKept s) (is : found_of s.ports port.0 ≡ Unready state) (lives : state ≢ DeadState)
+    (looks : IsFollowed (IsLooking port) AnyUse s.device seen) (b : BootsOnce port (record s { device = seen }) new) where
+  abbrev then : Server
+  then = then_is laws s new seen port state k is lives looks b
+
+  abbrev made : List Access
+  made = accesses laws s new seen port state k is lives looks b
+
+  abbrev first : List Access
+  first = looks.driven.accesses ++ b.anew.gives_up.mends.accesses
+
+  -- what its boot found, where it isn't dead
+  record FindsSome : Type 0 where
+    booted : Booted
+    same : booted.found ≡ b.found
+    boots : BootsAgain (wanted_of s.wanted port.0) port booted b.anew.stopped new.device
+    resets : ResetsLink port made
+    shows : ShowsDisk (state_of booted.found) ⊎ ((ports_of then).state port ≡ Absent)
+
+  state_then : (ports_of then).state port ≡ state_of b.found
+  state_then = ap state_of (found_then laws s new seen port state k is lives looks b)
+
+  finds : ((ports_of then).state port ≡ DeadState) ⊎ FindsSome
+  finds = by b.anew.result.next refl b.anew.is
+    where
+      reset : (token : Stopped) → b.anew.result.next ≡ next.Restart token → b.found ≢ Unready DeadState → ResetsLink port made
+      reset token so alive =
+          let late = afterwards laws s new seen port state k is lives looks b in
+          resets_since port looks.driven.accesses (b.anew.gives_up.mends.accesses ++ late.driven.accesses) (resets_since port b.anew.gives_up.mends.accesses late.driven.accesses
+          (⊎_elim (λ lost. let z : Hung ≡ Lost = lost.0 in absurd cc) (λ resets. resets) (late.resets token so alive)))
+
+      some : (token : Stopped) → b.anew.result.next ≡ next.Restart token → (booted : Booted) → booted.found ≡ b.found → BootsAgain (wanted_of s.wanted port.0) port booted b.anew.stopped new.device → ((ports_of then).state port ≡ DeadState) ⊎ FindsSome
+      some token so booted same boots = ⊎_elim
+          (λ (shows : ShowsDisk (state_of b.found)). inr (record {
+            booted = booted;
+            same = same;
+            boots = boots;
+            resets = reset token so (λ dead. subst (λ (f : Found). ShowsDisk (state_of f)) dead shows);
+            shows = inl (subst (λ (f : Found). ShowsDisk (state_of f)) (sym same) shows);
+          }))
+          (λ more. ⊎_elim
+          (λ (absent : state_of b.found ≡ Absent). inr (record {
+            booted = booted;
+            same = same;
+            boots = boots;
+            resets = reset token so (λ dead. let z : DeadState ≡ Absent = sym (ap state_of dead) ∙ absent in cc);
+            shows = inr (state_then ∙ absent);
+          }))
+          (λ (dead : b.found ≡ Unready DeadState). inl (state_then ∙ ap state_of dead))
+          more)
+          (shows_or_not b.found)
+
+      by : (n : Next) → b.anew.result.next ≡ n → IsFoundAnew (wanted_of s.wanted port.0) port n b.anew.stopped new.device b.found → ((ports_of then).state port ≡ DeadState) ⊎ FindsSome
+      by (next.Running token) so none = absurd none
+      by (next.Restart token) so (booted, same, boots) = some token so booted same boots
+      by next.Dead so (dead, same) = inl (state_then ∙ ap state_of dead)
+
+  -- the moment at which it saw a device
+  sees : (f : FindsSome) → ShowsDisk (state_of f.booted.found) → SeesOver port s.device f.boots.asked new.device
+  sees f shows = booted_sees laws port (wanted_of s.wanted port.0) f.booted first s.device b.anew.stopped new.device k.on (until laws s new seen port state k is lives looks b) (until_of laws s new seen port state k is lives looks b) f.boots shows
+
+  -- where no disk was in, it saw none
+  saw_none : NoneComes port.0 s.device new.device → (f : FindsSome) → IsUnfitOrForeign (ports_of s) port → (s.device.port port.0).ssts_det ≢ 3 → (ports_of then).state port ≡ Absent
+  saw_none comes f bad out = ⊎_elim
+      (λ shows.
+      let x = sees f shows in
+      let early = grows_over laws x.accesses s.device x.seen x.does in
+      absurd ((stays_vacant laws port x.accesses s.device x.seen x.does (none_parts laws port s.device x.seen new.device early x.later comes).0 (vacant s port state k is bad out)).det x.shows))
+      (λ absent. absent)
+      f.shows
+
+  clear : (f : FindsSome) → ShowsDisk (state_of f.booted.found) → LeavesClear (wanted_of s.wanted port.0) port f.boots.asked new.device
+  clear f shows = boot_clear (wanted_of s.wanted port.0) port f.boots.asked new.device f.booted.found f.boots.boots shows
+
+  since : (f : FindsSome) → ShowsDisk (state_of f.booted.found) → NoneComes port.0 s.device new.device → NoneComes port.0 f.boots.asked new.device
+  since f shows comes = let x = sees f shows in (none_parts laws port s.device f.boots.asked new.device x.before x.since comes).1
+
+  boot_linked : (m : Machine) → EndsLinked port (instant_of s m) (ports_of then) new.device
+  boot_linked m bad came comes = ⊎_elim
+      (λ dead. inr (inl dead))
+      (λ f. ⊎_elim (λ shows. inr (inr ((clear f shows).undue (since f shows comes)))) (λ absent. inl absent) f.shows)
+      finds
+
+  boot_tries : (m : Machine) → NoneComes port.0 s.device new.device → TriesDisk made (instant_of s m) (ports_of then) new.device port
+  boot_tries m comes = record {
+    shown = λ absent shows. ⊎_elim (λ dead. inl dead) (λ f. inr (inl f.resets)) finds;
+    absent = λ absent shows fresh. ⊎_elim (λ dead. inl dead) (λ f. inr (fresh_then f)) finds;
+    missing = λ bad out. ⊎_elim (λ dead. inr dead) (λ f. inl (saw_none comes f bad out)) finds;
+    changed = λ bad came. ⊎_elim (λ dead. inr (inl dead)) (λ f. ⊎_elim (λ shows. inr (inr (f.resets, (clear f shows).clear.serr_x (since f shows comes), fresh_then f))) (λ absent. inl absent) f.shows) finds;
+  }
+    where
+      fresh_then : (f : FindsSome) → IsFreshOrUnshown (new.device.port port.0)
+      fresh_then f = reset_fresh_or_gone laws port made s.device new.device f.resets (does laws s new seen port state k is lives looks b) comes
+
+  -- ---- trouble
+
+  stopped_on : IsOn b.anew.stopped
+  stopped_on = laws.of_on port s.device b.anew.stopped k.on (record { accesses = first; all = until laws s new seen port state k is lives looks b; only = until_of laws s new seen port state k is lives looks b })
+
+  -- it is ready then
+  module _ (f : FindsSome) (ready : (ports_of then).state port ≡ ReadyState) where
+    found : (info : DiskInfo) × (f.booted.found ≡ Ready info)
+    found = boot_ready (wanted_of s.wanted port.0) port f.boots.asked new.device f.booted.found f.boots.boots (ap state_of f.same ∙ sym state_then ∙ ready)
+
+    nothing : IsDrivenBy (LeavesTrouble port) new.device new.device
+    nothing = by_none (LeavesTrouble port) new.device
+
+    low_port : port.0 < 4
+    low_port = (k.there port.0 (ap is_served is)).0
+
+    shows_trouble : ShowsTrouble port.0 s.device new.device
+    shows_trouble = boot_shows laws port low_port (wanted_of s.wanted port.0) found.0 f.booted s.device b.anew.stopped new.device new.device stopped_on f.boots found.1 nothing
+
+    runs_well : PlugsNone port.0 s.device new.device → (GainsRunning (IsFaultOf port.0) port.0 s.device new.device → ⊥) → (GainsRunning (IsFatalOf port.0) port.0 s.device new.device → ⊥) → RunsWell (new.device.port port.0)
+    runs_well = booted_well laws port low_port (wanted_of s.wanted port.0) found.0 f.booted s.device b.anew.stopped new.device new.device stopped_on f.boots found.1 nothing (whole laws s new seen port state k is lives looks b).1.on
+        (grows_over laws first s.device b.anew.stopped (until laws s new seen port state k is lives looks b))
+
+  -- a dead port isn't ready
+  some_found : (ports_of then).state port ≡ ReadyState → FindsSome
+  some_found ready = ⊎_elim (λ dead. let z : DeadState ≡ ReadyState = sym dead ∙ ready in absurd cc) (λ f. f) finds
+
+  abbrev evidence : Evidence
+  evidence = evidence_tried (stopped_of port b.anew.result.next) (stuck_if port b.found)
+
+  pub boot_does : DoesTried port evidence made s then
+  boot_does = record {
+    tries = boot_tries;
+    linked = boot_linked;
+    boots = inr (⊎_elim (λ dead. inl dead) (λ f. inr (inr f.resets)) finds);
+    trouble = λ m. record {
+      errors = λ _ _. inl stops;
+      changes = λ _ _. inl stops;
+      fault = λ ready. (shows_trouble (some_found ready) ready).fault;
+      fatal = λ ready. (shows_trouble (some_found ready) ready).fatal;
+      disk = λ ready. (shows_trouble (some_found ready) ready).disk;
+    };
+    well = λ m _ ready none unfailed unbroken _. runs_well (some_found ready) ready none unfailed unbroken;
+  }
+    where
+      stops : IsInterrupted evidence port
+      stops = interrupted (wanted_of s.wanted port.0) port b.anew.result.next b.anew.stopped new.device b.found b.anew.is

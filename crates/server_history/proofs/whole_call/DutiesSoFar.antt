@@ -1,0 +1,275 @@
+-- What a call has done of a port so far, in a service or in a tick: a port's turn, and what was so of another one before it.
+use Rattle.std.proofs.Common.{ℕ, ◌≡◌, ◌≢◌, Bool, true, false, if◌then◌else◌, List, [], ◌∷◌, ◌++◌, sym, ap, ◌∙◌, subst, inl, inr, ⊎_elim, append_assoc, append-nil}
+use Rattle.std.specs.List.{All, Contains}
+use Rattle.std.proofs.lemmas.Bool.{cases_Bool}
+use Rattle.std.proofs.lemmas.List.Elements.{All-append, All-cons, All-head, All-nil, All-tail, All-weaker, Contains-append_cases}
+use Rattle.ata_types.specs.declared.Port.{Port}
+use Rattle.ata_types.specs.declared.PortState.TheVariants.{Dead, Ready as ReadyState}
+use Rattle.ata_types.specs.declared.request.Outcome.{Outcome}
+use Rattle.ata_types.specs.declared.request.Outcome.TheVariants.{Unplugged}
+use Rattle.ata_types.specs.declared.request.Reply.{Reply}
+use Rattle.hba_regs.specs.declared.reg.PortReg.TheVariants.{Sctl}
+use Rattle.hba_regs.specs.declared.reg.Reg.TheVariants.{Px}
+use Rattle.adapter.specs.Access.{Access}
+use Rattle.adapter.specs.Access.Access.{Loading, Reading, Storing, Writing}
+use Rattle.adapter.specs.Device.{Device}
+use Rattle.adapter.specs.Rules.{IsOn}
+use Rattle.agreement.specs.Agrees.{port_at}
+use Rattle.agreement.specs.Driven.{IsOf}
+use Rattle.agreement.specs.Links.{SparesRegister}
+use Rattle.block_machine.specs.Events.{Moment}
+use Rattle.block_machine.specs.Histories.{Instant, IsReached}
+use Rattle.block_machine.specs.Left.{after}
+use Rattle.block_machine.specs.Ports.{Evidence, Ports, SameDisk, SamePort}
+use Rattle.block_machine.specs.State.{Machine, Pending}
+use Rattle.block_machine.specs.Steps.{Step, Again, Answer}
+use Rattle.driver_history.specs.Parts.{IsOfOther, NamesAlike}
+use Rattle.driver_history.specs.Trace.{IsDriversOwn, IsServing, LeavesEngine, ResetsLink}
+use Rattle.host_boot.specs.Taken.{found_of}
+use Rattle.host_boot.specs.declared.Found.{Found}
+use Rattle.server_history.specs.Below.{LawsBelow}
+use Rattle.server_history.specs.Server.{Server, IsMachineOf, IsSettled, is_served, ports_of, state_of}
+use Rattle.server_history.specs.Turns.{AtRest, HasPart, InRestart, MakesTurn, OwesTurn, RestartsPort, TiesTurn}
+use Rattle.server_history.proofs.whole_call.EarlierResults as carrying
+use Rattle.server_history.proofs.any_turn.JoinedParts.{ready_or_not, same_then}
+use Rattle.server_history.proofs.whole_call.TurnResults as lifting
+use Rattle.server_history.proofs.whole_call.TurnDuties.{ties_whole}
+use Rattle.server_history.proofs.whole_call.ServiceAndTick.{AService, ATick, Plan, TakesTurn, Uses, turn_at}
+use Rattle.server_history.proofs.whole_call.Progress as progress
+use Rattle.server_history.proofs.whole_call.Progress.{HasRested, HasTicked, IsRestarted, TiesSoFar, others_leave}
+use Rattle.server_history.proofs.whole_call.EarlierDuties.{ties_still}
+use Rattle.server_history.proofs.whole_call.UnreadyDuties.{tried_still, tried_whole}
+use Rattle.server_history.proofs.unready_turn.UnfitPort.{ready_fits}
+
+-- ---- accesses
+
+-- the link was reset among more accesses, of which the others leave it
+resets_then : (port : Port) (early late : List Access) → All (SparesRegister (Px port Sctl)) late → ResetsLink port early → ResetsLink port (early ++ late)
+resets_then port early late spares r = record {
+  before = r.before;
+  between = r.between;
+  later = r.later ++ late;
+  sending = r.sending;
+  ending = r.ending;
+  here = ap (λ (list : List Access). list ++ late) r.here
+      ∙ append_assoc r.before (Writing (Px port Sctl) r.sending ∷ (r.between ++ (Writing (Px port Sctl) r.ending ∷ r.later))) late
+      ∙ ap (λ (list : List Access). r.before ++ (Writing (Px port Sctl) r.sending ∷ list)) (append_assoc r.between (Writing (Px port Sctl) r.ending ∷ r.later) late);
+  sends = r.sends;
+  ends = r.ends;
+  held = r.held;
+  left = All-append (SparesRegister (Px port Sctl)) r.later late r.left spares;
+}
+
+resets_since : (port : Port) (early late : List Access) → ResetsLink port late → ResetsLink port (early ++ late)
+resets_since port early late r = record {
+  before = early ++ r.before;
+  between = r.between;
+  later = r.later;
+  sending = r.sending;
+  ending = r.ending;
+  here = ap (λ (list : List Access). early ++ list) r.here ∙ sym (append_assoc early r.before (Writing (Px port Sctl) r.sending ∷ (r.between ++ (Writing (Px port Sctl) r.ending ∷ r.later))));
+  sends = r.sends;
+  ends = r.ends;
+  held = r.held;
+  left = r.left;
+}
+
+-- a turn's accesses serve ports that the call uses
+module _ (laws : LawsBelow) (n : ℕ) where
+  of_such : (Such : Port → Type 0) → Such (port_at n) → (list : List Access) → All (IsOf (port_at n)) list → All IsDriversOwn list → All (IsServing Such) list
+  of_such Such its [] of own = All-nil (IsServing Such)
+  of_such Such its (access ∷ list) of own = All-cons (IsServing Such) access list
+      (one access (All-head (IsOf (port_at n)) access list of) (All-head IsDriversOwn access list own))
+      (of_such Such its list (All-tail (IsOf (port_at n)) access list of) (All-tail IsDriversOwn access list own))
+    where
+      one : (access : Access) → IsOf (port_at n) access → IsDriversOwn access → IsServing Such access
+      one (Reading (Px at r) v) of own = (own, tt, subst Such (sym of) its)
+      one (Reading r v) of own = (own, tt, tt)
+      one (Writing (Px at r) v) of own = (own, laws.of_host (port_at n) (Writing (Px at r) v) of, subst Such (sym of) its)
+      one (Writing r v) of own = (own, laws.of_host (port_at n) (Writing r v) of, tt)
+      one (Loading at bytes) of own = (own, tt, tt)
+      one (Storing at bytes) of own = (own, tt, tt)
+
+  pub serving : (plan : Plan) (found : Found) (ports : Ports) → ports.served (port_at n) ≡ is_served found → ports.state (port_at n) ≡ state_of found → TakesTurn plan found → (its : List Reply) (c mid : Server) (m : Machine)
+      (part : HasPart (turn_at plan found n) (port_at n) its c mid) → MakesTurn (turn_at plan found n) (port_at n) its part.accesses c mid m → All (IsServing (Uses plan ports)) part.accesses
+  serving AService found ports served state takes its c mid m part x =
+      of_such (Uses AService ports) (served ∙ takes.0, λ dead. takes.1 (sym state ∙ dead)) part.accesses part.of part.own
+  serving (ATick hung) found ports served state takes its c mid m part x = ⊎_elim
+      (λ (so : hung n ≡ true). of_such (Uses (ATick hung) ports) (state ∙ takes, so) part.accesses part.of part.own)
+      (λ (not_so : hung n ≡ false).
+      let rests = subst (λ (b : Bool). OwesTurn (if b then InRestart else AtRest) (port_at n) part.accesses c mid m x.evidence x.steps) not_so x.owes in
+      subst (All (IsServing (Uses (ATick hung) ports))) (sym rests.0) (All-nil (IsServing (Uses (ATick hung) ports))))
+      (cases_Bool (hung n))
+
+-- ---- a tick
+
+module _ (hung : ℕ → Bool) (laws : LawsBelow) (s : Server) (start : IsSettled s) (old : Moment) (reached : IsReached old.machine) (at : IsMachineOf s old.machine) (ports_are : old.ports ≡ ports_of s) where
+  abbrev plan : Plan
+  plan = ATick hung
+
+  abbrev began : Instant Device
+  began = record { device = s.device; moment = old }
+
+  abbrev Progress : ℕ → Server → List Reply → Type 0
+  Progress n c replies = progress.Progress plan laws s start old reached at ports_are n c replies
+
+  -- ---- a port's turn
+
+  module _ (n : ℕ) (c mid : Server) (before its : List Reply) (ready : state_of (found_of s.ports n) ≡ ReadyState) (p : Progress n c before) (next : IsSettled mid) (part : HasPart (turn_at plan (found_of s.ports n) n) (port_at n) its c mid)
+      (m_reached : IsReached (after old.machine p.steps)) (on_mid : IsOn mid.device) (evidence : Evidence) where
+    abbrev m : Machine
+    m = after old.machine p.steps
+
+    abbrev x : MakesTurn (turn_at plan (found_of s.ports n) n) (port_at n) its part.accesses c mid m
+    x = part.makes m m_reached p.stands
+
+    abbrev all : List Step
+    all = x.steps ++ p.steps
+
+    abbrev accesses : List Access
+    accesses = p.accesses ++ part.accesses
+
+    not_early : (e : Pending) (o : Outcome) → Contains p.steps (Answer e o) → e.request.port ≢ port_at n
+    not_early = lifting.not_early plan laws s start old reached at ports_are n c mid before its p next part m_reached on_mid
+
+    not_again : (e : Pending) → Contains p.steps (Again e) → e.request.port ≢ port_at n
+    not_again = lifting.not_again plan laws s start old reached at ports_are n c mid before its p next part m_reached on_mid
+
+    module _ (alike : NamesAlike (port_at n) x.evidence evidence) (same_n : SamePort old.ports (ports_of c) (port_at n)) where
+      restarted : hung n ≡ true → IsRestarted began (port_at n) accesses mid evidence all
+      restarted so = record {
+        finds = lifting.finding plan laws s start old reached at ports_are n c mid before its p next part m_reached on_mid ready r.finds r.ended;
+        boots = ⊎_elim (λ dead. inl dead) (λ resets. inr (resets_since (port_at n) p.accesses part.accesses resets)) r.boots;
+        ended = lifting.ended_whole plan laws s start old reached at ports_are n c mid before its p next part m_reached on_mid ready r.ended;
+        interrupts = lifting.named plan laws s start old reached at ports_are n c mid before its p next part m_reached on_mid evidence alike r.interrupts;
+        anew = lifting.anew_whole plan laws s start old reached at ports_are n c mid before its p next part m_reached on_mid r.anew;
+        another = λ e here own. ⊎_elim
+            (λ late.
+            let w = r.another e late in
+            let lives : state_of (found_of mid.ports n) ≢ Dead = λ dead. w.0 (ap (λ (q : Port). state_of (found_of mid.ports q.0)) own ∙ dead) in (
+              lives,
+              λ is_ready disk. w.1 (ap (λ (q : Port). state_of (found_of mid.ports q.0)) own ∙ is_ready)
+                  (subst (λ (q : Port). SameDisk (ports_of c) (ports_of mid) q) (sym own) (disk.0 ∙ sym same_n.2, disk.1 ∙ sym same_n.3)),
+            ))
+            (λ early. absurd (not_early e Unplugged early own))
+            (Contains-append_cases x.steps p.steps (Answer e Unplugged) here);
+        disk = lifting.disk_whole plan laws s start old reached at ports_are n c mid before its p next part m_reached on_mid r.disk;
+        heeds = lifting.trouble_whole plan laws s start old reached at ports_are n c mid before its p next part m_reached on_mid evidence alike same_n (λ _ _. r.interrupts) (λ _. inl (lifting.undue plan laws s start old reached at ports_are n c mid before its p next part m_reached on_mid ready)) ties;
+      }
+        where
+          r : RestartsPort (port_at n) part.accesses c mid m x.evidence x.steps
+          r = (subst (λ (b : Bool). OwesTurn (if b then InRestart else AtRest) (port_at n) part.accesses c mid m x.evidence x.steps) so x.owes).0
+
+          ties : TiesTurn InRestart (port_at n) its part.accesses c mid m x.evidence x.steps
+          ties = subst (λ (b : Bool). TiesTurn (if b then InRestart else AtRest) (port_at n) its part.accesses c mid m x.evidence x.steps) so x.ties
+
+      rested : hung n ≡ false → HasRested old (port_at n) accesses mid evidence all
+      rested not_so = record {
+        others = subst (λ (list : List Access). All (IsOfOther (port_at n)) (p.accesses ++ list)) (sym rests.0) (subst (All (IsOfOther (port_at n))) (sym (append-nil p.accesses))
+            (p.others (port_at n) (lifting.not_yet plan laws s start old reached at ports_are n c mid before its p next part m_reached on_mid)));
+        same = ⊎_elim
+            (λ same. same_then old.ports (ports_of c) (ports_of mid) (port_at n) same_n same)
+            (λ interrupted. absurd (rests.3 interrupted))
+            (x.becomes.1 (λ dead. let z : ReadyState ≡ Dead = sym (lifting.ready_c plan laws s start old reached at ports_are n c mid before its p next part m_reached on_mid ready) ∙ dead in absurd cc)).1;
+        uninterrupted = λ i. rests.3 (⊎_elim (λ stopped. inl (alike.stopped.1 stopped)) (λ stuck. inr (alike.stuck.1 stuck)) i);
+        again = λ e here. not_again e (subst (λ (list : List Step). Contains (list ++ p.steps) (Again e)) rests.1 here);
+        answer = λ e o here. not_early e o (subst (λ (list : List Step). Contains (list ++ p.steps) (Answer e o)) rests.1 here);
+      }
+        where
+          rests : OwesTurn AtRest (port_at n) part.accesses c mid m x.evidence x.steps
+          rests = subst (λ (b : Bool). OwesTurn (if b then InRestart else AtRest) (port_at n) part.accesses c mid m x.evidence x.steps) not_so x.owes
+
+      pub ticked : HasTicked hung s old (port_at n) accesses mid evidence all
+      ticked = record {
+        restarted = λ _ so. restarted so;
+        rested = λ not. ⊎_elim
+            (λ (so : hung n ≡ true). absurd (not (lifting.was_ready plan laws s start old reached at ports_are n c mid before its p next part m_reached on_mid ready) so))
+            (λ (not_so : hung n ≡ false). rested not_so)
+            (cases_Bool (hung n));
+      }
+
+  -- ---- another port, before it
+
+  module _ (n : ℕ) (c mid : Server) (before its : List Reply) (p : Progress n c before) (part : HasPart (turn_at plan (found_of s.ports n) n) (port_at n) its c mid) (m_reached : IsReached (after old.machine p.steps)) (q : Port) (apart : q ≢ port_at n)
+      (d : progress.IsDone plan laws s start old reached at ports_are c p.accesses p.steps p.evidence q) (evidence : Evidence) (alike : NamesAlike q p.evidence evidence) (same : SamePort (ports_of c) (ports_of mid) q) where
+    abbrev m_so_far : Machine
+    m_so_far = after old.machine p.steps
+
+    abbrev y : MakesTurn (turn_at plan (found_of s.ports n) n) (port_at n) its part.accesses c mid m_so_far
+    y = part.makes m_so_far m_reached p.stands
+
+    abbrev steps_then : List Step
+    steps_then = y.steps ++ p.steps
+
+    abbrev accesses_then : List Access
+    accesses_then = p.accesses ++ part.accesses
+
+    of_others : All (IsOfOther q) part.accesses
+    of_others = All-weaker (IsOf (port_at n)) (IsOfOther q) (λ access of. (port_at n, carrying.other plan laws s start old reached at ports_are n c mid before its p part m_reached q apart, of)) part.accesses part.of
+
+    pub still_ticked : HasTicked hung s old q accesses_then mid evidence steps_then
+    still_ticked = record {
+      restarted = λ was_ready so.
+          let r = d.ties.restarted was_ready so in
+          record {
+            finds = carrying.finds_more plan laws s start old reached at ports_are n c mid before its p part m_reached q apart r.finds;
+            boots = ⊎_elim
+                (λ dead. inl (same.1 ∙ dead))
+                (λ resets. inr (resets_then q p.accesses part.accesses
+                (All-weaker (LeavesEngine q) (SparesRegister (Px q Sctl)) (λ access leaves. leaves.1) part.accesses (others_leave plan laws s start old reached at ports_are q part.accesses of_others)) resets))
+                r.boots;
+            ended = carrying.ended_still plan laws s start old reached at ports_are n c mid before its p part m_reached q apart r.ended;
+            interrupts = carrying.named plan laws s start old reached at ports_are n c mid before its p part m_reached q apart evidence alike r.interrupts;
+            anew = carrying.anew_still plan laws s start old reached at ports_are n c mid before its p part m_reached q apart r.anew;
+            another = λ e here own. ⊎_elim
+                (λ late. absurd (carrying.not_late plan laws s start old reached at ports_are n c mid before its p part m_reached q apart e Unplugged late own))
+                (λ early. let w = r.another e early own in (λ dead. w.0 (sym same.1 ∙ dead), λ is_ready disk. w.1 (sym same.1 ∙ is_ready) (sym same.2 ∙ disk.0, sym same.3 ∙ disk.1)))
+                (Contains-append_cases y.steps p.steps (Answer e Unplugged) here);
+            disk = carrying.disk_still plan laws s start old reached at ports_are n c mid before its p part m_reached q apart same r.disk;
+            heeds = carrying.trouble_still plan laws s start old reached at ports_are n c mid before its p part m_reached q apart d evidence alike same (λ _ _. r.interrupts) (λ _. inl (carrying.undue plan laws s start old reached at ports_are n c mid before its p part m_reached q apart d was_ready)) r.heeds;
+          };
+      rested = λ not.
+          let r = d.ties.rested not in
+          record {
+            others = All-append (IsOfOther q) p.accesses part.accesses r.others of_others;
+            same = same_then old.ports (ports_of c) (ports_of mid) q r.same same;
+            uninterrupted = λ i. r.uninterrupted (carrying.unnamed plan laws s start old reached at ports_are n c mid before its p part m_reached q apart evidence alike i);
+            again = λ e here own. ⊎_elim
+                (λ late. carrying.not_again plan laws s start old reached at ports_are n c mid before its p part m_reached q apart e late own)
+                (λ early. r.again e early own)
+                (Contains-append_cases y.steps p.steps (Again e) here);
+            answer = λ e o here own. ⊎_elim
+                (λ late. carrying.not_late plan laws s start old reached at ports_are n c mid before its p part m_reached q apart e o late own)
+                (λ early. r.answer e o early own)
+                (Contains-append_cases y.steps p.steps (Answer e o) here);
+          };
+    }
+
+-- ---- both
+
+pub ties_turned : (plan : Plan) (laws : LawsBelow) (s : Server) (start : IsSettled s) (old : Moment) (reached : IsReached old.machine) (at : IsMachineOf s old.machine) (ports_are : old.ports ≡ ports_of s) (n : ℕ) (c mid : Server) (before its : List Reply)
+    (takes : TakesTurn plan (found_of s.ports n)) (p : progress.Progress plan laws s start old reached at ports_are n c before) (next : IsSettled mid) (part : HasPart (turn_at plan (found_of s.ports n) n) (port_at n) its c mid)
+    (m_reached : IsReached (after old.machine p.steps)) (on_mid : IsOn mid.device) (evidence : Evidence) → NamesAlike (port_at n) (part.makes (after old.machine p.steps) m_reached p.stands).evidence evidence → SamePort old.ports (ports_of c) (port_at n)
+    → TiesSoFar plan s old (port_at n) (p.accesses ++ part.accesses) mid evidence ((part.makes (after old.machine p.steps) m_reached p.stands).steps ++ p.steps)
+ties_turned AService laws s start old reached at ports_are n c mid before its takes p next part m_reached on_mid evidence alike same_n =
+    ⊎_elim
+    (λ ready. (
+      ties_whole laws s start old reached at ports_are n c mid before its ready p next part m_reached on_mid evidence alike same_n,
+      λ bad. absurd (ready_fits (old.ports.state (port_at n)) (ap (λ (ports : Ports). ports.state (port_at n)) ports_are ∙ ready) bad),
+    ))
+    (λ unready. tried_whole laws s start old reached at ports_are n c mid before its unready p next part m_reached on_mid evidence alike same_n)
+    (ready_or_not (state_of (found_of s.ports n)))
+ties_turned (ATick hung) laws s start old reached at ports_are n c mid before its takes p next part m_reached on_mid evidence alike same_n = ticked hung laws s start old reached at ports_are n c mid before its takes p next part m_reached on_mid evidence alike same_n
+
+pub ties_carried : (plan : Plan) (laws : LawsBelow) (s : Server) (start : IsSettled s) (old : Moment) (reached : IsReached old.machine) (at : IsMachineOf s old.machine) (ports_are : old.ports ≡ ports_of s) (n : ℕ) (c mid : Server) (before its : List Reply)
+    (p : progress.Progress plan laws s start old reached at ports_are n c before) (part : HasPart (turn_at plan (found_of s.ports n) n) (port_at n) its c mid) (m_reached : IsReached (after old.machine p.steps)) (q : Port) (apart : q ≢ port_at n)
+    (d : progress.IsDone plan laws s start old reached at ports_are c p.accesses p.steps p.evidence q) (evidence : Evidence) (alike : NamesAlike q p.evidence evidence) (same : SamePort (ports_of c) (ports_of mid) q)
+    → TiesSoFar plan s old q (p.accesses ++ part.accesses) mid evidence ((part.makes (after old.machine p.steps) m_reached p.stands).steps ++ p.steps)
+ties_carried AService laws s start old reached at ports_are n c mid before its p part m_reached q apart d evidence alike same = ⊎_elim
+    (λ ready. (
+      ties_still laws s start old reached at ports_are n c mid before its p part m_reached q apart d evidence alike same ready,
+      λ bad. absurd (ready_fits (old.ports.state q) ready bad),
+    ))
+    (λ unready. tried_still laws s start old reached at ports_are n c mid before its p part m_reached q apart d evidence alike same unready)
+    (ready_or_not (old.ports.state q))
+ties_carried (ATick hung) laws s start old reached at ports_are n c mid before its p part m_reached q apart d evidence alike same = still_ticked hung laws s start old reached at ports_are n c mid before its p part m_reached q apart d evidence alike same

@@ -1,0 +1,156 @@
+-- What a service has done of a port so far it has done still when another port has had its turn.
+use Rattle.std.proofs.Common.{ℕ, ◌≡◌, ◌≢◌, true, false, List, [], ◌++◌, refl, sym, ap, ◌∙◌, inl, inr, ⊎_elim, arith, ◌⊎◌}
+use Rattle.std.specs.List.{count_by, list_any}
+use Rattle.std.proofs.lemmas.List.Elements.{Contains-append_cases, Contains-append_right}
+use Rattle.ata_types.specs.declared.Port.{Port}
+use Rattle.ata_types.specs.declared.PortState.TheVariants.{Absent, Ready as ReadyState}
+use Rattle.ata_types.specs.declared.request.Outcome.{Outcome}
+use Rattle.ata_types.specs.declared.request.Outcome.TheVariants.{DeviceError}
+use Rattle.ata_types.specs.declared.request.Reply.{Reply}
+use Rattle.adapter.specs.Access.{Access}
+use Rattle.adapter.specs.Device.{Device}
+use Rattle.agreement.specs.Agrees.{port_at}
+use Rattle.block_machine.specs.Events.{AreTold, IsLeftAlone, Moment, Served, ServesReady, changes_disk, tells_fault}
+use Rattle.block_machine.specs.Histories.{Instant, IsReached}
+use Rattle.block_machine.specs.Left.{after}
+use Rattle.block_machine.specs.Ports.{Evidence, IsInterrupted, SamePort}
+use Rattle.block_machine.specs.State.{Machine}
+use Rattle.block_machine.specs.Steps.{Step, Answer}
+use Rattle.block_machine.proofs.Counting.{count_append}
+use Rattle.host_boot.specs.Taken.{found_of}
+use Rattle.driver_history.specs.Evidence.{ShowsChange, ShowsFailure}
+use Rattle.driver_history.specs.Histories.{IsUnfitOrForeign, HasFaultAlone, IsAnsweredFaulty}
+use Rattle.driver_history.specs.Parts.{HasTurnIn, NamesAlike}
+use Rattle.server_history.specs.Below.{LawsBelow}
+use Rattle.server_history.specs.Turns.{DoesPort, HasPart, HeedsTrouble, InService, MakesTurn, turn_of}
+use Rattle.server_history.specs.Server.{Server, IsKept, IsMachineOf, IsSettled, ports_of}
+use Rattle.server_history.proofs.any_turn.JoinedParts.{same_then}
+use Rattle.server_history.proofs.any_turn.TurnSteps.{stood}
+use Rattle.server_history.proofs.whole_call.EarlierResults as carrying
+use Rattle.server_history.proofs.whole_call.ServiceAndTick.{AService, turn_at}
+use Rattle.server_history.proofs.whole_call.Progress as progress
+use Rattle.server_history.proofs.whole_call.TurnResults.{counts_apart}
+use Rattle.server_history.proofs.unready_turn.UnfitPort.{ready_fits}
+
+module _ (laws : LawsBelow) (s : Server) (start : IsSettled s) (old : Moment) (reached : IsReached old.machine) (at : IsMachineOf s old.machine) (ports_are : old.ports ≡ ports_of s) where
+  abbrev kept : IsKept s
+  kept = start.kept
+
+  abbrev began : Instant Device
+  began = record { device = s.device; moment = old }
+
+  abbrev IsDone : Server → List Access → List Step → Evidence → Port → Type 0
+  IsDone c accesses steps evidence q = progress.IsDone AService laws s start old reached at ports_are c accesses steps evidence q
+
+  abbrev Progress : ℕ → Server → List Reply → Type 0
+  Progress n c replies = progress.Progress AService laws s start old reached at ports_are n c replies
+
+  module _ (n : ℕ) (c mid : Server) (before its : List Reply) (p : Progress n c before) (part : HasPart (turn_at AService (found_of s.ports n) n) (port_at n) its c mid) (m_reached : IsReached (after old.machine p.steps)) where
+    abbrev m : Machine
+    m = after old.machine p.steps
+
+    abbrev x : MakesTurn (turn_at AService (found_of s.ports n) n) (port_at n) its part.accesses c mid m
+    x = part.makes m m_reached p.stands
+
+    abbrev all : List Step
+    all = x.steps ++ p.steps
+
+    abbrev accesses : List Access
+    accesses = p.accesses ++ part.accesses
+
+    module _ (q : Port) (apart : q ≢ port_at n) (d : IsDone c p.accesses p.steps p.evidence q) (evidence : Evidence) (alike : NamesAlike q p.evidence evidence) (same : SamePort (ports_of c) (ports_of mid) q)
+        (asked : old.ports.state q ≡ ReadyState) where
+      undue : (s.device.port q.0).link_due ≡ false
+      undue = carrying.undue AService laws s start old reached at ports_are n c mid before its p part m_reached q apart d asked
+
+      abbrev t : HasTurnIn q s.device mid.device
+      t = carrying.t AService laws s start old reached at ports_are n c mid before its p part m_reached q apart
+
+      abbrev did : DoesPort began (turn_of InService [] c p.evidence p.steps) p.accesses q
+      did = d.ties.0
+
+      abbrev serves : ServesReady old p.evidence p.steps (record { machine = m; ports = ports_of c }) q
+      serves = did.heeds asked
+
+      alone_so_far : HasFaultAlone q began mid.device → HasFaultAlone q began c.device
+      alone_so_far alone = laws.calls.alone_then q began old mid.device kept.on undue t p.on asked alone
+
+      -- ---- what the call heeds of it
+
+      told_whole : (o : Outcome) → AreTold o p.steps q → AreTold o all q
+      told_whole o told e answer here own = ⊎_elim
+          (λ late. absurd (carrying.not_late AService laws s start old reached at ports_are n c mid before its p part m_reached q apart e answer late own))
+          (λ early. told e answer early own)
+          (Contains-append_cases x.steps p.steps (Answer e answer) here)
+
+      counted : count_by (tells_fault q) all ≡ count_by (tells_fault q) p.steps
+      counted =
+          let whole = count_append (tells_fault q) x.steps p.steps in
+          let none = counts_apart q x.steps (carrying.not_late AService laws s start old reached at ports_are n c mid before its p part m_reached q apart) in
+          omega (arith, whole, none)
+
+      changed_whole : list_any (changes_disk q) p.steps ≡ true → list_any (changes_disk q) all ≡ true
+      changed_whole = carrying.changed_whole AService laws s start old reached at ports_are n c mid before its p part m_reached q apart
+
+      heeds_whole : ServesReady old evidence all (record { machine = after old.machine all; ports = ports_of mid }) q
+      heeds_whole = record {
+        ended = carrying.ended_still AService laws s start old reached at ports_are n c mid before its p part m_reached q apart serves.ended;
+        emptied = λ gone e here own.
+            let b = stood laws (port_at n) m x.steps x.own e (carrying.in_turn AService laws s start old reached at ports_are n c mid before its p part m_reached q apart e here) in
+            serves.emptied (alike.gone.1 gone) b.was b.here (ap (λ r. r.port) b.request ∙ own);
+        told = λ gone. ⊎_elim (λ a. inl (told_whole _ a)) (λ b. inr (told_whole _ b)) (serves.told (alike.gone.1 gone));
+        interrupts = λ trouble. carrying.named AService laws s start old reached at ports_are n c mid before its p part m_reached q apart evidence alike (serves.interrupts (⊎_elim (λ failed. inl (alike.failed.1 failed)) (λ gone. inr (alike.gone.1 gone)) trouble));
+        anew = λ trouble. carrying.anew_still AService laws s start old reached at ports_are n c mid before its p part m_reached q apart (serves.anew (⊎_elim (λ failed. inl (alike.failed.1 failed)) (λ stopped. inr (alike.stopped.1 stopped)) trouble));
+        single = let one = serves.single in omega (arith, counted, one);
+        fatal = λ here. let y = serves.fatal (alike.fatal.1 here) in (alike.failed.0 y.0, counted ∙ y.1);
+        disk = carrying.disk_still AService laws s start old reached at ports_are n c mid before its p part m_reached q apart same serves.disk;
+        calm = ⊎_elim
+            (λ disturbed. inl (⊎_elim (λ failed. inl (alike.failed.0 failed)) (λ rest. inr (⊎_elim (λ gone. inl (alike.gone.0 gone)) (λ changed. inr (changed_whole changed)) rest)) disturbed))
+            (λ (a : IsLeftAlone old.ports p.evidence p.steps (ports_of c) q). inr (record {
+              same = same_then old.ports (ports_of c) (ports_of mid) q a.same same;
+              told = told_whole _ a.told;
+              uninterrupted = λ i. a.uninterrupted (carrying.unnamed AService laws s start old reached at ports_are n c mid before its p part m_reached q apart evidence alike i);
+            }))
+            serves.calm;
+      }
+
+      -- ---- trouble
+
+      same_self : SamePort old.ports old.ports q
+      same_self = (refl, refl, refl, refl, refl, refl)
+
+      -- and where it showed a failure when the call began, or a change of its link, it was stopped
+      stops_troubled : ShowsFailure (s.device.port q.0) ⊎ ShowsChange (s.device.port q.0) → IsInterrupted p.evidence q
+      stops_troubled trouble = serves.interrupts (⊎_elim (λ failure. inl (d.evidenced.failed_all asked failure)) (λ change. inr (d.evidenced.gone_all asked (inl change))) trouble)
+
+      -- ---- the whole
+
+      not_bad : IsUnfitOrForeign old.ports q → ⊥
+      not_bad bad = ready_fits (old.ports.state q) asked bad
+
+      not_absent : old.ports.state q ≡ Absent → ⊥
+      not_absent absent = let z : Absent ≡ ReadyState = sym absent ∙ asked in absurd cc
+
+      heeds_trouble : HeedsTrouble q accesses began evidence (ports_of mid) mid.device
+      heeds_trouble = carrying.trouble_still AService laws s start old reached at ports_are n c mid before its p part m_reached q apart d evidence alike same (λ _. stops_troubled) (λ _. inl undue) (record { trouble = did.ties.trouble; well = did.ties.well })
+
+      pub ties_still : DoesPort began (turn_of InService [] mid evidence all) accesses q
+      ties_still = record {
+        ties = record {
+          finds = λ is_ready e own. carrying.finds_more AService laws s start old reached at ports_are n c mid before its p part m_reached q apart (did.ties.finds is_ready e own);
+          faults = λ alone e slot own unended says plain. ⊎_elim
+              (λ (a : IsAnsweredFaulty e p.steps). inl (a.0, a.1, a.2, a.3, Contains-append_right x.steps p.steps (Answer a.0 (DeviceError a.1 a.2)) a.4))
+              (λ dead. inr (same.1 ∙ dead))
+              (did.ties.faults (alone_so_far alone) e slot own unended says plain);
+          tries = λ served coming. record {
+            shown = λ absent det. absurd (not_absent absent);
+            absent = λ absent det fresh. absurd (not_absent absent);
+            missing = λ bad. absurd (not_bad bad);
+            changed = λ bad. absurd (not_bad bad);
+          };
+          boots = laws.calls.call_boots q began old (ports_of c) (ports_of mid) mid.device (Served []) (Served []) kept.on (λ _. undue) t p.on same same_self did.ties.boots;
+          trouble = heeds_trouble.trouble;
+          well = heeds_trouble.well;
+        };
+        heeds = λ _. heeds_whole;
+      }

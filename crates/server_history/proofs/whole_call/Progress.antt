@@ -1,0 +1,333 @@
+-- What was done so far in a call, in which ports have their turns one after another.
+use Rattle.std.proofs.Common.{Bool, ◌⊎◌, ℕ, ◌≡◌, ◌≢◌, ◌≤◌, ◌<◌, ◌+◌, true, List, [], map, refl, sym, ap, ◌∙◌, subst, inl, ⊎_elim, arith, inr}
+use Rattle.std.specs.List.{All, AllPairs, Contains}
+use Rattle.std.specs.List.Sorted.{IsPermutation}
+use Rattle.std.proofs.lemmas.Bool.{cases_lt}
+use Rattle.std.proofs.lemmas.List.Elements.{All-nil, All-contains, All-weaker}
+use Rattle.std.proofs.lemmas.List.Sorted.{IsPermutation-refl}
+use Rattle.ata_types.specs.declared.Port.{Port}
+use Rattle.ata_types.specs.declared.PortState.{PortState}
+use Rattle.ata_types.specs.declared.PortState.TheVariants.{Absent, Dead, Ready as ReadyState}
+use Rattle.ata_types.specs.declared.request.Outcome.{Outcome}
+use Rattle.ata_types.specs.declared.request.Outcome.TheVariants.{Unplugged}
+use Rattle.ata_types.specs.declared.request.Reply.{Reply}
+use Rattle.hba_regs.specs.declared.reg.PortReg.TheVariants.{Cmd, Sctl}
+use Rattle.adapter.specs.Access.{Access, DoesAll}
+use Rattle.adapter.specs.Commands.{is_queued}
+use Rattle.adapter.specs.Device.{Device}
+use Rattle.adapter.specs.Rules.{IsOn}
+use Rattle.agreement.specs.Driver.{IsBacked}
+use Rattle.block_machine.specs.Events.{AllLawful, AnswersEnded, Belong, HadDisk, IsToldBefore, Moment, NoneKeepsIssue, Served, UnplugsAll, answers_of, reply_of}
+use Rattle.block_machine.specs.Histories.{Instant, IsReached}
+use Rattle.block_machine.specs.Left.{after}
+use Rattle.block_machine.specs.Ports.{Evidence, Fault, IsInterrupted, IsServiced, Ports, SameDisk, SamePort}
+use Rattle.block_machine.specs.State.{Pending}
+use Rattle.block_machine.specs.Steps.{Step, Again, Answer}
+use Rattle.host_boot.specs.Taken.{found_of}
+use Rattle.driver_history.specs.Evidence.{IsEvidencedOf, IsFaultTold}
+use Rattle.driver_history.specs.Histories.{FindsDone, IsUnfitOrForeign, IssuesDue}
+use Rattle.driver_history.specs.Holds.{NoneWaits}
+use Rattle.driver_history.specs.Parts.{EndsLinked, IsOfOther}
+use Rattle.driver_history.specs.Trace.{IsServing, LeavesEngine, ResetsLink}
+use Rattle.server_history.specs.Below.{LawsBelow}
+use Rattle.server_history.specs.Turns.{DoesPort, HeedsTrouble, InService, IsStepOf, moment_of, turn_of}
+use Rattle.server_history.proofs.whole_call.ServiceAndTick.{AService, ATick, OwesBy, Plan, TakesTurn, Uses, asks_for, owes_nothing, ready_takes}
+use Rattle.server_history.specs.Server.{Server, IsKept, IsMachineOf, IsSettled, mode_at, mode_in, ports_of, remembered_at, slots_at, state_of}
+use Rattle.server_history.proofs.state.DueRequests.{none_issued}
+use Rattle.server_history.proofs.state.CallEvidence.{no_evidence}
+use Rattle.server_history.proofs.any_turn.TurnsInOrder.{AreTurns, again_of, all_of_ports, answered_of, no_turns, turns_more}
+use Rattle.server_history.proofs.any_turn.JoinedParts.{NamesSome, names_more, same_at}
+use Rattle.server_history.proofs.state.FirstMembers.{nowhere}
+use Rattle.server_history.proofs.unready_turn.UnfitPort.{bad_tends}
+
+-- ---- what was done so far of a port
+
+-- A tick has restarted the port.
+pub record IsRestarted (old : Instant Device) (port : Port) (accesses : List Access) (c : Server) (evidence : Evidence) (steps : List Step) : Type 0 where
+  pub finds : FindsDone port accesses old steps
+  pub boots : (state_of (found_of c.ports port.0) ≡ Dead) ⊎ ResetsLink port accesses
+  pub ended : AnswersEnded old.moment.machine steps port
+  pub interrupts : IsInterrupted evidence port
+  pub anew : NoneKeepsIssue steps (after old.moment.machine steps) port
+  pub another : (e : Pending) → Contains steps (Answer e Unplugged) → e.request.port ≡ port
+      → (state_of (found_of c.ports port.0) ≢ Dead) × (state_of (found_of c.ports port.0) ≡ ReadyState → SameDisk old.moment.ports (ports_of c) port → ⊥)
+  pub disk : HadDisk old.moment steps (moment_of c (after old.moment.machine steps)) port
+  pub heeds : HeedsTrouble port accesses old evidence (ports_of c) c.device
+
+-- It has let the port rest.
+pub record HasRested (old : Moment) (port : Port) (accesses : List Access) (c : Server) (evidence : Evidence) (steps : List Step) : Type 0 where
+  pub others : All (IsOfOther port) accesses
+  pub same : SamePort old.ports (ports_of c) port
+  pub uninterrupted : IsInterrupted evidence port → ⊥
+  pub again : (e : Pending) → Contains steps (Again e) → e.request.port ≢ port
+  pub answer : (e : Pending) (o : Outcome) → Contains steps (Answer e o) → e.request.port ≢ port
+
+-- A tick has restarted the port, or let it rest.
+pub record HasTicked (hung : ℕ → Bool) (s : Server) (old : Moment) (port : Port) (accesses : List Access) (c : Server) (evidence : Evidence) (steps : List Step) : Type 0 where
+  pub restarted : old.ports.state port ≡ ReadyState → hung port.0 ≡ true → IsRestarted (record { device = s.device; moment = old }) port accesses c evidence steps
+  pub rested : (old.ports.state port ≡ ReadyState → hung port.0 ≡ true → ⊥) → HasRested old port accesses c evidence steps
+
+abbrev pub TiesSoFar : Plan → Server → Moment → Port → List Access → Server → Evidence → List Step → Type 0
+TiesSoFar AService s old port accesses c evidence steps =
+    DoesPort (record { device = s.device; moment = old }) (turn_of InService [] c evidence steps) accesses port × EndsLinked port (record { device = s.device; moment = old }) (ports_of c) c.device
+TiesSoFar (ATick hung) s old port accesses c evidence steps = HasTicked hung s old port accesses c evidence steps
+
+-- nothing is done of a port that had no turn
+rested_ties : (plan : Plan) (s : Server) (old : Moment) (port : Port) (accesses : List Access) (c : Server) (evidence : Evidence) (steps : List Step) → old.ports ≡ ports_of s → (TakesTurn plan (found_of s.ports port.0) → ⊥) → HasRested old port accesses c evidence steps
+    → TiesSoFar plan s old port accesses c evidence steps
+rested_ties AService s old port accesses c evidence steps ports_are not rests = (
+  record {
+    ties = record {
+      finds = λ ready. absurd (unready ready);
+      faults = λ alone. absurd (unready alone.ready);
+      tries = λ served comes. record {
+        shown = λ absent. absurd (not (sym (ap (λ (ports : Ports). ports.served port) ports_are) ∙ served, λ dead. let z : Absent ≡ Dead = sym absent ∙ state_was ∙ dead in cc));
+        absent = λ absent. absurd (not (sym (ap (λ (ports : Ports). ports.served port) ports_are) ∙ served, λ dead. let z : Absent ≡ Dead = sym absent ∙ state_was ∙ dead in cc));
+        missing = λ bad. absurd (no_bad bad);
+        changed = λ bad. absurd (no_bad bad);
+      };
+      boots = (λ ready. absurd (unready ready), inl rests.same);
+      trouble = record {
+        errors = λ ready. absurd (unready ready);
+        changes = λ tends. absurd (not (sym (ap (λ (ports : Ports). ports.served port) ports_are) ∙ tends.0, λ dead. tends.1 (state_was ∙ dead)));
+        fault = λ ready. absurd (unready (sym rests.same.1 ∙ ready));
+        fatal = λ ready. absurd (unready (sym rests.same.1 ∙ ready));
+        disk = λ ready. absurd (unready (sym rests.same.1 ∙ ready));
+      };
+      well = λ i. absurd (rests.uninterrupted i);
+    };
+    heeds = λ ready. absurd (unready ready);
+  },
+  λ bad. absurd (no_bad bad),
+)
+  where
+    state_was : old.ports.state port ≡ state_of (found_of s.ports port.0)
+    state_was = ap (λ (ports : Ports). ports.state port) ports_are
+
+    unready : old.ports.state port ≢ ReadyState
+    unready ready = not (ready_takes AService (found_of s.ports port.0) (sym state_was ∙ ready))
+
+    no_bad : IsUnfitOrForeign old.ports port → ⊥
+    no_bad bad = not (bad_tends (found_of s.ports port.0) (⊎_elim (λ foreign. inl (sym state_was ∙ foreign)) (λ unfit. inr (unfit.0, sym state_was ∙ unfit.1)) bad))
+rested_ties (ATick hung) s old port accesses c evidence steps ports_are not rests = record {
+  restarted = λ ready. absurd (not (sym (ap (λ (ports : Ports). ports.state port) ports_are) ∙ ready));
+  rested = λ _. rests;
+}
+
+-- ---- and of all
+
+module _ (plan : Plan) (laws : LawsBelow) (s : Server) (start : IsSettled s) (old : Moment) (reached : IsReached old.machine) (at : IsMachineOf s old.machine) (ports_are : old.ports ≡ ports_of s) where
+  abbrev pub kept : IsKept s
+  kept = start.kept
+
+  abbrev pub began : Instant Device
+  began = record { device = s.device; moment = old }
+
+  abbrev pub state_at : ℕ → PortState
+  state_at q = state_of (found_of s.ports q)
+
+  -- ports that have turns, and those that had theirs
+  abbrev pub Takes : Port → Type 0
+  Takes q = TakesTurn plan (found_of s.ports q.0)
+
+  abbrev pub HadTurn : ℕ → Port → Type 0
+  HadTurn n q = (q.0 < n) × Takes q
+
+  -- What is so of a port that had its turn, or none, at the end of what was done so far.
+  pub record IsDone (c : Server) (accesses : List Access) (steps : List Step) (evidence : Evidence) (q : Port) : Type 0 where
+    pub becomes : IsServiced old.ports evidence (ports_of c) q
+    pub disk : SamePort old.ports (ports_of c) q ⊎ HadDisk old steps (moment_of c (after old.machine steps)) q
+    pub keeps : SameDisk old.ports (ports_of c) q ⊎ NoneWaits (after old.machine steps) q
+    pub evidenced : IsEvidencedOf (asks_for plan) (Served []) accesses began (ports_of c) c.device evidence q
+    pub ties : TiesSoFar plan s old q accesses c evidence steps
+
+  -- a fault that is told of a port that had its turn
+  pub record HasTold (n : ℕ) (c : Server) (accesses : List Access) (told : Fault) : Type 0 where
+    pub its : IsFaultTold began c.device accesses told
+    pub served : HadTurn n its.pending.request.port
+    pub lives : is_queued its.serves.command.operation ≡ true → state_of (found_of c.ports its.pending.request.port.0) ≢ Dead
+
+  -- Ports below this number had their turns, which led to this server with these replies.
+  pub record Progress (n : ℕ) (c : Server) (replies : List Reply) : Type 0 where
+    pub settled : IsSettled c
+    pub wanted : c.wanted ≡ s.wanted
+    pub on : IsOn c.device
+    pub accesses : List Access
+    pub does : DoesAll accesses s.device c.device
+    pub serving : All (IsServing (Uses plan old.ports)) accesses
+    pub others : (q : Port) → (HadTurn n q → ⊥) → All (IsOfOther q) accesses
+    pub steps : List Step
+    pub turns : AreTurns old n steps
+    pub stands : IsMachineOf c (after old.machine steps)
+    pub backed : IsBacked s.device c.device old.machine steps
+    pub belong : Belong (asks_for plan) (ports_of c) steps
+    pub evidence : Evidence
+    pub names : NamesSome (HadTurn n) evidence
+    pub lost : All (λ q. state_at q.0 ≡ ReadyState) evidence.lost
+    pub lawful : AllLawful old evidence (ports_of c) steps
+    pub owes : OwesBy plan evidence steps
+    pub unplugs : UnplugsAll steps (after old.machine steps)
+    pub answers : List (Pending × Outcome)
+    pub permuted : IsPermutation answers (answers_of steps)
+    pub ordered : AllPairs IsToldBefore answers
+    pub low : All (λ a. a.0.request.port.0 < n) answers
+    pub told : replies ≡ map reply_of answers
+    pub faults : (told : Fault) → Contains evidence.faults told → HasTold n c accesses told
+    pub done : (q : Port) → q.0 < n → IsDone c accesses steps evidence q
+    pub due : (q : Port) → state_of (found_of c.ports q.0) ≡ ReadyState → IssuesDue (mode_in c q) steps (after old.machine steps) q
+    pub of : All (IsStepOf (HadTurn n)) steps
+    pub found : (q : Port) → (HadTurn n q → ⊥) → found_of c.ports q.0 ≡ found_of s.ports q.0
+    pub remembered : (q : Port) → (HadTurn n q → ⊥) → remembered_at c.remembered q.0 ≡ remembered_at s.remembered q.0
+    pub modes : (q : Port) → (HadTurn n q → ⊥) → mode_at c.modes q.0 ≡ mode_at s.modes q.0
+    pub slots : (q : Port) → (HadTurn n q → ⊥) → slots_at c.slots q.0 ≡ slots_at s.slots q.0
+
+  pub begun : Progress 0 s []
+  begun = record {
+    settled = start;
+    wanted = refl;
+    on = kept.on;
+    accesses = [];
+    does = refl;
+    serving = All-nil (IsServing (Uses plan old.ports));
+    others = λ q none. All-nil (IsOfOther q);
+    steps = [];
+    turns = no_turns laws old reached;
+    stands = at;
+    backed = laws.backed_none s.device old.machine;
+    belong = tt;
+    evidence = no_evidence;
+    names = record {
+      lost = All-nil (HadTurn 0);
+      gone = All-nil (HadTurn 0);
+      failed = All-nil (HadTurn 0);
+      fatal = All-nil (HadTurn 0);
+      stopped = All-nil (HadTurn 0);
+      stuck = All-nil (HadTurn 0);
+    };
+    lost = All-nil (λ q. state_at q.0 ≡ ReadyState);
+    lawful = tt;
+    owes = owes_nothing plan;
+    unplugs = record { emptied = λ e other here there. absurd (nowhere (Answer e Unplugged) here); alike = λ e other here there. absurd (nowhere (Answer e Unplugged) here) };
+    answers = [];
+    permuted = IsPermutation-refl [];
+    ordered = λ i j d lt below. absurd (omega (arith, lt, below));
+    low = All-nil (λ a. a.0.request.port.0 < 0);
+    told = refl;
+    faults = λ told here. absurd (nowhere told here);
+    done = λ q lt. absurd (omega (arith, lt));
+    due = λ q is_ready. none_issued s old.machine at [] (λ id. refl) (mode_in s q) q (start.issued q);
+    of = All-nil (IsStepOf (HadTurn 0));
+    found = λ q none. refl;
+    remembered = λ q none. refl;
+    modes = λ q none. refl;
+    slots = λ q none. refl;
+  }
+
+  -- the evidence doesn't name a port that had no turn
+  pub unnamed : (n : ℕ) (q : Port) → (HadTurn n q → ⊥) → (evidence : Evidence) → NamesSome (HadTurn n) evidence → (Contains evidence.lost q → ⊥) × (Contains evidence.gone q → ⊥) × (Contains evidence.failed q → ⊥)
+      × (Contains evidence.fatal q → ⊥) × (Contains evidence.stopped q → ⊥) × (Contains evidence.stuck q → ⊥)
+  unnamed n q none evidence names = (
+    (λ here. none (All-contains (HadTurn n) evidence.lost q names.lost here)),
+    (λ here. none (All-contains (HadTurn n) evidence.gone q names.gone here)),
+    (λ here. none (All-contains (HadTurn n) evidence.failed q names.failed here)),
+    (λ here. none (All-contains (HadTurn n) evidence.fatal q names.fatal here)),
+    (λ here. none (All-contains (HadTurn n) evidence.stopped q names.stopped here)),
+    (λ here. none (All-contains (HadTurn n) evidence.stuck q names.stuck here)),
+  )
+
+  pub others_leave : (q : Port) (accesses : List Access) → All (IsOfOther q) accesses → All (LeavesEngine q) accesses
+  others_leave q accesses of = All-weaker (IsOfOther q) (LeavesEngine q) (λ access x. (laws.of_spares x.0 q Cmd x.1 access x.2, laws.of_spares x.0 q Sctl x.1 access x.2)) accesses of
+
+  -- nothing is asked of the evidence of a port that has no turn, and that it doesn't name
+  none_evidenced : (accesses : List Access) (new : Device) (ports : Ports) (evidence : Evidence) (q : Port) → (Takes q → ⊥) → NamesSome Takes evidence → All (IsOfOther q) accesses
+      → IsEvidencedOf (asks_for plan) (Served []) accesses began ports new evidence q
+  none_evidenced accesses new ports evidence q not names of =
+      let was_ready : old.ports.state q ≡ ReadyState → ⊥ = λ is. not (ready_takes plan (found_of s.ports q.0) (sym (ap (λ (ports : Ports). ports.state q) ports_are) ∙ is)) in
+      record {
+        lost = λ here. absurd (not (All-contains Takes evidence.lost q names.lost here));
+        gone_all = λ is. absurd (was_ready is);
+        gone_only = λ here. absurd (not (All-contains Takes evidence.gone q names.gone here));
+        failed_all = λ is. absurd (was_ready is);
+        failed_only = λ here. absurd (not (All-contains Takes evidence.failed q names.failed here));
+        fatal_all = λ is. absurd (was_ready is);
+        fatal_only = λ here. absurd (not (All-contains Takes evidence.fatal q names.fatal here));
+        stopped_all = inl (others_leave q accesses of);
+        stopped_only = λ here. absurd (not (All-contains Takes evidence.stopped q names.stopped here));
+        stuck_only = λ here. absurd (not (All-contains Takes evidence.stuck q names.stuck here));
+      }
+
+  -- what is so of a port that has no turn
+  pub idle_done : (n : ℕ) (c : Server) (replies : List Reply) → (p : Progress n c replies) → (q : Port) → (Takes q → ⊥) → IsDone c p.accesses p.steps p.evidence q
+  idle_done n c replies p q not =
+      let none : HadTurn n q → ⊥ = λ served. not served.1 in
+      let un = unnamed n q none p.evidence p.names in
+      let same : SamePort old.ports (ports_of c) q = subst (λ (ports : Ports). SamePort ports (ports_of c) q) (sym ports_are) (same_at s c q (p.found q none) (p.remembered q none) (p.modes q none)) in
+      record {
+        becomes = (
+          λ dead. same,
+          λ lives. (
+            record {
+              served = same.0;
+              stuck = λ dead. absurd (lives (sym same.1 ∙ dead));
+              dies = λ named. absurd (un.5 named);
+              keeps = λ x. (same.2, same.3);
+            },
+            inl same,
+          ),
+        );
+        disk = inl same;
+        keeps = inl (same.2, same.3);
+        evidenced = none_evidenced p.accesses c.device (ports_of c) p.evidence q not (names_more (HadTurn n) Takes (λ r served. served.1) p.evidence p.names) (p.others q none);
+        ties = rested_ties plan s old q p.accesses c p.evidence p.steps ports_are not (record {
+          others = p.others q none;
+          same = same;
+          uninterrupted = λ i. ⊎_elim un.4 un.5 i;
+          again = λ e here own. not (subst Takes own (again_of (HadTurn n) p.steps p.of e here).1);
+          answer = λ e o here own. not (subst Takes own (answered_of (HadTurn n) p.steps p.of e o here).1);
+        });
+      }
+
+  -- a port is passed over that has no turn
+  pub skipped : (n : ℕ) (c : Server) (replies : List Reply) → (TakesTurn plan (found_of s.ports n) → ⊥) → Progress n c replies → Progress (n + 1) c replies
+  skipped n c replies other p = record {
+    settled = p.settled;
+    wanted = p.wanted;
+    on = p.on;
+    accesses = p.accesses;
+    does = p.does;
+    serving = p.serving;
+    others = λ q none. p.others q (λ served. let small = served.0 in none (omega (arith, small), served.1));
+    steps = p.steps;
+    turns = turns_more laws old reached n (n + 1) p.steps (omega arith) p.turns;
+    stands = p.stands;
+    backed = p.backed;
+    belong = p.belong;
+    evidence = p.evidence;
+    names = names_more (HadTurn n) (HadTurn (n + 1)) (λ q served. let small = served.0 in (omega (arith, small), served.1)) p.evidence p.names;
+    lawful = p.lawful;
+    lost = p.lost;
+    owes = p.owes;
+    unplugs = p.unplugs;
+    answers = p.answers;
+    permuted = p.permuted;
+    ordered = p.ordered;
+    low = λ i d small. let lt = p.low i d small in omega (arith, lt);
+    told = p.told;
+    faults = λ told here. let t = p.faults told here in record { its = t.its; served = let small = t.served.0 in (omega (arith, small), t.served.1); lives = t.lives };
+    done = λ q lt. ⊎_elim
+        (λ (less : q.0 < n). p.done q less)
+        (λ (most : n ≤ q.0).
+        let same : n ≡ q.0 = omega (arith, lt, most) in
+        idle_done n c replies p q (λ takes. other (subst (λ (k : ℕ). TakesTurn plan (found_of s.ports k)) (sym same) takes)))
+        (cases_lt q.0 n);
+    due = p.due;
+    of = all_of_ports (HadTurn n) (HadTurn (n + 1)) (λ q served. let small = served.0 in (omega (arith, small), served.1)) p.steps p.of;
+    found = λ q none. p.found q (λ served. let small = served.0 in none (omega (arith, small), served.1));
+    remembered = λ q none. p.remembered q (λ served. let small = served.0 in none (omega (arith, small), served.1));
+    modes = λ q none. p.modes q (λ served. let small = served.0 in none (omega (arith, small), served.1));
+    slots = λ q none. p.slots q (λ served. let small = served.0 in none (omega (arith, small), served.1));
+  }
+
+  -- who was answered is of a port that has a turn
+  pub answered_was : (n : ℕ) (c : Server) (replies : List Reply) → (p : Progress n c replies) → (e : Pending) (o : Outcome) → Contains p.steps (Answer e o) → Takes e.request.port
+  answered_was n c replies p e o here = (answered_of (HadTurn n) p.steps p.of e o here).1

@@ -1,0 +1,155 @@
+-- A service adds an event to a history.
+use Rattle.std.proofs.Common.{ℕ, ◌≡◌, ◌≢◌, List, [], ◌∷◌, refl, sym, ap, ◌∙◌, ⊎_elim, arith, subst, inl, inr, ◌⊎◌}
+use Rattle.std.specs.List.{Contains}
+use Rattle.std.proofs.lemmas.Bool.{cases_lt}
+use Rattle.ata_types.specs.declared.Port.{Port}
+use Rattle.ata_types.specs.declared.PortState.{PortState}
+use Rattle.ata_types.specs.declared.PortState.TheVariants.{Dead, Ready as ReadyState}
+use Rattle.agreement.specs.Agrees.{port_at}
+use Rattle.ata_types.specs.declared.request.Reply.{Reply}
+use Rattle.adapter.specs.Device.{Device}
+use Rattle.adapter.specs.declared.access.DeviceStep.{DeviceStep}
+use Rattle.block_machine.specs.Events.{AnswersService, KeepsDisks, Moment, Served, Service}
+use Rattle.block_machine.specs.Histories.{Instant, Happening, IsReached, now}
+use Rattle.block_machine.specs.Left.{after}
+use Rattle.block_machine.specs.Ports.{Ports}
+use Rattle.block_machine.specs.State.{Pending}
+use Rattle.host_boot.specs.Taken.{found_of}
+use Rattle.host_boot.specs.declared.Found.{Found}
+use Rattle.host_boot.specs.declared.Found.TheVariants.{Unready}
+use Rattle.server_history.proofs.any_turn.JoinedParts.{dead_or_not}
+use Rattle.driver_history.specs.Evidence.{IsEvidenced}
+use Rattle.request_queue.specs.Machine.{IsEntry}
+use Rattle.server_history.specs.Histories.{Adds, Leads}
+use Rattle.server_history.specs.Below.{LawsBelow}
+use Rattle.server_history.specs.Turns.{DoesPort, HasPart, ServePorts, ServesPort, TriesUnready}
+use Rattle.server_history.specs.Tried.{IsLookedAt}
+use Rattle.server_history.specs.Server.{Server, IsKept, IsMachineOf, IsSettled, mode_in, ports_of, state_of}
+use Rattle.server_history.proofs.state.DueRequests.{none_due}
+use Rattle.server_history.proofs.start.NewServer.{kept_fit}
+use Rattle.server_history.proofs.state.HistorySteps.{holding, happening_with, lead_with, with_device}
+use Rattle.server_history.proofs.state.PortSlots.{of_ready, ready_found}
+use Rattle.server_history.proofs.state.PairedLists.{at_right}
+use Rattle.server_history.proofs.whole_call.ServiceAndTick.{AService, TakesTurn, turn_at}
+use Rattle.server_history.proofs.whole_call.Progress.{IsDone, Progress, answered_was, begun, idle_done}
+use Rattle.server_history.proofs.whole_call.AllTurns.{Whole, go, turns_kept}
+
+module _ (laws : LawsBelow) (s new : Server) (replies : List Reply) (start : IsSettled s) (serves : ServePorts 0 s.ports replies s new) (first : Instant Device) (past : List (Happening Device DeviceStep)) (leads : Leads first past s) where
+  abbrev old : Moment
+  old = (now first past).moment
+
+  at : IsMachineOf s old.machine
+  at = leads.stands.machine
+
+  same : old.ports ≡ ports_of s
+  same = leads.stands.ports_are
+
+  reached : IsReached old.machine
+  reached = laws.basic.history_reached s.wanted first past leads.history
+
+  ready_part : (n : ℕ) (c mid : Server) (before its : List Reply) → state_of (found_of s.ports n) ≡ ReadyState → Progress AService laws s start old reached at same n c before → ServesPort (port_at n) its c mid
+      → HasPart (turn_at AService (found_of s.ports n) n) (port_at n) its c mid
+  ready_part n c mid before its is_ready_n p serves = subst (λ (found : Found). HasPart (turn_at AService found n) (port_at n) its c mid) (sym (ready_found s n start.kept is_ready_n).1.1) serves.part
+
+  -- a dead port is passed over
+  other_part : (n : ℕ) (c mid : Server) (before : List Reply) (state : PortState) → found_of s.ports n ≡ Unready state → Progress AService laws s start old reached at same n c before → TriesUnready (port_at n) c mid
+      → ((TakesTurn AService (found_of s.ports n) → ⊥) × (mid ≡ c)) ⊎ (TakesTurn AService (found_of s.ports n) × HasPart (turn_at AService (found_of s.ports n) n) (port_at n) [] c mid)
+  other_part n c mid before state is p tries = ⊎_elim
+      (λ (dead : state ≡ Dead).
+      let its_state : tries.does.state ≡ Dead =
+      let found : Unready tries.does.state ≡ Unready state = sym tries.does.is ∙ p.found (port_at n) (λ served. let lt = served.0 in omega (arith, lt)) ∙ is in
+      (let one : tries.does.state ≡ state = cc in one) ∙ dead in
+      let looks = subst (λ (of : PortState). IsLookedAt of (port_at n) tries.does.result c.device tries.does.seen) its_state tries.does.looks in
+      inl (
+        λ takes. takes.1 (ap state_of is ∙ dead),
+        tries.does.left looks.0 ∙ ap (λ (d : Device). record c { device = d }) looks.1,
+      ))
+      (λ (lives : state ≢ Dead). inr (
+        subst (TakesTurn AService) (sym is) (refl, lives),
+        subst (λ (found : Found). HasPart (turn_at AService found n) (port_at n) [] c mid) (sym is) tries.part,
+      ))
+      (dead_or_not state)
+
+  ends : Whole AService laws s start old reached at same new replies
+  ends = go AService laws s start old reached at same ServesPort TriesUnready ready_part other_part s.ports 0 (λ i. ap (λ (k : ℕ). found_of s.ports k) (omega arith)) s new [] replies (begun AService laws s start old reached at same) serves
+
+  p : Progress AService laws s start old reached at same ends.count new replies
+  p = ends.progress
+
+  abbrev holds : IsKept new
+  holds = p.settled.kept
+
+  abbrev began : Instant Device
+  began = with_device s.device (now first past)
+
+  abbrev end : Moment
+  end = record { machine = after old.machine p.steps; ports = ports_of new }
+
+  is_ready : (port : Port) → old.ports.state port ≡ state_of (found_of s.ports port.0)
+  is_ready port = ap (λ (ports : Ports). ports.state port) same
+
+  -- what is so of each port at the end
+  done : (port : Port) → IsDone AService laws s start old reached at same new p.accesses p.steps p.evidence port
+  done port = ⊎_elim
+      (λ less. p.done port less)
+      (λ most. idle_done AService laws s start old reached at same ends.count new replies p port (ends.past port.0 most))
+      (cases_lt port.0 ends.count)
+
+  none_waits : (port : Port) → state_of (found_of new.ports port.0) ≢ ReadyState → (e : Pending) → Contains (after old.machine p.steps).book e → e.request.port ≢ port
+  none_waits port other e here own =
+      let a = at_right IsEntry new.book (after old.machine p.steps).book p.stands.book e here in
+      other (ap (λ (q : Port). state_of (found_of new.ports q.0)) (sym own ∙ a.2.port) ∙ of_ready new holds a.0 a.1)
+
+  all_answered : AnswersService old p.evidence p.steps replies end
+  all_answered = record {
+    tells = record { answers = p.answers; same = p.permuted; ordered = p.ordered; told = p.told };
+    dead = λ e o h dead. absurd ((answered_was AService laws s start old reached at same ends.count new replies p e o h).1 (sym (is_ready e.request.port) ∙ dead));
+    grounded = p.owes;
+    unplugs = p.unplugs;
+    issues = λ port ready. none_due new (after old.machine p.steps) p.stands (mode_in new port) port (p.settled.issued port);
+    emptied = none_waits;
+    becomes = λ port. (done port).becomes;
+    disk = λ port. (done port).disk;
+  }
+
+  keeps : KeepsDisks old end
+  keeps e o here was same_id = ⊎_elim (λ d. d) (λ none. absurd (none e here refl)) (done e.request.port).keeps
+
+  evidenced : IsEvidenced Service (Served replies) p.accesses began (ports_of new) new.device p.evidence
+  evidenced = record {
+    faults = λ told here. (p.faults told here).its;
+    port = λ port.
+        let v = (done port).evidenced in
+        record {
+          lost = v.lost;
+          gone_all = v.gone_all;
+          gone_only = v.gone_only;
+          failed_all = v.failed_all;
+          failed_only = v.failed_only;
+          fatal_all = v.fatal_all;
+          fatal_only = v.fatal_only;
+          stopped_all = v.stopped_all;
+          stopped_only = v.stopped_only;
+          stuck_only = v.stuck_only;
+        };
+  }
+
+  -- what the service has done of each port
+  port_part : (port : Port) → DoesPort began (happening_with p.evidence new.device Service (Served replies) p.steps (ports_of new)) p.accesses port
+  port_part port =
+      let did = (done port).ties.0 in
+      record { ties = record { finds = did.ties.finds; faults = did.ties.faults; tries = did.ties.tries; boots = did.ties.boots; trouble = did.ties.trouble; well = did.ties.well }; heeds = did.heeds }
+
+  pub service_event : (h : Happening Device DeviceStep) × (h.event.ask ≡ Service) × (h.event.said ≡ Served replies) × Leads first (h ∷ past) new
+  service_event =
+      lead_with laws first past s new Service (Served replies) p.evidence p.steps p.wanted leads (holding new holds) (kept_fit new holds)
+      p.turns.may p.belong p.turns.last p.lawful keeps all_answered
+      p.accesses
+      (p.does, p.serving)
+      evidenced
+      (λ port ready. p.due port ready)
+      port_part
+      p.backed p.stands
+
+pub services_add : LawsBelow → (s new : Server) (replies : List Reply) → IsSettled s → ServePorts 0 s.ports replies s new → Adds s new Service (Served replies)
+services_add laws s new replies start serves = record { settled = turns_kept ServesPort TriesUnready s.ports 0 s new replies start serves; adds = λ first past leads. service_event laws s new replies start serves first past leads }

@@ -1,0 +1,538 @@
+-- A tick adds an event to a history.
+use Rattle.std.proofs.Common.{ℕ, suc, ◌≡◌, ◌≢◌, ◌⊎◌, ◌<◌, ◌≤◌, ◌&&◌, ◌||◌, ◌==◌, nat_le, Bool, true, false, if◌then◌else◌, List, [], ◌∷◌, ◌++◌, map, refl, sym, ap, ◌∙◌, subst, inl, inr, ⊎_elim, arith, append-nil, eq-eqb, eqb-true, leb-true, le-leb}
+use Rattle.std.specs.Prelude.{IsTrue}
+use Rattle.std.specs.List.{All, Contains, count_by, list_any}
+use Rattle.std.specs.List.Sorted.{IsPermutation}
+use Rattle.std.proofs.lemmas.Bool.{and_from, and_parts, cases_Bool, cases_lt, cond-true, false≢true}
+use Rattle.std.proofs.lemmas.List.Elements.{All-cons, All-head, All-nil, All-tail, All-weaker, Contains-append_cases, Contains-append_left}
+use Rattle.std.proofs.lemmas.List.Sorted.{IsPermutation-refl}
+use Rattle.ata_types.specs.declared.Port.{Port}
+use Rattle.ata_types.specs.declared.PortState.{PortState}
+use Rattle.ata_types.specs.declared.PortState.TheVariants.{Dead, Ready as ReadyState}
+use Rattle.ata_types.specs.declared.request.Outcome.{Outcome}
+use Rattle.ata_types.specs.declared.request.Outcome.TheVariants as outcome
+use Rattle.ata_types.specs.declared.request.Outcome.TheVariants.{PortDead, Unplugged}
+use Rattle.ata_types.specs.declared.request.Reply.{Reply}
+use Rattle.ata_types.specs.declared.request.RequestId.{RequestId}
+use Rattle.hba_regs.specs.declared.reg.PortReg.TheVariants as register
+use Rattle.hba_regs.specs.declared.reg.Reg.TheVariants.{Ghc, Px}
+use Rattle.adapter.specs.Access.{Access}
+use Rattle.adapter.specs.Access.Access.{Loading, Reading, Storing, Writing}
+use Rattle.adapter.specs.Device.{Device}
+use Rattle.adapter.specs.declared.access.DeviceStep.{DeviceStep}
+use Rattle.adapter.specs.declared.command.Operation.TheVariants.{ReadLog}
+use Rattle.agreement.specs.Agrees.{port_at}
+use Rattle.agreement.specs.Driven.{IsOf}
+use Rattle.agreement.specs.Links.{SparesRegister}
+use Rattle.agreement.specs.Slots.{ServesRequest}
+use Rattle.block_machine.specs.Events.{AllLawful, AnswersEnded, AnswersTick, IsHung, IssuesLast, KeepsDisks, Moment, NoneKeepsIssue, RestartsHung, Served, Tick, WasIssued, answers_of, changes_disk, is_age, issues_it}
+use Rattle.block_machine.specs.Histories.{Happening, Instant, IsReached, now}
+use Rattle.block_machine.specs.Left.{after}
+use Rattle.block_machine.specs.Ports.{IsInterrupted, Ports, SamePort}
+use Rattle.block_machine.specs.Due.{of_port}
+use Rattle.block_machine.specs.State.{Machine, Pending, unanswered}
+use Rattle.block_machine.specs.Steps.{Step, Age, Again, Answer, after_step, older}
+use Rattle.server_history.proofs.state.ListMembers.{contains_cases, contains_here, into_map, map_in, none_of}
+use Rattle.driver_history.specs.Evidence.{IsEvidenced}
+use Rattle.driver_history.specs.Histories.{FindsDone, IssuesDue}
+use Rattle.driver_history.specs.Parts.{IsOfOther}
+use Rattle.driver_history.specs.Trace.{ClearsNone, IsDriversOwn, IsServing, LeavesEngine}
+use Rattle.host_boot.specs.Taken.{found_of}
+use Rattle.host_boot.specs.declared.Found.{Found}
+use Rattle.host_boot.specs.declared.Found.TheVariants.{Ready, Unready, Unserved}
+use Rattle.request_queue.specs.Entries.{Held, IsOverdue}
+use Rattle.request_queue.specs.Machine.{IsEntry}
+use Rattle.server_history.specs.Below.{LawsBelow}
+use Rattle.server_history.specs.Histories.{Adds, Leads}
+use Rattle.server_history.specs.Server.{Server, IsKept, IsMachineOf, IsSettled, mode_in, ports_of, state_of}
+use Rattle.server_history.specs.Turns.{DoesPort, AtRest, HasPart, HeedsTrouble, InRestart, InService, IsStepOf, Ticks, TicksPort, a_tick_older, instant_of, is_ready}
+use Rattle.server_history.proofs.plain_calls.OlderRequests.{older_by, older_ended, older_issued, older_request, older_settled, older_stands, serves_on}
+use Rattle.server_history.proofs.plain_calls.Acceptances.{any_in}
+use Rattle.server_history.proofs.state.DueRequests.{none_due, none_issued}
+use Rattle.server_history.proofs.start.NewServer.{kept_fit}
+use Rattle.server_history.proofs.state.HistorySteps.{holding, happening_with, lead_with, with_device}
+use Rattle.server_history.proofs.any_turn.JoinedParts.{answers_append, lawful_lift, ready_or_not}
+use Rattle.server_history.proofs.state.FirstMembers.{nowhere}
+use Rattle.server_history.proofs.whole_call.ServiceAndTick.{ATick, Plan, TakesTurn, Uses, turn_at}
+use Rattle.server_history.proofs.whole_call.Progress.{HasRested, IsDone, IsRestarted, Progress, begun, idle_done}
+use Rattle.server_history.proofs.plain_calls.IssueRounds.{any_append, dues_carried, issued_late, issued_parts, or_none}
+use Rattle.server_history.proofs.whole_call.AllTurns.{Whole, go, turns_kept}
+use Rattle.server_history.proofs.state.SilentOperations.{silent_none}
+use Rattle.server_history.proofs.state.PortSlots.{of_ready, ready_found}
+use Rattle.server_history.proofs.state.CallEvidence.{chosen_of, evidenced_of, ready_that, shows_failure, shows_fatal, shows_loss, told_of}
+use Rattle.server_history.proofs.any_turn.TurnsInOrder.{belong_join, lawful_join, lawful_on}
+use Rattle.server_history.proofs.state.PairedLists.{at_left, at_right}
+
+-- ---- which ports are overdue
+
+abbrev is_overdue : ℕ → Held → Bool
+is_overdue port e = e.entry.port.0 == port && (e.entry.issued && nat_le 3 e.entry.age)
+
+abbrev overdue_in : List Held → ℕ → Bool
+overdue_in book port = list_any (is_overdue port) book
+
+overdue_is : (book : List Held) (port : ℕ) → overdue_in book port ≡ true → IsOverdue (port_at port) book
+overdue_is book port is =
+    let w = any_in (is_overdue port) book is in
+    let a = and_parts (w.0.entry.port.0 == port) (w.0.entry.issued && nat_le 3 w.0.entry.age) w.2 in
+    let b = and_parts w.0.entry.issued (nat_le 3 w.0.entry.age) a.1 in
+    (w.0, w.1, (ap port_at (eqb-true w.0.entry.port.0 port a.0), b.0, leb-true 3 w.0.entry.age b.1))
+
+is_so_overdue : (book : List Held) (port : ℕ) → IsOverdue (port_at port) book → overdue_in book port ≡ true
+is_so_overdue book port o = ⊎_elim
+    (λ so. so)
+    (λ not_so.
+    let none = none_of (is_overdue port) book o.0 not_so o.1 in
+    absurd (false≢true (sym none ∙ and_from (o.0.entry.port.0 == port) (o.0.entry.issued && nat_le 3 o.0.entry.age) (eq-eqb o.0.entry.port.0 port (ap (λ (q : Port). q.0) o.2.0)) (and_from o.0.entry.issued (nat_le 3 o.0.entry.age) o.2.1 (le-leb 3 o.0.entry.age o.2.2)))))
+    (cases_Bool (overdue_in book port))
+
+-- ---- a port that rests
+
+module _ (laws : LawsBelow) (port : Port) (low : port.0 < 4) (c : Server) (settled : IsSettled c) where
+  resting : HasPart AtRest port [] c c
+  resting = record {
+    accesses = [];
+    does = refl;
+    of = All-nil (IsOf port);
+    own = All-nil IsDriversOwn;
+    others = record {
+      grants = refl;
+      wanted = refl;
+      last = refl;
+      found = λ q apart. refl;
+      remembered = λ q apart. refl;
+      modes = λ q apart. refl;
+      slots = λ q apart. refl;
+      book = λ q apart. refl;
+    };
+    silent = λ q apart lives. silent_none q ReadLog c.device;
+    makes = λ m reached is. record {
+      steps = [];
+      evidence = told_of (port ∷ []) c.device (ports_of c);
+      may = tt;
+      stands = is;
+      backed = laws.backed_none c.device m;
+      own = All-nil (IsStepOf (λ q. q ≡ port));
+      belong = tt;
+      last = tt;
+      names = record {
+        lost = All-nil (λ q. q ≡ port);
+        gone = chosen_of (λ q. q ≡ port) (ready_that shows_loss c.device (ports_of c)) (port ∷ []) its;
+        failed = chosen_of (λ q. q ≡ port) (ready_that shows_failure c.device (ports_of c)) (port ∷ []) its;
+        fatal = chosen_of (λ q. q ≡ port) (ready_that shows_fatal c.device (ports_of c)) (port ∷ []) its;
+        stopped = All-nil (λ q. q ≡ port);
+        stuck = All-nil (λ q. q ≡ port);
+      };
+      lawful = tt;
+      owes = (refl, refl, refl, uninterrupted);
+      tells = record { answers = []; same = IsPermutation-refl []; ordered = λ i j d lt below. absurd (omega (arith, lt, below)); told = refl };
+      unplugs = record { emptied = λ e other here there. absurd (nowhere (Answer e Unplugged) here); alike = λ e other here there. absurd (nowhere (Answer e Unplugged) here) };
+      becomes = (λ dead. same, λ lives. (record { served = refl; stuck = λ dead. absurd (lives dead); dies = λ named. absurd (nowhere port named); keeps = λ unready. (refl, refl) }, inl same));
+      disk = inl same;
+      keeps = inl (refl, refl);
+      issues = λ ready. none_issued c m is [] (λ id. refl) (mode_in c port) port (settled.issued port);
+      evidenced = evidenced_of (port ∷ []) Tick (Served []) [] (instant_of c m) (ports_of c) c.device port (λ ready. contains_here port [] port refl) (All-nil (LeavesEngine port));
+      faults = λ told here. absurd (nowhere told here);
+      ties = tt;
+      finds = λ is. let z : AtRest ≡ InService = is in absurd cc;
+    };
+  }
+    where
+      same : SamePort (ports_of c) (ports_of c) port
+      same = (refl, refl, refl, refl, refl, refl)
+
+      its : All (λ q. q ≡ port) (port ∷ [])
+      its = All-cons (λ q. q ≡ port) port [] refl (All-nil (λ q. q ≡ port))
+
+      uninterrupted : IsInterrupted (told_of (port ∷ []) c.device (ports_of c)) port → ⊥
+      uninterrupted i = ⊎_elim (λ stopped. nowhere port stopped) (λ stuck. nowhere port stuck) i
+
+-- ---- steps, and the tick before them
+
+-- what stands among the steps and the tick, and is no tick, stands among the steps
+among : (ready : Port → Bool) (steps : List Step) (step : Step) → step ≢ Age ready → Contains (steps ++ Age ready ∷ []) step → Contains steps step
+among ready steps step other here = ⊎_elim
+    (λ late. late)
+    (λ first. absurd (other (⊎_elim (λ is. is) (λ none. absurd (nowhere step none)) (contains_cases (Age ready) [] step first))))
+    (Contains-append_cases steps (Age ready ∷ []) step here)
+
+last_after : (ready : Port → Bool) (steps : List Step) → IssuesLast steps → IssuesLast (steps ++ Age ready ∷ [])
+last_after ready [] last = (tt, λ id h i. false≢true h)
+last_after ready (step ∷ steps) last = (
+  last_after ready steps last.0,
+  λ id h i. ⊎_elim (λ early. last.1 id h early) (λ first. false≢true first) (issued_parts id steps (Age ready ∷ []) i),
+)
+
+no_ages : (Such : Port → Type 0) (steps : List Step) → All (IsStepOf Such) steps → count_by is_age steps ≡ 0
+no_ages Such [] of = refl
+no_ages Such (Age ready ∷ steps) of = absurd (All-head (IsStepOf Such) (Age ready) steps of)
+no_ages Such (step ∷ steps) of = no_ages Such steps (All-tail (IsStepOf Such) step steps of)
+
+-- accesses that serve such ports serve others
+serving_on : (One Other : Port → Type 0) → ((q : Port) → One q → Other q) → (access : Access) → IsServing One access → IsServing Other access
+serving_on One Other each (Reading (Px port r) v) is = (is.0, is.1, each port is.2)
+serving_on One Other each (Reading r v) is = (is.0, is.1, tt)
+serving_on One Other each (Writing (Px port r) v) is = (is.0, is.1, each port is.2)
+serving_on One Other each (Writing r v) is = (is.0, is.1, tt)
+serving_on One Other each (Loading at bytes) is = (is.0, is.1, tt)
+serving_on One Other each (Storing at bytes) is = (is.0, is.1, tt)
+
+-- accesses of another port clear no bit that tells of this one's trouble
+other_clears_none : (port : Port) (access : Access) → IsOfOther port access → ClearsNone port access
+other_clears_none port (Writing (Px at r) v) (other, apart, of) = record {
+  is = λ q. let z : Px at r ≡ Px port register.Is = q in absurd (apart (ap (λ (p : Port). p.0) (sym (let same : at ≡ port = cc in same) ∙ of)));
+  serr = λ q. let z : Px at r ≡ Px port register.Serr = q in absurd (apart (ap (λ (p : Port). p.0) (sym (let same : at ≡ port = cc in same) ∙ of)));
+}
+other_clears_none port (Writing r v) (other, apart, of) = record { is = λ q. absurd cc; serr = λ q. absurd cc }
+other_clears_none port (Reading r v) of = tt
+other_clears_none port (Loading at bytes) of = tt
+other_clears_none port (Storing at bytes) of = tt
+
+-- ---- the event
+
+module _ (laws : LawsBelow) (s new : Server) (replies : List Reply) (start : IsSettled s) (ticks : Ticks replies s new) (first : Instant Device) (past : List (Happening Device DeviceStep)) (leads : Leads first past s) where
+  abbrev kept : IsKept s
+  kept = start.kept
+
+  abbrev was : Moment
+  was = (now first past).moment
+
+  at : IsMachineOf s was.machine
+  at = leads.stands.machine
+
+  same : was.ports ≡ ports_of s
+  same = leads.stands.ports_are
+
+  reached : IsReached was.machine
+  reached = laws.basic.history_reached s.wanted first past leads.history
+
+  abbrev ready : Port → Bool
+  ready port = is_ready (found_of s.ports port.0)
+
+  -- requests get older first
+  abbrev aged : Server
+  aged = a_tick_older s
+
+  abbrev old : Moment
+  old = record { machine = after_step was.machine (Age ready); ports = was.ports }
+
+  aged_start : IsSettled aged
+  aged_start = older_settled laws s start
+
+  aged_at : IsMachineOf aged old.machine
+  aged_at = older_stands laws s was.machine at
+
+  aged_reached : IsReached old.machine
+  aged_reached = laws.basic.reached was.machine (Age ready ∷ []) reached (tt, tt)
+
+  abbrev hung : ℕ → Bool
+  hung port = overdue_in aged.book port
+
+  abbrev plan : Plan
+  plan = ATick hung
+
+  -- a port's turn is a part of the tick
+  turn_part : (n : ℕ) (c mid : Server) (before its : List Reply) → state_of (found_of aged.ports n) ≡ ReadyState → Progress plan laws aged aged_start old aged_reached aged_at same n c before → TicksPort aged.book (port_at n) its c mid
+      → HasPart (turn_at plan (found_of s.ports n) n) (port_at n) its c mid
+  turn_part n c mid before its is_ready_n p (inl (overdue, mends, is_hung, part)) =
+      subst (λ (b : Bool). HasPart (if b then InRestart else AtRest) (port_at n) its c mid) (sym (is_so_overdue aged.book n overdue)) part
+  turn_part n c mid before its is_ready_n p (inr (young, none, still)) =
+      subst (λ (b : Bool). HasPart (if b then InRestart else AtRest) (port_at n) its c mid)
+      (sym (⊎_elim (λ so. absurd (young (overdue_is aged.book n so))) (λ not_so. not_so) (cases_Bool (hung n))))
+      (subst (HasPart AtRest (port_at n) its c) (sym still) (subst (λ (list : List Reply). HasPart AtRest (port_at n) list c c) (sym none) (resting laws (port_at n) (ready_found s n kept is_ready_n).0 c p.settled)))
+
+  -- another port is passed over
+  other_part : (n : ℕ) (c mid : Server) (before : List Reply) (state : PortState) → found_of s.ports n ≡ Unready state → Progress plan laws aged aged_start old aged_reached aged_at same n c before → mid ≡ c
+      → ((TakesTurn plan (found_of s.ports n) → ⊥) × (mid ≡ c)) ⊎ (TakesTurn plan (found_of s.ports n) × HasPart (turn_at plan (found_of s.ports n) n) (port_at n) [] c mid)
+  other_part n c mid before state is p still = inl (λ is_ready_n. let z : Unready state ≡ Ready _ = sym is ∙ (ready_found s n kept is_ready_n).1.1 in absurd cc, still)
+
+  ends : Whole plan laws aged aged_start old aged_reached aged_at same new replies
+  ends = go plan laws aged aged_start old aged_reached aged_at same (TicksPort aged.book) (λ port one other. other ≡ one) turn_part other_part s.ports 0 (λ i. ap (λ (k : ℕ). found_of s.ports k) (omega arith)) aged new [] replies (begun plan laws aged aged_start old aged_reached aged_at same) ticks
+
+  p : Progress plan laws aged aged_start old aged_reached aged_at same ends.count new replies
+  p = ends.progress
+
+  abbrev steps : List Step
+  steps = p.steps ++ Age ready ∷ []
+
+  abbrev holds : IsKept new
+  holds = p.settled.kept
+
+  abbrev end : Moment
+  end = record { machine = after was.machine steps; ports = ports_of new }
+
+  whole_is : after was.machine steps ≡ after old.machine p.steps
+  whole_is = laws.basic.joined was.machine p.steps (Age ready ∷ [])
+
+  in_end : (e : Pending) → Contains end.machine.book e → Contains (after old.machine p.steps).book e
+  in_end e here = subst (λ (k : Machine). Contains k.book e) whole_is here
+
+  state_is : (port : Port) → was.ports.state port ≡ state_of (found_of s.ports port.0)
+  state_is port = ap (λ (ports : Ports). ports.state port) same
+
+  -- what is so of each port at the end
+  done : (port : Port) → IsDone plan laws aged aged_start old aged_reached aged_at same new p.accesses p.steps p.evidence port
+  done port = ⊎_elim
+      (λ less. p.done port less)
+      (λ most. idle_done plan laws aged aged_start old aged_reached aged_at same ends.count new replies p port (ends.past port.0 most))
+      (cases_lt port.0 ends.count)
+
+  -- ---- which ports are hung
+
+  abbrev IsToRestart : Port → Type 0
+  IsToRestart port = (was.ports.state port ≡ ReadyState) × (hung port.0 ≡ true)
+
+  is_hung : (port : Port) → IsToRestart port → IsHung was port
+  is_hung port (is_ready_now, so) =
+      let o = overdue_is aged.book port.0 so in
+      let y = at_left IsEntry aged.book old.machine.book aged_at.book o.0 o.1 in
+      let w = map_in (older ready) was.machine.book y.0 y.1 in
+      let own = o.2.0 in
+      let age = y.2.age in
+      let three = o.2.2 in
+      let at_most = older_by (λ x. x.age ≤ suc w.0.age) ready w.0 (omega arith) (omega arith) in
+      let its_age : y.0.age ≡ (older ready w.0).age = ap (λ (x : Pending). x.age) w.2 in
+      record {
+        ready = is_ready_now;
+        pending = w.0;
+        here = w.1;
+        port_is = sym (ap (λ r. r.port) (older_request ready w.0)) ∙ ap (λ (x : Pending). x.request.port) (sym w.2) ∙ y.2.port ∙ own;
+        issued = sym (older_issued ready w.0) ∙ ap (λ (x : Pending). x.issued) (sym w.2) ∙ y.2.issued ∙ o.2.1;
+        old_enough = omega (arith, age, three, at_most, its_age);
+      }
+
+  is_restarted : (port : Port) → IsHung was port → IsToRestart port
+  is_restarted port h = (h.ready, is_so_overdue aged.book port.0 overdue)
+    where
+      ready_now : ready h.pending.request.port ≡ true
+      ready_now =
+          let f = ready_found s port.0 kept (sym (state_is port) ∙ h.ready) in
+          ap (λ (q : Port). is_ready (found_of s.ports q.0)) h.port_is ∙ ap is_ready f.1.1
+
+      older_is : older ready h.pending ≡ record (h.pending) { age = suc h.pending.age }
+      older_is = cond-true (h.pending.issued && ready h.pending.request.port) (record (h.pending) { age = suc h.pending.age }) h.pending (and_from h.pending.issued (ready h.pending.request.port) h.issued ready_now)
+
+      overdue : IsOverdue (port_at port.0) aged.book
+      overdue =
+          let x = at_right IsEntry aged.book old.machine.book aged_at.book (older ready h.pending) (into_map (older ready) was.machine.book h.pending h.here) in
+          let age = x.2.age in
+          let its : (older ready h.pending).age ≡ suc h.pending.age = ap (λ (y : Pending). y.age) older_is in
+          let two = h.old_enough in (
+            x.0,
+            x.1,
+            (
+              sym x.2.port ∙ ap (λ r. r.port) (older_request ready h.pending) ∙ h.port_is,
+              sym x.2.issued ∙ older_issued ready h.pending ∙ h.issued,
+              omega (arith, age, its, two),
+            ),
+          )
+
+  -- each port was restarted, or let rest
+  restarted_or_not : (port : Port) → (IsToRestart port × IsRestarted (record { device = s.device; moment = old }) port p.accesses new p.evidence p.steps) ⊎ ((IsToRestart port → ⊥) × HasRested old port p.accesses new p.evidence p.steps)
+  restarted_or_not port = ⊎_elim
+      (λ (is : was.ports.state port ≡ ReadyState). ⊎_elim
+      (λ (so : hung port.0 ≡ true). inl ((is, so), (done port).ties.restarted is so))
+      (λ (not_so : hung port.0 ≡ false).
+      let never : (hung port.0 ≡ true) → ⊥ = λ so. false≢true (sym not_so ∙ so) in
+      inr (λ r. never r.1, (done port).ties.rested (λ _ so. never so)))
+      (cases_Bool (hung port.0)))
+      (λ (not : was.ports.state port ≢ ReadyState). inr (λ r. not r.0, (done port).ties.rested (λ is so. not is)))
+      (ready_or_not (was.ports.state port))
+
+  -- ---- requests, before and after the tick
+
+  aged_in : (e : Pending) → Contains was.machine.book e → Contains old.machine.book (older ready e)
+  aged_in e here = into_map (older ready) was.machine.book e here
+
+  ended_before : (port : Port) → AnswersEnded old.machine p.steps port → AnswersEnded was.machine steps port
+  ended_before port answers e here own ended =
+      let y = answers (older ready e) (aged_in e here) (ap (λ r. r.port) (older_request ready e) ∙ own) (older_ended ready e ∙ ended) in
+      (y.0, y.1 ∙ older_request ready e, Contains-append_left p.steps (Age ready ∷ []) (Answer y.0 outcome.Ok) y.2)
+
+  issued_before : (id : RequestId) → WasIssued old.machine id → WasIssued was.machine id
+  issued_before id w =
+      let y = map_in (older ready) was.machine.book w.pending w.here in
+      record {
+        pending = y.0;
+        here = y.1;
+        id_is = ap (λ r. r.id) (sym (older_request ready y.0)) ∙ ap (λ (x : Pending). x.request.id) (sym y.2) ∙ w.id_is;
+        issued = sym (older_issued ready y.0) ∙ ap (λ (x : Pending). x.issued) (sym y.2) ∙ w.issued;
+      }
+
+  anew_before : (port : Port) → NoneKeepsIssue p.steps (after old.machine p.steps) port → NoneKeepsIssue steps end.machine port
+  anew_before port none e here own issued = issued_late e.request.id p.steps (Age ready ∷ []) (none e (in_end e here) own issued)
+
+  any_of : (f : Step → Bool) → f (Age ready) ≡ false → list_any f steps ≡ list_any f p.steps
+  any_of f none = any_append f p.steps (Age ready ∷ []) ∙ ap (λ (b : Bool). list_any f p.steps || (b || false)) none ∙ or_none (list_any f p.steps)
+
+  finds_before : (port : Port) → FindsDone port p.accesses (record { device = s.device; moment = old }) p.steps → FindsDone port p.accesses (with_device s.device (now first past)) steps
+  finds_before port f = record {
+    ci = f.ci;
+    sact = f.sact;
+    reads = f.reads;
+    exact = λ e slot own says.
+        let id : (older ready e).request ≡ e.request = older_request ready e in
+        let y = f.exact (older ready e) slot
+        (record { here = aged_in e own.here; port_is = ap (λ r. r.port) id ∙ own.port_is; issued = older_issued ready e ∙ own.issued })
+        (subst (λ r. ServesRequest old.machine s.device.memory (s.device.port port.0) port.0 slot r.id) (sym id) (serves_on s.device.memory (s.device.port port.0) port.0 slot was.machine ready e.request.id says)) in (
+          (λ ok. y.0 (ok.0, ok.1 ∙ sym id, among ready p.steps (Answer ok.0 outcome.Ok) (λ z. let z2 : Answer ok.0 outcome.Ok ≡ Age ready = z in cc) ok.2)),
+          (λ clear. let ok = y.1 clear in (ok.0, ok.1 ∙ id, Contains-append_left p.steps (Age ready ∷ []) (Answer ok.0 outcome.Ok) ok.2)),
+        );
+  }
+
+  in_steps : (e : Pending) (o : Outcome) → Contains steps (Answer e o) → Contains p.steps (Answer e o)
+  in_steps e o here = among ready p.steps (Answer e o) (λ z. let z2 : Answer e o ≡ Age ready = z in cc) here
+
+  again_in : (e : Pending) → Contains steps (Again e) → Contains p.steps (Again e)
+  again_in e here = among ready p.steps (Again e) (λ z. let z2 : Again e ≡ Age ready = z in cc) here
+
+  -- ---- what the tick says and does
+
+  answered_hung : (e : Pending) (o : Outcome) → Contains p.steps (Answer e o) → IsToRestart e.request.port
+  answered_hung e o here = ⊎_elim (λ r. r.0) (λ r. absurd (r.1.answer e o here refl)) (restarted_or_not e.request.port)
+
+  none_waits : (port : Port) → state_of (found_of new.ports port.0) ≢ ReadyState → (e : Pending) → Contains end.machine.book e → e.request.port ≢ port
+  none_waits port other e here own =
+      let a = at_right IsEntry new.book (after old.machine p.steps).book p.stands.book e (in_end e here) in
+      other (ap (λ (q : Port). state_of (found_of new.ports q.0)) (sym own ∙ a.2.port) ∙ of_ready new holds a.0 a.1)
+
+  -- a port that is to be restarted was
+  module _ (port : Port) (h : IsHung was port) where
+    restart : IsRestarted (record { device = s.device; moment = old }) port p.accesses new p.evidence p.steps
+    restart = (done port).ties.restarted h.ready (is_restarted port h).1
+
+  restarts : RestartsHung was p.evidence steps end
+  restarts = record {
+    ports = λ port. ⊎_elim
+        (λ r. inr (is_hung port r.0, ((done port).becomes.1 (λ dead. let z : ReadyState ≡ Dead = sym r.0.0 ∙ dead in absurd cc)).0))
+        (λ r. inl (λ h. r.0 (is_restarted port h), r.1.same))
+        (restarted_or_not port);
+    again = λ e here. ⊎_elim (λ r. is_hung e.request.port r.0) (λ r. absurd (r.1.again e (again_in e here) refl)) (restarted_or_not e.request.port);
+    answer = λ e o here. is_hung e.request.port (answered_hung e o (in_steps e o here));
+    ended = λ port h. ended_before port (restart port h).ended;
+    anew = λ port h. anew_before port (restart port h).anew;
+    interrupts = λ port h. (restart port h).interrupts;
+    spares = λ port i. ⊎_elim (λ r. is_hung port r.0) (λ r. absurd (r.1.uninterrupted i)) (restarted_or_not port);
+    finds = λ e here.
+        let early = in_steps e Unplugged here in
+        (restart e.request.port (is_hung e.request.port (answered_hung e Unplugged early))).another e early refl;
+    disk = λ port h shows. ⊎_elim (λ present. inl present) (λ changed. inr (any_of (changes_disk port) refl ∙ changed)) ((restart port h).disk shows);
+  }
+
+  all_answered : AnswersTick was p.evidence steps replies end
+  all_answered = record {
+    tells = record {
+      answers = p.answers;
+      same = subst (IsPermutation p.answers) (sym (answers_append p.steps (Age ready ∷ []) ∙ append-nil (answers_of p.steps))) p.permuted;
+      ordered = p.ordered;
+      told = p.told;
+    };
+    ages = record {
+      ready = ready;
+      is_ready = λ port. (
+        λ so. state_is port ∙ state_if (found_of s.ports port.0) so,
+        λ is. let f = ready_found s port.0 kept (sym (state_is port) ∙ is) in subst (λ (found : Found). IsTrue (is_ready found)) (sym f.1.1) refl,
+      );
+      later = p.steps;
+      first = refl;
+      once = no_ages (λ q. (q.0 < ends.count) × TakesTurn plan (found_of aged.ports q.0)) p.steps p.of;
+    };
+    restarts = restarts;
+    unplugs = record {
+      emptied = λ e other here there. p.unplugs.emptied e other (in_steps e Unplugged here) (in_end other there);
+      alike = λ e other here there. p.unplugs.alike e other (in_steps e Unplugged here) (in_steps other PortDead there);
+    };
+    issues = λ port is. none_due new end.machine stands_then (mode_in new port) port (p.settled.issued port);
+    emptied = λ port _. none_waits port;
+  }
+    where
+      state_if : (found : Found) → IsTrue (is_ready found) → state_of found ≡ ReadyState
+      state_if (Ready info) so = refl
+      state_if Unserved so = absurd (false≢true so)
+      state_if (Unready state) so = absurd (false≢true so)
+
+      stands_then : IsMachineOf new end.machine
+      stands_then = subst (IsMachineOf new) (sym whole_is) p.stands
+
+  keeps : KeepsDisks was end
+  keeps e o here there same_id = ⊎_elim (λ d. d) (λ none. absurd (none e (in_end e here) refl)) (done e.request.port).keeps
+
+  evidenced : IsEvidenced Tick (Served replies) p.accesses (with_device s.device (now first past)) (ports_of new) new.device p.evidence
+  evidenced = record {
+    faults = λ told here. absurd (nowhere told (subst (λ list. Contains list told) p.owes here));
+    port = λ port.
+        let v = (done port).evidenced in
+        record {
+          lost = v.lost;
+          gone_all = v.gone_all;
+          gone_only = v.gone_only;
+          failed_all = v.failed_all;
+          failed_only = v.failed_only;
+          fatal_all = v.fatal_all;
+          fatal_only = v.fatal_only;
+          stopped_all = v.stopped_all;
+          stopped_only = v.stopped_only;
+          stuck_only = v.stuck_only;
+        };
+  }
+
+  lawful : AllLawful was p.evidence (ports_of new) steps
+  lawful = lawful_join was p.evidence (ports_of new) p.steps (Age ready ∷ [])
+      (lawful_on old was p.evidence p.evidence (ports_of new) (ports_of new) p.steps
+      (λ e o here l. lawful_lift old was p.evidence p.evidence (ports_of new) (ports_of new) e o (issued_before e.request.id) (λ told x. x) (λ x. x) (λ x. x) refl (λ d. d) l)
+      (λ e here x. x)
+      p.lawful)
+      tt
+
+  -- ---- what it has done of each port
+
+  trouble_of : (port : Port) → HeedsTrouble port p.accesses (record { device = s.device; moment = old }) p.evidence (ports_of new) new.device
+  trouble_of port = ⊎_elim
+      (λ r. r.1.heeds)
+      (λ r. record {
+        trouble = laws.calls.ordinary port (record { device = s.device; moment = old }) new.device p.accesses p.evidence (ports_of new) kept.on p.does
+            (All-weaker (IsServing (Uses plan old.ports)) (SparesRegister Ghc) (λ access serving. serving.1) p.accesses p.serving)
+            (All-weaker (IsOfOther port) (ClearsNone port) (other_clears_none port) p.accesses r.1.others);
+        well = λ i. absurd (r.1.uninterrupted i);
+      })
+      (restarted_or_not port)
+
+  port_part : (port : Port) → DoesPort (with_device s.device (now first past)) (happening_with p.evidence new.device Tick (Served replies) steps (ports_of new)) p.accesses port
+  port_part port =
+      let t = trouble_of port in
+      record {
+        ties = record {
+          finds = λ h. finds_before port (restart port h).finds;
+          faults = tt;
+          tries = tt;
+          boots = λ h. (restart port h).boots;
+          trouble = record { errors = t.trouble.errors; changes = t.trouble.changes; fault = t.trouble.fault; fatal = t.trouble.fatal; disk = t.trouble.disk };
+          well = t.well;
+        };
+        heeds = tt;
+      }
+
+  due_then : (port : Port) → state_of (found_of new.ports port.0) ≡ ReadyState → IssuesDue (mode_in new port) steps end.machine port
+  due_then port is = dues_carried laws (mode_in new port) p.steps steps (after old.machine p.steps) end.machine port (ap (λ (k : Machine). of_port port (map unanswered k.book)) (sym whole_is))
+      (λ r here own. sym (any_of (issues_it r.id) refl)) (p.due port is)
+
+  pub tick_event : (h : Happening Device DeviceStep) × (h.event.ask ≡ Tick) × (h.event.said ≡ Served replies) × Leads first (h ∷ past) new
+  tick_event =
+      lead_with laws first past s new Tick (Served replies) p.evidence steps p.wanted leads (holding new holds) (kept_fit new holds)
+      (laws.basic.may was.machine p.steps (Age ready ∷ []) (tt, tt) p.turns.may)
+      (belong_join Tick (ports_of new) p.steps (Age ready ∷ []) p.belong (tt, inr tt))
+      (last_after ready p.steps p.turns.last)
+      lawful keeps all_answered
+      p.accesses
+      (p.does, All-weaker (IsServing (Uses plan old.ports)) (IsServing (IsHung was)) (serving_on (Uses plan old.ports) (IsHung was) (λ q used. is_hung q used)) p.accesses p.serving)
+      evidenced
+      due_then
+      port_part
+      (laws.backed_parts s.device s.device new.device was.machine (Age ready ∷ []) p.steps (laws.backed_own s.device was.machine (Age ready) (λ x. x)) p.backed)
+      (subst (IsMachineOf new) (sym whole_is) p.stands)
+
+pub ticks_add : LawsBelow → (s new : Server) (replies : List Reply) → IsSettled s → Ticks replies s new → Adds s new Tick (Served replies)
+ticks_add laws s new replies start ticks = record {
+  settled = turns_kept (TicksPort (a_tick_older s).book) (λ port one other. other ≡ one) s.ports 0 (a_tick_older s) new replies (older_settled laws s start) ticks;
+  adds = λ first past leads. tick_event laws s new replies start ticks first past leads;
+}

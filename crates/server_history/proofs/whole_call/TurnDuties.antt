@@ -1,0 +1,251 @@
+-- What a port's turn in a service has done of it, the service has done so far.
+use Rattle.std.proofs.Common.{ℕ, ◌≡◌, ◌≢◌, ◌⊎◌, ◌<◌, true, false, List, [], ◌++◌, Some, None, drop, refl, sym, ap, ◌∙◌, subst, inl, inr, ⊎_elim, arith, append-nil}
+use Rattle.std.specs.List.{Contains, count_by, list_any}
+use Rattle.std.proofs.lemmas.Bool.{cases_Bool, cases_eq, false≢true}
+use Rattle.std.proofs.lemmas.List.Elements.{Contains-append_cases, Contains-append_left}
+use Rattle.ata_types.specs.declared.PortState.{PortState}
+use Rattle.ata_types.specs.declared.PortState.TheVariants.{Absent, Dead, Ready as ReadyState}
+use Rattle.ata_types.specs.declared.request.Outcome.{Outcome}
+use Rattle.ata_types.specs.declared.request.Outcome.TheVariants.{DeviceError}
+use Rattle.ata_types.specs.declared.request.Reply.{Reply}
+use Rattle.adapter.specs.Access.{Access}
+use Rattle.adapter.specs.Commands.{Meaning, is_queued}
+use Rattle.adapter.specs.Device.{Device}
+use Rattle.adapter.specs.Rules.{InUse, IsOn}
+use Rattle.agreement.specs.Agrees.{port_at}
+use Rattle.agreement.specs.Facts.{HasFaults, ShowsFault}
+use Rattle.agreement.specs.Slots.{ServesRequest}
+use Rattle.block_machine.specs.Events.{AreTold, IsLeftAlone, Moment, Served, Service, ServesReady, changes_disk, tells_fault}
+use Rattle.block_machine.specs.Histories.{Instant, IsReached}
+use Rattle.block_machine.specs.Left.{after}
+use Rattle.block_machine.specs.Ports.{Evidence, IsInterrupted, SamePort}
+use Rattle.block_machine.specs.State.{Pending, Machine}
+use Rattle.block_machine.specs.Steps.{Step, Answer}
+use Rattle.block_machine.proofs.Counting.{count_append}
+use Rattle.host_boot.specs.Taken.{found_of}
+use Rattle.host_boot.specs.declared.Found.{Found}
+use Rattle.driver_history.specs.Evidence.{ShowsChange, ShowsFailure}
+use Rattle.driver_history.specs.Histories.{BootsAnew, FindsDone, IsUnfitOrForeign, HasFaultAlone, IsAnsweredFaulty, IsIssuedOn}
+use Rattle.driver_history.specs.Parts.{HasTurnIn, NamesAlike}
+use Rattle.server_history.specs.Below.{LawsBelow}
+use Rattle.server_history.specs.Turns.{DoesPort, HasPart, HeedsTrouble, InService, MakesTurn, TiesTurn, Turn, instant_of, moment_of, turn_of}
+use Rattle.server_history.specs.Server.{HasCommand, Server, IsKept, IsMachineOf, IsSettled, ports_of, state_of}
+use Rattle.server_history.proofs.any_turn.JoinedParts.{same_then}
+use Rattle.server_history.proofs.whole_call.Progress.{others_leave}
+use Rattle.server_history.proofs.whole_call.TurnResults as lifting
+use Rattle.server_history.proofs.whole_call.TurnResults.{counts_apart}
+use Rattle.server_history.proofs.whole_call.ServiceAndTick.{AService, turn_at}
+use Rattle.server_history.proofs.whole_call.Progress as progress
+use Rattle.server_history.proofs.state.PortSlots.{ready_found, free_unused}
+use Rattle.server_history.proofs.unready_turn.UnfitPort.{ready_fits}
+
+module _ (laws : LawsBelow) (s : Server) (start : IsSettled s) (old : Moment) (reached : IsReached old.machine) (at : IsMachineOf s old.machine) (ports_are : old.ports ≡ ports_of s) where
+  abbrev kept : IsKept s
+  kept = start.kept
+
+  abbrev began : Instant Device
+  began = record { device = s.device; moment = old }
+
+  abbrev state_at : ℕ → PortState
+  state_at q = state_of (found_of s.ports q)
+
+  abbrev Progress : ℕ → Server → List Reply → Type 0
+  Progress n c replies = progress.Progress AService laws s start old reached at ports_are n c replies
+
+  module _ (n : ℕ) (c mid : Server) (before its : List Reply) (ready : state_at n ≡ ReadyState) (p : Progress n c before) (next : IsSettled mid) (part : HasPart (turn_at AService (found_of s.ports n) n) (port_at n) its c mid)
+      (m_reached : IsReached (after old.machine p.steps)) (on_mid : IsOn mid.device) where
+    abbrev m : Machine
+    m = after old.machine p.steps
+
+    abbrev x : MakesTurn (turn_at AService (found_of s.ports n) n) (port_at n) its part.accesses c mid m
+    x = part.makes m m_reached p.stands
+
+    abbrev all : List Step
+    all = x.steps ++ p.steps
+
+    abbrev accesses : List Access
+    accesses = p.accesses ++ part.accesses
+
+    -- it is ready, and so its turn is one in which it is served
+    is_service : turn_at AService (found_of s.ports n) n ≡ InService
+    is_service = ap (λ (found : Found). turn_at AService found n) (ready_found s n kept ready).1.1
+
+    its_ties : TiesTurn InService (port_at n) its part.accesses c mid m x.evidence x.steps
+    its_ties = subst (λ (turn : Turn). TiesTurn turn (port_at n) its part.accesses c mid m x.evidence x.steps) is_service x.ties
+
+    low : n < 4
+    low = lifting.low AService laws s start old reached at ports_are n c mid before its p next part m_reached on_mid ready
+
+    ready_c : state_of (found_of c.ports n) ≡ ReadyState
+    ready_c = lifting.ready_c AService laws s start old reached at ports_are n c mid before its p next part m_reached on_mid ready
+
+    was_ready : old.ports.state (port_at n) ≡ ReadyState
+    was_ready = lifting.was_ready AService laws s start old reached at ports_are n c mid before its p next part m_reached on_mid ready
+
+    not_early : (e : Pending) (o : Outcome) → Contains p.steps (Answer e o) → e.request.port ≢ port_at n
+    not_early = lifting.not_early AService laws s start old reached at ports_are n c mid before its p next part m_reached on_mid
+
+    abbrev t : HasTurnIn (port_at n) s.device mid.device
+    t = lifting.t AService laws s start old reached at ports_are n c mid before its p next part m_reached on_mid
+
+    undue : (s.device.port n).link_due ≡ false
+    undue = lifting.undue AService laws s start old reached at ports_are n c mid before its p next part m_reached on_mid ready
+
+    abbrev IsLeading : Pending → Type 0
+    IsLeading e = lifting.IsLeading AService laws s start old reached at ports_are n c mid before its p next part m_reached on_mid ready e
+
+    leading : (e : Pending) → IsIssuedOn (port_at n) old.machine e → IsLeading e
+    leading = lifting.leading AService laws s start old reached at ports_are n c mid before its p next part m_reached on_mid ready
+
+    then_issued : (e : Pending) → IsIssuedOn (port_at n) old.machine e → (h : IsLeading e) → IsIssuedOn (port_at n) m h.now_is
+    then_issued = lifting.then_issued AService laws s start old reached at ports_are n c mid before its p next part m_reached on_mid ready
+
+    whole_is : after old.machine all ≡ after m x.steps
+    whole_is = lifting.whole_is AService laws s start old reached at ports_are n c mid before its p next part m_reached on_mid
+
+    module _ (evidence : Evidence) (alike : NamesAlike (port_at n) x.evidence evidence) (same_n : SamePort old.ports (ports_of c) (port_at n)) where
+      abbrev did : DoesPort (instant_of c m) (turn_of InService its mid x.evidence x.steps) part.accesses (port_at n)
+      did = its_ties
+
+      abbrev serves : ServesReady (moment_of c m) x.evidence x.steps (record { machine = after m x.steps; ports = ports_of mid }) (port_at n)
+      serves = did.heeds ready_c
+
+      finding : (e : Pending) → IsIssuedOn (port_at n) old.machine e → FindsDone (port_at n) accesses began all
+      finding e leads = lifting.finding AService laws s start old reached at ports_are n c mid before its p next part m_reached on_mid ready (x.finds is_service (leading e leads).now_is (then_issued e leads (leading e leads))) serves.ended
+
+      -- ---- a plain request's fault
+
+      module _ (alone : HasFaultAlone (port_at n) began mid.device) (e : Pending) (slot : ℕ) (own : IsIssuedOn (port_at n) old.machine e) (unended : e.ended ≡ false)
+          (says : ServesRequest old.machine s.device.memory (s.device.port n) n slot e.request.id) (plain : is_queued says.command.operation ≡ false) where
+        abbrev it : IsLeading e
+        it = leading e own
+
+        -- it is in its slot, which was used when the call began
+        its_slot : slot ≡ it.has.slot
+        unfolding leading
+        its_slot = ⊎_elim (λ same. same) (λ apart. absurd (false≢true (sym unended ∙ lifting.has_ended AService laws s start old reached at ports_are n c mid before its p next part m_reached on_mid ready e own slot apart says))) (cases_eq slot it.has.slot)
+
+        -- whose command is a plain one
+        used_plain : it.has.used.queued ≡ false
+        used_plain =
+            let k = subst (HasCommand it.has.used.queued s.device n) (sym its_slot) (kept.commands n it.has.slot it.has.used (sym (lifting.used_then AService laws s start old reached at ports_are n c mid before its p next part m_reached on_mid ready it.has.slot) ∙ it.has.used_is)) in
+            let same = laws.slots.one_said s.device.memory (s.device.port n).bases.clb slot says.command k.command says.places k.places says.told.says k.stored.told.says in
+            sym k.kind ∙ sym (ap (λ (y : Meaning). is_queued y.operation) same.0) ∙ plain
+
+        plain_now : is_queued (lifting.by AService laws s start old reached at ports_are n c mid before its p next part m_reached on_mid ready e it).serves.command.operation ≡ false
+        plain_now =
+            let k = p.settled.kept.commands n it.has.slot it.has.used it.has.used_is in
+            let its = (lifting.by AService laws s start old reached at ports_are n c mid before its p next part m_reached on_mid ready e it).serves in
+            let same = laws.slots.one_said c.device.memory (c.device.port n).bases.clb it.has.slot its.command k.command its.places k.places its.told.says k.stored.told.says in
+            ap (λ (y : Meaning). is_queued y.operation) same.0 ∙ k.kind ∙ used_plain
+
+        -- so it is in the turn
+        alone_now : HasFaultAlone (port_at n) (instant_of c m) mid.device
+        alone_now = laws.calls.alone_then (port_at n) began (moment_of c m) mid.device kept.on undue t on_mid ready_c alone
+
+        -- the fault that is shown then is of that slot, which is in use
+        faults : HasFaults c.device.tape (c.device.port n) n
+        faults = ((p.settled.kept.behind n low).runs ready_c).recorded
+
+        fault : ShowsFault (drop (c.device.port n).notes.st_set_at c.device.tape) (c.device.port n) n
+        fault = faults.fault (faults.flag alone_now.shows.fault)
+
+        used_still : InUse (c.device.port n) it.has.slot
+        used_still =
+            let sole = p.settled.kept.alone n it.has.slot it.has.used it.has.used_is used_plain in
+            subst (InUse (c.device.port n)) (laws.slots.fault_sole p.stands.uses m c.device n it.has.slot (drop (c.device.port n).notes.st_set_at c.device.tape) p.stands.knows.agrees fault
+            (λ other apart. free_unused c m n p.stands ready_c other (sole.1 other (λ zero. apart (zero ∙ sym sole.0))))) fault.used
+
+        -- so it hasn't ended
+        unended_now : it.now_is.ended ≡ false
+        unended_now = ⊎_elim
+            (λ (is : it.now_is.ended ≡ true).
+            let over = (laws.slots.ended_clear p.stands.uses m c.device (port_at n) it.has.slot it.now_is m_reached p.stands.knows.agrees (inl (it.here, it.issued_now)) is (lifting.slot_serves AService laws s start old reached at ports_are n c mid before its p next part m_reached on_mid ready e it)).0.over in
+            absurd (⊎_elim (λ issued. false≢true (sym over.issued ∙ issued)) (λ (taken : _ × _). let z : None ≡ Some taken.0 = sym over.free ∙ taken.1 in cc) used_still))
+            (λ no. no)
+            (cases_Bool it.now_is.ended)
+
+        fault_told : IsAnsweredFaulty e all ⊎ (state_of (found_of mid.ports n) ≡ Dead)
+        fault_told = ⊎_elim
+            (λ (a : IsAnsweredFaulty it.now_is x.steps). inl (a.0, a.1, a.2, a.3 ∙ it.same_as.request, Contains-append_left x.steps p.steps (Answer a.0 (DeviceError a.1 a.2)) a.4))
+            (λ dead. inr dead)
+            (did.ties.faults alone_now it.now_is it.has.slot (then_issued e own it) unended_now (lifting.by AService laws s start old reached at ports_are n c mid before its p next part m_reached on_mid ready e it).serves plain_now)
+
+      -- ---- what it heeds
+
+      unnamed : IsInterrupted evidence (port_at n) → IsInterrupted x.evidence (port_at n)
+      unnamed i = ⊎_elim (λ stopped. inl (alike.stopped.1 stopped)) (λ stuck. inr (alike.stuck.1 stuck)) i
+
+      told_whole : (o : Outcome) → AreTold o x.steps (port_at n) → AreTold o all (port_at n)
+      told_whole o told e answer here own = ⊎_elim
+          (λ late. told e answer late own)
+          (λ early. absurd (not_early e answer early own))
+          (Contains-append_cases x.steps p.steps (Answer e answer) here)
+
+      counted : count_by (tells_fault (port_at n)) all ≡ count_by (tells_fault (port_at n)) x.steps
+      counted =
+          let whole = count_append (tells_fault (port_at n)) x.steps p.steps in
+          let none = counts_apart (port_at n) p.steps not_early in
+          omega (arith, whole, none)
+
+      changed_whole : list_any (changes_disk (port_at n)) x.steps ≡ true → list_any (changes_disk (port_at n)) all ≡ true
+      changed_whole = lifting.changed_whole AService laws s start old reached at ports_are n c mid before its p next part m_reached on_mid
+
+      heeds_whole : ServesReady old evidence all (record { machine = after old.machine all; ports = ports_of mid }) (port_at n)
+      heeds_whole = record {
+        ended = lifting.ended_whole AService laws s start old reached at ports_are n c mid before its p next part m_reached on_mid ready serves.ended;
+        emptied = λ gone e here. serves.emptied (alike.gone.1 gone) e (subst (λ (k : Machine). Contains k.book e) whole_is here);
+        told = λ gone. ⊎_elim (λ a. inl (told_whole _ a)) (λ b. inr (told_whole _ b)) (serves.told (alike.gone.1 gone));
+        interrupts = λ trouble. lifting.named AService laws s start old reached at ports_are n c mid before its p next part m_reached on_mid evidence alike (serves.interrupts (⊎_elim (λ failed. inl (alike.failed.1 failed)) (λ gone. inr (alike.gone.1 gone)) trouble));
+        anew = λ trouble. lifting.anew_whole AService laws s start old reached at ports_are n c mid before its p next part m_reached on_mid (serves.anew (⊎_elim (λ failed. inl (alike.failed.1 failed)) (λ stopped. inr (alike.stopped.1 stopped)) trouble));
+        single = let one = serves.single in omega (arith, counted, one);
+        fatal = λ here. let y = serves.fatal (alike.fatal.1 here) in (alike.failed.0 y.0, counted ∙ y.1);
+        disk = lifting.disk_whole AService laws s start old reached at ports_are n c mid before its p next part m_reached on_mid serves.disk;
+        calm = ⊎_elim
+            (λ disturbed. inl (⊎_elim (λ failed. inl (alike.failed.0 failed)) (λ rest. inr (⊎_elim (λ gone. inl (alike.gone.0 gone)) (λ changed. inr (changed_whole changed)) rest)) disturbed))
+            (λ (a : IsLeftAlone (ports_of c) x.evidence x.steps (ports_of mid) (port_at n)). inr (record {
+              same = same_then old.ports (ports_of c) (ports_of mid) (port_at n) same_n a.same;
+              told = told_whole _ a.told;
+              uninterrupted = λ i. a.uninterrupted (unnamed i);
+            }))
+            serves.calm;
+      }
+
+      -- ---- trouble
+
+      same_self : SamePort (ports_of mid) (ports_of mid) (port_at n)
+      same_self = (refl, refl, refl, refl, refl, refl)
+
+      -- where the port showed a failure when it began, or a change of its link, the turn stopped it
+      stops_troubled : ShowsFailure (c.device.port n) ⊎ ShowsChange (c.device.port n) → IsInterrupted x.evidence (port_at n)
+      stops_troubled trouble = serves.interrupts (⊎_elim (λ failure. inl (x.evidenced.failed_all ready_c failure)) (λ change. inr (x.evidenced.gone_all ready_c (inl change))) trouble)
+
+      -- ---- the whole
+
+      not_bad : IsUnfitOrForeign old.ports (port_at n) → ⊥
+      not_bad bad = ready_fits (old.ports.state (port_at n)) was_ready bad
+
+      not_absent : old.ports.state (port_at n) ≡ Absent → ⊥
+      not_absent absent = let z : Absent ≡ ReadyState = sym absent ∙ was_ready in absurd cc
+
+      heeds_trouble : HeedsTrouble (port_at n) accesses began evidence (ports_of mid) mid.device
+      heeds_trouble = lifting.trouble_whole AService laws s start old reached at ports_are n c mid before its p next part m_reached on_mid evidence alike same_n (λ _. stops_troubled) (λ _. inl undue) (record { trouble = did.ties.trouble; well = did.ties.well })
+
+      pub ties_whole : DoesPort began (turn_of InService [] mid evidence all) accesses (port_at n)
+      ties_whole = record {
+        ties = record {
+          finds = λ _ e own. finding e own;
+          faults = λ alone e slot own unended says plain. fault_told alone e slot own unended says plain;
+          tries = λ served coming. record {
+            shown = λ absent det. absurd (not_absent absent);
+            absent = λ absent det fresh. absurd (not_absent absent);
+            missing = λ bad. absurd (not_bad bad);
+            changed = λ bad. absurd (not_bad bad);
+          };
+          boots = subst (λ (list : List Access). BootsAnew Service (Served []) (p.accesses ++ list) began (ports_of mid) mid.device (port_at n)) (append-nil part.accesses)
+              (laws.calls.call_boots (port_at n) began (moment_of c m) (ports_of mid) (ports_of mid) mid.device (Served its) (Served []) kept.on (λ _. undue) t on_mid same_self same_n did.ties.boots);
+          trouble = heeds_trouble.trouble;
+          well = heeds_trouble.well;
+        };
+        heeds = λ _. heeds_whole;
+      }

@@ -1,0 +1,194 @@
+-- What a service does of a port that isn't ready: its turn in the whole so far, and what was so of it before another port's turn.
+use Rattle.std.proofs.Common.{ℕ, ◌≡◌, ◌≢◌, List, [], ◌++◌, refl, sym, ap, ◌∙◌, subst, inl, inr, ⊎_elim, append-nil}
+use Rattle.ata_types.specs.declared.Port.{Port}
+use Rattle.ata_types.specs.declared.PortState.TheVariants.{Absent, Dead, Ready as ReadyState}
+use Rattle.ata_types.specs.declared.request.Reply.{Reply}
+use Rattle.adapter.specs.Access.{Access}
+use Rattle.adapter.specs.Device.{Device}
+use Rattle.adapter.specs.Rules.{IsOn}
+use Rattle.agreement.specs.Agrees.{port_at}
+use Rattle.agreement.specs.Links.{HasDeviceOrNone}
+use Rattle.block_machine.specs.Events.{Moment, Served, Service}
+use Rattle.block_machine.specs.Histories.{Instant, IsReached}
+use Rattle.block_machine.specs.Left.{after}
+use Rattle.block_machine.specs.Ports.{Evidence, IsInterrupted, Ports, SamePort}
+use Rattle.block_machine.specs.State.{Machine}
+use Rattle.block_machine.specs.Steps.{Step}
+use Rattle.driver_history.specs.Histories.{BootsAnew, IsUnfitOrForeign, TriesDisk}
+use Rattle.driver_history.specs.Parts.{EndsLinked, HasTurnIn, NamesAlike}
+use Rattle.driver_history.specs.Trace.{ResetsLink}
+use Rattle.host_boot.specs.Taken.{found_of}
+use Rattle.host_boot.specs.declared.Found.{Found}
+use Rattle.host_boot.specs.declared.Found.TheVariants.{Ready, Unready, Unserved}
+use Rattle.server_history.specs.Below.{LawsBelow}
+use Rattle.server_history.specs.Server.{Server, IsKept, IsMachineOf, IsSettled, ports_of, state_of}
+use Rattle.server_history.specs.Turns.{DoesPort, HasPart, HeedsTrouble, InService, InTry, MakesTurn, TiesTurn, Turn, instant_of, moment_of, turn_of}
+use Rattle.server_history.proofs.whole_call.EarlierResults as carrying
+use Rattle.server_history.proofs.any_turn.JoinedParts.{dead_or_not}
+use Rattle.server_history.proofs.whole_call.TurnResults as lifting
+use Rattle.server_history.proofs.whole_call.ServiceAndTick.{AService, turn_at}
+use Rattle.server_history.proofs.whole_call.Progress as progress
+use Rattle.server_history.proofs.unready_turn.UnfitPort.{bad_tends, found_bad}
+
+-- its turn in a service is one in which it is tried
+is_tried : (found : Found) (n : ℕ) → state_of found ≢ ReadyState → turn_at AService found n ≡ InTry
+is_tried Unserved n unready = refl
+is_tried (Ready info) n unready = absurd (unready refl)
+is_tried (Unready state) n unready = refl
+
+module _ (laws : LawsBelow) (s : Server) (start : IsSettled s) (old : Moment) (reached : IsReached old.machine) (at : IsMachineOf s old.machine) (ports_are : old.ports ≡ ports_of s) where
+  abbrev kept : IsKept s
+  kept = start.kept
+
+  abbrev began : Instant Device
+  began = record { device = s.device; moment = old }
+
+  abbrev IsDone : Server → List Access → List Step → Evidence → Port → Type 0
+  IsDone c accesses steps evidence q = progress.IsDone AService laws s start old reached at ports_are c accesses steps evidence q
+
+  abbrev Progress : ℕ → Server → List Reply → Type 0
+  Progress n c replies = progress.Progress AService laws s start old reached at ports_are n c replies
+
+  state_was : (q : Port) → old.ports.state q ≡ state_of (found_of s.ports q.0)
+  state_was q = ap (λ (ports : Ports). ports.state q) ports_are
+
+  -- in one with a disk that isn't served a device showed when the call began, or no disk was in
+  there : (q : Port) → IsUnfitOrForeign old.ports q → HasDeviceOrNone (s.device.port q.0)
+  there q bad =
+      let found = ⊎_elim (λ foreign. inl (sym (state_was q) ∙ foreign)) (λ unfit. inr (unfit.0, sym (state_was q) ∙ unfit.1)) bad in
+      (kept.behind q.0 (kept.there q.0 (bad_tends (found_of s.ports q.0) found).0).0).shown
+      (found_bad (state_of (found_of s.ports q.0)) found)
+
+  -- ---- its turn
+
+  module _ (n : ℕ) (c mid : Server) (before its : List Reply) (unready : state_of (found_of s.ports n) ≢ ReadyState) (p : Progress n c before) (next : IsSettled mid) (part : HasPart (turn_at AService (found_of s.ports n) n) (port_at n) its c mid)
+      (m_reached : IsReached (after old.machine p.steps)) (on_mid : IsOn mid.device) (evidence : Evidence) where
+    abbrev m : Machine
+    m = after old.machine p.steps
+
+    abbrev x : MakesTurn (turn_at AService (found_of s.ports n) n) (port_at n) its part.accesses c mid m
+    x = part.makes m m_reached p.stands
+
+    abbrev all : List Step
+    all = x.steps ++ p.steps
+
+    abbrev accesses : List Access
+    accesses = p.accesses ++ part.accesses
+
+    its_ties : TiesTurn InTry (port_at n) its part.accesses c mid m x.evidence x.steps
+    its_ties = subst (λ (turn : Turn). TiesTurn turn (port_at n) its part.accesses c mid m x.evidence x.steps) (is_tried (found_of s.ports n) n unready) x.ties
+
+    abbrev did : DoesPort (instant_of c m) (turn_of InTry its mid x.evidence x.steps) part.accesses (port_at n)
+    did = its_ties.0
+
+    abbrev t : HasTurnIn (port_at n) s.device mid.device
+    t = lifting.t AService laws s start old reached at ports_are n c mid before its p next part m_reached on_mid
+
+    same_self : SamePort (ports_of mid) (ports_of mid) (port_at n)
+    same_self = (refl, refl, refl, refl, refl, refl)
+
+    never : old.ports.state (port_at n) ≢ ReadyState
+    never ready = unready (sym (state_was (port_at n)) ∙ ready)
+
+    module _ (alike : NamesAlike (port_at n) x.evidence evidence) (same_n : SamePort old.ports (ports_of c) (port_at n)) where
+      never_then : (ports_of c).state (port_at n) ≢ ReadyState
+      never_then ready = never (sym same_n.1 ∙ ready)
+
+      -- it isn't what it was, where it is ready then
+      no_same : (ports_of mid).state (port_at n) ≡ ReadyState → SamePort (ports_of c) (ports_of mid) (port_at n) → ⊥
+      no_same ready same = never_then (sym same.1 ∙ ready)
+
+      -- so it was stopped, and its link reset
+      stopped : (ports_of mid).state (port_at n) ≡ ReadyState → IsInterrupted x.evidence (port_at n)
+      stopped ready = ⊎_elim
+          (λ (dead : (ports_of c).state (port_at n) ≡ Dead). absurd (no_same ready (x.becomes.0 dead)))
+          (λ (lives : (ports_of c).state (port_at n) ≢ Dead). ⊎_elim (λ same. absurd (no_same ready same)) (λ i. i) (x.becomes.1 lives).1)
+          (dead_or_not ((ports_of c).state (port_at n)))
+
+      resets : (ports_of mid).state (port_at n) ≡ ReadyState → ResetsLink (port_at n) part.accesses
+      resets ready = ⊎_elim
+          (λ same. absurd (no_same ready same))
+          (λ anew. ⊎_elim (λ dead. let z : Dead ≡ ReadyState = sym dead ∙ ready in absurd cc) (λ rest. ⊎_elim (λ absent. let z : Absent ≡ ReadyState = sym absent ∙ ready in absurd cc) (λ r. r) rest) anew)
+          did.ties.boots.1
+
+      heeds : HeedsTrouble (port_at n) accesses began evidence (ports_of mid) mid.device
+      heeds = lifting.trouble_whole AService laws s start old reached at ports_are n c mid before its p next part m_reached on_mid evidence alike same_n
+          (λ ready trouble. ⊎_elim (λ before. absurd (never_then before)) stopped ready) (λ ready. inr (resets ready)) (record { trouble = did.ties.trouble; well = did.ties.well })
+
+      pub tried_whole : DoesPort began (turn_of InService [] mid evidence all) accesses (port_at n) × EndsLinked (port_at n) began (ports_of mid) mid.device
+      tried_whole = (
+        record {
+          ties = record {
+            finds = λ ready. absurd (never ready);
+            faults = λ alone. absurd (never alone.ready);
+            tries = λ served comes. subst (λ (list : List Access). TriesDisk (p.accesses ++ list) began (ports_of mid) mid.device (port_at n)) (append-nil part.accesses)
+                (laws.calls.call_tries (port_at n) began (moment_of c m) (ports_of mid) (ports_of mid) mid.device kept.on t on_mid same_self same_n (there (port_at n)) its_ties.1 (λ none. did.ties.tries (same_n.0 ∙ served) none) comes);
+            boots = subst (λ (list : List Access). BootsAnew Service (Served []) (p.accesses ++ list) began (ports_of mid) mid.device (port_at n)) (append-nil part.accesses)
+                (laws.calls.call_boots (port_at n) began (moment_of c m) (ports_of mid) (ports_of mid) mid.device (Served its) (Served []) kept.on (λ ready. absurd (never ready)) t on_mid same_self same_n did.ties.boots);
+            trouble = heeds.trouble;
+            well = heeds.well;
+          };
+          heeds = λ ready. absurd (never ready);
+        },
+        laws.calls.call_linked (port_at n) began (moment_of c m) (ports_of mid) (ports_of mid) mid.device kept.on t on_mid same_self same_n its_ties.1,
+      )
+
+  -- ---- another port's turn after it
+
+  module _ (n : ℕ) (c mid : Server) (before its : List Reply) (p : Progress n c before) (part : HasPart (turn_at AService (found_of s.ports n) n) (port_at n) its c mid) (m_reached : IsReached (after old.machine p.steps)) (q : Port) (apart : q ≢ port_at n)
+      (d : IsDone c p.accesses p.steps p.evidence q) (evidence : Evidence) (alike : NamesAlike q p.evidence evidence) (same : SamePort (ports_of c) (ports_of mid) q) (unready : old.ports.state q ≢ ReadyState) where
+    abbrev m_then : Machine
+    m_then = after old.machine p.steps
+
+    abbrev y : MakesTurn (turn_at AService (found_of s.ports n) n) (port_at n) its part.accesses c mid m_then
+    y = part.makes m_then m_reached p.stands
+
+    abbrev steps_then : List Step
+    steps_then = y.steps ++ p.steps
+
+    abbrev accesses_then : List Access
+    accesses_then = p.accesses ++ part.accesses
+
+    abbrev so_far : DoesPort began (turn_of InService [] c p.evidence p.steps) p.accesses q
+    so_far = d.ties.0
+
+    abbrev turn : HasTurnIn q s.device mid.device
+    turn = carrying.t AService laws s start old reached at ports_are n c mid before its p part m_reached q apart
+
+    same_old : SamePort old.ports old.ports q
+    same_old = (refl, refl, refl, refl, refl, refl)
+
+    was_another : (ports_of c).state q ≡ ReadyState → SamePort old.ports (ports_of c) q → ⊥
+    was_another ready is = unready (sym is.1 ∙ ready)
+
+    stopped_so_far : (ports_of c).state q ≡ ReadyState → IsInterrupted p.evidence q
+    stopped_so_far ready = ⊎_elim
+        (λ (dead : old.ports.state q ≡ Dead). absurd (was_another ready (d.becomes.0 dead)))
+        (λ (lives : old.ports.state q ≢ Dead). ⊎_elim (λ is. absurd (was_another ready is)) (λ i. i) (d.becomes.1 lives).1)
+        (dead_or_not (old.ports.state q))
+
+    reset_so_far : (ports_of c).state q ≡ ReadyState → ResetsLink q p.accesses
+    reset_so_far ready = ⊎_elim
+        (λ is. absurd (was_another ready is))
+        (λ anew. ⊎_elim (λ dead. let z : Dead ≡ ReadyState = sym dead ∙ ready in absurd cc) (λ rest. ⊎_elim (λ absent. let z : Absent ≡ ReadyState = sym absent ∙ ready in absurd cc) (λ r. r) rest) anew)
+        so_far.ties.boots.1
+
+    heeds_still : HeedsTrouble q accesses_then began evidence (ports_of mid) mid.device
+    heeds_still = carrying.trouble_still AService laws s start old reached at ports_are n c mid before its p part m_reached q apart d evidence alike same
+        (λ ready trouble. ⊎_elim (λ before. absurd (unready before)) stopped_so_far ready) (λ ready. inr (reset_so_far ready)) (record { trouble = so_far.ties.trouble; well = so_far.ties.well })
+
+    pub tried_still : DoesPort began (turn_of InService [] mid evidence steps_then) accesses_then q × EndsLinked q began (ports_of mid) mid.device
+    tried_still = (
+      record {
+        ties = record {
+          finds = λ ready. absurd (unready ready);
+          faults = λ alone. absurd (unready alone.ready);
+          tries = λ served comes. laws.calls.call_tries q began old (ports_of c) (ports_of mid) mid.device kept.on turn p.on same same_old (there q) d.ties.1 (λ none. so_far.ties.tries served none) comes;
+          boots = laws.calls.call_boots q began old (ports_of c) (ports_of mid) mid.device (Served []) (Served []) kept.on (λ ready. absurd (unready ready)) turn p.on same same_old so_far.ties.boots;
+          trouble = heeds_still.trouble;
+          well = heeds_still.well;
+        };
+        heeds = λ ready. absurd (unready ready);
+      },
+      laws.calls.call_linked q began old (ports_of c) (ports_of mid) mid.device kept.on turn p.on same same_old d.ties.1,
+    )
