@@ -1,22 +1,29 @@
 //! The words that all layers share, and the numbers of the memory map.
 //!
 //! Sectors and ranges, clients, ports, slots, frames, requests, grants, refusals, outcomes and
-//! replies. A type means what its comment says. `memory` names each place of the driver's frames:
-//! code, contracts and definitions go by the names, and no contract says that a number is the right
-//! one.
+//! replies. A type means what its comment says. `memory` names each place of the driver's frames,
+//! `limits` how much there may be of a thing, and `command_codes` the ATA commands: code, contracts,
+//! definitions and proofs go by the names, and no contract says that a number is the right one.
 #![tactic(auto)]
 
+mod command_codes;
 mod grant;
+mod limits;
 mod memory;
 mod range;
 mod refusal;
 mod request;
 
+pub use command_codes::{
+    DATA_SET_MANAGEMENT, FLUSH_CACHE_EXT, IDENTIFY_DEVICE, READ_DMA_EXT, READ_FPDMA_QUEUED,
+    READ_LOG_EXT, WRITE_DMA_EXT, WRITE_FPDMA_QUEUED,
+};
 pub use grant::{GrantRow, Rights};
+pub use limits::{MOST_REQUEST_FRAMES, MOST_REQUEST_SECTORS, MOST_UNANSWERED, PORTS, READINGS};
 pub use memory::{
-    DRIVER_BYTES, DRIVER_FRAMES, FEWEST_FRAMES, FRAME_BYTES, HEADER_BYTES, LIST_BYTES, MOST_FRAMES,
-    PORT_BYTES, PORT_FRAMES, RECEIVED, RECEIVED_BYTES, SCRATCH, SCRATCH_FRAME, TABLE_ALIGNMENT,
-    TABLE_BYTES, TABLES,
+    DRIVER_BYTES, DRIVER_FRAMES, FEWEST_FRAMES, FRAME_BYTES, HEADER_BYTES, LIST_BYTES,
+    LONGEST_TABLE, MOST_FRAMES, PORT_BYTES, PORT_FRAMES, PRD_BYTES, RECEIVED, RECEIVED_BYTES,
+    SCRATCH, SCRATCH_FRAME, TABLE_ALIGNMENT, TABLE_BYTES, TABLE_HEAD, TABLES,
 };
 pub use range::{Range, Sector};
 pub use refusal::{FrameFault, MemFault, Refusal, Rule};

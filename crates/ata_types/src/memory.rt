@@ -1,6 +1,8 @@
 // The memory map: frames, the structures that the driver keeps for each port, and the clients' frames behind them (this
 // project's own), with the sizes and alignments that AHCI 1.3.1 gives those structures.
 
+use crate::limits::{MOST_REQUEST_FRAMES, PORTS};
+
 /// Bytes of a frame: frame f has those from byte `FRAME_BYTES` f on.
 pub const FRAME_BYTES: u32 = 4096;
 
@@ -15,13 +17,13 @@ pub const PORT_FRAMES: u16 = 10;
 pub const PORT_BYTES: u32 = FRAME_BYTES * PORT_FRAMES as u32;
 
 /// The driver's frames of all four ports. The frames behind them are clients'.
-pub const DRIVER_FRAMES: u16 = 4 * PORT_FRAMES;
+pub const DRIVER_FRAMES: u16 = PORTS as u16 * PORT_FRAMES;
 
 /// Frames of the smallest memory that a server can use: the driver's, and one for a client.
 pub const FEWEST_FRAMES: u16 = DRIVER_FRAMES + 1;
 
 /// Bytes of the driver's frames of all four ports.
-pub const DRIVER_BYTES: u32 = 4 * PORT_BYTES;
+pub const DRIVER_BYTES: u32 = PORTS as u32 * PORT_BYTES;
 
 /// Bytes of a command list: 32 headers. Its address is a multiple of them (AHCI 1.3.1, 3.3.1 and 4.2.2).
 pub const LIST_BYTES: u32 = 1024;
@@ -43,6 +45,15 @@ pub const TABLES: u32 = FRAME_BYTES;
 
 /// Bytes that each slot has for its command table, one slot's behind the other's.
 pub const TABLE_BYTES: u32 = 1024;
+
+/// Bytes of a command table before its PRDs: the command FIS, and what isn't used (AHCI 1.3.1, 4.2.3).
+pub const TABLE_HEAD: u32 = 128;
+
+/// Bytes of a PRD (AHCI 1.3.1, 4.2.3.3).
+pub const PRD_BYTES: u32 = 16;
+
+/// Bytes of a command table with as many PRDs as a request can have frames.
+pub const LONGEST_TABLE: usize = TABLE_HEAD as usize + PRD_BYTES as usize * MOST_REQUEST_FRAMES;
 
 /// Which of a port's frames is its scratch frame.
 pub const SCRATCH_FRAME: u16 = PORT_FRAMES - 1;

@@ -1,5 +1,6 @@
 // What clients ask, and what they are told.
 use crate::Sector;
+use crate::limits::{MOST_REQUEST_FRAMES, MOST_UNANSWERED};
 use arrayvec::ArrayVec;
 
 /// A client of the server: 1 to 8.
@@ -40,7 +41,7 @@ pub struct Request {
     /// In sectors: 0 for a flush.
     pub count: u32,
     /// Frames that are lent until the request is answered, eight sectors to each, in order.
-    pub frames: ArrayVec<Frame, 32>,
+    pub frames: ArrayVec<Frame, MOST_REQUEST_FRAMES>,
 }
 
 /// How a request ended.
@@ -68,4 +69,4 @@ pub struct Reply {
 }
 
 /// The answers of one call. There are never more unanswered requests than it has places.
-pub type Replies = ArrayVec<Reply, 128>;
+pub type Replies = ArrayVec<Reply, MOST_UNANSWERED>;

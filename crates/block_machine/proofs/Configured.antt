@@ -5,6 +5,7 @@ use Rattle.std.specs.List.{Contains}
 use Rattle.ata_types.specs.declared.request.ClientId.{ClientId}
 use Rattle.ata_types.specs.declared.request.Frame.{Frame}
 use Rattle.ata_types.specs.declared.grant.GrantRow.{GrantRow}
+use Rattle.ata_types.specs.declared.limits.TheConstants.{MOST_UNANSWERED}
 use Rattle.block_machine.specs.State.{Accepted, Pending, Machine}
 use Rattle.block_machine.specs.Steps.{Step, Accept, after_step, unanswered_of}
 use Rattle.block_machine.specs.Left.{after, IsLegal, IsStart}
@@ -94,7 +95,7 @@ total_most es (suc n) few =
     omega (arith, rest, own)
 
 -- 16 of each of 8 clients
-pub all_few : (start : Machine) (h : List Step) → IsStart start → IsLegal start h → ((c : ClientId) → unanswered_of (after start h).book c ≤ 16) → length (after start h).book ≤ 128
+pub all_few : (start : Machine) (h : List Step) → IsStart start → IsLegal start h → ((c : ClientId) → unanswered_of (after start h).book c ≤ 16) → length (after start h).book ≤ MOST_UNANSWERED
 all_few start h s legal few =
     let all = total_all (after start h).book 8 (λ e i. accepted_client start h e.request s (living_accepted start h s legal e (inl i))) in
     let most = total_most (after start h).book 8 few in

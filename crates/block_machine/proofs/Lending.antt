@@ -7,6 +7,7 @@ use Rattle.ata_types.specs.declared.request.Frame.{Frame}
 use Rattle.ata_types.specs.declared.request.RequestId.{RequestId}
 use Rattle.ata_types.specs.declared.refusal.FrameFault.TheVariants.{FrameForeign}
 use Rattle.ata_types.specs.declared.refusal.Rule.TheVariants.{Frames}
+use Rattle.ata_types.specs.declared.memory.TheConstants.{DRIVER_FRAMES}
 use Rattle.block_machine.specs.Confined.{WasAccepted, HasFrame}
 use Rattle.block_machine.specs.State.{Accepted, Pending, Machine, frame_at}
 use Rattle.block_machine.specs.Steps.{Step, Accept, Answer, Release, May, IsLiving, after_step, stays, unlend, is_lent_to}
@@ -47,7 +48,7 @@ lent_before m (Answer e outcome) f id may h = by (stays e outcome) refl
 lent_before m Release f id may h = inl (as_was (list_any (λ e. is_lent_to e.request.id (m.lent f)) m.kept) (m.lent f) id h)
 lent_before m _ f id may h = inl h
 
-lent_at : (start : Machine) (past : List Step) (f : Frame) (id : RequestId) → IsStart start → IsLegal start past → (after start past).lent f ≡ Some id → 40 ≤ f.0
+lent_at : (start : Machine) (past : List Step) (f : Frame) (id : RequestId) → IsStart start → IsLegal start past → (after start past).lent f ≡ Some id → DRIVER_FRAMES ≤ f.0
 lent_at start [] f id s legal h = some-none h (s.lent f)
 lent_at start (step ∷ past) f id s legal h = ⊎_elim
     (λ (l : (after start past).lent f ≡ Some id). lent_at start past f id s legal.0 l)
@@ -56,7 +57,7 @@ lent_at start (step ∷ past) f id s legal h = ⊎_elim
     ∙ owned _ o.0.asked.client (λ ne. o.1.1.unbroken (Frames (FrameForeign o.3.0)) (frame_at o.0.asked.frames.items o.3.0, get_frame o.0.asked.frames.items o.3.0 o.3.1, ne)))).2)
     (lent_before (after start past) step f id legal.1 h)
 
-pub lent_clients : (m : Machine) (f : Frame) (id : RequestId) → IsReached m → m.lent f ≡ Some id → 40 ≤ f.0
+pub lent_clients : (m : Machine) (f : Frame) (id : RequestId) → IsReached m → m.lent f ≡ Some id → DRIVER_FRAMES ≤ f.0
 lent_clients m f id r h = lent_at r.first r.past f id r.starts r.legal (ap (λ (x : Machine). x.lent f) (sym r.is) ∙ h)
 
 lent_accepted : (start : Machine) (past : List Step) (f : Frame) (id : RequestId) → IsStart start → IsLegal start past → (after start past).lent f ≡ Some id →

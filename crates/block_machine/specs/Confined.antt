@@ -7,6 +7,7 @@ use Rattle.ata_types.specs.declared.request.Op.{Op}
 use Rattle.ata_types.specs.declared.request.Op.TheVariants.{Read, Write, Trim, Flush}
 use Rattle.ata_types.specs.declared.grant.GrantRow.{GrantRow}
 use Rattle.ata_types.specs.Grant.{Allows, Covers}
+use Rattle.ata_types.specs.declared.limits.TheConstants.{MOST_UNANSWERED}
 use Rattle.block_machine.specs.Rules.{IsNamed}
 use Rattle.block_machine.specs.Due.{is_writer}
 use Rattle.block_machine.specs.State.{Accepted, Pending, Machine, block_of, frame_at, sector_of, is_reader}
@@ -59,7 +60,7 @@ IsHeld m r = (i b : ℕ) → (is_reader r.asked.op ≡ true → r.asked.count �
 -- lent to two.
 pub record WithinLimits (m : Machine) : Type 0 where
   pub few : (client : ClientId) → unanswered_of m.book client ≤ 16
-  pub all : length m.book ≤ 128
+  pub all : length m.book ≤ MOST_UNANSWERED
   pub issues : (e : Pending) → IsLiving m e → e.issues ≤ 4
   pub issued : (e : Pending) → IsLiving m e → e.issued ≡ true → 1 ≤ e.issues
   pub lent : (e : Pending) → IsLiving m e → (i : ℕ) → i < length e.request.asked.frames.items

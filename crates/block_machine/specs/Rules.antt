@@ -15,6 +15,7 @@ use Rattle.ata_types.specs.declared.refusal.Rule.TheVariants.{NoGrant, NoRight, 
 use Rattle.ata_types.specs.declared.refusal.Refusal.{Refusal}
 use Rattle.ata_types.specs.declared.refusal.Refusal.TheVariants as refused
 use Rattle.ata_types.specs.Grant.{Allows, Covers}
+use Rattle.ata_types.specs.declared.limits.TheConstants.{MOST_REQUEST_SECTORS}
 
 -- the row is the one of this client under this number
 abbrev pub Names : ClientId → ℕ → GrantRow → Type 0
@@ -30,8 +31,8 @@ IsNamed rows r row = Contains rows row × Names r.client r.grant row
 
 -- the operation may have so many sectors
 abbrev pub IsCount : Op → ℕ → Type 0
-IsCount Read n = (1 ≤ n) × (n ≤ 256)
-IsCount Write n = (1 ≤ n) × (n ≤ 256)
+IsCount Read n = (1 ≤ n) × (n ≤ MOST_REQUEST_SECTORS)
+IsCount Write n = (1 ≤ n) × (n ≤ MOST_REQUEST_SECTORS)
 IsCount Trim n = (1 ≤ n) × (n ≤ 4194240)
 IsCount Flush n = n ≡ 0
 

@@ -1,4 +1,5 @@
 -- Two configurations with the values of one document meet the same rules.
+use Rattle.ata_types.specs.declared.memory.TheConstants.{FEWEST_FRAMES, MOST_FRAMES}
 use Rattle.std.proofs.Common.{◌≡◌, ◌∙◌, ◌≤◌, ℕ, List, Option, Some, None, String, Global, IfSome, All, AllPairs, codes, option_map, string_bytes, ap, refl, subst, sym}
 use Rattle.std.specs.List.{AllZip}
 use Rattle.toml.specs.Data.{Members}
@@ -122,7 +123,7 @@ meets-alike c d WrongKeys same h = tt
 meets-alike c d WrongTypes same h = tt
 meets-alike c d OutOfRange same h = record {
   numbers = record {
-    frames = subst (λ n. (41 ≤ n) × (n ≤ 1024)) same.frames h.numbers.frames;
+    frames = subst (λ n. (FEWEST_FRAMES ≤ n) × (n ≤ MOST_FRAMES)) same.frames h.numbers.frames;
     slots = subst (λ n. (1 ≤ n) × (n ≤ 32)) same.slots h.numbers.slots;
     depth = subst (λ n. (1 ≤ n) × (n ≤ 32)) same.depth h.numbers.depth;
     few_grants = subst (λ n. n ≤ 64) (same-length SameGrant c.grant.items d.grant.items same.grants)

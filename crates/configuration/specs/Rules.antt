@@ -1,4 +1,6 @@
--- The rules that the values of a configuration have to meet (this project's own).
+-- The rules that the values of a configuration have to meet (this project's own). A range is told first: a client that
+-- isn't 1 to 8 is out of range, and not unknown. What is no TOML is as the crate `toml` has it (TOML 1.1): also bytes
+-- that aren't UTF-8, a key that stands twice, and a number that isn't within 64 bits with a sign.
 use Rattle.std.specs.Prelude.{◌≡◌, ◌≢◌, ◌⊎◌, ◌+◌, ◌<◌, ◌≤◌, ℕ, List, All, Any, AllPairs, codes, length, string_bytes}
 use Rattle.ata_types.specs.declared.memory.TheConstants.{FEWEST_FRAMES, MOST_FRAMES}
 use Rattle.configuration.specs.declared.Config.{Config}

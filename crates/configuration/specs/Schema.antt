@@ -18,6 +18,8 @@ required name value_type = record { name = name; value_type = value_type; is_req
 abbrev pub optional : List ℕ → ValueType → KeyRule
 optional name value_type = record { name = name; value_type = value_type; is_required = false }
 
+-- A list is an array of tables, in either spelling of TOML. One table in its place (`[port]`) is of a wrong type, and
+-- isn't looked into; so is an array with something else in it, of which the keys of the tables are looked at, too.
 abbrev pub document_keys : List KeyRule
 document_keys = required (codes "frames") Integer ∷ required (codes "slots") Integer ∷ required (codes "ncq") Boolean
     ∷ required (codes "depth") Integer ∷ required (codes "trim") Text ∷ optional (codes "port") Tables

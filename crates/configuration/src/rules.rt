@@ -5,12 +5,10 @@ ghost use Rattle.configuration.specs.Ranges.{IsClient, IsGrant, IsPort, IsRights
 ghost use Rattle.configuration.specs.Rules.{AreApart, DifferInId, DifferInName, DifferInNumber, HasClient, HasPort};
 
 use super::{ClientConfig, Config, GrantConfig, Kind, PortConfig};
-use ata_types::{DRIVER_FRAMES, FEWEST_FRAMES, MOST_FRAMES};
+use ata_types::{DRIVER_FRAMES, FEWEST_FRAMES, MOST_FRAMES, PORTS};
 
 /// The most command slots that a port can have, and the greatest queue depth that a disk can have.
 const MOST_SLOTS: u64 = 32;
-
-const PORTS: u64 = 4;
 
 const CLIENTS: u64 = 8;
 
@@ -57,7 +55,7 @@ impl PortConfig {
     fn is_in_range(&self) -> bool
         ensures { IsTrue result ↔ IsPort self.now }
     {
-        self.number < PORTS
+        self.number < PORTS as u64
             && match &self.serial {
                 Some(serial) => is_serial(serial.as_str()),
                 None => true,
@@ -83,7 +81,7 @@ impl GrantConfig {
     {
         (1..=CLIENTS).contains(&self.client)
             && self.number < GRANT_NUMBERS
-            && self.port < PORTS
+            && self.port < PORTS as u64
             && 1 <= self.count
             && self.count <= SECTORS_END
             && self.first <= SECTORS_END - self.count

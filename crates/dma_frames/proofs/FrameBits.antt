@@ -6,9 +6,10 @@ use Rattle.std.proofs.lemmas.List.{get_or-set_other, get_or-set_same}
 use Rattle.std.proofs.lemmas.Nat.Bits.{bit_at_clear_other, bit_at_clear_same, bit_at_set_other, bit_at_set_same, bit_at-zero}
 use Rattle.std.specs.Option.{is_some, IsSome}
 use Rattle.ata_types.specs.declared.request.RequestId.{RequestId}
+use Rattle.ata_types.specs.declared.memory.TheConstants.{MOST_FRAMES}
 use Rattle.dma_frames.specs.Words.{bit_of, AreMarked}
 
-module _ (words : List ℕ) (many : length words ≡ 16) (f w : ℕ) (within : f < 1024) where
+module _ (words : List ℕ) (many : length words ≡ 16) (f w : ℕ) (within : f < MOST_FRAMES) where
   here : get_or (set words (f / 64) w) (f / 64) 0 ≡ w
   here = get_or-set_same words (f / 64) w 0 (omega (arith, many, within))
 
@@ -28,7 +29,7 @@ module _ (words : List ℕ) (many : length words ≡ 16) (f w : ℕ) (within : f
           ∙ ap (λ (i : ℕ). bit_at (get_or words i 0) (k % 64)) (sym e)))
       by (inr not) = ap (λ (x : ℕ). bit_at x (k % 64)) (get_or-set_other words (f / 64) (k / 64) w 0 not)
 
-module _ (words : List ℕ) (many : length words ≡ 16) (f : ℕ) (within : f < 1024) where
+module _ (words : List ℕ) (many : length words ≡ 16) (f : ℕ) (within : f < MOST_FRAMES) where
   abbrev word : ℕ
   word = get_or words (f / 64) 0
 
@@ -53,7 +54,7 @@ true_some None is = is
 true_some (Some id) is = is
 
 -- the bit of one frame, and its id
-pub marked_more : (lent later : List ℕ) (ids : List (Option RequestId)) (f : ℕ) (to : Option RequestId) → length ids ≡ 1024 → f < 1024 → AreMarked lent ids
+pub marked_more : (lent later : List ℕ) (ids : List (Option RequestId)) (f : ℕ) (to : Option RequestId) → length ids ≡ MOST_FRAMES → f < MOST_FRAMES → AreMarked lent ids
     → ((bit_of later f ≡ 1) ↔ (is_some to ≡ true)) → ((k : ℕ) → k ≢ f → bit_of later k ≡ bit_of lent k) → AreMarked later (set ids f to)
 marked_more lent later ids f to many within marked this others k lt = by (cases_eq k f)
   where

@@ -1,4 +1,5 @@
 -- The owners in words, and what a number more does to them.
+use Rattle.ata_types.specs.declared.memory.TheConstants.{MOST_FRAMES}
 use Rattle.std.proofs.Common.{ℕ, ◌≡◌, ◌≢◌, ◌==◌, ◌⊎◌, ◌*◌, ◌/◌, ◌%◌, ◌^◌, ◌<◌, ◌≤◌, List, length, get_or, set, bit_or, None, Some, sym, ap, ◌∙◌, arith, inl, inr}
 use Rattle.std.proofs.Math.Nat.{zero-div}
 use Rattle.std.proofs.lemmas.Bool.{cases_eq, cases_lt, cond-false, eqb-true, false_from_ne_true}
@@ -15,7 +16,7 @@ owner_past words f past =
     let n = length-map-range_with_len (owner_in words) 0 (16 * length words) in
     get_or_past (owners_of words) f None (omega (arith, n, past))
 
-pub owner_count : (words : List ℕ) → length words ≡ 64 → length (owners_of words) ≡ 1024
+pub owner_count : (words : List ℕ) → length words ≡ 64 → length (owners_of words) ≡ MOST_FRAMES
 owner_count words many = let n = length-map-range_with_len (owner_in words) 0 (16 * length words) in omega (arith, n, many)
 
 some_client : (n : ℕ) → 1 ≤ n → client_of n ≡ Some (record { 0 = n })

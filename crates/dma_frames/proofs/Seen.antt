@@ -4,6 +4,7 @@ use Rattle.std.specs.List.{slice_get}
 use Rattle.std.proofs.lemmas.Bool.{cases_eq}
 use Rattle.std.proofs.lemmas.Option.{same_Some}
 use Rattle.ata_types.specs.declared.request.Frame.{Frame}
+use Rattle.ata_types.specs.declared.memory.TheConstants.{MOST_FRAMES}
 use Rattle.block_machine.specs.Rules.{IsTwiceAt}
 use Rattle.dma_frames.specs.Words.{bit_of}
 use Rattle.dma_frames.proofs.FrameBits.{no_bit}
@@ -14,7 +15,7 @@ StandsBefore frames n f = (j : ℕ) × (j < n) × (slice_get frames j ≡ Some (
 
 -- the bits that are set are those of the first n frames
 abbrev pub AreSeen : List ℕ → List Frame → ℕ → Type 0
-AreSeen words frames n = (f : ℕ) → f < 1024 → (bit_of words f ≡ 1) ↔ StandsBefore frames n f
+AreSeen words frames n = (f : ℕ) → f < MOST_FRAMES → (bit_of words f ≡ 1) ↔ StandsBefore frames n f
 
 pub none_seen : (words : List ℕ) (frames : List Frame) → ((i : ℕ) → get_or words i 0 ≡ 0) → AreSeen words frames 0
 none_seen words frames zero f lt = (
@@ -22,7 +23,7 @@ none_seen words frames zero f lt = (
   λ w. absurd (let h = w.1 in omega (arith, h)),
 )
 
-module _ (words : List ℕ) (frames : List Frame) (n : ℕ) (frame : Frame) (here : slice_get frames n ≡ Some frame) (within : frame.0 < 1024)
+module _ (words : List ℕ) (frames : List Frame) (n : ℕ) (frame : Frame) (here : slice_get frames n ≡ Some frame) (within : frame.0 < MOST_FRAMES)
     (seen : AreSeen words frames n) where
   pub seen_more : (new : List ℕ) → bit_of new frame.0 ≡ 1 → ((k : ℕ) → k ≢ frame.0 → bit_of new k ≡ bit_of words k)
       → AreSeen new frames (n + 1)

@@ -14,7 +14,7 @@ ghost use Rattle.dma_frames.specs.Words.{AreMarked};
 mod words;
 
 use arrayvec::ArrayVec;
-use ata_types::{ClientId, Frame, FrameFault, MOST_FRAMES, RequestId};
+use ata_types::{ClientId, Frame, FrameFault, MOST_FRAMES, MOST_REQUEST_FRAMES, RequestId};
 use std::alloc::{AllocError, Global};
 use std::marker::Model;
 use words::{BIT_WORDS, OWNER_WORDS};
@@ -25,26 +25,27 @@ pub const FRAMES: usize = MOST_FRAMES as usize;
 /// Frames that are lent to one request, at most 32. A loan can't be dropped or copied: it ends in
 /// `FrameTable::give_back` alone.
 pub struct Loan {
-    frames: ArrayVec<Frame, 32>,
+    frames: ArrayVec<Frame, MOST_REQUEST_FRAMES>,
     request: RequestId,
 }
 
 impl Model for Loan {
     ghost use Rattle.std.specs.Prelude.{◌≤◌, length};
+    ghost use Rattle.ata_types.specs.declared.limits.TheConstants.{MOST_REQUEST_FRAMES};
     ghost use Rattle.dma_frames.specs.Loan.{Lending};
 
     ghost Value = { Lending };
 
     ghost view = { λ l. record { frames = l.frames.items; request = l.request } };
 
-    ghost invariant = { λ l. length l.frames.items ≤ 32 };
+    ghost invariant = { λ l. length l.frames.items ≤ MOST_REQUEST_FRAMES };
 }
 
 impl Loan {
     /// The frames, in the request's order.
     pub fn frames(&self) -> &[Frame]
         ensures frames { result.now ≡ self.now.frames }
-        ensures few { length result.now ≤ 32 }
+        ensures few { length result.now ≤ MOST_REQUEST_FRAMES }
     {
         self.frames.as_slice()
     }
@@ -157,7 +158,7 @@ impl FrameTable {
     /// Lends frames of the client, at most 32, to a request. `check` says whether they can be lent.
     pub fn lend(&mut self, client: ClientId, frames: &[Frame], request: RequestId) -> Loan
         requires clear { HasNoFault (owner_of self.old) (lent_to self.old) client frames.now }
-        requires few { length frames.now ≤ 32 }
+        requires few { length frames.now ≤ MOST_REQUEST_FRAMES }
         ensures frames { result.frames ≡ frames.now }
         ensures request { result.request ≡ request }
         ensures lent { LendsOnly self.old self.new frames.now (Some request) }

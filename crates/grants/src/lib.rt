@@ -15,7 +15,7 @@ ghost use Rattle.grants.specs.Rows.{SameRows};
 
 mod key;
 
-use ata_types::{ClientId, GrantRow, Op, Request, Rule};
+use ata_types::{ClientId, GrantRow, MOST_REQUEST_SECTORS, Op, Request, Rule};
 use dma_frames::FrameTable;
 pub use key::Compared;
 use key::Key;
@@ -156,7 +156,7 @@ fn is_count(op: Op, count: u32) -> bool
     ensures { IsTrue result ↔ IsCount op count }
 {
     match op {
-        Op::Read | Op::Write => 1 <= count && count <= 256,
+        Op::Read | Op::Write => 1 <= count && count <= MOST_REQUEST_SECTORS,
         Op::Trim => 1 <= count && count <= 4_194_240,
         Op::Flush => count == 0,
     }

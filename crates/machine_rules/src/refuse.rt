@@ -8,8 +8,8 @@ ghost use Rattle.machine_rules.specs.Plain.{for_frame, shown_at, situation_in, R
 
 use arrayvec::ArrayVec;
 use ata_types::{
-    ClientId, FRAME_BYTES, Frame, FrameFault, GrantRow, MemFault, Op, Port, PortState, Refusal,
-    Request, RequestId, Rule,
+    ClientId, FRAME_BYTES, Frame, FrameFault, GrantRow, MOST_REQUEST_SECTORS, MemFault, Op, Port,
+    PortState, Refusal, Request, RequestId, Rule,
 };
 
 /// What a port shows of itself.
@@ -56,7 +56,7 @@ fn is_count(op: Op, count: u32) -> bool
     ensures { IsTrue result ↔ IsCount op count }
 {
     match op {
-        Op::Read | Op::Write => 1 <= count && count <= 256,
+        Op::Read | Op::Write => 1 <= count && count <= MOST_REQUEST_SECTORS,
         Op::Trim => 1 <= count && count <= 4_194_240,
         Op::Flush => count == 0,
     }

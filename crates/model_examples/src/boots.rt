@@ -6,10 +6,10 @@ ghost use Rattle.adapter.specs.Idle.{IsIdle};
 use adapter::{
     Adapter, DeviceStep, Direction, DiskNumber, DiskPage, Entry, Move, Operation, Stepped,
 };
-use ata_types::{DRIVER_BYTES, Port, PortState, Slot};
+use ata_types::{DRIVER_BYTES, PORTS, Port, PortState, Slot};
 use device_model::{Model, ModelConfig, Trim};
 use hba_regs::Reg;
-use host_boot::{Found, PORTS, take_over};
+use host_boot::{Found, take_over};
 use identify::{DiskInfo, Wanted};
 use sector_store::MemStore;
 use std::alloc::Global;

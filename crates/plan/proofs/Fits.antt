@@ -1,4 +1,5 @@
 -- The plan of a sound configuration is one that a server can serve.
+use Rattle.ata_types.specs.declared.memory.TheConstants.{FEWEST_FRAMES, MOST_FRAMES}
 use Rattle.std.proofs.Common.{ℕ, ◌≢◌, ◌<◌, ◌≤◌, ◌∙◌, List, [], ◌∷◌, Option, Some, None, All, AllPairs, ap, arith, eqb-true, get_or, length, map, subst, sym}
 use Rattle.std.proofs.Math.Dec.{eqb}
 use Rattle.std.proofs.lemmas.Bool.Decides.{Decides-eqb}
@@ -54,7 +55,7 @@ module _ (c : Config) (sound : IsSound c) where
   pub in_range : IsInRange c
   in_range = sound OutOfRange
 
-  pub clients_within : All (IsClientWithin 1024) c.client.items
+  pub clients_within : All (IsClientWithin MOST_FRAMES) c.client.items
   clients_within = λ k d low.
       let is = in_range.parts.clients k d low in
       record {
@@ -107,7 +108,7 @@ module _ (c : Config) (sound : IsSound c) where
 
   pub plan_fits : (p : PlanView) → IsPlanOf c p → IsPlan p
   plan_fits p is = record {
-    memory = subst (λ n. (41 ≤ n) × (n ≤ 1024)) (sym is.frames) in_range.numbers.frames;
+    memory = subst (λ n. (FEWEST_FRAMES ≤ n) × (n ≤ MOST_FRAMES)) (sym is.frames) in_range.numbers.frames;
     runs = subst (λ n. AreRuns n p.owners) (sym is.frames) (subst (AreRuns c.frames) (sym is.owners) runs);
     few = omega (arith, ap length is.grants, length-map c.grant.items row_of, in_range.numbers.few_grants);
     grants = subst (All (IsServedGrant p.wanted)) (sym is.grants)

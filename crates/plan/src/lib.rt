@@ -10,14 +10,12 @@ ghost use Rattle.configuration.specs.Rules.{DifferInNumber};
 ghost use Rattle.plan.specs.Parts.{run_of, rights_of, row_of, filled, disk_of, AreWantedOf, IsWantedIn};
 
 use arrayvec::ArrayVec;
-use ata_types::{ClientId, Frame, GrantRow, MOST_FRAMES, Port, Rights, Sector};
+use ata_types::{ClientId, Frame, GrantRow, MOST_FRAMES, PORTS, Port, Rights, Sector};
 use configuration::{ClientConfig, Config, GrantConfig, Kind, PortConfig};
 use identify::Wanted;
 use std::marker::Model;
 
 const CLIENTS: usize = 8;
-
-const PORTS: usize = 4;
 
 const MOST_GRANTS: usize = 64;
 

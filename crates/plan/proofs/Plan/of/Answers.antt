@@ -1,3 +1,4 @@
+use Rattle.ata_types.specs.declared.memory.TheConstants.{MOST_FRAMES}
 use Rattle.std.proofs.Common.{◌∙◌, All, AllPairs, ap, arith, length, map, refl, subst, sym}
 use Rattle.configuration.specs.Ranges.{IsClient, IsGrant, IsPort}
 use Rattle.configuration.specs.Rules.{DifferInNumber}
@@ -15,7 +16,7 @@ runs_of-requires-clause-few c =
 
 pub runs_of-requires-clause-clients : goal.runs_of-requires-clause-clients
 runs_of-requires-clause-clients c =
-    subst (All (IsClient 1024)) (sym c.as_slice.ensures.value) (clients_within c.args.config.now c.in_ok-check.ensures.sound)
+    subst (All (IsClient MOST_FRAMES)) (sym c.as_slice.ensures.value) (clients_within c.args.config.now c.in_ok-check.ensures.sound)
 
 pub rows_of-requires-clause-few : goal.rows_of-requires-clause-few
 rows_of-requires-clause-few c =

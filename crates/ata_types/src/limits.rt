@@ -1,0 +1,16 @@
+// How much there may be of what the server keeps, and how often it looks (this project's own).
+
+/// Ports that a server can serve: 0 to 3. (AHCI has up to 32.)
+pub const PORTS: usize = 4;
+
+/// Sectors of the longest read or write.
+pub const MOST_REQUEST_SECTORS: u32 = 256;
+
+/// Frames of the longest read or write, eight sectors to each.
+pub const MOST_REQUEST_FRAMES: usize = 32;
+
+/// Unanswered requests of all clients together: 16 of each of eight.
+pub const MOST_UNANSWERED: usize = 128;
+
+/// Readings of a register in one wait. Where none of them shows what is waited for, the wait is in vain.
+pub const READINGS: u32 = 64;
