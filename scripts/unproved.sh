@@ -1,12 +1,13 @@
 #!/usr/bin/env bash
 # Plays a test that stands in a folder of examples/ and is run without a proof, over the sources of the crates that it
 # uses: `unproved.sh NAME`. What is looked at is told in the folder's README.md. Where the folder has a file `given`,
-# its lines name files of examples/cases, which are given to the test as its words. The last line is 'N passed, M
-# failed', of rounds.
+# its lines name files of examples/cases, which are given to the test as its words; further words stand behind them. The
+# last line is 'N passed, M failed', of rounds.
 set -euo pipefail
 cd "$(dirname "$0")/.."
 
 name=$1
+shift
 scratch=$(mktemp -d)
 trap 'rm -rf "$scratch"' EXIT
 tar --exclude=out -cf - HANDLES crates.txt crates | tar -xf - -C "$scratch"
@@ -20,6 +21,7 @@ if [[ -f examples/$name/given ]]; then
     mapfile -t words <"examples/$name/given"
     (cd examples/cases && cp "${words[@]}" "$scratch/crates/$name/")
 fi
+words+=("$@")
 below="play $(sed -n 's/^play: //p' crates.txt)"
 echo "$name: $below" >>"$scratch/crates.txt"
 
