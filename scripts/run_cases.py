@@ -42,6 +42,8 @@ class Case:
     status: int = 0
     # The sectors of the image that are other ones afterwards; None where the image isn't looked at.
     written: dict = dataclasses.field(default_factory=dict)
+    # Of a session, what is printed of each line of the script.
+    answers: list = dataclasses.field(default_factory=list)
 
 
 def unescaped(text):
@@ -118,9 +120,10 @@ def session(case, lines):
     for line in lines:
         if line.startswith("> "):
             in_head = False
-            asked.append(line[2:])
+            asked.append(f"{line[2:]}\n".encode())
+            answered.append(b"")
         elif not in_head:
-            answered.append(line)
+            answered[-1] += f"{line}\n".encode()
         else:
             key, colon, value = f"{line} ".partition(": ")
             if not colon:
@@ -130,8 +133,7 @@ def session(case, lines):
         return case
     if case.script or case.printed:
         raise Misspelled(f"{case.name} has two scripts")
-    script = "".join(f"{line}\n" for line in asked).encode()
-    return dataclasses.replace(case, script=script, printed="".join(f"{line}\n" for line in answered).encode())
+    return dataclasses.replace(case, script=b"".join(asked), printed=b"".join(answered), answers=answered)
 
 
 def sessions(file):

@@ -3,9 +3,9 @@
 #
 # - `rt ci`, which keeps what this machine proved before of the same files;
 # - the edits that the prover must refuse;
-# - the cases of the built program;
+# - the cases of the built program, and runs of it with refused memory, cut files, and changes by chance;
 # - tests that are run without a proof: a full book on four ports, disks in several ports of the model, disks that fail,
-#   and disks that are taken out at each moment of the worked cases;
+#   and surprises by the device at each moment of the worked cases;
 # - the server over QEMU's adapter, where QEMU is installed;
 # - the edits that the compiler must refuse;
 # - names in the documents, columns and sizes, the table of crates, and the number of definitions behind the promise.
@@ -48,10 +48,11 @@ part "rt ci" rt ci
 scripts/toolchain.py stamp
 part "edits" scripts/edits.py
 part "examples" scripts/examples.sh
+part "hostile runs" scripts/hostile_runs.py crates/blockd/out/blockd
 part "four ports" scripts/unproved.sh four_ports
 part "own disks" scripts/unproved.sh own_disks
 part "failing disks" scripts/unproved.sh failing_disks
-part "surprise removal" scripts/unproved.sh surprise_removal
+part "surprises" scripts/surprises.py
 part "QEMU's adapter" examples/qemu/test.sh
 part "compile-fail" scripts/compile-fail.sh
 part "names" scripts/names.py

@@ -27,7 +27,8 @@ abbrev pub fault_of : Unread → Fault → Fault
 fault_of NoMemory _ = fault.NoMemory
 fault_of Refused told = told
 
-module _ {H : Type 0} (reads : H → H → List ℕ → Result (Vec ℕ) Unread → Type 0) (opens : H → H → List ℕ → Result FileStore Unread → Type 0) (args : Args) where
+module _ {H : Type 0} (reads : H → H → List ℕ → Result (Vec ℕ) Unread → Type 0)
+    (opens : H → H → List ℕ → Result FileStore Unread → Type 0) (args : Args) where
   -- what the run is made of, where the image could be opened
   abbrev pub made : (config script : Vec ℕ) → Result FileStore Unread → Result Inputs Fault
   made config script (Ok image) = Ok (record { config = config; script = script; image = image })

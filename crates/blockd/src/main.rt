@@ -35,9 +35,16 @@ fn unless_memory(error: &io::Error, fault: Fault) -> Fault {
 #[inline(never)]
 fn words(rt: &(impl Env + AllocGlobal)) -> Result<Args, Fault> {
     // Words that are no text aren't a command line either.
-    let words = env::args(rt).map_err(|error| unless_memory(&error, Fault::CommandLine))?;
-    let words: Vec<String> = words.collect(rt.alloc())?;
-    let texts: Vec<&str> = words.iter().map(|word| word.as_str()).collect(rt.alloc())?;
+    let given = env::args(rt).map_err(|error| unless_memory(&error, Fault::CommandLine))?;
+    // One by one: `collect` asks for less where it is refused the room for all, and so goes on without memory.
+    let mut words: Vec<String> = Vec::new(rt.alloc());
+    for word in given {
+        words.push(word).map_err(|_full| Fault::NoMemory)?;
+    }
+    let mut texts: Vec<&str> = Vec::new(rt.alloc());
+    for word in words.iter() {
+        texts.push(word.as_str()).map_err(|_full| Fault::NoMemory)?;
+    }
     Args::read(rt.alloc(), texts.as_slice()).map_err(|fault| match fault {
         ArgsFault::Refused => Fault::CommandLine,
         ArgsFault::NoMemory => Fault::NoMemory,

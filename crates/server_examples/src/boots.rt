@@ -1,8 +1,8 @@
 // What the ports of a modelled adapter are found to be when it is taken over, and what is written and read for that.
 use crate::watched::{ALL_PORTS, Access, Lie, NO_LIE, Watched, lie, model};
-use ata_types::{Port, PortState};
+use ata_types::{PORTS, Port, PortState};
 use hba_regs::{PortReg, Reg};
-use host_boot::{Found, PORTS, take_over};
+use host_boot::{Found, take_over};
 use identify::{DiskInfo, Wanted};
 use std::alloc::Global;
 use std::process::Abort;

@@ -6,7 +6,7 @@ ghost use Rattle.adapter.specs.Idle.{IsIdle};
 use crate::boots::IMAGE_DISK;
 use crate::watched::{ALL_PORTS, Readings, Watched, model};
 use adapter::{Adapter, DeviceStep, DiskNumber};
-use ata_types::{DRIVER_BYTES, Port, PortState};
+use ata_types::{DRIVER_BYTES, PORTS, Port, PortState};
 use hba_regs::{PortReg, Reg};
 use host_boot::{Found, take_over};
 use port_control::{PortFault, receive, stop};

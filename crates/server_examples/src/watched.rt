@@ -3,7 +3,7 @@ ghost use Rattle.std.specs.Prelude.{◌≡◌, ◌≤◌, IfOk};
 ghost use Rattle.adapter.specs.Idle.{IsIdle};
 
 use adapter::{Adapter, DeviceStep, DiskPage, Stepped};
-use ata_types::{DRIVER_BYTES, Port};
+use ata_types::{DRIVER_BYTES, PORTS, Port};
 use device_model::{Model, ModelConfig, Trim};
 use hba_regs::Reg;
 use sector_store::MemStore;

@@ -3,7 +3,7 @@ use Rattle.ata_types.specs.declared.Port.{Port}
 use Rattle.hba_regs.specs.Bits.{bit}
 use Rattle.adapter.specs.Rules.{HasPort}
 use Rattle.agreement.specs.Driven.{AnyUse, IsControl}
-use Rattle.agreement.proofs.Controlled.{agreeing_goes_on, same_over}
+use Rattle.agreement.proofs.driver.PortAccesses.{agreeing_goes_on, same_over}
 use Rattle.host_boot.specs.declared.Found.TheVariants.{Ready, Unserved}
 use Rattle.host_boot.proofs.Beginning.{taken_there}
 use Rattle.port_control.specs.Ports.{WritesCommand}

@@ -1,0 +1,359 @@
+#!/usr/bin/env python3
+"""Runs a built blockd where memory is refused, where its files are cut, and on words and files that were changed by
+chance. `hostile_runs.py PROGRAM`: in three sweeps over the cases in examples/cases
+
+- each request of memory of each session is refused in turn (scripts/refuse_memory.c is put before the program; the
+  sweep is left out where there is no compiler);
+- each script and each configuration is cut at each byte;
+- words, configurations and scripts are changed by a seed.
+
+A run ends with a status that docs/FORMATS.md has and what is told with it, it prints a beginning of whole lines of what
+the whole script is answered, and the image is as the answered lines leave it. The last line is 'N passed, M failed', of
+runs.
+"""
+import concurrent.futures
+import dataclasses
+import itertools
+import os
+import pathlib
+import random
+import re
+import shlex
+import shutil
+import subprocess
+import sys
+import tempfile
+
+import run_cases
+from run_cases import ROOT, SECTOR
+
+SEED = 20261127
+CHANGES = 10_000
+# Into how many parts a sweep without cases is cut.
+PARTS = 100
+# The requests of memory of a run without lines that are refused in each session.
+SHARED = 8
+MOST_TOLD = 20
+SHARED_MEMORY = "/dev/shm"
+PIECE = 1 << 20
+# What is told with each status.
+TOLD = {
+    0: re.compile(rb""),
+    1: re.compile(rb"blockd: (no memory|image|config [0-8])\n"),
+    2: re.compile(rb"blockd: bad command line\n"),
+    3: re.compile(rb"blockd: (script|line [1-9][0-9]*: bad)\n"),
+}
+
+
+@dataclasses.dataclass
+class Ended:
+    """How a run ended, and which sectors of its image are other ones then."""
+
+    status: int
+    told: bytes
+    printed: bytes
+    written: dict
+
+    def is_quiet(self):
+        """Nothing was played."""
+        return not self.printed and not self.written
+
+
+class Room:
+    """The folder of a worker's runs."""
+
+    def __init__(self, program):
+        self.program = program
+        # Images are written again and again: in memory, where the system has a folder there.
+        self.scratch = tempfile.TemporaryDirectory(dir=SHARED_MEMORY if os.path.isdir(SHARED_MEMORY) else None)
+        self.path = pathlib.Path(self.scratch.name)
+        for file in run_cases.GIVEN:
+            (self.path / file.name).write_bytes(file.read_bytes())
+        self.images = {}
+
+    def place_image(self, size):
+        """Has `image` be the image of so many bytes; it is marked as not written to since."""
+        if size not in self.images:
+            self.images[size] = run_cases.fresh(size)
+            (self.path / f"image-{size}").write_bytes(self.images[size])
+        os.utime(self.path / f"image-{size}", ns=(0, 0))
+        image = self.path / "image"
+        image.unlink(missing_ok=True)
+        image.symlink_to(f"image-{size}")
+
+    def take_written(self, size):
+        """The sectors that a run wrote; they are as before then."""
+        file, before = self.path / f"image-{size}", self.images[size]
+        if file.stat().st_mtime_ns == 0:
+            return {}
+        after, written = file.read_bytes(), {}
+        pieces = (at for at in range(0, size, PIECE) if before[at : at + PIECE] != after[at : at + PIECE])
+        for at in itertools.chain.from_iterable(range(at, min(at + PIECE, size), SECTOR) for at in pieces):
+            if before[at : at + SECTOR] != after[at : at + SECTOR]:
+                written[at // SECTOR] = after[at : at + SECTOR]
+        with open(file, "r+b") as image:
+            for sector in written:
+                image.seek(sector * SECTOR)
+                image.write(before[sector * SECTOR : (sector + 1) * SECTOR])
+            image.truncate(size)
+        if len(after) != size:
+            written["length"] = len(after)
+        return written
+
+    def run(self, case, words=None, **variables):
+        """Runs a case, with these words in place of its own if there are some."""
+        (self.path / "config").write_bytes(case.configuration)
+        (self.path / "script").write_bytes(case.script)
+        size = size_of(case)
+        self.place_image(size)
+        run = subprocess.run(
+            [self.program, *(shlex.split(case.words) if words is None else words)],
+            cwd=self.path,
+            env={**os.environ, **variables},
+            stdin=subprocess.DEVNULL,
+            capture_output=True,
+            timeout=run_cases.SECONDS,
+        )
+        return Ended(run.returncode, run.stderr, run.stdout, self.take_written(size))
+
+
+def size_of(case):
+    """How many bytes a case's image has; None where it is made elsewhere."""
+    number, _, unit = case.image.partition(" ")
+    return int(number) * {"sectors": SECTOR, "bytes": 1}[unit] if unit in ("sectors", "bytes") else None
+
+
+def cases_of(pattern):
+    """The cases of some files, each over an image that is made here, with words that name the three files."""
+    for file in sorted(ROOT.glob(f"examples/cases/{pattern}")):
+        for case in run_cases.READERS[file.suffix](file):
+            if size_of(case) is not None and case.words.startswith(run_cases.FILES) and "\\" not in case.words:
+                yield case
+
+
+def beginning(case, lines):
+    """A case whose script has the first lines alone."""
+    return dataclasses.replace(case, script=b"".join(case.script.splitlines(keepends=True)[:lines]))
+
+
+# ---- memory
+
+
+def requests_of(room, case):
+    """How many requests of memory a case makes."""
+    counts = room.path / "counts"
+    counts.unlink(missing_ok=True)
+    room.run(case, COUNTED=str(counts), LD_PRELOAD=os.environ["REFUSING"])
+    number = int.from_bytes(counts.read_bytes(), "little")
+    if not number:
+        raise ValueError(f"{case.name}: no request of memory was seen")
+    return number
+
+
+class Played:
+    """What the lines of a session print, one after another, and the image behind each of them."""
+
+    def __init__(self, room, case):
+        self.room, self.case = room, case
+        self.printed = [b"".join(case.answers[:lines]) for lines in range(len(case.answers) + 1)]
+        self.images = {}
+
+    def written_after(self, lines):
+        """The sectors that are others after so many lines."""
+        if lines not in self.images:
+            self.images[lines] = self.room.run(beginning(self.case, lines)).written
+        return self.images[lines]
+
+    def ends_with(self, ended):
+        """Whether a run played some lines and no more. The trace of a line is made once it was played: it may be that
+        for which there is no memory."""
+        more = int("--trace" in self.case.words)
+        return any(
+            ended.printed == printed and ended.written == self.written_after(min(lines + extra, len(self.case.answers)))
+            for lines, printed in enumerate(self.printed)
+            for extra in range(more + 1)
+        )
+
+
+def refusals(room, case, is_first):
+    """Each request of memory of a session is refused in turn: of another session with the same configuration, those
+    behind the making of the server. The first ones are of the command line. A step that can't be done asks for room,
+    too, and needs none: where a line is answered `no`, a run may go on to its end."""
+    played = Played(room, case)
+    has_no = any(answer.startswith(b"no\n") for answer in case.answers)
+    begin, is_read = 1, not is_first
+    if not is_first:
+        begin = max(1, requests_of(room, beginning(case, 0)) - SHARED)
+    for number in range(begin, requests_of(room, case) + 1):
+        ended = room.run(case, REFUSED=str(number), LD_PRELOAD=os.environ["REFUSING"])
+        is_told = (ended.status, ended.told) == (1, b"blockd: no memory\n")
+        is_read = is_read or is_told
+        is_bad = (ended.status, ended.told) == (2, b"blockd: bad command line\n")
+        is_whole = (ended.status, ended.told, ended.printed) == (0, b"", played.printed[-1])
+        yield f"memory {number} is refused", ended, (
+            is_told
+            and played.ends_with(ended)
+            or is_bad
+            and not is_read
+            and ended.is_quiet()
+            or is_whole
+            and has_no
+            and ended.written == played.written_after(len(case.answers))
+        )
+
+
+# ---- cut files
+
+
+def cut_scripts(room, case):
+    """A session's script is cut at each byte: where a line begins that isn't whole, it is bad, or another line."""
+    played = Played(room, case)
+    for size in range(len(case.script)):
+        whole, part = case.script[:size].count(b"\n"), case.script[:size].split(b"\n")[-1]
+        ended = room.run(dataclasses.replace(case, script=case.script[:size]))
+        is_bad = (ended.status, ended.told) == (3, f"blockd: line {whole + 1}: bad\n".encode())
+        is_good = (ended.status, ended.told) == (0, b"")
+        if not part or case.script[size : size + 1] == b"\n":
+            whole += bool(part)
+            # (what a boot moves is printed with the first line)
+            is_same = ended.printed == played.printed[whole] or not whole and "--trace" in case.words
+            is_right = is_good and is_same and ended.written == played.written_after(whole)
+        elif is_bad:
+            is_right = ended.is_quiet()
+        else:
+            is_right = is_good and ended.printed.startswith(played.printed[whole])
+        yield f"the script is cut at {size}", ended, is_right
+
+
+def cut_configurations(room, case, texts):
+    """Configurations that were cut at a byte: each is refused, or played."""
+    case = dataclasses.replace(case, script=b"service\n", words=run_cases.FILES)
+    for text in texts:
+        ended = room.run(dataclasses.replace(case, configuration=text))
+        yield f"the configuration {run_cases.shown(text)}", ended, not ended.written and (
+            (ended.status, ended.told, ended.printed) == (0, b"", b"quiet\n")
+            or ended.status == 1
+            and re.fullmatch(rb"blockd: config [1-8]\n", ended.told)
+            and ended.is_quiet()
+        )
+
+
+# ---- changes by chance
+
+
+def changed(text, chance, others):
+    """A text with a few changes: bytes that go, come, or are others; a piece of another text; a piece that stands twice
+    or at another place."""
+    for _ in range(chance.choice((1, 1, 2, 3, 8))):
+        at = chance.randint(0, len(text))
+        to = min(len(text), at + chance.choice((0, 1, 1, 2, 8, 40)))
+        other = chance.choice(others)
+        begin = chance.randint(0, len(other))
+        put = chance.choice(
+            (
+                b"",
+                bytes([chance.randrange(256)]),
+                chance.choice((b"0", b"9", b"1" * 20, b"-1", b" ", b"\n", b"\0", b"\xff", b'"', b",", b"=", b"#")),
+                other[begin : begin + chance.choice((1, 4, 16, 64))],
+                text[at:to] * 2,
+            )
+        )
+        text = text[:at] + put + text[to:]
+    return text
+
+
+def changes(room, cases, seed):
+    """Words and files that were changed, from this seed on."""
+    chance = random.Random(seed)
+    scripts, configurations = [case.script for case in cases], [case.configuration for case in cases]
+    words = [case.words.encode() for case in cases] + [b"--help --trace --config= --image= -- --script="]
+    for number in range(CHANGES // PARTS):
+        case, given = chance.choice(cases), None
+        kind = chance.choice(("script", "script", "configuration", "configuration", "words"))
+        if kind == "script":
+            case = dataclasses.replace(case, script=changed(case.script, chance, scripts))
+        elif kind == "configuration":
+            case = dataclasses.replace(case, configuration=changed(case.configuration, chance, configurations))
+        else:
+            # (a word has no zero byte; and files outside the folder aren't meant)
+            text = changed(case.words.encode(), chance, words).replace(b"\0", b"").replace(b"/", b"")
+            given = text.split(b" ")
+        ended = room.run(case, given)
+        is_told = ended.status in TOLD and TOLD[ended.status].fullmatch(ended.told)
+        is_whole = not ended.printed or ended.printed.endswith(b"\n")
+        is_played = ended.status == 0 or ended.told == b"blockd: no memory\n"
+        yield f"change {seed}.{number} of the {kind}", ended, is_told and is_whole and (is_played or ended.is_quiet())
+
+
+# ---- all of them
+
+
+def judged(sweep, *given):
+    """Runs a part of a sweep: how many runs there were, and what was wrong."""
+    count, wrong = 0, []
+    for name, ended, is_right in sweep(ROOM, *given):
+        count += 1
+        if not is_right:
+            printed = run_cases.shown(ended.printed[-600:])
+            wrong.append(f"{name}: status {ended.status}, {ended.told}, sectors {[*ended.written][:8]}\n{printed}")
+    return count, wrong
+
+
+def begin_worker(program):
+    """Makes a worker's room."""
+    global ROOM
+    ROOM = Room(program)
+
+
+def compiled(scratch):
+    """Compiles what refuses memory, and says whether it could."""
+    os.environ["REFUSING"] = f"{scratch}/refuse_memory.so"
+    compiler = os.environ.get("CC", "cc")
+    if not shutil.which(compiler):
+        return False
+    source = ROOT / "scripts/refuse_memory.c"
+    subprocess.run([compiler, "-O2", "-shared", "-fPIC", "-o", os.environ["REFUSING"], source], check=True)
+    return True
+
+
+def parts(can_refuse):
+    """The parts of the sweeps: the name of each sweep, and what it is given."""
+    sessions = [case for case in cases_of("*.session") if case.answers and case.status == 0]
+    sessions += [case for case in run_cases.formats(ROOT / "docs/FORMATS.md") if case.answers and case.status == 0]
+    # (sessions of thousands of lines show nothing that shorter ones don't)
+    short = [case for case in sessions if len(case.script) < 4000]
+    if can_refuse:
+        firsts = {(case.configuration, case.words): case for case in reversed(short)}
+        yield from ((refusals, case, firsts[case.configuration, case.words] is case) for case in short)
+    yield from ((cut_scripts, case) for case in {case.script: case for case in short}.values())
+    whole = {case.configuration for case in [*cases_of("*.session"), *cases_of("*.configurations")]}
+    cut = sorted({text[:size] for text in whole for size in range(len(text))})
+    yield from ((cut_configurations, short[0], cut[begin::PARTS]) for begin in range(PARTS))
+    yield from ((changes, short, SEED + number) for number in range(PARTS))
+
+
+def main(program):
+    """Runs all sweeps, and says how many runs there were of each."""
+    counts, failed = {}, 0
+    workers = os.cpu_count() or 1
+    with tempfile.TemporaryDirectory() as scratch:
+        can_refuse = compiled(scratch)
+        if not can_refuse:
+            print("hostile runs: refused memory is left out, since there is no compiler", file=sys.stderr)
+        with concurrent.futures.ProcessPoolExecutor(workers, None, begin_worker, (os.path.abspath(program),)) as pool:
+            asked = list(parts(can_refuse))
+            done = [pool.submit(judged, *part) for part in asked]
+            for (sweep, *given), it in zip(asked, done):
+                count, wrong = it.result()
+                counts[sweep.__name__] = counts.get(sweep.__name__, 0) + count
+                for fault in wrong[: max(0, MOST_TOLD - failed)]:
+                    print(f"{sweep.__name__}: {getattr(given[0], 'name', 'by chance')}: {fault}")
+                failed += len(wrong)
+    for name, count in counts.items():
+        print(f"hostile runs: {name.replace('_', ' ')}: {count}", file=sys.stderr)
+    print(f"hostile runs: {sum(counts.values()) - failed} passed, {failed} failed")
+    return 0 if counts and all(counts.values()) and not failed else 1
+
+
+if __name__ == "__main__":
+    sys.exit(main(*sys.argv[1:]))
