@@ -29,7 +29,7 @@ SCRIPTS = ["scripts/*", "examples/*.sh", "examples/qemu/*.sh", "examples/qemu/*.
 DOCUMENTS = ["*.md", "docs/*.md"]
 OTHERS = ["examples/*/README.md"]
 # An import can't be broken, and a row of a table neither.
-WHOLE = re.compile(r"\s*(ghost use |pub use |use |import |open |module |\|)")
+WHOLE = re.compile(r"\s*(ghost use |pub use |use |import |open |\|)")
 
 
 def files(patterns):

@@ -1,15 +1,15 @@
 #!/usr/bin/env bash
-# What to run ten times a day: `quick.sh [--cases] [CRATE..]`. It proves the named crates, or else those that changed
+# What to run ten times a day: `quick.sh [--example] [CRATE..]`. It proves the named crates, or else those that changed
 # since main, lowest first, and tries their edits, but for those that this machine refused over the same files before.
-# Then it plays an example, built without proofs, and compares the answers. With `--cases` it builds the proved program
-# instead, for which it proves what stands on the changed crates, and plays all cases. It is no verdict: scripts/test.sh
-# is.
+# Then it builds the program, for which it proves what of it stands on the changed crates, and plays all cases. With
+# `--example` it plays one example instead, built without proofs, and compares the answers: the first word while a low
+# crate is being changed. It is no verdict: scripts/test.sh is.
 set -euo pipefail
 cd "$(dirname "$0")/.."
 
-cases=
-if [[ ${1:-} == --cases ]]; then
-    cases=1
+example=
+if [[ ${1:-} == --example ]]; then
+    example=1
     shift
 fi
 base=$(git merge-base HEAD main 2>/dev/null || echo HEAD)
@@ -34,7 +34,7 @@ done
 if [[ ${#edited[@]} != 0 ]]; then
     scripts/edits.py --kept "${edited[@]}"
 fi
-if [[ $cases ]]; then
+if [[ ! $example ]]; then
     exec scripts/examples.sh
 fi
 examples/run.sh third | diff examples/third.output - && echo "the example is answered as it was"
