@@ -28,8 +28,8 @@ pub record SparesBook (m later : Machine) : Type 0 where
   pub book : AllFurther m.book later.book
   pub kept : AllFurther m.kept later.kept
 
--- The step isn't of the request of this id: it issues, touches, ends, puts back or answers none, or another. (A tick
--- and Release are of none.)
+-- The step isn't of the request of this id: it issues, touches, ends, puts back or answers none, or another. (A tick,
+-- Release and Revoke are of none.)
 abbrev pub IsOfAnother : RequestId → Step → Type 0
 IsOfAnother id (Issue mode e) = e.request.id ≢ id
 IsOfAnother id (Touch e i block) = e.request.id ≢ id

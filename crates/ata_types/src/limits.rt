@@ -3,6 +3,15 @@
 /// Ports that a server can serve: 0 to 3. (AHCI has up to 32.)
 pub const PORTS: usize = 4;
 
+/// Slots for commands that a port has, or fewer (AHCI 1.3.1, 1.4).
+pub const SLOTS: usize = 32;
+
+/// Clients, which have the numbers 1 to 8.
+pub const CLIENTS: usize = 8;
+
+/// Grants of all clients together.
+pub const MOST_GRANTS: usize = 64;
+
 /// Sectors of the longest read or write.
 pub const MOST_REQUEST_SECTORS: u32 = 256;
 

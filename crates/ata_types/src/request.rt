@@ -58,6 +58,8 @@ pub enum Outcome {
     Unplugged,
     /// Its port can't be stopped, or the adapter can't be reset.
     PortDead,
+    /// Its grant was revoked before it was done.
+    Revoked,
 }
 
 /// The answer to an accepted request.

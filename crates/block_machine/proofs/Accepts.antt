@@ -1,5 +1,5 @@
 -- What is known of requests from their acceptance on.
-use Rattle.std.proofs.Common.{◌≡◌, ◌⊎◌, ℕ, ◌+◌, ◌/◌, ◌<◌, ◌≤◌, Bool, List, [], ◌∷◌, length, Some, inl, inr, ⊎_elim, refl, sym, ap, ◌∙◌, subst, arith}
+use Rattle.std.proofs.Common.{◌≡◌, ◌⊎◌, ℕ, ◌+◌, ◌/◌, ◌<◌, ◌≤◌, Bool, List, [], ◌∷◌, length, inl, inr, ⊎_elim, refl, sym, ap, ◌∙◌, subst, arith}
 use Rattle.std.proofs.lemmas.Bool.{cases_Bool, cases_eq, cases_lt, false≢true}
 use Rattle.std.specs.List.{Contains}
 use Rattle.std.specs.Bool.{IsTrue}
@@ -11,10 +11,9 @@ use Rattle.ata_types.specs.declared.refusal.Rule.TheVariants.{NoGrant, NoRight, 
 use Rattle.ata_types.specs.declared.grant.GrantRow.{GrantRow}
 use Rattle.ata_types.specs.declared.grant.Rights.{Rights}
 use Rattle.ata_types.specs.Grant.{Allows}
-use Rattle.block_machine.specs.declared.due.Mode.{Mode}
 use Rattle.block_machine.specs.Rules.{IsNamed, IsCount, frames_for}
-use Rattle.block_machine.specs.State.{Block, Accepted, Pending, Machine, frame_at}
-use Rattle.block_machine.specs.Steps.{Step, Accept, Issue, Touch, May, IsNew, IsLiving, after_step}
+use Rattle.block_machine.specs.State.{Block, Accepted, Pending, Machine}
+use Rattle.block_machine.specs.Steps.{Step, Accept, Touch, May, IsNew, IsLiving, after_step}
 use Rattle.block_machine.specs.Left.{after, IsLegal, IsStart, IsAccept}
 use Rattle.block_machine.specs.Confined.{IsGranted, IsConfined, WasAccepted, MovesBytes}
 use Rattle.block_machine.proofs.Members.{contains_none, contains_here, contains_there, contains_cases}
@@ -141,9 +140,3 @@ touch_is_confined start h e i block s legal may =
       framed = place;
       lent = λ b. (traced start h s legal).sound.lent e l (i / 8) (place b);
     }
-
--- each request that is issued was accepted, and its frames are still lent to it
-pub issue_was_accepted : (start : Machine) (h : List Step) (mode : Mode) (e : Pending) → IsStart start → IsLegal start h → May (after start h) (Issue mode e)
-    → WasAccepted start h e.request × ((i : ℕ) → i < length e.request.asked.frames.items → (after start h).lent (frame_at e.request.asked.frames.items i) ≡ Some e.request.id)
-issue_was_accepted start h mode e s legal may =
-    (living_accepted start h s legal e (inl may.0), (traced start h s legal).sound.lent e (inl may.0))

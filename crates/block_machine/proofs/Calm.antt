@@ -28,6 +28,7 @@ refused_or e (outcome.DeviceError status error) h = absurd (false≢true (sym h)
 refused_or e outcome.Aborted h = absurd (false≢true (sym h))
 refused_or e outcome.Unplugged h = absurd (false≢true (sym h))
 refused_or e outcome.PortDead h = absurd (false≢true (sym h))
+refused_or e outcome.Revoked h = absurd (false≢true (sym h))
 
 pub told_ok : (steps : List Step) → list_any is_refused steps ≡ false → (p : Port) → AreTold outcome.Ok steps p
 told_ok steps none p e o h here = inl (refused_or e o (none_of is_refused steps (Answer e o) none h))

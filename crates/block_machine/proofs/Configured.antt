@@ -1,26 +1,38 @@
--- Rows and owners stay what they were, so clients are those of the start, and at most 128 requests are unanswered.
-use Rattle.std.proofs.Common.{◌≡◌, ℕ, ◌+◌, ◌*◌, ◌≤◌, Bool, cond, ◌==◌, List, [], ◌∷◌, length, zero, suc, inl, inr, ⊎_elim, refl, ap, ◌∙◌, subst, arith, eq-eqb, le_refl}
+-- Rows only go and owners stay what they were, so clients are those of the start, and at most 128 requests are unanswered.
+use Rattle.std.proofs.Common.{◌≡◌, ℕ, ◌+◌, ◌*◌, ◌≤◌, Bool, cond, not, ◌==◌, List, [], ◌∷◌, length, zero, suc, inl, inr, ⊎_elim, refl, ap, ◌∙◌, arith, eq-eqb, le_refl}
 use Rattle.std.proofs.lemmas.Bool.{cases_eq}
-use Rattle.std.specs.List.{Contains}
+use Rattle.std.proofs.lemmas.List.Kept.{AllPairs-filter}
+use Rattle.std.specs.List.{AllPairs, Contains}
 use Rattle.ata_types.specs.declared.request.ClientId.{ClientId}
 use Rattle.ata_types.specs.declared.request.Frame.{Frame}
 use Rattle.ata_types.specs.declared.grant.GrantRow.{GrantRow}
 use Rattle.ata_types.specs.declared.limits.TheConstants.{MOST_UNANSWERED}
 use Rattle.block_machine.specs.State.{Accepted, Pending, Machine}
-use Rattle.block_machine.specs.Steps.{Step, Accept, after_step, unanswered_of}
+use Rattle.block_machine.specs.Rules.{DifferInName, is_under}
+use Rattle.block_machine.specs.Steps.{Step, Accept, Revoke, after_step, unanswered_of}
 use Rattle.block_machine.specs.Left.{after, IsLegal, IsStart}
 use Rattle.block_machine.specs.Confined.{IsGranted, WasAccepted}
-use Rattle.block_machine.proofs.Members.{contains_here, contains_there}
+use Rattle.block_machine.proofs.Members.{filter_in, contains_here, contains_there}
 use Rattle.block_machine.proofs.Counting.{count_cons}
 use Rattle.block_machine.proofs.Accepts.{living_accepted, accepted_is_granted}
 
-row_step : (m : Machine) (step : Step) → (after_step m step).rows ≡ m.rows
-row_step m (Accept r) = refl
-row_step m _ = refl
+-- each of the rows that the step leaves was there
+row_step : (m : Machine) (step : Step) (row : GrantRow) → Contains (after_step m step).rows row → Contains m.rows row
+row_step m (Revoke client number) row h = (filter_in (λ (r : GrantRow). not (is_under client number r)) m.rows row h).0
+row_step m _ row h = h
 
-pub rows_stay : (m : Machine) (h : List Step) → (after m h).rows ≡ m.rows
-rows_stay m [] = refl
-rows_stay m (step ∷ past) = row_step (after m past) step ∙ rows_stay m past
+pub rows_shrink : (m : Machine) (h : List Step) (row : GrantRow) → Contains (after m h).rows row → Contains m.rows row
+rows_shrink m [] row h = h
+rows_shrink m (step ∷ past) row h = rows_shrink m past row (row_step (after m past) step row h)
+
+-- those that differ in name do so still
+differ_step : (m : Machine) (step : Step) → AllPairs DifferInName m.rows → AllPairs DifferInName (after_step m step).rows
+differ_step m (Revoke client number) differ = AllPairs-filter DifferInName (λ (r : GrantRow). not (is_under client number r)) m.rows differ
+differ_step m _ differ = differ
+
+pub rows_differ : (m : Machine) (h : List Step) → AllPairs DifferInName m.rows → AllPairs DifferInName (after m h).rows
+rows_differ m [] differ = differ
+rows_differ m (step ∷ past) differ = differ_step (after m past) step (rows_differ m past differ)
 
 pub owner_step : (m : Machine) (step : Step) (f : Frame) → (after_step m step).owner f ≡ m.owner f
 owner_step m (Accept r) f = refl
@@ -30,13 +42,17 @@ pub owners_stay : (m : Machine) (h : List Step) (f : Frame) → (after m h).owne
 owners_stay m [] f = refl
 owners_stay m (step ∷ past) f = owner_step (after m past) step f ∙ owners_stay m past f
 
-pub rows_and_owners_stay : (start : Machine) (h : List Step) → ((after start h).rows ≡ start.rows) × ((f : Frame) → (after start h).owner f ≡ start.owner f)
-rows_and_owners_stay start h = (rows_stay start h, owners_stay start h)
+pub rows_shrink_and_owners_stay : (start : Machine) (h : List Step) → ((row : GrantRow) → Contains (after start h).rows row → Contains start.rows row) × ((f : Frame) → (after start h).owner f ≡ start.owner f)
+rows_shrink_and_owners_stay start h = (rows_shrink start h, owners_stay start h)
+
+-- a request that more rows grant
+granted_by_more : (few more : List GrantRow) (r : Accepted) → ((row : GrantRow) → Contains few row → Contains more row) → IsGranted few r → IsGranted more r
+granted_by_more few more r shrunk g = record { row = g.row; named = (shrunk g.row g.named.0, g.named.1); port = g.port; right = g.right; covered = g.covered }
 
 -- the rows of the start grant each request that was accepted
 pub was_granted : (start : Machine) (h : List Step) (r : Accepted) → WasAccepted start h r → IsGranted start.rows r
 was_granted start [] r w = absurd w
-was_granted start (step ∷ past) r (inl c) = subst (λ (rows : List GrantRow). IsGranted rows r) (rows_stay start past) (accepted_is_granted (after start past) r c.1)
+was_granted start (step ∷ past) r (inl c) = granted_by_more (after start past).rows start.rows r (rows_shrink start past) (accepted_is_granted (after start past) r c.1)
 was_granted start (step ∷ past) r (inr w) = was_granted start past r w
 
 -- the client of an accepted request is one that a row may have

@@ -4,7 +4,7 @@ use Rattle.std.proofs.lemmas.Bool.{cases_eq, cases_lt, or_left, and_parts, and_f
 use Rattle.ata_types.specs.declared.Port.{Port}
 use Rattle.block_machine.specs.State.{Block, Disk, Accepted, Pending, Machine, waiting, sector_of, written_by}
 use Rattle.block_machine.specs.Due.{conflict, is_writer}
-use Rattle.block_machine.specs.Steps.{Step, Accept, Issue, Touch, End, Age, Again, Answer, Release, Unplug, Replace, Store, Load, May, after_step, MayMove, put_sector, disks_after}
+use Rattle.block_machine.specs.Steps.{Step, Accept, Issue, Touch, End, Age, Again, Answer, Revoke, Release, Unplug, Replace, Store, Load, May, after_step, MayMove, put_sector, disks_after}
 use Rattle.block_machine.specs.Left.{plug_count, bytes_when_plugged, IsTouch, HasTouched, Wrote, IsLast}
 use Rattle.block_machine.proofs.Sound.{Sound}
 use Rattle.block_machine.proofs.Keeps.{same_port}
@@ -130,6 +130,7 @@ content_step start h m (End e) may s seen c port k = content_quiet start h m (En
 content_step start h m (Age ready) may s seen c port k = content_quiet start h m (Age ready) port k m.next seen (λ w t. t) refl (le_refl _) (c port k)
 content_step start h m (Again e) may s seen c port k = content_quiet start h m (Again e) port k m.next seen (λ w t. t) refl (le_refl _) (c port k)
 content_step start h m (Answer e outcome) may s seen c port k = content_quiet start h m (Answer e outcome) port k m.next seen (λ w t. t) refl (le_refl _) (c port k)
+content_step start h m (Revoke client number) may s seen c port k = content_quiet start h m (Revoke client number) port k m.next seen (λ w t. t) refl (le_refl _) (c port k)
 content_step start h m Release may s seen c port k = content_quiet start h m Release port k m.next seen (λ w t. t) refl (le_refl _) (c port k)
 content_step start h m (Unplug at) may s seen c port k = content_quiet start h m (Unplug at) port k m.next seen (λ w t. t) refl (le_refl _) (c port k)
 content_step start h m (Replace at id size disk) may s seen c port k = content_replace start h m at id size disk port k seen (c port k)

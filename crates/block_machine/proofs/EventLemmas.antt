@@ -2,14 +2,15 @@
 use Rattle.std.proofs.Common.{◌≡◌, ◌⊎◌, ℕ, ◌+◌, ◌*◌, ◌/◌, ◌%◌, ◌<◌, Bool, true, false, List, [], ◌∷◌, ◌++◌, length, Option, Some, None, inl, inr, ⊎_elim, refl, sym, ap, ◌∙◌, subst, arith, eq-eqb}
 use Rattle.std.proofs.lemmas.Bool.{cond-true, cond-false, cond_both}
 use Rattle.std.specs.List.{list_any}
+use Rattle.ata_types.specs.declared.request.ClientId.{ClientId}
 use Rattle.ata_types.specs.declared.request.Frame.{Frame}
 use Rattle.ata_types.specs.declared.request.RequestId.{RequestId}
-use Rattle.ata_types.specs.declared.request.Outcome.TheVariants.{Ok, DeviceError, Aborted, Unplugged, PortDead}
+use Rattle.ata_types.specs.declared.request.Outcome.TheVariants.{Ok, DeviceError, Aborted, Unplugged, PortDead, Revoked}
 use Rattle.block_machine.specs.State.{Block, Memory, Pending, Machine, frame_at, is_reader}
 use Rattle.block_machine.specs.Steps.{Step, Accept, Touch, Again, Answer, Release, Store, May, after_step, stays, unlend, is_lent_to, put_bytes, memory_after, AllTouched}
 use Rattle.block_machine.specs.Left.{after, IsLegal, IsStart, AllTold}
 use Rattle.block_machine.specs.Ports.{Ports, Evidence}
-use Rattle.block_machine.specs.Events.{Moment, Ask, Submit, StoreAt, LoadAt, Service, Tick, Reset, State, Device, Event, AllMay, IsDevices, IsServers, Belong, AllLawful, moment_of, IsRun, steps_of, AnswerHolds, AnswersHold, EveryReadHolds}
+use Rattle.block_machine.specs.Events.{Moment, Ask, Submit, StoreAt, LoadAt, Service, Tick, Reset, RevokeOf, State, Device, Event, AllMay, IsDevices, IsServers, Belong, AllLawful, moment_of, IsRun, steps_of, AnswerHolds, AnswersHold, EveryReadHolds}
 use Rattle.block_machine.proofs.Order.{In}
 use Rattle.block_machine.proofs.Sound.{Sound}
 use Rattle.block_machine.proofs.Trace.{runs_lives}
@@ -58,6 +59,7 @@ answer_whole old evidence ports (Answer e (DeviceError status error)) before l =
 answer_whole old evidence ports (Answer e Aborted) before l = (l.0, tt)
 answer_whole old evidence ports (Answer e Unplugged) before l = (l.0, tt)
 answer_whole old evidence ports (Answer e PortDead) before l = (l.0, tt)
+answer_whole old evidence ports (Answer e Revoked) before l = (l.0, tt)
 answer_whole old evidence ports (Again e) before l = (l.0, tt)
 answer_whole old evidence ports _ before l = (l, tt)
 
@@ -112,6 +114,11 @@ quiet_reset D ports (Accept r) h = absurd h
 quiet_reset D ports (Store client frame offset bytes) h = absurd h
 quiet_reset D ports _ h = tt
 
+quiet_revoke : (D : Type 0) (client : ClientId) (number : ℕ) (ports : Ports) (step : Step) → IsServers {D = D} (RevokeOf client number) ports step → IsQuiet step
+quiet_revoke D client number ports (Accept r) h = absurd h
+quiet_revoke D client number ports (Store c frame offset bytes) h = absurd h
+quiet_revoke D client number ports _ h = tt
+
 abbrev Quiet : {D : Type 0} → Ask D → Ports → Type 0
 Quiet ask ports = (step : Step) → IsServers ask ports step → IsQuiet step
 
@@ -122,6 +129,7 @@ quiet_or_silent : {D : Type 0} (ask : Ask D) (ports : Ports) → Quiet ask ports
 quiet_or_silent {D} Service ports = inl (quiet_service D ports)
 quiet_or_silent {D} Tick ports = inl (quiet_tick D ports)
 quiet_or_silent {D} Reset ports = inl (quiet_reset D ports)
+quiet_or_silent {D} (RevokeOf client number) ports = inl (quiet_revoke D client number ports)
 quiet_or_silent {D} (Submit r) ports = inr go
   where
     go : (step : Step) → IsServers {D = D} (Submit r) ports step → IsSilent step
@@ -191,11 +199,11 @@ answer_holds : (start : Machine) (memory : Memory) (past : List Step) (step : St
 answer_holds start memory past (Answer e Ok) s l told w stays = λ op.
     let m = after start past in
     let sound = (traced start past s l.0).sound in
-    let holds = read_holds_left start past e s l.0 told l.1 w.0 op in
-    let room = sound.room e (inl l.1) (ap is_reader op) in
+    let holds = read_holds_left start past e s l.0 told l.1.0 w.0 op in
+    let room = sound.room e (inl l.1.0) (ap is_reader op) in
     let gone : (i : ℕ) → i < length e.request.asked.frames.items → unlend e.request.id m.lent (frame_at e.request.asked.frames.items i) ≡ None = λ i lt.
     cond-true (is_lent_to e.request.id (m.lent (frame_at e.request.asked.frames.items i))) None (m.lent (frame_at e.request.asked.frames.items i))
-    (ap (is_lent_to e.request.id) (sound.lent e (inl l.1) i lt) ∙ eq-eqb e.request.id.0 e.request.id.0 refl) in
+    (ap (is_lent_to e.request.id) (sound.lent e (inl l.1.0) i lt) ∙ eq-eqb e.request.id.0 e.request.id.0 refl) in
     record {
       sectors = λ i lt. let q = holds.sectors i lt in
           (q.0, q.1, λ b lb. stays (frame_at e.request.asked.frames.items (i / 8)) (gone (i / 8) (omega (arith, room, lt))) (512 * (i % 8) + b) ∙ q.2 b lb);
@@ -205,6 +213,7 @@ answer_holds start memory past (Answer e (DeviceError status error)) s l told w 
 answer_holds start memory past (Answer e Aborted) s l told w stays = tt
 answer_holds start memory past (Answer e Unplugged) s l told w stays = tt
 answer_holds start memory past (Answer e PortDead) s l told w stays = tt
+answer_holds start memory past (Answer e Revoked) s l told w stays = tt
 answer_holds start memory past _ s l told w stays = tt
 
 -- so has each read of a call that answers

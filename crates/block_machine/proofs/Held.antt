@@ -1,7 +1,7 @@
 -- The frames of a request that lives hold what they held at its acceptance, but for the sectors that a read asked.
 use Rattle.std.proofs.Common.{◌≡◌, ℕ, ⊎_elim, sym, ap, ◌∙◌, subst, arith}
 use Rattle.block_machine.specs.State.{Block, Accepted, Pending, Machine, is_reader}
-use Rattle.block_machine.specs.Steps.{Step, Accept, Issue, Touch, End, Age, Again, Answer, Release, Unplug, Replace, Store, Load, May, IsLiving, after_step}
+use Rattle.block_machine.specs.Steps.{Step, Accept, Issue, Touch, End, Age, Again, Answer, Revoke, Release, Unplug, Replace, Store, Load, May, IsLiving, after_step}
 use Rattle.block_machine.specs.Confined.{IsHeld}
 use Rattle.block_machine.proofs.Sound.{Sound}
 use Rattle.block_machine.proofs.Trace.{Before, Comes, lives_before, lives_one, runs_lives}
@@ -30,6 +30,7 @@ held_step m (End e) may s o l h = h
 held_step m (Age ready) may s o l h = h
 held_step m (Again e) may s o l h = h
 held_step m (Answer e outcome) may s o l h = h
+held_step m (Revoke client number) may s o l h = h
 held_step m Release may s o l h = h
 held_step m (Unplug port) may s o l h = h
 held_step m (Replace port id size disk) may s o l h = h

@@ -9,7 +9,7 @@ use Rattle.ata_types.specs.declared.request.RequestId.{RequestId}
 use Rattle.ata_types.specs.declared.request.Op.{Op}
 use Rattle.ata_types.specs.declared.request.Op.TheVariants.{Read, Write, Trim, Flush}
 use Rattle.ata_types.specs.declared.request.Outcome.{Outcome}
-use Rattle.ata_types.specs.declared.request.Outcome.TheVariants.{Ok, DeviceError, Aborted, Unplugged, PortDead}
+use Rattle.ata_types.specs.declared.request.Outcome.TheVariants.{Ok, DeviceError, Aborted, Unplugged, PortDead, Revoked}
 use Rattle.ata_types.specs.declared.refusal.FrameFault.TheVariants.{FrameTwice, FrameLent}
 use Rattle.ata_types.specs.declared.refusal.Rule.TheVariants.{FrameCount, Frames}
 use Rattle.block_machine.specs.declared.due.Mode.{Mode}
@@ -17,7 +17,7 @@ use Rattle.block_machine.specs.declared.due.Unanswered.{Unanswered}
 use Rattle.block_machine.specs.State.{Accepted, Pending, Machine, frame_at, is_reader, unanswered, waiting}
 use Rattle.block_machine.specs.Rules.{frames_for}
 use Rattle.block_machine.specs.Due.{IsDue, conflict, holds_back, is_plain}
-use Rattle.block_machine.specs.Steps.{Step, Accept, Issue, Touch, End, Age, Again, Answer, Release, Unplug, Replace, Store, Load, May, IsNew, NoneKept, after_step, at, without, IsLiving, MayMove, issue, touch, mark_ended, requeued, older, newly_accepted, lend, unlend, unlend_all, is_lent_to, stays}
+use Rattle.block_machine.specs.Steps.{Step, Accept, Issue, Touch, End, Age, Again, Answer, Revoke, Release, Unplug, Replace, Store, Load, May, IsNew, NoneKept, after_step, at, without, IsLiving, MayMove, issue, touch, mark_ended, requeued, older, newly_accepted, lend, unlend, unlend_all, is_lent_to, stays}
 use Rattle.block_machine.proofs.Members.{contains_none, contains_here, contains_there, contains_cases, map_in, into_map, at_cases, without_in, append_in, none_of}
 use Rattle.block_machine.proofs.Sound.{Sound, Carries, IsChanged, KeepsRequest, IsLentAll, IsDistinct, lived, order_carried, carried}
 
@@ -140,6 +140,7 @@ stays_issued e (DeviceError status error) h = absurd (false≢true h)
 stays_issued e Aborted h = absurd (false≢true h)
 stays_issued e Unplugged h = absurd (false≢true h)
 stays_issued e PortDead h = h
+stays_issued e Revoked h = absurd (false≢true h)
 
 -- what an answer leaves, given whether the request stays as a kept one
 abbrev answered : Machine → Pending → Bool → Machine
@@ -347,7 +348,8 @@ keeps m (Again e) may s = keeps_changed (at e.request.id requeued) (λ x. x) m (
       next = refl;
       lent = λ x. refl;
     }) (at_quiet e.request.id requeued (λ x h. absurd (false≢true h))) s
-keeps m (Answer e outcome) may s = keeps_answer m e (stays e outcome) s may (stays_issued e outcome)
+keeps m (Answer e outcome) may s = keeps_answer m e (stays e outcome) s may.0 (stays_issued e outcome)
+keeps m (Revoke client number) may s = keeps_bytes m (after_step m (Revoke client number)) refl refl refl (λ x. refl) s
 keeps m Release may s = keeps_release m s
 keeps m (Unplug port) may s = keeps_bytes m (after_step m (Unplug port)) refl refl refl (λ x. refl) s
 keeps m (Replace port id size disk) may s = keeps_bytes m (after_step m (Replace port id size disk)) refl refl refl (λ x. refl) s

@@ -60,7 +60,8 @@ lent_at start (step ∷ past) f id s legal h = ⊎_elim
 pub lent_clients : (m : Machine) (f : Frame) (id : RequestId) → IsReached m → m.lent f ≡ Some id → DRIVER_FRAMES ≤ f.0
 lent_clients m f id r h = lent_at r.first r.past f id r.starts r.legal (ap (λ (x : Machine). x.lent f) (sym r.is) ∙ h)
 
-lent_accepted : (start : Machine) (past : List Step) (f : Frame) (id : RequestId) → IsStart start → IsLegal start past → (after start past).lent f ≡ Some id →
+-- what is lent, is lent to an accepted request that has it
+pub lent_accepted : (start : Machine) (past : List Step) (f : Frame) (id : RequestId) → IsStart start → IsLegal start past → (after start past).lent f ≡ Some id →
     (r : Accepted) × WasAccepted start past r × (r.id ≡ id) × HasFrame r f
 lent_accepted start [] f id s legal h = some-none h (s.lent f)
 lent_accepted start (step ∷ past) f id s legal h = ⊎_elim

@@ -26,3 +26,4 @@ pub mod Turns
 pub mod Alone
 pub mod Stepping
 pub mod Calm
+pub mod Ruled

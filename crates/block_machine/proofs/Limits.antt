@@ -11,7 +11,7 @@ use Rattle.block_machine.specs.declared.due.Mode.{Mode}
 use Rattle.block_machine.specs.declared.due.Unanswered.{Unanswered}
 use Rattle.block_machine.specs.Due.{IsDue, IsInOrder, is_plain, issued_count}
 use Rattle.block_machine.specs.State.{Accepted, Pending, Machine, frame_at, unanswered}
-use Rattle.block_machine.specs.Steps.{Step, Accept, Issue, Touch, End, Age, Again, Answer, Release, Unplug, Replace, Store, Load, May, IsLiving, after_step, at, without, issue, touch, mark_ended, requeued, older, newly_accepted, stays, unanswered_of}
+use Rattle.block_machine.specs.Steps.{Step, Accept, Issue, Touch, End, Age, Again, Answer, Revoke, Release, Unplug, Replace, Store, Load, May, IsLiving, after_step, at, without, issue, touch, mark_ended, requeued, older, newly_accepted, stays, unanswered_of}
 use Rattle.block_machine.specs.Left.{after, IsLegal, IsStart}
 use Rattle.block_machine.specs.Confined.{WasAccepted, WithinLimits}
 use Rattle.block_machine.proofs.Members.{contains_none, contains_here, contains_there, contains_cases, map_in, into_map, at_cases, without_in, append_in}
@@ -139,8 +139,9 @@ counted_step m (Answer e outcome) may s c x (inl h) = c x (inl (without_in e.req
 counted_step m (Answer e outcome) may s c x (inr h) = go (stays e outcome) h
   where
     go : (b : Bool) → Contains (cond b (e ∷ m.kept) m.kept) x → IsCounted x
-    go true k = ⊎_elim (λ p. subst IsCounted (sym p) (c e (inl may))) (λ i. c x (inr i)) (contains_cases e m.kept x k)
+    go true k = ⊎_elim (λ p. subst IsCounted (sym p) (c e (inl may.0))) (λ i. c x (inr i)) (contains_cases e m.kept x k)
     go false k = c x (inr k)
+counted_step m (Revoke client number) may s c x l = c x l
 counted_step m Release may s c x (inl h) = c x (inl h)
 counted_step m Release may s c x (inr h) = absurd (contains_none x h)
 counted_step m (Unplug port) may s c x l = c x l

@@ -1,6 +1,6 @@
 -- Members of lists, after a change.
 use Rattle.std.proofs.Common.{◌≡◌, ◌≢◌, ◌⊎◌, ℕ, ◌<◌, Bool, true, false, cond, not, ◌==◌, List, [], ◌∷◌, ◌++◌, length, get_or, map, suc, zero, inl, inr, ⊎_elim, refl, sym, ap, ◌∙◌, arith, eqb-true}
-use Rattle.std.specs.List.{Contains, list_any}
+use Rattle.std.specs.List.{Contains, filter, list_any}
 use Rattle.std.proofs.lemmas.Bool.{eqb-false, or_parts, or_left, or_right, cond-true, cond-false}
 use Rattle.std.proofs.lemmas.List.Elements.{Contains-append_cases}
 use Rattle.ata_types.specs.declared.request.RequestId.{RequestId}
@@ -76,3 +76,15 @@ some_in p (y ∷ ys) x i h = ⊎_elim
     (λ e. or_left (p y) (list_any p ys) (ap p (sym e) ∙ h))
     (λ k. or_right (p y) (list_any p ys) (some_in p ys x k h))
     (contains_cases y ys x i)
+
+-- who passes a test was there, and passes it
+pub filter_in : {A : Type 0} (passes : A → Bool) (xs : List A) (x : A) → Contains (filter passes xs) x → Contains xs x × (passes x ≡ true)
+filter_in passes [] x h = absurd (contains_none x h)
+filter_in {A} passes (y ∷ ys) x h = go (passes y) refl h (filter_in passes ys x)
+  where
+    go : (b : Bool) → passes y ≡ b → Contains (cond b (y ∷ filter passes ys) (filter passes ys)) x → (Contains (filter passes ys) x → Contains ys x × (passes x ≡ true)) → Contains (y ∷ ys) x × (passes x ≡ true)
+    go true p k more = ⊎_elim
+        (λ (q : x ≡ y). (contains_here y ys x q, ap passes q ∙ p))
+        (λ i. let r = more i in (contains_there y ys x r.0, r.1))
+        (contains_cases y (filter passes ys) x k)
+    go false p k more = let r = more k in (contains_there y ys x r.0, r.1)

@@ -11,7 +11,7 @@ use Rattle.ata_types.specs.declared.refusal.MemFault.TheVariants as fault
 use Rattle.block_machine.specs.Refusals.{IsOpen}
 use Rattle.block_machine.specs.Due.{is_writer}
 use Rattle.block_machine.specs.State.{Block, Memory, Accepted, Pending, Machine, block_of, frame_at, sector_of, is_reader}
-use Rattle.block_machine.specs.Steps.{Step, Accept, Issue, Touch, End, Age, Again, Answer, Release, Unplug, Replace, Store, Load, May, after_step, at, IsLiving, MayMove, issue, touch, mark_ended, requeued, older, newly_accepted, put_bytes, memory_after}
+use Rattle.block_machine.specs.Steps.{Step, Accept, Issue, Touch, End, Age, Again, Answer, Revoke, Release, Unplug, Replace, Store, Load, May, after_step, at, IsLiving, MayMove, issue, touch, mark_ended, requeued, older, newly_accepted, put_bytes, memory_after}
 use Rattle.block_machine.specs.Left.{plug_count, IsTouch, touches, disk_read, Wrote, IsLast, IsLeft, IsTold}
 use Rattle.block_machine.proofs.Members.{map_in, at_cases, without_in, append_in}
 use Rattle.block_machine.proofs.Sound.{Sound, KeepsRequest}
@@ -310,6 +310,8 @@ good_step start h m (Again e) may told s seen holds g = quiet_good start h m (af
 good_step start h m (Answer e outcome) may told s seen holds g = quiet_good start h m (after_step m (Answer e outcome)) (Answer e outcome) s
     (λ x hx i t. (x, (without_in e.request.id m.book x hx).0, refl, t, λ q. q))
     (λ o ho i b li lb. refl) (λ id k. refl) (λ w k t. t) g
+good_step start h m (Revoke client number) may told s seen holds g = quiet_good start h m (after_step m (Revoke client number)) (Revoke client number) s
+    (traced_same m (after_step m (Revoke client number)) refl) (λ o ho i b li lb. refl) (λ id k. refl) (λ w k t. t) g
 good_step start h m Release may told s seen holds g = quiet_good start h m (after_step m Release) Release s
     (traced_same m (after_step m Release) refl) (λ o ho i b li lb. refl) (λ id k. refl) (λ w k t. t) g
 good_step start h m (Unplug port) may told s seen holds g = quiet_good start h m (after_step m (Unplug port)) (Unplug port) s

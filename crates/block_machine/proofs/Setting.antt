@@ -13,7 +13,7 @@ use Rattle.ata_types.specs.declared.request.Op.TheVariants.{Trim, Flush}
 use Rattle.ata_types.specs.declared.grant.GrantRow.{GrantRow}
 use Rattle.ata_types.specs.Grant.{Allows, Covers}
 use Rattle.ata_types.specs.declared.memory.TheConstants.{DRIVER_FRAMES}
-use Rattle.block_machine.specs.Rules.{DifferInName, IsCount, frames_for}
+use Rattle.block_machine.specs.Rules.{DifferInName, HasRow, IsCount, frames_for}
 use Rattle.block_machine.specs.Refusals.{Situation, IsAcceptable}
 use Rattle.block_machine.specs.State.{Memory, Machine}
 use Rattle.block_machine.specs.Left.{IsRow, IsStart}
@@ -38,6 +38,10 @@ row n = record { client = client; number = n; port = on n; first = record { 0 = 
 
 abbrev pub two_rows : List GrantRow
 two_rows = row 0 ∷ row 1 ∷ []
+
+-- the client has the grant of this number
+pub granted : {rows : List GrantRow} (n : ℕ) → Contains two_rows (row n) → rows ≡ two_rows → HasRow client n rows
+granted n mine same = (row n, subst (λ (rows : List GrantRow). Contains rows (row n)) (sym same) mine, (refl, refl))
 
 abbrev pub request : ℕ → Op → ℕ → ℕ → List Frame → Request
 request n op first count frames = record { client = client; grant = n; op = op; first = record { 0 = first }; count = count; frames = record { items = frames } }

@@ -3,7 +3,7 @@ use Rattle.std.proofs.Common.{◌≡◌, true, [], ◌∷◌, List, inl, inr, �
 use Rattle.std.proofs.lemmas.Bool.{false≢true}
 use Rattle.std.specs.List.{Contains}
 use Rattle.block_machine.specs.State.{Pending, Machine}
-use Rattle.block_machine.specs.Steps.{Step, Accept, Issue, Touch, End, Age, Again, Answer, Release, Unplug, Replace, Store, Load, May, MayMove, after_step, issue, touch, mark_ended, requeued, older, newly_accepted}
+use Rattle.block_machine.specs.Steps.{Step, Accept, Issue, Touch, End, Age, Again, Answer, Revoke, Release, Unplug, Replace, Store, Load, May, MayMove, after_step, issue, touch, mark_ended, requeued, older, newly_accepted}
 use Rattle.block_machine.specs.Left.{after, IsLegal, IsStart}
 use Rattle.block_machine.specs.Histories.{IsReached}
 use Rattle.block_machine.proofs.Keeps.{older_ended, older_issued}
@@ -55,6 +55,7 @@ started_step m (Again p) may s all e h =
     (λ c. started e r.0 (r.2 ∙ c.1) (all r.0 r.1))
     (at_cases p.request.id requeued r.0)
 started_step m (Answer p o) may s all e h = all e (without_in p.request.id m.book e h).0
+started_step m (Revoke client number) may s all e h = all e h
 started_step m Release may s all e h = all e h
 started_step m (Unplug p) may s all e h = all e h
 started_step m (Replace p id size disk) may s all e h = all e h

@@ -5,7 +5,7 @@ use Rattle.std.specs.List.{Contains}
 use Rattle.ata_types.specs.declared.Port.{Port}
 use Rattle.block_machine.specs.State.{Block, Disk, Accepted, Pending, Machine, waiting, sector_of}
 use Rattle.block_machine.specs.Due.{conflict, is_writer}
-use Rattle.block_machine.specs.Steps.{Step, Accept, Issue, Touch, End, Age, Again, Answer, Release, Unplug, Replace, Store, Load, May, IsNew, after_step, at, IsLiving, MayMove, issue, touch, mark_ended, requeued, older, newly_accepted}
+use Rattle.block_machine.specs.Steps.{Step, Accept, Issue, Touch, End, Age, Again, Answer, Revoke, Release, Unplug, Replace, Store, Load, May, IsNew, after_step, at, IsLiving, MayMove, issue, touch, mark_ended, requeued, older, newly_accepted}
 use Rattle.block_machine.specs.Left.{IsAccept, plugs, disk_of, plug_count, bytes_when_plugged, IsTouch, touches, HasTouched, disk_read, Wrote, IsLast}
 use Rattle.block_machine.proofs.Members.{contains_none, contains_cases, map_in, without_in, append_in}
 use Rattle.block_machine.proofs.Sound.{Sound, KeepsRequest}
@@ -51,7 +51,8 @@ lives_before m (Age ready) may a (inr h) = inl (same_before m a (inr h))
 lives_before m (Again e) may a (inl h) = inl (in_book m a (moved (at e.request.id requeued) m.book (at_keeps e.request.id requeued (λ x. refl)) a h))
 lives_before m (Again e) may a (inr h) = inl (same_before m a (inr h))
 lives_before m (Answer e outcome) may a (inl h) = inl (same_before m a (inl (without_in e.request.id m.book a h).0))
-lives_before m (Answer e outcome) may a (inr h) = inl (same_before m a (kept_then m e a _ may h))
+lives_before m (Answer e outcome) may a (inr h) = inl (same_before m a (kept_then m e a _ may.0 h))
+lives_before m (Revoke client number) may a h = inl (same_before m a h)
 lives_before m Release may a (inl h) = inl (same_before m a (inl h))
 lives_before m Release may a (inr h) = absurd (contains_none a h)
 lives_before m (Unplug port) may a h = inl (same_before m a h)

@@ -8,7 +8,9 @@ use Rattle.ata_types.specs.declared.request.Op.TheVariants.{Read, Write, Trim, F
 use Rattle.ata_types.specs.declared.grant.GrantRow.{GrantRow}
 use Rattle.ata_types.specs.Grant.{Allows, Covers}
 use Rattle.ata_types.specs.declared.limits.TheConstants.{MOST_UNANSWERED}
-use Rattle.block_machine.specs.Rules.{IsNamed}
+use Rattle.ata_types.specs.declared.refusal.Rule.{Rule}
+use Rattle.ata_types.specs.declared.refusal.Rule.TheVariants.{Frames}
+use Rattle.block_machine.specs.Rules.{IsNamed, Breaks}
 use Rattle.block_machine.specs.Due.{is_writer}
 use Rattle.block_machine.specs.State.{Accepted, Pending, Machine, block_of, frame_at, sector_of, is_reader}
 use Rattle.block_machine.specs.Steps.{Step, Touch, Replace, Store, IsNew, IsLiving, unanswered_of}
@@ -30,6 +32,16 @@ GrantsNoWrites row = (row.rights.write ≡ false) × (row.rights.trim ≡ false)
 abbrev pub WasAccepted : Machine → List Step → Accepted → Type 0
 WasAccepted start [] r = ⊥
 WasAccepted start (step ∷ past) r = (IsAccept step r × IsNew (after start past) r) ⊎ WasAccepted start past r
+
+-- the rule is on the grant, or on how many sectors and frames there are: all are but those on the frames themselves
+abbrev pub IsOfGrant : Rule → Type 0
+IsOfGrant (Frames fault) = ⊥
+IsOfGrant _ = Unit {0}
+
+-- A request that is issued breaks none of these rules, by the rows as they are then; and its frames are lent to it.
+pub record KeepsRules (m : Machine) (r : Accepted) : Type 0 where
+  pub unbroken : (rule : Rule) → IsOfGrant rule → Breaks m.rows m.owner m.lent r.asked rule → ⊥
+  pub lent : (i : ℕ) → i < length r.asked.frames.items → m.lent (frame_at r.asked.frames.items i) ≡ Some r.id
 
 -- the operation moves bytes between disk and frames
 abbrev pub MovesBytes : Op → Type 0

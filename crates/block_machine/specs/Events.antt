@@ -15,11 +15,12 @@ use Rattle.ata_types.specs.declared.request.Outcome.{Outcome}
 use Rattle.ata_types.specs.declared.request.Outcome.TheVariants as outcome
 use Rattle.ata_types.specs.declared.refusal.Refusal.{Refusal}
 use Rattle.ata_types.specs.declared.refusal.MemFault.{MemFault}
+use Rattle.block_machine.specs.Rules.{HasRow, without_row}
 use Rattle.block_machine.specs.Refusals.{Situation, IsAcceptable, IsFirstRefusal, IsOpen, IsFirstMemFault}
 use Rattle.block_machine.specs.Due.{NoneDue}
 use Rattle.block_machine.specs.Ports.{Ports, AreFit, SamePort, SamePorts, SameDisk, Evidence, IsInterrupted, MayBecome, IsServiced, IsStuck}
 use Rattle.block_machine.specs.State.{Memory, Accepted, Pending, Machine, unanswered}
-use Rattle.block_machine.specs.Steps.{Step, Accept, Issue, Touch, End, Age, Again, Answer, Release, Unplug, Replace, Store, Load, May, AllTouched, unanswered_of}
+use Rattle.block_machine.specs.Steps.{Step, Accept, Issue, Touch, End, Age, Again, Answer, Revoke, Release, Unplug, Replace, Store, Load, May, AllTouched, unanswered_of}
 use Rattle.block_machine.specs.Left.{after, IsStart, HoldsLeft}
 
 -- machine and ports between two calls
@@ -34,6 +35,8 @@ pub data Ask (D : Type 0) : Type 0 where
   StoreAt : ClientId → Frame → ℕ → List ℕ → Ask D
   LoadAt : ClientId → Frame → ℕ → ℕ → Ask D
   Service Tick Reset : Ask D
+  -- a client's grant of this number is taken back
+  RevokeOf : ClientId → ℕ → Ask D
   State : Port → Ask D
   -- the device is told to do this step of its own
   Device : D → Ask D
@@ -48,6 +51,8 @@ pub data Said : Type 0 where
   Served : List Reply → Said
   -- none: the adapter didn't end its reset
   WasReset : Option (List Reply) → Said
+  -- none: there is no such grant
+  WasRevoked : Option (List Reply) → Said
   Shown : PortState → Said
   Stepped : Bool → Said
 
@@ -77,6 +82,7 @@ abbrev pub GivesUp : Outcome → Type 0
 GivesUp outcome.Aborted = Unit {0}
 GivesUp outcome.Unplugged = Unit {0}
 GivesUp outcome.PortDead = Unit {0}
+GivesUp outcome.Revoked = Unit {0}
 GivesUp _ = ⊥
 
 -- The step is one that the server makes in a call that asks this. Requests are issued, or wait again, on ports that are
@@ -100,6 +106,10 @@ IsServers Reset ports Release = Unit {0}
 IsServers Reset ports (Issue mode e) = (ports.state e.request.port ≡ Ready) × (ports.mode e.request.port ≡ mode)
 IsServers Reset ports (Again e) = ports.state e.request.port ≡ Ready
 IsServers Reset ports (Answer e o) = GivesUp o
+IsServers (RevokeOf client number) ports (Revoke c n) = (c ≡ client) × (n ≡ number)
+IsServers (RevokeOf client number) ports (Answer e o) = o ≡ outcome.Revoked
+IsServers (RevokeOf client number) ports (Issue mode e) = (ports.state e.request.port ≡ Ready)
+    × (ports.mode e.request.port ≡ mode)
 IsServers ask ports step = ⊥
 
 -- each step is the device's, or one of such a call
@@ -130,6 +140,10 @@ transfers_of [] = []
 transfers_of (Store c f o bytes ∷ before) = bytes ∷ transfers_of before
 transfers_of (Load c f o bytes ∷ before) = bytes ∷ transfers_of before
 transfers_of (step ∷ before) = transfers_of before
+
+-- the request was accepted under the client's grant of this number
+abbrev pub IsUnder : ClientId → ℕ → Accepted → Type 0
+IsUnder client number r = (r.asked.client ≡ client) × (r.asked.grant ≡ number)
 
 -- the step is a tick
 abbrev pub is_age : Step → Bool
@@ -180,12 +194,19 @@ pub record WasIssued (m : Machine) (id : RequestId) : Type 0 where
   pub id_is : pending.request.id ≡ id
   pub issued : pending.issued ≡ true
 
+-- the port stopped in the call, and is ready after it with the disk that it had: a request of it that isn't done goes
+-- again
+abbrev pub IsReadyAgain : Moment → Evidence → Ports → Port → Type 0
+IsReadyAgain old evidence ports port = (ports.state port ≡ Ready) × Contains evidence.stopped port
+    × SameDisk old.ports ports port
+
 -- What stands behind each outcome. An Ok, a fault and an abort are of a request that was issued when the call began;
 -- Unplugged is of one on a port that was lost. Of an Ok each sector was touched since the last issue, and it was ended.
--- A fault is told of a request that is issued. An abort comes after four issues, and leaves the port ready. An issued
--- request's frames are given back only where it ended or its port stopped: else they may still be written. And PortDead
--- leaves the port dead. (So it was when the call began, or it got stuck in the call: that follows from what the calls
--- make of ports, by law `dead_ports_were_stuck`.)
+-- A fault is told of a request that is issued. An abort comes after four issues, where the request would go again; so
+-- does Revoked, unless the request isn't issued. An issued request's frames are given back only where it ended or its
+-- port stopped: else they may still be written. And PortDead leaves the port dead. (So it was when the call began, or
+-- it got stuck in the call: that follows from what the calls make of ports, by law `dead_ports_were_stuck`. That a
+-- request is told Revoked only once its grant was taken back, `IsTellable` says.)
 abbrev pub IsLawful : Moment → Evidence → Ports → Pending → Outcome → Type 0
 IsLawful old evidence ports e outcome.Ok = WasIssued old.machine e.request.id × (e.issued ≡ true) × AllTouched e
     × (e.ended ≡ true)
@@ -193,11 +214,11 @@ IsLawful old evidence ports e (outcome.DeviceError status error) = WasIssued old
     × (e.issued ≡ true) × Contains evidence.faults (record { id = e.request.id; status = status; error = error })
     × Contains evidence.stopped e.request.port
 IsLawful old evidence ports e outcome.Aborted = WasIssued old.machine e.request.id × (e.issues ≡ 4)
-    × (ports.state e.request.port ≡ Ready) × Contains evidence.stopped e.request.port
-    × SameDisk old.ports ports e.request.port
+    × IsReadyAgain old evidence ports e.request.port
 IsLawful old evidence ports e outcome.Unplugged = Contains evidence.lost e.request.port
     × Contains evidence.stopped e.request.port
 IsLawful old evidence ports e outcome.PortDead = ports.state e.request.port ≡ Dead
+IsLawful old evidence ports e outcome.Revoked = (e.issued ≡ false) ⊎ IsReadyAgain old evidence ports e.request.port
 
 -- Each answer of the call is lawful, with these ports at its end. And a request waits again only where its port
 -- stopped: else its command may still move.
@@ -345,20 +366,22 @@ abbrev pub TellsDead : Moment → List Step → Type 0
 TellsDead old steps = (e : Pending) (o : Outcome) → Contains steps (Answer e o) → old.ports.state e.request.port ≡ Dead
     → o ≡ outcome.PortDead
 
--- requests wait again, are aborted, or have a fault told of them, on ports that failed
+-- requests wait again, are aborted, are told Revoked, or have a fault told of them, on ports that failed
 abbrev pub AllGrounded : Evidence → List Step → Type 0
 AllGrounded evidence [] = Unit {0}
 AllGrounded evidence (Again e ∷ before) = AllGrounded evidence before × Contains evidence.failed e.request.port
 AllGrounded evidence (Answer e outcome.Aborted ∷ before) = AllGrounded evidence before
     × Contains evidence.failed e.request.port
+AllGrounded evidence (Answer e outcome.Revoked ∷ before) = AllGrounded evidence before
+    × Contains evidence.failed e.request.port
 AllGrounded evidence (Answer e (outcome.DeviceError status error) ∷ before) = AllGrounded evidence before
     × Contains evidence.failed e.request.port
 AllGrounded evidence (step ∷ before) = AllGrounded evidence before
 
--- What a service says and does. It tells dead ports; it lets requests wait again, aborts them, or tells faults of them,
--- where something failed; where it tells one of a port's requests Unplugged, it leaves none of that port's unanswered;
--- it issues what is due; it leaves no request unanswered where the port isn't ready; it makes of each port what it may;
--- and one that it changed shows a disk only where one was in.
+-- What a service says and does. It tells dead ports; it lets requests wait again, aborts them, tells them Revoked, or
+-- tells faults of them, where something failed; where it tells one of a port's requests Unplugged, it leaves none of
+-- that port's unanswered; it issues what is due; it leaves no request unanswered where the port isn't ready; it makes
+-- of each port what it may; and one that it changed shows a disk only where one was in.
 pub record AnswersService (old : Moment) (evidence : Evidence) (steps : List Step) (replies : List Reply)
     (new : Moment) : Type 0 where
   pub tells : Tells steps replies
@@ -400,6 +423,21 @@ pub record AnswersReset (old : Moment) (evidence : Evidence) (steps : List Step)
   pub issues : AllIssued new
   pub reboots : (port : Port) → IsRebooted old evidence steps new port
 
+-- What a revocation says and does. The row was there, and goes, and no other does. Of the unanswered requests exactly
+-- those are told Revoked that waited when the call began and were accepted under that grant. And then what is due is
+-- issued.
+pub record AnswersRevoke (client : ClientId) (number : ℕ) (old : Moment) (steps : List Step) (replies : List Reply)
+    (new : Moment) : Type 0 where
+  pub there : HasRow client number old.machine.rows
+  pub rows : new.machine.rows ≡ without_row client number old.machine.rows
+  pub tells : Tells steps replies
+  pub all : (e : Pending) → Contains old.machine.book e → e.issued ≡ false → IsUnder client number e.request
+      → Contains steps (Answer e outcome.Revoked)
+  pub only : (e : Pending) (o : Outcome) → Contains steps (Answer e o)
+      → Contains old.machine.book e × (e.issued ≡ false) × IsUnder client number e.request
+  pub same : SamePorts old.ports new.ports
+  pub issues : AllIssued new
+
 -- What is said of a call agrees with its steps, and the call did what was asked.
 abbrev pub IsAnswered : {D : Type 0} → Ask D → Said → Moment → Evidence → List Step → Moment → Type 0
 IsAnswered (Submit r) (Submitted (Ok id)) old evidence steps new = IsAcceptable (situation_of old) r
@@ -423,6 +461,10 @@ IsAnswered Tick (Served replies) old evidence steps new = AnswersTick old eviden
 IsAnswered Reset (WasReset (Some replies)) old evidence steps new = AnswersReset old evidence steps replies new
 IsAnswered Reset (WasReset None) old evidence steps new = AllDevices steps
     × ((port : Port) → IsStuck old.ports evidence new.ports port)
+IsAnswered (RevokeOf client number) (WasRevoked (Some replies)) old evidence steps new =
+    AnswersRevoke client number old steps replies new
+IsAnswered (RevokeOf client number) (WasRevoked None) old evidence steps new =
+    (HasRow client number old.machine.rows → ⊥) × (steps ≡ []) × SamePorts old.ports new.ports
 IsAnswered (State port) (Shown state) old evidence steps new = (state ≡ old.ports.state port) × (steps ≡ [])
     × SamePorts old.ports new.ports
 IsAnswered (Device step) (Stepped true) old evidence steps new = AllDevices steps × SamePorts old.ports new.ports
@@ -528,6 +570,7 @@ steps_of (event ∷ past) = event.steps ++ steps_of past
 abbrev pub replies_of : Said → List Reply
 replies_of (Served replies) = replies
 replies_of (WasReset (Some replies)) = replies
+replies_of (WasRevoked (Some replies)) = replies
 replies_of said = []
 
 -- the replies of a run

@@ -1,6 +1,6 @@
 -- The rules that a request may break, each by itself, and which of them is told (this project's own).
 -- Grants are a set of rows. Numbers are whole numbers: no sum wraps.
-use Rattle.std.specs.Prelude.{◌≡◌, ◌≢◌, ℕ, ◌+◌, ◌/◌, ◌<◌, ◌≤◌, ◌⊎◌, List, length, Option, Some, IsSome, Contains, slice_get}
+use Rattle.std.specs.Prelude.{◌≡◌, ◌≢◌, ℕ, ◌+◌, ◌/◌, ◌<◌, ◌≤◌, ◌⊎◌, ◌==◌, ◌&&◌, Bool, not, List, filter, length, Option, Some, IsSome, Contains, slice_get}
 use Rattle.ata_types.specs.declared.request.ClientId.{ClientId}
 use Rattle.ata_types.specs.declared.request.Frame.{Frame}
 use Rattle.ata_types.specs.declared.request.RequestId.{RequestId}
@@ -28,6 +28,18 @@ DifferInName a b = Names a.client a.number b → ⊥
 -- the row is the one that the request names
 abbrev pub IsNamed : List GrantRow → Request → GrantRow → Type 0
 IsNamed rows r row = Contains rows row × Names r.client r.grant row
+
+-- a row of this client is there under this number
+abbrev pub HasRow : ClientId → ℕ → List GrantRow → Type 0
+HasRow client number rows = (row : GrantRow) × Contains rows row × Names client number row
+
+-- the row is the one of this client under this number, as a test
+abbrev pub is_under : ClientId → ℕ → GrantRow → Bool
+is_under client number row = row.client.0 == client.0 && row.number == number
+
+-- the rows but for the one of this client under this number
+abbrev pub without_row : ClientId → ℕ → List GrantRow → List GrantRow
+without_row client number rows = filter (λ row. not (is_under client number row)) rows
 
 -- the operation may have so many sectors
 abbrev pub IsCount : Op → ℕ → Type 0

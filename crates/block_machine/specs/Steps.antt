@@ -7,10 +7,10 @@ use Rattle.ata_types.specs.declared.request.Frame.{Frame}
 use Rattle.ata_types.specs.declared.request.RequestId.{RequestId}
 use Rattle.ata_types.specs.declared.request.Op.TheVariants.{Write}
 use Rattle.ata_types.specs.declared.request.Outcome.{Outcome}
-use Rattle.ata_types.specs.declared.request.Outcome.TheVariants.{Ok, DeviceError, Aborted, Unplugged, PortDead}
+use Rattle.ata_types.specs.declared.request.Outcome.TheVariants.{Ok, DeviceError, Aborted, Unplugged, PortDead, Revoked}
 use Rattle.ata_types.specs.declared.grant.GrantRow.{GrantRow}
 use Rattle.block_machine.specs.declared.due.Mode.{Mode}
-use Rattle.block_machine.specs.Rules.{IsNamed, BreaksNone}
+use Rattle.block_machine.specs.Rules.{IsNamed, BreaksNone, HasRow, without_row}
 use Rattle.block_machine.specs.Refusals.{IsOpen}
 use Rattle.block_machine.specs.Due.{IsDue, is_writer}
 use Rattle.block_machine.specs.State.{Block, Disk, Memory, Accepted, Pending, Machine, block_of, frame_at, sector_of, unanswered, is_reader, written_by}
@@ -30,6 +30,8 @@ pub data Step : Type 0 where
   -- an issued request waits again, in its old place
   Again : Pending → Step
   Answer : Pending → Outcome → Step
+  -- a client's grant is taken back: its row under this number goes
+  Revoke : ClientId → ℕ → Step
   -- the frames of the kept requests are given back
   Release : Step
   -- a disk is taken out; a disk is put in: which one, its sectors' number, and their bytes
@@ -116,6 +118,7 @@ stays e (DeviceError status error) = false
 stays e Aborted = false
 stays e Unplugged = false
 stays e PortDead = e.issued
+stays e Revoked = false
 
 -- the machine after the step
 abbrev pub after_step : Machine → Step → Machine
@@ -138,6 +141,7 @@ after_step m (Answer e outcome) =
       kept = if stays e outcome then e ∷ m.kept else m.kept;
       lent = if stays e outcome then m.lent else unlend e.request.id m.lent;
     }
+after_step m (Revoke client number) = record m { rows = without_row client number m.rows }
 after_step m Release = record m { kept = []; lent = unlend_all m.kept m.lent }
 after_step m (Unplug port) = record m { present = λ p. if p.0 == port.0 then false else m.present p }
 after_step m (Replace port id size disk) =
@@ -181,20 +185,34 @@ pub record IsNew (m : Machine) (r : Accepted) : Type 0 where
 abbrev pub NoneKept : Machine → Port → Type 0
 NoneKept m port = (e : Pending) → Contains m.kept e → e.request.port ≢ port
 
+-- the grant under which the request was accepted wasn't taken back
+abbrev pub HasGrant : Machine → Pending → Type 0
+HasGrant m e = HasRow e.request.asked.client e.request.asked.grant m.rows
+
+-- What the grant must be for an outcome: a request is told Revoked once its grant was taken back, and is aborted only
+-- where it wasn't.
+abbrev pub IsTellable : Machine → Pending → Outcome → Type 0
+IsTellable m e Revoked = HasGrant m e → ⊥
+IsTellable m e Aborted = HasGrant m e
+IsTellable m e _ = Unit {0}
+
 -- the bytes that are moved for a write are its own; a read's may be any, and a trim's and a flush's mean nothing
 abbrev pub MovesOwn : Accepted → ℕ → Block → Type 0
 MovesOwn r i block = r.asked.op ≡ Write → (b : ℕ) → b < 512 → block b ≡ r.held i b
 
--- The step may come. (That an answer is lawful is judged at the end of its call, where what stands behind it is known.)
+-- The step may come. A request is issued, or waits again, only while its grant is there. (That an answer is lawful is
+-- judged at the end of its call too, where what stands behind it is known.)
 abbrev pub May : Machine → Step → Type 0
 May m (Accept r) = IsNew m r
 May m (Issue mode e) = Contains m.book e × IsDue mode (map unanswered m.book) (unanswered e) × NoneKept m e.request.port
+    × HasGrant m e
 May m (Touch e i block) = MayMove m e × (i < e.request.asked.count) × (m.present e.request.port ≡ true)
     × (sector_of e.request i < m.sizes e.request.port) × MovesOwn e.request i block
 May m (End e) = MayMove m e × AllTouched e × (m.present e.request.port ≡ true)
 May m (Age ready) = Unit {0}
-May m (Again e) = Contains m.book e × (e.issued ≡ true) × (e.issues < 4)
-May m (Answer e outcome) = Contains m.book e
+May m (Again e) = Contains m.book e × (e.issued ≡ true) × (e.issues < 4) × HasGrant m e
+May m (Answer e outcome) = Contains m.book e × IsTellable m e outcome
+May m (Revoke client number) = HasRow client number m.rows
 May m Release = Unit {0}
 May m (Unplug port) = m.present port ≡ true
 May m (Replace port id size disk) = (m.present port ≡ false) × (id ≡ m.disk_ids port → size ≡ m.sizes port)

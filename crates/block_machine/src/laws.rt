@@ -4,15 +4,17 @@
 ghost use Rattle.std.specs.Prelude.{◌≡◌, ◌≢◌, ◌↔◌, ◌<◌, ℕ, Bool, IsTrue, true, false, List, [], ◌∷◌, ◌++◌, ◌≤◌, ◌&&◌, nat_lt, Some, length, map, count_by, Contains};
 ghost use Rattle.ata_types.specs.declared.Port.{Port};
 ghost use Rattle.ata_types.specs.declared.request.Frame.{Frame};
+ghost use Rattle.ata_types.specs.declared.request.RequestId.{RequestId};
+ghost use Rattle.ata_types.specs.declared.grant.GrantRow.{GrantRow};
 ghost use Rattle.ata_types.specs.declared.request.Outcome.{Outcome};
 ghost use Rattle.ata_types.specs.declared.request.Op.TheVariants.{Read};
 ghost use Rattle.block_machine.specs.declared.due.Mode.{Mode};
 ghost use Rattle.block_machine.specs.declared.due.Unanswered.{Unanswered};
 ghost use Rattle.block_machine.specs.Due.{IsDue, IsInOrder, is_plain, issued_count, is_due, ahead, due_ahead, free_slots, with_issued, with_waiting, with_none, of_port, due_of, AreDueInTurn};
-ghost use Rattle.block_machine.specs.State.{Block, Accepted, Pending, Machine, frame_at, unanswered};
+ghost use Rattle.block_machine.specs.State.{Block, Accepted, Pending, Machine, unanswered};
 ghost use Rattle.block_machine.specs.Steps.{Step, Touch, End, Issue, Again, Answer, Age, after_step, May, IsNew, IsLiving, AllTouched};
 ghost use Rattle.block_machine.specs.Left.{IsStart, IsLegal, AllTold, HoldsLeft, after};
-ghost use Rattle.block_machine.specs.Confined.{IsGranted, IsConfined, IsHeld, HasFrame, WasAccepted, WithinLimits};
+ghost use Rattle.block_machine.specs.Confined.{IsGranted, IsConfined, IsHeld, HasFrame, KeepsRules, WasAccepted, WithinLimits};
 ghost use Rattle.block_machine.specs.Events.{Moment, Event, AllMay, IsRun, EveryReadHolds, moment_of, steps_of};
 ghost use Rattle.block_machine.specs.Histories.{IsReached};
 
@@ -34,15 +36,17 @@ pub fn read_holds_left()
         (after start history).memory read.request }
 {}
 
-/// Rows and owners stay what they were.
-pub fn rows_and_owners_stay()
-    ensures { (start : Machine) (history : List Step) → ((after start history).rows ≡ start.rows)
+/// Rows only go: each that is there was there at the start. Owners stay what they were.
+pub fn rows_shrink_and_owners_stay()
+    ensures { (start : Machine) (history : List Step)
+        → ((row : GrantRow) → Contains (after start history).rows row → Contains start.rows row)
         × ((frame : Frame) → (after start history).owner frame ≡ start.owner frame) }
 {}
 
 /// The steps of a run are a legal history, which leads to the run's machine: so the laws on histories of steps hold of
 /// runs. Among them: each touch of a sector in it is of an accepted request's own sector, at a frame that is lent to
-/// it; and each request that it issues was accepted, when it broke no rule, and its frames are still lent to it.
+/// it; and each request that it issues was accepted, when it broke no rule, still breaks none by the rows as they are
+/// when it is issued, and its frames are lent to it.
 pub fn runs_are_legal<D>()
     ensures legal { (first : Moment) (run : List (Event D)) → IsRun first run
         → IsStart first.machine × IsLegal first.machine (steps_of run)
@@ -53,10 +57,7 @@ pub fn runs_are_legal<D>()
         → IsConfined first.machine early e.request i }
     ensures issues { (first : Moment) (run : List (Event D)) (late early : List Step) (mode : Mode) (e : Pending)
         → IsRun first run → steps_of run ≡ late ++ Issue mode e ∷ early
-        → WasAccepted first.machine early e.request
-        × ((i : ℕ) → i < length e.request.asked.frames.items
-        → (after first.machine early).lent
-        (frame_at e.request.asked.frames.items i) ≡ Some e.request.id) }
+        → WasAccepted first.machine early e.request × KeepsRules (after first.machine early) e.request }
 {}
 
 /// Steps go on from what earlier ones left: after some, and then others, the machine is as after them all, which may
@@ -100,14 +101,12 @@ pub fn touch_is_confined()
         → IsConfined start history e.request i }
 {}
 
-/// Each request that is issued was accepted, when it broke no rule, and its frames are still lent to it.
-pub fn issue_was_accepted()
+/// Each request that is issued was accepted, when it broke no rule. By the rows as they are when it is issued it breaks
+/// none on its grant, nor on how many sectors and frames it has; and its frames are lent to it.
+pub fn issues_keep_the_rules()
     ensures { (start : Machine) (history : List Step) (mode : Mode) (e : Pending) → IsStart start
         → IsLegal start history → May (after start history) (Issue mode e)
-        → WasAccepted start history e.request
-        × ((i : ℕ) → i < length e.request.asked.frames.items
-        → (after start history).lent
-        (frame_at e.request.asked.frames.items i) ≡ Some e.request.id) }
+        → WasAccepted start history e.request × KeepsRules (after start history) e.request }
 {}
 
 /// A request that is accepted is within a row of its client.
@@ -120,6 +119,13 @@ pub fn living_was_accepted()
     ensures { (start : Machine) (history : List Step) (e : Pending) → IsStart start
         → IsLegal start history
         → IsLiving (after start history) e → WasAccepted start history e.request }
+{}
+
+/// A frame that is lent is lent to an accepted request, and is one of its own.
+pub fn lent_was_accepted()
+    ensures { (start : Machine) (history : List Step) (frame : Frame) (id : RequestId) → IsStart start
+        → IsLegal start history → (after start history).lent frame ≡ Some id
+        → (r : Accepted) × WasAccepted start history r × (r.id ≡ id) × HasFrame r frame }
 {}
 
 /// One id is one request, in the whole history.

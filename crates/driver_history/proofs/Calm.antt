@@ -14,13 +14,13 @@ use Rattle.agreement.specs.Errors.{IsFatalOf}
 use Rattle.agreement.specs.Facts.{Undisturbed, IsDisturbance, IsFaultOf, ShowsNoTrouble}
 use Rattle.agreement.specs.Links.{IsPlugging}
 use Rattle.agreement.specs.Tape.{TellsAmong}
-use Rattle.block_machine.specs.Events.{Ask, Moment, Submit, StoreAt, LoadAt, Service, Tick, Reset, State, Device as Told, Said, Submitted, Stored, Loaded, Served, WasReset, Shown, Stepped, IsAnswered, IsDisturbed, IsHung, IsLeftAlone, RestartsHung, ServesReady, HeedsAt, Happens, changes_disk, moment_after}
+use Rattle.block_machine.specs.Events.{Ask, Moment, Submit, StoreAt, LoadAt, Service, Tick, Reset, RevokeOf, State, Device as Told, Said, Submitted, Stored, Loaded, Served, WasReset, WasRevoked, Shown, Stepped, IsAnswered, IsDisturbed, IsHung, IsLeftAlone, RestartsHung, ServesReady, HeedsAt, Happens, changes_disk, moment_after}
 use Rattle.block_machine.specs.Histories.{Instant, Happening}
 use Rattle.block_machine.specs.Ports.{Ports, Evidence, IsInterrupted}
 use Rattle.block_machine.specs.State.{Machine}
 use Rattle.block_machine.specs.Steps.{Step}
 use Rattle.identify.specs.declared.wanted.Wanted.{Wanted}
-use Rattle.driver_history.specs.Claims.{IsSpared}
+use Rattle.driver_history.specs.Claims.{IsCalmlyTold, IsSpared}
 use Rattle.driver_history.specs.Evidence.{Gains, HasErrors, HasFatalErrors, IsEvidencedOf, IsGone, ShowsFailure, StaysHealthy}
 use Rattle.error_recovery.specs.Evidence.{GainsRunning, ShowsFatal}
 use Rattle.driver_history.specs.Histories.{LosesNoTrouble, Ties}
@@ -158,7 +158,7 @@ module _ (told : EntryIsTold) (wanted : List Wanted) (old : Instant Device) (h :
     pub spared : IsSpared old h t.accesses port
     spared = record {
       same = alone.same;
-      told = λ e o here at. ⊎_elim (λ x. x) (λ x. x) (alone.told e o here at);
+      told = λ e o here at. subst (λ (ask : Ask DeviceStep). IsCalmlyTold ask o) (sym asks) (⊎_elim (λ x. x) (λ x. x) (alone.told e o here at));
       engine = ⊎_elim (λ a. a) (λ i. absurd (alone.uninterrupted i)) ev.stopped_all;
     }
 
@@ -169,6 +169,7 @@ module _ (told : EntryIsTold) (wanted : List Wanted) (old : Instant Device) (h :
   no_interrupt Tick heeds other spares ready i = spares refl i
   no_interrupt Reset heeds other spares ready i = other refl
   no_interrupt (Submit r) heeds other spares ready i = heeds i
+  no_interrupt (RevokeOf client number) heeds other spares ready i = heeds i
   no_interrupt (StoreAt client frame offset bytes) heeds other spares ready i = heeds i
   no_interrupt (LoadAt client frame offset count) heeds other spares ready i = heeds i
   no_interrupt (State at) heeds other spares ready i = heeds i
@@ -183,6 +184,7 @@ tick_restarts (Submitted r) old evidence steps new a = absurd a
 tick_restarts (Stored r) old evidence steps new a = absurd a
 tick_restarts (Loaded r) old evidence steps new a = absurd a
 tick_restarts (WasReset r) old evidence steps new a = absurd a
+tick_restarts (WasRevoked r) old evidence steps new a = absurd a
 tick_restarts (Shown r) old evidence steps new a = absurd a
 tick_restarts (Stepped r) old evidence steps new a = absurd a
 

@@ -5,13 +5,13 @@ use Rattle.ata_types.specs.declared.Port.{Port}
 use Rattle.ata_types.specs.declared.request.Outcome.{Outcome}
 use Rattle.adapter.specs.Device.{Device}
 use Rattle.adapter.specs.declared.access.DeviceStep.{DeviceStep}
-use Rattle.block_machine.specs.Events.{Ask, Submit, StoreAt, LoadAt, Service, Tick, Reset, State, Device as Told, Said, Submitted, Stored, Loaded, Shown, Stepped, Moment, IsAnswered, IsHung, IsServers, moment_after}
+use Rattle.block_machine.specs.Events.{Ask, Submit, StoreAt, LoadAt, Service, Tick, Reset, RevokeOf, State, Device as Told, Said, Submitted, Stored, Loaded, WasRevoked, Shown, Stepped, Moment, IsAnswered, IsHung, IsServers, moment_after}
 use Rattle.block_machine.specs.Histories.{Instant, Happening, now}
 use Rattle.block_machine.specs.Ports.{Ports, Evidence, SamePort}
 use Rattle.block_machine.specs.State.{Pending}
 use Rattle.block_machine.specs.Steps.{Step, Answer}
 use Rattle.identify.specs.declared.wanted.Wanted.{Wanted}
-use Rattle.driver_history.specs.Claims.{GoesWellFor, IsHealthyFor, IsSpared}
+use Rattle.driver_history.specs.Claims.{GoesWellFor, IsCalmlyTold, IsHealthyFor, IsSpared}
 use Rattle.driver_history.specs.Histories.{IsHistory, Ties}
 use Rattle.driver_history.specs.Trace.{LeavesEngine}
 use Rattle.driver_history.proofs.Calm.{EntryIsTold, engine_left, restarts_of, spared, tick_spares}
@@ -19,11 +19,13 @@ use Rattle.driver_history.proofs.Lasting.{KeepsWell}
 use Rattle.driver_history.proofs.Leaving.{left_well}
 use Rattle.driver_history.proofs.Resting.{belongs_of}
 
--- calls that are neither a service, nor a tick, nor a reset leave each port what it is, and answer nobody
+-- calls that are neither a service, nor a tick, nor a reset leave each port what it is, and answer nobody but where a grant is taken back
 same_port : (ask : Ask DeviceStep) (said : Said) (old : Moment) (evidence : Evidence) (steps : List Step) (new : Moment) (port : Port) → IsAnswered ask said old evidence steps new
     → ask ≢ Service → ask ≢ Tick → ask ≢ Reset → SamePort old.ports new.ports port
 same_port (Submit r) (Submitted (Ok id)) old evidence steps new port a one two three = a.2 port
 same_port (Submit r) (Submitted (Err refusal)) old evidence steps new port a one two three = a.2 port
+same_port (RevokeOf client number) (WasRevoked (Some replies)) old evidence steps new port a one two three = a.same port
+same_port (RevokeOf client number) (WasRevoked None) old evidence steps new port a one two three = a.2 port
 same_port (StoreAt client frame offset bytes) (Stored None) old evidence steps new port a one two three = a.2 port
 same_port (StoreAt client frame offset bytes) (Stored (Some fault)) old evidence steps new port a one two three = a.2 port
 same_port (LoadAt client frame offset count) (Loaded (Ok bytes)) old evidence steps new port a one two three = a.2 port
@@ -36,15 +38,16 @@ same_port Tick said old evidence steps new port a one two three = absurd (two re
 same_port Reset said old evidence steps new port a one two three = absurd (three refl)
 same_port ask said old evidence steps new port a one two three = absurd a
 
-answers_none : (ask : Ask DeviceStep) (ports : Ports) (e : Pending) (o : Outcome) → IsServers ask ports (Answer e o) → ask ≢ Service → ask ≢ Tick → ask ≢ Reset → ⊥
-answers_none (Submit r) ports e o s one two three = s
-answers_none (StoreAt client frame offset bytes) ports e o s one two three = s
-answers_none (LoadAt client frame offset count) ports e o s one two three = s
-answers_none (State at) ports e o s one two three = s
-answers_none (Told step) ports e o s one two three = s
-answers_none Service ports e o s one two three = one refl
-answers_none Tick ports e o s one two three = two refl
-answers_none Reset ports e o s one two three = three refl
+tells_calmly : (ask : Ask DeviceStep) (ports : Ports) (e : Pending) (o : Outcome) → IsServers ask ports (Answer e o) → ask ≢ Service → ask ≢ Tick → ask ≢ Reset → IsCalmlyTold ask o
+tells_calmly (RevokeOf client number) ports e o s one two three = s
+tells_calmly (Submit r) ports e o s one two three = absurd s
+tells_calmly (StoreAt client frame offset bytes) ports e o s one two three = absurd s
+tells_calmly (LoadAt client frame offset count) ports e o s one two three = absurd s
+tells_calmly (State at) ports e o s one two three = absurd s
+tells_calmly (Told step) ports e o s one two three = absurd s
+tells_calmly Service ports e o s one two three = absurd (one refl)
+tells_calmly Tick ports e o s one two three = absurd (two refl)
+tells_calmly Reset ports e o s one two three = absurd (three refl)
 
 -- whether it is a service, a tick, a reset, or none of these
 data Kind (ask : Ask DeviceStep) : Type 0 where
@@ -62,6 +65,8 @@ kind_of (StoreAt client frame offset bytes) =
     other (λ e. let z : StoreAt client frame offset bytes ≡ Service = e in absurd cc) (λ e. let z : StoreAt client frame offset bytes ≡ Tick = e in absurd cc) (λ e. let z : StoreAt client frame offset bytes ≡ Reset = e in absurd cc)
 kind_of (LoadAt client frame offset count) =
     other (λ e. let z : LoadAt client frame offset count ≡ Service = e in absurd cc) (λ e. let z : LoadAt client frame offset count ≡ Tick = e in absurd cc) (λ e. let z : LoadAt client frame offset count ≡ Reset = e in absurd cc)
+kind_of (RevokeOf client number) =
+    other (λ e. let z : RevokeOf client number ≡ Service = e in absurd cc) (λ e. let z : RevokeOf client number ≡ Tick = e in absurd cc) (λ e. let z : RevokeOf client number ≡ Reset = e in absurd cc)
 kind_of (State at) = other (λ e. let z : State at ≡ Service = e in absurd cc) (λ e. let z : State at ≡ Tick = e in absurd cc) (λ e. let z : State at ≡ Reset = e in absurd cc)
 kind_of (Told step) = other (λ e. let z : Told step ≡ Service = e in absurd cc) (λ e. let z : Told step ≡ Tick = e in absurd cc) (λ e. let z : Told step ≡ Reset = e in absurd cc)
 
@@ -89,7 +94,7 @@ module _ (told : EntryIsTold) (steps : KeepsWell) (wanted : List Wanted) (first 
         }
     left_alone (other one two three) = record {
       same = same_port h.event.ask h.event.said old.moment h.event.evidence h.event.steps (moment_after old.moment h.event) port history.1.answered one two three;
-      told = λ e o here own. absurd (⊎_elim (λ (d : ⊥). d) (λ s. answers_none h.event.ask h.event.ports e o s one two three) (belongs_of h.event.ask h.event.ports h.event.steps history.1.belong (Answer e o) here));
+      told = λ e o here own. ⊎_elim (λ (d : ⊥). absurd d) (λ s. tells_calmly h.event.ask h.event.ports e o s one two three) (belongs_of h.event.ask h.event.ports h.event.steps history.1.belong (Answer e o) here);
       engine = engine;
     }
 

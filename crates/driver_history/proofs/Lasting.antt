@@ -1,5 +1,5 @@
 -- A port that stays healthy in a call runs well after it.
-use Rattle.std.proofs.Common.{ℕ, ◌≡◌, ◌≢◌, ◌⊎◌, ◌*◌, ◌+◌, true, false, List, [], ◌∷◌, None, Ok, refl, sym, ◌∙◌, inl, inr, subst}
+use Rattle.std.proofs.Common.{ℕ, ◌≡◌, ◌≢◌, ◌⊎◌, ◌*◌, ◌+◌, true, false, List, [], ◌∷◌, None, Some, Ok, refl, sym, ◌∙◌, inl, inr, subst}
 use Rattle.std.specs.List.{All}
 use Rattle.std.proofs.lemmas.List.Elements.{All-cons, All-nil, All-weaker}
 use Rattle.ata_types.specs.declared.Port.{Port}
@@ -15,7 +15,7 @@ use Rattle.adapter.specs.declared.access.DeviceStep.{DeviceStep}
 use Rattle.adapter.proofs.Going.{asked_steps}
 use Rattle.agreement.specs.Facts.{RunsWell, Undisturbed}
 use Rattle.agreement.specs.Links.{SparesRegister}
-use Rattle.block_machine.specs.Events.{Ask, Submit, StoreAt, LoadAt, Service, Tick, Reset, Device as Told, Said, Submitted, Stored, Loaded, Served, Stepped, IsHung, Moment}
+use Rattle.block_machine.specs.Events.{Ask, Submit, StoreAt, LoadAt, Service, Tick, Reset, RevokeOf, Device as Told, Said, Submitted, Stored, Loaded, Served, WasRevoked, Stepped, IsHung, Moment}
 use Rattle.driver_history.specs.Histories.{CameBy, IssuesOn, TendsPort}
 use Rattle.driver_history.specs.Trace.{IsServing, LeavesEngine}
 use Rattle.port_boot.specs.States.{RunsOn}
@@ -58,6 +58,7 @@ module _ (port : Port) (m : Moment) (accesses : List Access) (old new : Device) 
   pub came_calmly : (ask : Ask DeviceStep) (said : Said) → CameBy m ask said accesses old new → IsNoReset ask → All (LeavesEngine port) accesses → Calm
   came_calmly (Told step) (Stepped true) c other leaves = inr (asked_steps step old new c.1)
   came_calmly (Submit r) (Submitted (Ok id)) c other leaves = inl ((λ i e small. issuing_leaves port c.1.0.port _ (c.1.2 i e small)), c.0)
+  came_calmly (RevokeOf client number) (WasRevoked (Some replies)) c other leaves = inl ((λ i e small. issuing_leaves port c.1.0.port _ (c.1.3 i e small)), c.0)
   came_calmly (StoreAt client frame offset bytes) (Stored None) c other leaves =
       inl (subst (All (LeavesRunning port)) (sym c.1) (one_leaves port (Storing (FRAME_BYTES * frame.0 + offset) bytes) (tt, (tt, tt))), c.0)
   came_calmly (LoadAt client frame offset count) (Loaded (Ok bytes)) c other leaves =

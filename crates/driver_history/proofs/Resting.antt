@@ -5,20 +5,23 @@ use Rattle.std.proofs.lemmas.Bool.{cases_Bool}
 use Rattle.ata_types.specs.declared.Port.{Port}
 use Rattle.ata_types.specs.declared.PortState.{PortState}
 use Rattle.ata_types.specs.declared.PortState.TheVariants.{Absent, Dead}
+use Rattle.ata_types.specs.declared.grant.GrantRow.{GrantRow}
+use Rattle.ata_types.specs.declared.request.Frame.{Frame}
 use Rattle.ata_types.specs.declared.request.Outcome.{Outcome}
 use Rattle.ata_types.specs.declared.request.Outcome.TheVariants as outcome
 use Rattle.adapter.specs.Device.{Device}
 use Rattle.adapter.specs.declared.access.DeviceStep.{DeviceStep}
-use Rattle.block_machine.specs.Events.{Ask, Submit, StoreAt, LoadAt, Service, Tick, Reset, State, Device as Told, Said, Moment, AllLawful, Belong, Happens, IsDevices, IsLawful, IsServers, moment_after}
+use Rattle.block_machine.specs.Events.{Ask, Submit, StoreAt, LoadAt, Service, Tick, Reset, RevokeOf, State, Device as Told, Said, Moment, AllLawful, AllMay, Belong, Happens, IsDevices, IsLawful, IsServers, moment_after}
 use Rattle.block_machine.specs.Histories.{Instant, Happening}
 use Rattle.block_machine.specs.Ports.{Ports, Evidence, AreFit}
-use Rattle.block_machine.specs.State.{Pending}
-use Rattle.block_machine.specs.Steps.{Step, Again, Answer}
+use Rattle.block_machine.specs.State.{Pending, Machine}
+use Rattle.block_machine.specs.Steps.{Step, Again, Answer, HasGrant, May}
+use Rattle.block_machine.specs.Left.{after}
 use Rattle.block_machine.proofs.Members.{contains_none, contains_cases}
 use Rattle.host_boot.specs.Taken.{wanted_of}
 use Rattle.identify.specs.declared.wanted.Wanted.{Wanted}
 use Rattle.driver_history.specs.Claims.{AnswerRests}
-use Rattle.driver_history.specs.Evidence.{IsEndedReset}
+use Rattle.driver_history.specs.Evidence.{IsEndedReset, IsLost}
 use Rattle.driver_history.specs.Histories.{Ties}
 use Rattle.driver_history.specs.Holds.{HoldsAt, HoldsOf, IsDeadAt}
 
@@ -59,6 +62,7 @@ belongs_of ask ports (x ∷ before) l step h = ⊎_elim
 no_fault : (ask : Ask DeviceStep) (said : Said) (ports : Ports) (e : Pending) (status error : _) → IsEndedReset ask said → IsServers ask ports (Answer e (outcome.DeviceError status error)) → ⊥
 no_fault Reset said ports e status error ends s = s
 no_fault (Submit r) said ports e status error ends s = ends
+no_fault (RevokeOf c n) said ports e status error ends s = ends
 no_fault (StoreAt c f o b) said ports e status error ends s = ends
 no_fault (LoadAt c f o n) said ports e status error ends s = ends
 no_fault Service said ports e status error ends s = ends
@@ -66,24 +70,54 @@ no_fault Tick said ports e status error ends s = ends
 no_fault (State p) said ports e status error ends s = ends
 no_fault (Told d) said ports e status error ends s = ends
 
-module _ (wanted : List Wanted) (old : Instant Device) (h : Happening Device DeviceStep) (x : Happens old.moment h.event) (t : Ties wanted old h) where
-  rests : (e : Pending) (o : Outcome) → Contains h.event.steps (Answer e o) → IsLawful old.moment h.event.evidence h.event.ports e o → AnswerRests old h t.accesses e o
-  rests e outcome.Ok here l = l
-  rests e (outcome.DeviceError status error) here l = (
-    t.evidenced.faults _ l.2,
-    ⊎_elim
-        (λ stops. stops)
-        (λ (ends : _ × _). absurd (⊎_elim (λ (d : ⊥). d) (λ s. no_fault h.event.ask h.event.said h.event.ports e status error ends.0 s)
-        (belongs_of h.event.ask h.event.ports h.event.steps x.belong (Answer e (outcome.DeviceError status error)) here)))
-        ((t.evidenced.port e.request.port).stopped_only l.3),
-  )
-  rests e outcome.Aborted here l = (l.1, l.2)
-  rests e outcome.Unplugged here l = (t.evidenced.port e.request.port).lost l.0
-  rests e outcome.PortDead here l = (
-    l,
-    ⊎_elim (λ ends. inl ends.1) (λ off. inr off)
-        (dead_at wanted (record { device = h.device; moment = moment_after old.moment h.event }) e.request.port x.fit t.holds l).why,
-  )
+-- rows only go
+abbrev pub RowsShrink : Type 0
+RowsShrink = (start : Machine) (history : List Step) → ((row : GrantRow) → Contains (after start history).rows row → Contains start.rows row)
+    × ((frame : Frame) → (after start history).owner frame ≡ start.owner frame)
 
-  pub answer_rests : (e : Pending) (o : Outcome) → Contains h.event.steps (Answer e o) → AnswerRests old h t.accesses e o
-  answer_rests e o here = rests e o here (lawful_of old.moment h.event.evidence h.event.ports h.event.steps x.lawful e o here)
+-- a request that a call tells Revoked has no grant when it is told so, and none at the call's end
+grant_gone : RowsShrink → (m : Machine) (steps : List Step) (e : Pending) → AllMay m steps → Contains steps (Answer e outcome.Revoked) → HasGrant (after m steps) e → ⊥
+grant_gone shrink m [] e may h has = contains_none (Answer e outcome.Revoked) h
+grant_gone shrink m (step ∷ before) e may h has =
+    let had : HasGrant (after m before) e = (has.0, (shrink (after m before) (step ∷ [])).0 has.0 has.1, has.2) in
+    ⊎_elim
+    (λ (same : Answer e outcome.Revoked ≡ step). let told : May (after m before) (Answer e outcome.Revoked) = subst (May (after m before)) (sym same) may.1 in told.1 had)
+    (λ i. grant_gone shrink m before e may.0 i had)
+    (contains_cases step before (Answer e outcome.Revoked) h)
+
+module _ (wanted : List Wanted) (old : Instant Device) (h : Happening Device DeviceStep) (x : Happens old.moment h.event) (t : Ties wanted old h) where
+  lawful : (e : Pending) (o : Outcome) → Contains h.event.steps (Answer e o) → IsLawful old.moment h.event.evidence h.event.ports e o
+  lawful e o here = lawful_of old.moment h.event.evidence h.event.ports h.event.steps x.lawful e o here
+
+  -- a port of which Unplugged is told was lost
+  pub lost_then : (e : Pending) → Contains h.event.steps (Answer e outcome.Unplugged) → IsLost e.request.port old h.event.ports h.device
+  lost_then e here = (t.evidenced.port e.request.port).lost (lawful e outcome.Unplugged here).0
+
+  module _ (shrink : RowsShrink) where
+    rests : (e : Pending) (o : Outcome) → Contains h.event.steps (Answer e o) → IsLawful old.moment h.event.evidence h.event.ports e o → AnswerRests old h t.accesses e o
+    rests e outcome.Ok here l = l
+    rests e (outcome.DeviceError status error) here l = (
+      t.evidenced.faults _ l.2,
+      ⊎_elim
+          (λ stops. stops)
+          (λ (ends : _ × _). absurd (⊎_elim (λ (d : ⊥). d) (λ s. no_fault h.event.ask h.event.said h.event.ports e status error ends.0 s)
+          (belongs_of h.event.ask h.event.ports h.event.steps x.belong (Answer e (outcome.DeviceError status error)) here)))
+          ((t.evidenced.port e.request.port).stopped_only l.3),
+    )
+    rests e outcome.Aborted here l = (l.1, l.2.0)
+    rests e outcome.Unplugged here l = lost_then e here
+    rests e outcome.PortDead here l = (
+      l,
+      ⊎_elim (λ ends. inl ends.1) (λ off. inr off)
+          (dead_at wanted (record { device = h.device; moment = moment_after old.moment h.event }) e.request.port x.fit t.holds l).why,
+    )
+    rests e outcome.Revoked here l = (
+      grant_gone shrink old.moment.machine h.event.steps e x.may here,
+      ⊎_elim
+          (λ waits. inl waits)
+          (λ again. inr (⊎_elim (λ stops. inl stops) (λ ends. inr ends.0) ((t.evidenced.port e.request.port).stopped_only again.1)))
+          l,
+    )
+
+    pub answer_rests : (e : Pending) (o : Outcome) → Contains h.event.steps (Answer e o) → AnswerRests old h t.accesses e o
+    answer_rests e o here = rests e o here (lawful e o here)

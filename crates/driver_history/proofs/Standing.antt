@@ -29,7 +29,7 @@ use Rattle.identify.specs.declared.wanted.Wanted.{Wanted}
 use Rattle.driver_history.specs.Evidence.{Gains, ShowsChange}
 use Rattle.driver_history.specs.Histories.{Begins, IsHistory, Ties}
 use Rattle.driver_history.proofs.Instants.{fit_at, holds_at, ready_at}
-use Rattle.driver_history.proofs.Resting.{answer_rests}
+use Rattle.driver_history.proofs.Resting.{lost_then}
 
 -- what the law on frames says
 abbrev pub UnlentIsStill : Type 0
@@ -92,7 +92,7 @@ pub unplugged_refused : (wanted : List Wanted) (first : Instant Device) (past : 
     → (h.event.ports.state e.request.port ≡ Dead) ⊎ ((h.event.ports.state e.request.port ≡ Ready) × SameDisk (now first past).moment.ports h.event.ports e.request.port)
     → Contains h.event.steps (Answer e outcome.Unplugged) → ⊥
 unplugged_refused wanted first past h e history quiet det none ends here =
-    let lost = answer_rests wanted (now first past) h history.1 history.2 e outcome.Unplugged here in
+    let lost = lost_then wanted (now first past) h history.1 history.2 e here in
     ⊎_elim quiet
     (λ a. ⊎_elim (λ missing. missing det)
     (λ b. ⊎_elim (none_of e.request.port.0 (now first past).device h.device none)

@@ -1,5 +1,5 @@
 -- What is claimed of each history of a driver (this project's own).
-use Rattle.std.specs.Prelude.{true, ◌≡◌, ◌≢◌, ◌⊎◌, ◌≤◌, List, All, Contains, count_by}
+use Rattle.std.specs.Prelude.{true, false, ◌≡◌, ◌≢◌, ◌⊎◌, ◌≤◌, List, All, Contains, count_by}
 use Rattle.ata_types.specs.declared.Port.{Port}
 use Rattle.ata_types.specs.declared.PortState.TheVariants.{Ready, Dead}
 use Rattle.ata_types.specs.declared.request.Outcome.{Outcome}
@@ -10,29 +10,36 @@ use Rattle.adapter.specs.Device.{Device}
 use Rattle.adapter.specs.Rules.{IsOn}
 use Rattle.adapter.specs.declared.access.DeviceStep.{DeviceStep}
 use Rattle.agreement.specs.Facts.{RunsWell}
-use Rattle.block_machine.specs.Events.{Reset, Service, Tick, AnswersEnded, AreTold, IsHung, NoneKeepsIssue, WasIssued, moment_after, tells_fault}
+use Rattle.block_machine.specs.Events.{Ask, Reset, RevokeOf, Service, Tick, AnswersEnded, AreTold, IsHung, NoneKeepsIssue, WasIssued, moment_after, tells_fault}
 use Rattle.block_machine.specs.Histories.{Instant, Happening}
 use Rattle.block_machine.specs.Ports.{IsInterrupted, SamePort}
 use Rattle.block_machine.specs.State.{Pending}
-use Rattle.block_machine.specs.Steps.{Answer, AllTouched}
+use Rattle.block_machine.specs.Steps.{Answer, AllTouched, HasGrant}
 use Rattle.port_control.specs.Engines.{Stops}
 use Rattle.error_recovery.specs.Evidence.{ShowsFatal}
-use Rattle.driver_history.specs.Evidence.{IsFaultTold, IsLost, StaysHealthy}
+use Rattle.driver_history.specs.Evidence.{IsEndedReset, IsFaultTold, IsLost, StaysHealthy}
 use Rattle.driver_history.specs.Histories.{CameBy, FindsIn, Issues, TellsPlainFaults}
 use Rattle.driver_history.specs.Trace.{LeavesEngine}
 
--- A call that made these accesses leaves a port alone: it is what it was, each answer there is Ok, and neither PxCMD
--- nor PxSCTL of it is written.
+-- what a call may tell where nothing goes wrong: Ok; or Revoked, where it takes a grant back
+abbrev pub IsCalmlyTold : Ask DeviceStep → Outcome → Type 0
+IsCalmlyTold (RevokeOf client number) o = o ≡ outcome.Revoked
+IsCalmlyTold ask o = o ≡ outcome.Ok
+
+-- A call that made these accesses leaves a port alone: it is what it was, what it tells there is told calmly, and
+-- neither PxCMD nor PxSCTL of it is written.
 pub record IsSpared (old : Instant Device) (h : Happening Device DeviceStep) (accesses : List Access)
     (port : Port) : Type 0 where
   pub same : SamePort old.moment.ports h.event.ports port
-  pub told : (e : Pending) (o : Outcome) → Contains h.event.steps (Answer e o) → e.request.port ≡ port → o ≡ outcome.Ok
+  pub told : (e : Pending) (o : Outcome) → Contains h.event.steps (Answer e o) → e.request.port ≡ port
+      → IsCalmlyTold h.event.ask o
   pub engine : All (LeavesEngine port) accesses
 
 -- What an answer of a call that made these accesses rests on, in the device's terms. Ok: the request was issued when
 -- the call began, the device has moved all its sectors since its last issue, and ended it. DeviceError: the device told
 -- that fault, and the port was stopped. Aborted: four issues, on a port that is ready. Unplugged: the port was lost.
--- PortDead: its engine was awaited in vain, or the adapter isn't on.
+-- PortDead: its engine was awaited in vain, or the adapter isn't on. Revoked: the grant isn't there any more, and the
+-- request wasn't issued, or the port was stopped.
 abbrev pub AnswerRests : Instant Device → Happening Device DeviceStep → List Access → Pending → Outcome → Type 0
 AnswerRests old h accesses e outcome.Ok =
     WasIssued old.moment.machine e.request.id × (e.issued ≡ true) × AllTouched e × (e.ended ≡ true)
@@ -43,6 +50,8 @@ AnswerRests old h accesses e outcome.Aborted = (e.issues ≡ 4) × (h.event.port
 AnswerRests old h accesses e outcome.Unplugged = IsLost e.request.port old h.event.ports h.device
 AnswerRests old h accesses e outcome.PortDead = (h.event.ports.state e.request.port ≡ Dead)
     × (((h.device.port e.request.port.0).notes.engine_count ≡ READINGS) ⊎ (IsOn h.device → ⊥))
+AnswerRests old h accesses e outcome.Revoked = (HasGrant (moment_after old.moment h.event).machine e → ⊥)
+    × ((e.issued ≡ false) ⊎ (Stops e.request.port accesses ⊎ IsEndedReset h.event.ask h.event.said))
 
 -- ---- healthy calls
 

@@ -21,12 +21,12 @@ use Rattle.agreement.specs.Errors.{IsFatalOf, NoneComes, NoneFatal}
 use Rattle.agreement.specs.Facts.{RunsWell, IsFaultOf}
 use Rattle.agreement.specs.Links.{IsPlugging, PlugsNone}
 use Rattle.agreement.specs.Slots.{ServesRequest}
-use Rattle.block_machine.specs.Events.{Ask, Submit, StoreAt, LoadAt, Service, Tick, Reset, Device as Told, Said, Submitted, Stored, Loaded, Served, WasReset, Stepped, Moment, IsHung, IsIssuedIn, issues_it, moment_after}
+use Rattle.block_machine.specs.Events.{Ask, Submit, StoreAt, LoadAt, Service, Tick, Reset, RevokeOf, Device as Told, Said, Submitted, Stored, Loaded, Served, WasReset, WasRevoked, Stepped, Moment, IsHung, IsIssuedIn, issues_it, moment_after}
 use Rattle.block_machine.specs.Due.{IsDue}
 use Rattle.block_machine.specs.Histories.{Instant, Happening}
 use Rattle.block_machine.specs.Histories as histories
 use Rattle.block_machine.specs.Ports.{Ports, SamePort, Evidence, IsInterrupted}
-use Rattle.block_machine.specs.Rules.{IsNamed}
+use Rattle.block_machine.specs.Rules.{IsNamed, Names}
 use Rattle.block_machine.specs.State.{Pending, Machine, unanswered}
 use Rattle.block_machine.specs.Steps.{Step, Answer}
 use Rattle.block_machine.specs.declared.due.Mode.{Mode}
@@ -62,15 +62,18 @@ abbrev pub IsOnAndTells : Device → Type 0
 IsOnAndTells d = IsOn d × (d.ie ≡ true)
 
 -- What was done in a call. A device step is the device's own, with no access. A client's bytes are stored, or loaded,
--- by one access. For a request that is accepted requests of its port are issued, if any. A service, a tick and a reset
--- make accesses: what the driver stores and loads in them lies in its own frames, and of ports' registers they use
--- those of served ports alone, a service of those that aren't dead, and a tick of those that are hung. Neither a
--- service nor a tick writes GHC. A reset that ends leaves the adapter on; of one that doesn't, no more is seen than
--- that (how often HR was read is the server's own contract). Each other call makes none, a refused one among them.
+-- by one access. For a request that is accepted requests of its port are issued, if any; so they are for a grant that
+-- is taken back. A service, a tick and a reset make accesses: what the driver stores and loads in them lies in its own
+-- frames, and of ports' registers they use those of served ports alone, a service of those that aren't dead, and a tick
+-- of those that are hung. Neither a service nor a tick writes GHC. A reset that ends leaves the adapter on; of one that
+-- doesn't, no more is seen than that (how often HR was read is the server's own contract). Each other call makes none,
+-- a refused one among them.
 abbrev pub CameBy : Moment → Ask DeviceStep → Said → List Access → Device → Device → Type 0
 CameBy now (Told step) (Stepped true) accesses old new = (accesses ≡ []) × Asked step old new
 CameBy now (Submit r) (Submitted (Ok id)) accesses old new =
     DoesAll accesses old new × ((row : GrantRow) × IsNamed now.machine.rows r row × All (IssuesOn row.port) accesses)
+CameBy now (RevokeOf client number) (WasRevoked (Some replies)) accesses old new = DoesAll accesses old new
+    × ((row : GrantRow) × Contains now.machine.rows row × Names client number row × All (IssuesOn row.port) accesses)
 CameBy now (StoreAt client frame offset bytes) (Stored None) accesses old new =
     DoesAll accesses old new × (accesses ≡ Storing (FRAME_BYTES * frame.0 + offset) bytes ∷ [])
 CameBy now (LoadAt client frame offset count) (Loaded (Ok bytes)) accesses old new =
@@ -97,12 +100,14 @@ abbrev pub IssuesDue : Mode → List Step → Machine → Port → Type 0
 IssuesDue mode steps later port = (r : Unanswered) → Contains (unissued steps (map unanswered later.book)) r
     → r.port ≡ port → IsIssuedIn r.id steps ↔ IsDue mode (unissued steps (map unanswered later.book)) r
 
--- So a submit, a service, a tick and a reset do on each port that is ready at their end.
+-- So a submit, a service, a tick, a reset and a revocation do on each port that is ready at their end.
 abbrev pub Issues : Ask DeviceStep → List Step → Machine → Ports → Port → Type 0
 Issues (Submit r) steps later ports port = ports.state port ≡ Ready → IssuesDue (ports.mode port) steps later port
 Issues Service steps later ports port = ports.state port ≡ Ready → IssuesDue (ports.mode port) steps later port
 Issues Tick steps later ports port = ports.state port ≡ Ready → IssuesDue (ports.mode port) steps later port
 Issues Reset steps later ports port = ports.state port ≡ Ready → IssuesDue (ports.mode port) steps later port
+Issues (RevokeOf client number) steps later ports port = ports.state port ≡ Ready
+    → IssuesDue (ports.mode port) steps later port
 Issues ask steps later ports port = Unit {0}
 
 -- ---- what is found done

@@ -33,6 +33,7 @@ ghost use Rattle.driver_history.specs.Parts.{HasTurnIn, NamesAlike, all_of};
 use super::lawful::laws_hold;
 use agreement::facts::{frames_are_still, healthy_stays};
 use agreement::laws::disks_are_told;
+use block_machine::laws::rows_shrink_and_owners_stay;
 use port_boot::laws::a_port_runs_on;
 
 /// The calls of a history are a run of the block machine. So its laws on runs hold of them: each request that is issued
@@ -124,7 +125,9 @@ pub fn answers_rest()
         (history : IsHistory wanted first (h ∷ past)) → (e : Pending) (told : Outcome)
         → Contains h.event.steps (Answer e told)
         → AnswerRests (now first past) h history.2.accesses e told }
-{}
+{
+    rows_shrink_and_owners_stay();
+}
 
 /// A client's frame that isn't lent is one that the device uses no byte of, whatever it does next. (That holds between
 /// calls. Within one, a frame leaves a loan where its request has ended, or its port has stopped: see what each answer
@@ -175,8 +178,9 @@ pub fn ticks_end_issues()
 {}
 
 /// Composition on healthy ports: each call of a history that is healthy for a port goes well for it, whatever was
-/// before. The port is left alone, with ST one, and each answer is Ok; a service answers exactly the issued requests
-/// whose bits are clear in the masks that it read; and a call issues exactly what is due.
+/// before. The port is left alone, with ST one, and each answer is Ok, or Revoked where a grant is taken back; a
+/// service answers exactly the issued requests whose bits are clear in the masks that it read; and a call issues
+/// exactly what is due.
 pub fn healthy_calls_go_well()
     ensures { (wanted : List Wanted) (first : Instant Device) (past : List (Happening Device DeviceStep))
         (h : Happening Device DeviceStep)
@@ -188,7 +192,8 @@ pub fn healthy_calls_go_well()
     a_port_runs_on();
 }
 
-/// On a port that is ready at the end of a submit, a service, a tick or a reset, exactly what is due was issued.
+/// On a port that is ready at the end of a submit, a service, a tick, a reset or a revocation, exactly what is due was
+/// issued.
 pub fn due_are_issued()
     ensures { (wanted : List Wanted) (first : Instant Device) (past : List (Happening Device DeviceStep))
         (h : Happening Device DeviceStep)

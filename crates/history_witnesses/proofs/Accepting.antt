@@ -1,11 +1,12 @@
 -- The first witness's read is accepted and issued: the machine, and what holds before and after it.
-use Rattle.std.proofs.Common.{ℕ, zero, suc, ◌≡◌, ◌≤◌, ◌∙◌, true, false, [], ◌∷◌, None, inl, inr, ⊎_elim, refl, sym, ap, arith}
+use Rattle.std.proofs.Common.{ℕ, zero, suc, ◌≡◌, ◌≤◌, ◌∙◌, true, false, List, [], ◌∷◌, None, inl, inr, ⊎_elim, refl, sym, ap, arith}
 use Rattle.std.specs.Prelude.{count_by}
 use Rattle.std.proofs.lemmas.Bool.{le-ltb, true≢false}
 use Rattle.std.specs.List.{Contains}
 use Rattle.std.proofs.lemmas.List.Elements.{All-from_recursion}
 use Rattle.ata_types.specs.declared.Port.{Port}
 use Rattle.ata_types.specs.declared.request.Outcome.{Outcome}
+use Rattle.ata_types.specs.declared.grant.GrantRow.{GrantRow}
 use Rattle.ata_types.specs.declared.request.Request.{Request}
 use Rattle.hba_regs.specs.Bits.{bit}
 use Rattle.adapter.specs.Commands.{is_queued}
@@ -35,7 +36,7 @@ use Rattle.history_witnesses.proofs.Issuing as issuing_on
 use Rattle.history_witnesses.proofs.Members.{nowhere, only}
 use Rattle.history_witnesses.proofs.Memory.{past_driver}
 use Rattle.history_witnesses.proofs.Pages.{plain_disks}
-use Rattle.history_witnesses.proofs.Ready.{Agreeing, Stands, begins, fit_ready, holds, instant_with, no_page, start, starts, two_ready}
+use Rattle.history_witnesses.proofs.Ready.{Agreeing, Stands, begins, fit_ready, granted, holds, instant_with, no_page, start, starts, two_ready, two_rows}
 use Rattle.history_witnesses.proofs.Serving.{HasOne, agrees_one, aged, none_due, serves_none, serves_one, outstanding_as}
 use Rattle.history_witnesses.proofs.Submitting.{issued, others_clear, submit_accesses, submits, submitted}
 
@@ -90,7 +91,7 @@ abbrev pub issued_at : ℕ → Instant Device
 issued_at age = record { device = submitted; moment = record { machine = issued_for age; ports = both } }
 
 may_issue : May (after start (Accept (issuing_on.accepted submission) ∷ [])) (Issue plain waits)
-may_issue = ((0, omega arith, refl), record { here = (0, omega arith, refl); clear = refl; slot = λ h. absurd (true≢false h) }, λ e h. absurd (nowhere e h))
+may_issue = ((0, omega arith, refl), record { here = (0, omega arith, refl); clear = refl; slot = λ h. absurd (true≢false h) }, λ e h. absurd (nowhere e h), granted 0 (0, omega arith, refl) refl)
 
 stands : Stands issued
 stands = record { same = refl; quiet = λ place from. refl }
@@ -110,8 +111,12 @@ pub serves_plain : is_queued serves.command.operation ≡ false
 unfolding serves serves_one
 serves_plain = refl
 
-has_one : (age : ℕ) → HasOne plain_disks (issued_for age) [] read_memory issued (read_of 100 1) 100 40 waiting.request.held age
-has_one age = record {
+-- whatever grants there are then
+abbrev pub issued_under : List GrantRow → ℕ → Machine
+issued_under rows age = record (issued_for age) { rows = rows }
+
+has_one : (rows : List GrantRow) (age : ℕ) → HasOne plain_disks (issued_under rows age) [] read_memory issued (read_of 100 1) 100 40 waiting.request.held age
+has_one rows age = record {
   stands = stands;
   disks = (refl, refl, refl, refl);
   book = refl;
@@ -126,11 +131,11 @@ has_one age = record {
   frames = λ f b from small. past_driver f b from;
 }
 
-issued_agrees : (age : ℕ) → Agreeing plain_disks first_slots (issued_for age) [] read_memory issued
-issued_agrees age = agrees_one plain_disks (issued_for age) [] read_memory issued (read_of 100 1) 100 40 waiting.request.held age (has_one age)
+pub issued_agrees : (rows : List GrantRow) (age : ℕ) → Agreeing plain_disks first_slots (issued_under rows age) [] read_memory issued
+issued_agrees rows age = agrees_one plain_disks (issued_under rows age) [] read_memory issued (read_of 100 1) 100 40 waiting.request.held age (has_one rows age)
 
 pub holds_issued : (age : ℕ) → HoldsWith (Any ∷ Any ∷ []) first_slots (issued_at age)
-holds_issued age = holds plain_disks first_slots (issued_for age) [] read_memory issued (issued_agrees age)
+holds_issued age = holds plain_disks first_slots (issued_for age) [] read_memory issued (issued_agrees two_rows age)
 
 pub holds_submitted : HoldsWith (Any ∷ Any ∷ []) first_slots submitted_at
 holds_submitted = holds_issued 0
@@ -148,7 +153,7 @@ ready_has_begun = record {
 is_issued : IsIssued submission
 is_issued = record {
   stands = record { same = refl; quiet = λ place from. refl };
-  agreeing = issued_agrees 0;
+  agreeing = issued_agrees two_rows 0;
   takes = record { rows = refl; id_is = refl; left = omega arith; few = omega arith; owned = refl; free = refl; from = omega arith; to = omega arith; on_disk = omega arith };
   may = may_issue;
   all_issued = λ port is. none_due plain (unanswered waiting ∷ []) (λ r here. ap (λ (x : Unanswered). x.issued) (only (unanswered waiting) r here)) port;

@@ -326,7 +326,7 @@ service_happens = record {
         (tt, (inl ((0, omega arith, refl), refl), omega arith, refl, omega arith, λ e. absurd (let x : Read ≡ Write = e in cc))),
         (inl ((0, omega arith, refl), refl), all_touched, refl),
       ),
-      (0, omega arith, refl),
+      ((0, omega arith, refl), tt),
     ),
     refl,
   );

@@ -115,7 +115,7 @@ service_finds (suc n) e on = absurd (none_there 0 n e on)
 
 happens : Happens broken_at.moment service.event
 happens = record {
-  may = (tt, (0, omega arith, refl));
+  may = (tt, ((0, omega arith, refl), tt));
   belong = (tt, inr tt);
   last = (tt, λ id h is. absurd (true≢false (sym is)));
   lawful = (tt, (named 0, named 0));

@@ -285,7 +285,7 @@ becomes (suc (suc n)) = (
 
 service_happens : Happens pending_at.moment service.event
 service_happens = record {
-  may = (tt, (0, omega arith, refl));
+  may = (tt, ((0, omega arith, refl), tt));
   belong = (tt, inr tt);
   last = (tt, λ id handled issued_in. absurd (true≢false (sym issued_in)));
   lawful = (tt, refl);

@@ -256,7 +256,7 @@ module _ (c : Discovery) where
           (tt, (inl (is.here, refl), omega arith, in_then, sizes, λ e. absurd (let x : Read ≡ Write = e in cc))),
           (inl (is.touched_here, refl), all_touched, in_then),
         ),
-        is.ended_here,
+        (is.ended_here, tt),
       );
       belong = (((tt, inl tt), inl tt), inr tt);
       last = (((tt, λ id h i. absurd (true≢false (sym i))), λ id h i. absurd (true≢false (sym i))), λ id h i. absurd (true≢false (sym i)));

@@ -136,7 +136,7 @@ restarts_hung = record {
 
 happens : Happens (issued_at 2).moment restarting_tick.event
 happens = record {
-  may = ((tt, tt), (0, omega arith, refl));
+  may = ((tt, tt), ((0, omega arith, refl), tt));
   belong = ((tt, inr tt), inr (inl tt));
   last = ((tt, λ id handled issued_in. absurd (true≢false (sym handled))), λ id handled issued_in. absurd (true≢false (sym issued_in)));
   lawful = (tt, (named 0, named 0));

@@ -27,6 +27,7 @@ mod Rebooted
 mod Broken
 mod Aging
 mod Hung
+mod Revoking
 mod Booting
 mod Resetting
 mod Looking

@@ -19,7 +19,7 @@ use Rattle.block_machine.specs.Left.{IsStart}
 use Rattle.block_machine.specs.Ports.{Ports, AreFit}
 use Rattle.block_machine.specs.State.{Machine, Pending}
 use Rattle.block_machine.specs.Steps.{NoneKept}
-pub use Rattle.block_machine.proofs.Setting.{acceptable, client, empty, empty_starts, frame, its_row, request, row, two_rows}
+pub use Rattle.block_machine.proofs.Setting.{acceptable, client, empty, empty_starts, frame, granted, its_row, request, row, two_rows}
 use Rattle.driver_history.specs.Evidence.{ShowsFailure, ShowsLoss}
 use Rattle.driver_history.specs.Histories.{Begins}
 use Rattle.driver_history.specs.Holds.{HasRequests, HoldsOf, HoldsWith, IsReadyAt, mode_of}

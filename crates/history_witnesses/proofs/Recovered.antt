@@ -293,7 +293,7 @@ unplugged_not e here = let x : outcome.Unplugged ≡ outcome.DeviceError 0x41 0x
 
 happens : Happens submitted_at.moment service.event
 happens = record {
-  may = (tt, (0, omega arith, refl));
+  may = (tt, ((0, omega arith, refl), tt));
   belong = (tt, inr tt);
   last = (tt, λ id is none. absurd (true≢false (sym none)));
   lawful = (

@@ -171,7 +171,7 @@ answers = record {
 
 pub happens : Happens submitted_at.moment reset.event
 happens = record {
-  may = ((tt, tt), (0, omega arith, refl));
+  may = ((tt, tt), ((0, omega arith, refl), tt));
   belong = ((tt, inr tt), inr tt);
   last = ((tt, λ id handled issued_in. absurd (true≢false (sym handled))), λ id handled issued_in. absurd (true≢false (sym issued_in)));
   lawful = (tt, (named 0, (0, omega arith, refl)));

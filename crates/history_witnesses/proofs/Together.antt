@@ -29,7 +29,7 @@ use Rattle.history_witnesses.proofs.Issuing.{IsIssued, Submission, accepted_as, 
 use Rattle.history_witnesses.proofs.Members.{either, nowhere, only}
 use Rattle.history_witnesses.proofs.Pages.{queueing_disks}
 use Rattle.history_witnesses.proofs.Queueing.{first_told, neither, one_issued, one_memory, one_submits, one_told, one_zeros, queue_accesses, queues, second_told, two_issued, two_memory, two_submits, two_zeros}
-use Rattle.history_witnesses.proofs.Ready.{Agreeing, Stands, instant_with, no_page, start}
+use Rattle.history_witnesses.proofs.Ready.{Agreeing, Stands, granted, instant_with, no_page, start}
 use Rattle.history_witnesses.proofs.Serving.{HasOne, agrees_one, none_due, serves_one, outstanding_as}
 use Rattle.history_witnesses.proofs.Swapping.{pages}
 
@@ -123,7 +123,7 @@ one_agrees : Agreeing queueing_disks first_slots first_issuing [] one_memory one
 one_agrees = agrees_one queueing_disks first_issuing [] one_memory one_issued (queued_read 100) 100 40 held 0 has_one
 
 may_first : May (after start (Accept (issued_on.accepted submission_one) ∷ [])) (Issue queued (newly_accepted (issued_on.accepted submission_one)))
-may_first = ((0, omega arith, refl), record { here = (0, omega arith, refl); clear = refl; slot = λ _. omega arith }, λ e h. absurd (nowhere e h))
+may_first = ((0, omega arith, refl), record { here = (0, omega arith, refl); clear = refl; slot = λ _. omega arith }, λ e h. absurd (nowhere e h), granted 0 (0, omega arith, refl) refl)
 
 pub issued_first : IsIssued submission_one
 unfolding one_memory
@@ -220,7 +220,7 @@ abbrev waits_second : Pending
 waits_second = newly_accepted (issued_on.accepted submission_two)
 
 may_second : May (after first_issuing (Accept (issued_on.accepted submission_two) ∷ [])) (Issue queued waits_second)
-may_second = ((1, omega arith, refl), record { here = (1, omega arith, refl); clear = refl; slot = λ _. omega arith }, λ e h. absurd (nowhere e h))
+may_second = ((1, omega arith, refl), record { here = (1, omega arith, refl); clear = refl; slot = λ _. omega arith }, λ e h. absurd (nowhere e h), granted 0 (0, omega arith, refl) refl)
 
 due_second : (port : Port) → IssuesDue queued (issued_on.submit_steps submission_two) both_issuing port
 due_second port r here at_port = ⊎_elim

@@ -8,5 +8,6 @@ pub mod Queued
 pub mod Restart
 pub mod Fatal
 pub mod Hung
+pub mod Revocation
 pub mod Reset
 pub mod Missing

@@ -6,6 +6,7 @@ ghost use Rattle.history_witnesses.specs.Hung.{HungPortIsAHistory};
 ghost use Rattle.history_witnesses.specs.Loss.{LossIsAHistory};
 ghost use Rattle.history_witnesses.specs.Queued.{OrderIsFree};
 ghost use Rattle.history_witnesses.specs.Recovery.{RecoveryTies};
+ghost use Rattle.history_witnesses.specs.Revocation.{RevocationIsAHistory};
 ghost use Rattle.history_witnesses.specs.Reset.{ResetIsAHistory};
 ghost use Rattle.history_witnesses.specs.Missing.{MissingDiskIsAHistory};
 
@@ -48,6 +49,12 @@ pub fn a_fatal_error_is_a_history()
 /// up, and boots it anew: all that is asked of its calls is met.
 pub fn a_hung_port_is_a_history()
     ensures { HungPortIsAHistory }
+{}
+
+/// There is a history in which a grant is taken back while a read of it is issued, which goes on: all that is asked of
+/// its calls is met.
+pub fn a_revocation_is_a_history()
+    ensures { RevocationIsAHistory }
 {}
 
 /// There is a history with a reset that ends, which boots both ports, tells the read that was issued so, and gives its

@@ -3,16 +3,17 @@ use Rattle.std.proofs.Common.{◌≡◌, ◌⊎◌, ℕ, ◌+◌, ◌≤◌, Boo
 use Rattle.std.proofs.lemmas.Bool.{or_left, or_right, or_from, false≢true}
 use Rattle.std.specs.List.{Contains, count_by, list_any}
 use Rattle.ata_types.specs.declared.Port.{Port}
+use Rattle.ata_types.specs.declared.grant.GrantRow.{GrantRow}
 use Rattle.ata_types.specs.declared.request.Request.{Request}
 use Rattle.block_machine.specs.Ports.{Ports}
 use Rattle.block_machine.specs.State.{Accepted, Pending, Machine}
-use Rattle.block_machine.specs.Steps.{Step, Accept, Issue, Touch, End, Age, Again, Answer, Release, Unplug, Replace, Store, Load, IsNew, after_step, issue, touch, mark_ended, requeued, older}
+use Rattle.block_machine.specs.Steps.{Step, Accept, Issue, Touch, End, Age, Again, Answer, Release, Revoke, Unplug, Replace, Store, Load, IsNew, after_step, issue, touch, mark_ended, requeued, older}
 use Rattle.block_machine.specs.Left.{after, IsAccept}
-use Rattle.block_machine.specs.Events.{Ask, Submit, StoreAt, LoadAt, Service, Tick, Reset, State, Device, AllMay, IsDevices, IsServers, Belong, accepts_of, issues_it, IsIssuedIn}
+use Rattle.block_machine.specs.Events.{Ask, Submit, StoreAt, LoadAt, Service, Tick, Reset, State, Device, RevokeOf, AllMay, IsDevices, IsServers, Belong, accepts_of, issues_it, IsIssuedIn}
 use Rattle.block_machine.proofs.Members.{contains_none, contains_here, contains_there, contains_cases, map_in, at_cases, without_in, append_in}
 use Rattle.block_machine.proofs.Keeps.{older_keeps, older_issued}
 use Rattle.block_machine.proofs.Counting.{count_cons}
-use Rattle.block_machine.proofs.Configured.{rows_stay}
+use Rattle.block_machine.proofs.Configured.{rows_shrink}
 
 -- the step is a tick of this port
 abbrev pub ages_it : Port → Step → Bool
@@ -104,6 +105,7 @@ came m (Age ready) e h =
       );
     })
 came m (Answer p o) e h = inl (stayed_same m (Answer p o) e e (without_in p.request.id m.book e h).0 refl refl)
+came m (Revoke client number) e h = inl (stayed_same m (Revoke client number) e e h refl refl)
 came m Release e h = inl (stayed_same m Release e e h refl refl)
 came m (Unplug p) e h = inl (stayed_same m (Unplug p) e e h refl refl)
 came m (Replace p id size disk) e h = inl (stayed_same m (Replace p id size disk) e e h refl refl)
@@ -176,11 +178,11 @@ since m (step ∷ before) e h = ⊎_elim
     (λ n. inr (accepts_now step before e.request n.0, λ t. absurd (false≢true (sym n.1 ∙ t))))
     (came (after m before) step e h)
 
--- a request that the steps accept was new to a machine with the same rows
-pub accepted_new : (m : Machine) (steps : List Step) (r : Accepted) → AllMay m steps → Contains (accepts_of steps) r → (n : Machine) × (n.rows ≡ m.rows) × IsNew n r
+-- a request that the steps accept was new to a machine whose rows are all of the first
+pub accepted_new : (m : Machine) (steps : List Step) (r : Accepted) → AllMay m steps → Contains (accepts_of steps) r → (n : Machine) × ((row : GrantRow) → Contains n.rows row → Contains m.rows row) × IsNew n r
 accepted_new m [] r may h = absurd (contains_none r h)
 accepted_new m (Accept new ∷ before) r may h = ⊎_elim
-    (λ p. (after m before, rows_stay m before, subst (λ (x : Accepted). IsNew (after m before) x) (sym p) may.1))
+    (λ p. (after m before, rows_shrink m before, subst (λ (x : Accepted). IsNew (after m before) x) (sym p) may.1))
     (λ i. accepted_new m before r may.0 i)
     (contains_cases new (accepts_of before) r h)
 accepted_new m (_ ∷ before) r may h = accepted_new m before r may.0 h
@@ -237,6 +239,9 @@ servers_fit (State p) ports Release h = absurd h
 servers_fit (Device d) ports (Accept r) h = absurd h
 servers_fit (Device d) ports (Age ready) h = absurd h
 servers_fit (Device d) ports Release h = absurd h
+servers_fit (RevokeOf c n) ports (Accept r) h = absurd h
+servers_fit (RevokeOf c n) ports (Age ready) h = absurd h
+servers_fit (RevokeOf c n) ports Release h = absurd h
 servers_fit ask ports _ h = tt
 
 -- each step of a call fits it

@@ -15,7 +15,7 @@ use Rattle.block_machine.specs.Steps.{Accept, Issue, Answer, newly_accepted, iss
 use Rattle.block_machine.specs.Events.{Submit, Service, Submitted, Served, Event, Happens, ServesReady, Tells, IsToldBefore, reply_of, moment_of, situation_of}
 use Rattle.machine_runs.specs.Worked.{DiesInAService}
 use Rattle.block_machine.proofs.Members.{contains_none, contains_here, contains_there, contains_cases}
-use Rattle.block_machine.proofs.Setting.{port, frame, empty_starts, acceptable}
+use Rattle.block_machine.proofs.Setting.{port, frame, empty_starts, acceptable, granted}
 use Rattle.machine_runs.proofs.Scene.{mode, id, call, one_sector, ports_in, first, ready_port, shows_none, changed_here, spares_ports, IsQuiet, row_zero, write_at, new, none_waits, none_ended, none_unplugged, no_faults, ports_fit, none_dead}
 use Rattle.machine_runs.proofs.WaitingRun.{write, run1, happens1}
 use Rattle.machine_runs.proofs.ResetRun.{dead_not_ready, dead_here}
@@ -57,7 +57,7 @@ second a b = contains_there a (b ∷ []) b (contains_here b [] b refl)
 
 happens2 : Happens (moment_of first run1) submit
 happens2 = record {
-  may = ((tt, new 0 (moment_of first run1) other quiet (write_at 0 (moment_of first run1) 101 41 quiet (omega arith) (omega arith) refl refl) refl refl refl), (second one (newly_accepted other), record { here = second (unanswered one) (unanswered (newly_accepted other)); clear = refl; slot = λ _. omega arith }, λ e h. absurd (contains_none e h)));
+  may = ((tt, new 0 (moment_of first run1) other quiet (write_at 0 (moment_of first run1) 101 41 quiet (omega arith) (omega arith) refl refl) refl refl refl), (second one (newly_accepted other), record { here = second (unanswered one) (unanswered (newly_accepted other)); clear = refl; slot = λ _. omega arith }, λ e h. absurd (contains_none e h), granted 0 row_zero refl));
   belong = ((tt, inr refl), inr (refl, refl));
   last = ((tt, λ id h i. false≢true i), λ id h i. false≢true i);
   lawful = tt;
@@ -94,7 +94,7 @@ notices p ready = record {
 
 happens3 : Happens (moment_of first run2) service
 happens3 = record {
-  may = ((tt, contains_here one (two ∷ []) one refl), contains_here two [] two refl);
+  may = ((tt, (contains_here one (two ∷ []) one refl, tt)), (contains_here two [] two refl, tt));
   belong = ((tt, inr tt), inr tt);
   last = ((tt, λ id h i. false≢true i), λ id h i. false≢true i);
   lawful = ((tt, refl), refl);

@@ -11,7 +11,7 @@ use Rattle.ata_types.specs.declared.request.Outcome.{Outcome}
 use Rattle.ata_types.specs.declared.request.Outcome.TheVariants.{Aborted, Ok}
 use Rattle.block_machine.specs.Ports.{Ports, Evidence}
 use Rattle.block_machine.specs.State.{Accepted, Pending, Machine, Memory}
-use Rattle.block_machine.specs.Steps.{Step, Accept, Issue, Touch, End, Age, Again, Answer, Release, Unplug, Replace, Store, Load, May, after_step, at, issue, touch, mark_ended, requeued, older}
+use Rattle.block_machine.specs.Steps.{Step, Accept, Issue, Touch, End, Age, Again, Answer, Release, Revoke, Unplug, Replace, Store, Load, May, after_step, at, issue, touch, mark_ended, requeued, older}
 use Rattle.block_machine.specs.Left.{after, IsLegal, IsStart, HoldsLeft}
 use Rattle.block_machine.specs.Confined.{WithinLimits}
 use Rattle.block_machine.specs.Events.{Moment, Event, AllLawful, AnswersHold, EveryReadHolds, IsLawful, IsRun, issues_it, moment_of, steps_of}
@@ -144,6 +144,7 @@ counted_step m (End p) id n may s limits c = counted_on m (after_step m (End p))
 counted_step m (Again p) id n may s limits c = counted_on m (after_step m (Again p)) id n refl (came_at issues_of m p.request.id requeued (λ _. refl) (λ _. refl)) c
 counted_step m (Age ready) id n may s limits c = counted_on m (after_step m (Age ready)) id n refl (came_older issues_of m ready (older_issues ready)) c
 counted_step m (Answer p o) id n may s limits c = counted_on m (after_step m (Answer p o)) id n refl (λ e h. came_same issues_of m e e (without_in p.request.id m.book e h).0 refl) c
+counted_step m (Revoke client number) id n may s limits c = counted_on m (after_step m (Revoke client number)) id n refl (λ e h. came_same issues_of m e e h refl) c
 counted_step m Release id n may s limits c = counted_on m (after_step m Release) id n refl (λ e h. came_same issues_of m e e h refl) c
 counted_step m (Unplug p) id n may s limits c = counted_on m (after_step m (Unplug p)) id n refl (λ e h. came_same issues_of m e e h refl) c
 counted_step m (Replace p i size disk) id n may s limits c = counted_on m (after_step m (Replace p i size disk)) id n refl (λ e h. came_same issues_of m e e h refl) c
@@ -243,6 +244,7 @@ balanced_step m (Touch p i block) id issues waits may s b = balanced_on m (after
 balanced_step m (End p) id issues waits may s b = balanced_on m (after_step m (End p)) id issues waits refl (came_at issued_of m p.request.id mark_ended (λ _. refl) (λ _. refl)) b
 balanced_step m (Age ready) id issues waits may s b = balanced_on m (after_step m (Age ready)) id issues waits refl (came_older issued_of m ready (older_issued ready)) b
 balanced_step m (Answer p o) id issues waits may s b = balanced_on m (after_step m (Answer p o)) id issues waits refl (λ e h. came_same issued_of m e e (without_in p.request.id m.book e h).0 refl) b
+balanced_step m (Revoke client number) id issues waits may s b = balanced_on m (after_step m (Revoke client number)) id issues waits refl (λ e h. came_same issued_of m e e h refl) b
 balanced_step m Release id issues waits may s b = balanced_on m (after_step m Release) id issues waits refl (λ e h. came_same issued_of m e e h refl) b
 balanced_step m (Unplug p) id issues waits may s b = balanced_on m (after_step m (Unplug p)) id issues waits refl (λ e h. came_same issued_of m e e h refl) b
 balanced_step m (Replace p i size disk) id issues waits may s b = balanced_on m (after_step m (Replace p i size disk)) id issues waits refl (λ e h. came_same issued_of m e e h refl) b
@@ -279,7 +281,7 @@ aborted_after_four first run late early e r split =
     let issues : Step → Bool = issues_it e.request.id in
     let four = abort_of_run first run e r (subst (λ (xs : List Step). Contains xs (Answer e Aborted)) (sym split) (in_middle late (Answer e Aborted) early)) in
     let u = step_of_run first run late (Answer e Aborted) early r split in
-    let count = (counted first.machine early e.request.id (run_starts first run r) u.0).here e u.1 refl in
+    let count = (counted first.machine early e.request.id (run_starts first run r) u.0).here e u.1.0 refl in
     let most = issued_four_times first run e.request.id r in
     let all : count_by issues (steps_of run) ≡ count_by issues (late ++ Answer e Aborted ∷ early) = ap (count_by issues) split in
     omega (arith, four, count, most, all, count_append issues late (Answer e Aborted ∷ early), count_cons issues (Answer e Aborted) early)
@@ -318,7 +320,7 @@ ok_was_served first past event e r holds h =
     let split : steps_of (event ∷ past) ≡ p.0 ++ Answer e Ok ∷ (p.1 ++ steps_of past) = ap (λ (xs : List Step). xs ++ steps_of past) p.2 ∙ append_assoc p.0 (Answer e Ok ∷ p.1) (steps_of past) in
     let u = step_of_run first (event ∷ past) p.0 (Answer e Ok) (p.1 ++ steps_of past) r split in
     let issued = (answers_are_lawful first past event e Ok r h).1 in
-    let counted = (issues_are_counted first.machine (p.1 ++ steps_of past) e (run_starts first (event ∷ past) r) u.0 u.1).1 in
+    let counted = (issues_are_counted first.machine (p.1 ++ steps_of past) e (run_starts first (event ∷ past) r) u.0 u.1.0).1 in
     let one : ◌≡◌ {A = ℕ} (cond e.issued 1 0) 1 = ap (λ (b : Bool). cond {A = ℕ} b 1 0) issued in
     record {
       late = p.0;

@@ -8,7 +8,7 @@ use Rattle.ata_types.specs.declared.request.Op.TheVariants.{Flush}
 use Rattle.ata_types.specs.declared.request.Outcome.TheVariants.{Ok, DeviceError}
 use Rattle.block_machine.specs.State.{Block, Disk, Accepted, Pending, Machine, sector_of, written_by}
 use Rattle.block_machine.specs.Due.{is_flush, is_writer}
-use Rattle.block_machine.specs.Steps.{Step, Accept, Issue, Touch, End, Age, Again, Answer, Release, Unplug, Replace, Store, Load, May, MayMove, after_step, at, issue, touch, mark_ended, requeued, older, newly_accepted, put_sector}
+use Rattle.block_machine.specs.Steps.{Step, Accept, Issue, Touch, End, Age, Again, Answer, Release, Revoke, Unplug, Replace, Store, Load, May, MayMove, after_step, at, issue, touch, mark_ended, requeued, older, newly_accepted, put_sector}
 use Rattle.block_machine.specs.Left.{after, IsLegal, IsStart, IsAccept, IsTouch, HasTouched, plug_count}
 use Rattle.machine_runs.specs.Durable.{SameBytes, starts_lasting, HeldSince, ComesBack, IsVolatile, IsOk, takes_out, brings_other, WriteAccepted, WriteAnswered, FlushAccepted, FlushAnswered, IsSince, FindsFlushed, EveryPlugFinds}
 use Rattle.block_machine.proofs.Members.{map_in, at_cases, without_in, append_in}
@@ -107,6 +107,7 @@ effect m (End e) port k may = inl (record { same = refl; quiet = λ w _ _ t. t }
 effect m (Age ready) port k may = inl (record { same = refl; quiet = λ w _ _ t. t })
 effect m (Again e) port k may = inl (record { same = refl; quiet = λ w _ _ t. t })
 effect m (Answer e outcome) port k may = inl (record { same = refl; quiet = λ w _ _ t. t })
+effect m (Revoke client number) port k may = inl (record { same = refl; quiet = λ w _ _ t. t })
 effect m Release port k may = inl (record { same = refl; quiet = λ w _ _ t. t })
 effect m (Unplug p) port k may = inl (record { same = refl; quiet = λ w _ _ t. t })
 effect m (Store client frame offset bytes) port k may = inl (record { same = refl; quiet = λ w _ _ t. t })
@@ -123,6 +124,7 @@ stays_in m (End e) port may out here = here
 stays_in m (Age ready) port may out here = here
 stays_in m (Again e) port may out here = here
 stays_in m (Answer e outcome) port may out here = here
+stays_in m (Revoke client number) port may out here = here
 stays_in m Release port may out here = here
 stays_in m (Store client frame offset bytes) port may out here = here
 stays_in m (Load client frame offset bytes) port may out here = here
@@ -180,6 +182,7 @@ other_absent m (Touch e i block) port may t = absurd (false≢true t)
 other_absent m (End e) port may t = absurd (false≢true t)
 other_absent m (Age ready) port may t = absurd (false≢true t)
 other_absent m (Again e) port may t = absurd (false≢true t)
+other_absent m (Revoke client number) port may t = absurd (false≢true t)
 other_absent m Release port may t = absurd (false≢true t)
 other_absent m (Unplug q) port may t = absurd (false≢true t)
 other_absent m (Store client frame offset bytes) port may t = absurd (false≢true t)
@@ -244,6 +247,7 @@ came m (Age ready) may s x i hx t = let r = map_in (older ready) m.book x hx in
     inl (r.0, r.1, ap (λ (y : Pending). y.request) r.2 ∙ older_keeps ready r.0, subst (λ (f : ℕ → Bool). f i ≡ true) (ap (λ (y : Pending). y.touched) r.2 ∙ older_touched ready r.0) t)
 came m (Again e) may s x i hx t = came_at m (Again e) e.request.id requeued x i hx (λ y. refl) (λ y q. absurd (false≢true q)) t
 came m (Answer e outcome) may s x i hx t = inl (x, (without_in e.request.id m.book x hx).0, refl, t)
+came m (Revoke client number) may s x i hx t = inl (x, hx, refl, t)
 came m Release may s x i hx t = inl (x, hx, refl, t)
 came m (Unplug port) may s x i hx t = inl (x, hx, refl, t)
 came m (Replace port id size disk) may s x i hx t = inl (x, hx, refl, t)
@@ -286,7 +290,7 @@ ok_entry m step w may whole ok =
     let r = answer_ok step w ok in
     let here : May m (Answer r.0 Ok) = subst (λ (x : Step). May m x) r.1 may in
     let law : IsWhole (Answer r.0 Ok) = subst (λ (x : Step). IsWhole x) r.1 whole in
-    (r.0, here, r.2, (λ i lt. law.0 i (subst (λ (j : Accepted). i < j.asked.count) (sym r.2) lt)), law.1)
+    (r.0, here.0, r.2, (λ i lt. law.0 i (subst (λ (j : Accepted). i < j.asked.count) (sym r.2) lt)), law.1)
 
 ok_out : (port : Port) (step : Step) (w : Accepted) → IsOk step w → takes_out port step ≡ false
 ok_out port step w ok = let r = answer_ok step w ok in ap (takes_out port) r.1
@@ -412,6 +416,7 @@ ended m (Age ready) may s x hx t = let r = map_in (older ready) m.book x hx in
     inl (r.0, r.1, ap (λ (y : Pending). y.request) r.2 ∙ older_keeps ready r.0, sym (ap (λ (y : Pending). y.ended) r.2 ∙ older_ended ready r.0) ∙ t)
 ended m (Again e) may s x hx t = ended_at m (Again e) e.request.id requeued x hx (λ y. refl) (λ y q. absurd (false≢true q)) t
 ended m (Answer e outcome) may s x hx t = inl (x, (without_in e.request.id m.book x hx).0, refl, t)
+ended m (Revoke client number) may s x hx t = inl (x, hx, refl, t)
 ended m Release may s x hx t = inl (x, hx, refl, t)
 ended m (Unplug port) may s x hx t = inl (x, hx, refl, t)
 ended m (Replace port id size disk) may s x hx t = inl (x, hx, refl, t)

@@ -6,11 +6,13 @@ mod Once
 mod Staying
 mod Issuing
 mod NoneDue
+mod Granted
 mod Unwritten
 mod Lasting
 mod Scene
 mod WorkedRun
 mod WaitingRun
+mod RevokedRun
 mod ResetRun
 mod TroubledRun
 mod UnpluggedRun

@@ -13,7 +13,7 @@ use Rattle.block_machine.specs.Ports.{Ports, Evidence, AreFit, SamePorts, IsStuc
 use Rattle.block_machine.specs.State.{Pending, Machine, unanswered}
 use Rattle.block_machine.specs.Steps.{Step, Accept, Issue, Touch, End, Age, Again, Answer, Store, Load, after_step, at, touch, mark_ended}
 use Rattle.block_machine.specs.Left.{after}
-use Rattle.block_machine.specs.Events.{Moment, Ask, Submit, StoreAt, LoadAt, Service, Tick, Reset, State, Device, Said, Submitted, Stored, Loaded, Served, WasReset, Shown, Stepped, Event, AllIssued, IsAnswered, IsDevices, IsServers, Belong, IsRun, moment_of}
+use Rattle.block_machine.specs.Events.{Moment, Ask, Submit, StoreAt, LoadAt, Service, Tick, Reset, RevokeOf, State, Device, Said, Submitted, Stored, Loaded, Served, WasReset, WasRevoked, Shown, Stepped, Event, AllIssued, IsAnswered, IsDevices, IsServers, Belong, IsRun, moment_of}
 use Rattle.block_machine.proofs.Members.{contains_none, contains_here, contains_there, at_cases, map_in, into_map}
 use Rattle.machine_runs.proofs.RunLaws.{is_ready, run_fit}
 use Rattle.machine_runs.proofs.Issuing.{counted_more, one_of_run}
@@ -106,6 +106,9 @@ issued_event Service (Served replies) old evidence steps ports a b fit all = a.i
 issued_event Tick (Served replies) old evidence steps ports a b fit all = a.issues
 issued_event Reset (WasReset (Some replies)) old evidence steps ports a b fit all = a.issues
 issued_event Reset (WasReset None) old evidence steps ports a b fit all = issued_stuck old (left old steps ports) evidence fit a.1
+issued_event (RevokeOf c n) (WasRevoked (Some replies)) old evidence steps ports a b fit all = a.issues
+issued_event (RevokeOf c n) (WasRevoked None) old evidence steps ports a b fit all =
+    issued_still old (left old steps ports) (ap (λ (xs : List Step). map unanswered (after old.machine xs).book) a.1) a.2 all
 issued_event ask said old evidence steps ports a b fit all = absurd a
 
 pub none_due_between : {D : Type 0} (first : Moment) (run : List (Event D)) → IsRun first run → AllIssued (moment_of first run)

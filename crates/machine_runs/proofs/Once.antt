@@ -1,5 +1,5 @@
 -- Over every run an id is accepted once at most, and answered once at most, after it was accepted: as steps, and as what calls say.
-use Rattle.std.proofs.Common.{◌≡◌, ◌⊎◌, ℕ, ◌+◌, ◌≤◌, ◌==◌, Bool, true, false, cond, List, [], ◌∷◌, ◌++◌, map, Some, Ok, Err, inl, inr, ⊎_elim, refl, sym, ap, ◌∙◌, subst, arith, eqb-true}
+use Rattle.std.proofs.Common.{◌≡◌, ◌⊎◌, ℕ, ◌+◌, ◌≤◌, ◌==◌, Bool, true, false, cond, List, [], ◌∷◌, ◌++◌, map, None, Some, Ok, Err, inl, inr, ⊎_elim, refl, sym, ap, ◌∙◌, subst, arith, eqb-true}
 use Rattle.std.proofs.lemmas.List.Sorted.{sum_by-IsPermutation, Contains-permutation}
 use Rattle.std.specs.List.{Contains, count_by}
 use Rattle.ata_types.specs.declared.request.RequestId.{RequestId}
@@ -12,7 +12,7 @@ use Rattle.block_machine.specs.State.{Accepted, Pending, Machine}
 use Rattle.block_machine.specs.Steps.{Step, Accept, Answer, May, after_step}
 use Rattle.block_machine.specs.Left.{after, IsLegal, IsStart}
 use Rattle.block_machine.specs.Confined.{WasAccepted}
-use Rattle.block_machine.specs.Events.{Moment, Ask, Submit, Service, Tick, Reset, Said, Submitted, Served, WasReset, Event, AllMay, Belong, Tells, IsAnswered, IsRun, accepts_it, answers_it, accepts_of, answers_of, reply_of, replies_of, all_replies, gives_id, WasGiven, moment_of, steps_of}
+use Rattle.block_machine.specs.Events.{Moment, Ask, Submit, Service, Tick, Reset, RevokeOf, Said, Submitted, Served, WasReset, WasRevoked, Event, AllMay, Belong, Tells, IsAnswered, IsRun, accepts_it, answers_it, accepts_of, answers_of, reply_of, replies_of, all_replies, gives_id, WasGiven, moment_of, steps_of}
 use Rattle.block_machine.proofs.Members.{contains_none, contains_here, contains_there, contains_cases, map_in, without_in, append_in}
 use Rattle.block_machine.proofs.Sound.{Sound}
 use Rattle.block_machine.proofs.Runs.{traced, nobody}
@@ -61,8 +61,8 @@ untold_step m (Answer p o) id n may s f = go (p.request.id.0 == id.0) refl
     go : (b : Bool) → (p.request.id.0 == id.0) ≡ b → IsUntold (after_step m (Answer p o)) id (cond b 1 0 + n)
     go true e =
         let same = eqb-true p.request.id.0 id.0 e in
-        let zero = f.here p may same in
-        let below = s.below p (inl may) in
+        let zero = f.here p may.0 same in
+        let below = s.below p (inl may.0) in
         record { most = omega (arith, zero); none = λ le. absurd (omega (arith, le, same, below)); here = λ x i q. absurd ((without_in p.request.id m.book x i).1 (q ∙ sym same)) }
     go false e =
         let most = f.most in
@@ -105,7 +105,7 @@ pub answered_was_accepted : {D : Type 0} (first : Moment) (run : List (Event D))
     → steps_of run ≡ late ++ Answer e outcome ∷ early → WasAccepted first.machine early e.request
 answered_was_accepted first run late early e outcome r split =
     let u = step_of_run first run late (Answer e outcome) early r split in
-    living_accepted first.machine early (run_starts first run r) u.0 e (inl u.1)
+    living_accepted first.machine early (run_starts first run r) u.0 e (inl u.1.0)
 
 -- What a call says of it.
 
@@ -115,8 +115,11 @@ told_or_none : {D : Type 0} (ask : Ask D) (said : Said) (old : Moment) (evidence
 told_or_none Service (Served replies) old evidence steps new a = inl (a.tells, refl)
 told_or_none Tick (Served replies) old evidence steps new a = inl (a.tells, refl)
 told_or_none Reset (WasReset (Some replies)) old evidence steps new a = inl (a.tells, refl)
+told_or_none (RevokeOf c n) (WasRevoked (Some replies)) old evidence steps new a = inl (a.tells, refl)
 told_or_none ask (Served replies) old evidence steps new a = absurd a
 told_or_none ask (WasReset (Some replies)) old evidence steps new a = absurd a
+told_or_none ask (WasRevoked (Some replies)) old evidence steps new a = absurd a
+told_or_none ask (WasRevoked None) old evidence steps new a = inr refl
 told_or_none ask said old evidence steps new a = inr refl
 
 -- the answers of this id
@@ -213,6 +216,21 @@ was_asked first (event ∷ past) e r h = ⊎_elim
     (λ asked. inl asked)
     (came_from first past event e r h)
 
+-- A request that was accepted is one that a submit asked for.
+accepted_in : (start : Machine) (steps past : List Step) (r : Accepted) → WasAccepted start (steps ++ past) r → Contains (accepts_of steps) r ⊎ WasAccepted start past r
+accepted_in start [] past r w = inr w
+accepted_in start (Accept new ∷ steps) past r (inl c) = inl (contains_here new (accepts_of steps) r (sym c.0))
+accepted_in start (Accept new ∷ steps) past r (inr w) = ⊎_elim (λ i. inl (contains_there new (accepts_of steps) r i)) (λ was. inr was) (accepted_in start steps past r w)
+accepted_in start (step ∷ steps) past r (inl c) = absurd c.0
+accepted_in start (step ∷ steps) past r (inr w) = accepted_in start steps past r w
+
+pub accepted_was_asked : {D : Type 0} (first : Moment) (run : List (Event D)) (r : Accepted) → IsRun first run → WasAccepted first.machine (steps_of run) r → WasAsked r run
+accepted_was_asked first [] r run w = w
+accepted_was_asked first (event ∷ past) r run w = ⊎_elim
+    (λ (i : Contains (accepts_of event.steps) r). inl (accepts_asked r event.ask event.said (moment_of first past) event.evidence event.steps event.ports _ run.1.belong run.1.answered i))
+    (λ was. inr (accepted_was_asked first past r run.0 was))
+    (accepted_in first.machine event.steps (steps_of past) r w)
+
 -- so a submit of its client gave its id
 asked_given : {D : Type 0} (r : Accepted) (run : List (Event D)) → WasAsked r run → WasGiven r.id r.asked.client run
 asked_given r [] w = w
@@ -233,7 +251,7 @@ was_open m (Answer p o ∷ before) answer may none h = ⊎_elim
     (λ (same : answer ≡ (p, o)). ⊎_elim
     (λ (s : Since m before p). (s.old, s.here, s.same ∙ ap (λ (x : Pending × Outcome). x.0.request) (sym same)))
     (λ (a : IsAccepted before p). absurd (contains_none p.request (subst (λ (xs : List Accepted). Contains xs p.request) none a.0)))
-    (since m before p may.1))
+    (since m before p may.1.0))
     (λ i. was_open m before answer may.0 none i)
     (contains_cases (p, o) (answers_of before) answer h)
 was_open m (step ∷ before) answer may none h = was_open m before answer may.0 none h

@@ -10,8 +10,8 @@ use Rattle.block_machine.specs.State.{Pending, Machine, unanswered}
 use Rattle.block_machine.specs.Steps.{Issue, Again, Answer, Release, newly_accepted, issue, requeued}
 use Rattle.block_machine.specs.Events.{Moment, Reset, WasReset, Event, Happens, IsIssuedIn, reply_of, moment_of, moment_after}
 use Rattle.machine_runs.specs.Worked.{GoesAgainInResets}
-use Rattle.block_machine.proofs.Setting.{port, empty_starts}
-use Rattle.machine_runs.proofs.Scene.{mode, ports, first, one_issued, one_told, none_told, none_unplugged, finds_none, emptied_of, only_one, of_two, ports_fit, none_dead}
+use Rattle.block_machine.proofs.Setting.{port, empty_starts, two_rows, granted}
+use Rattle.machine_runs.proofs.Scene.{mode, ports, first, one_issued, one_told, none_told, none_unplugged, finds_none, emptied_of, only_one, of_two, ports_fit, none_dead, row_zero}
 use Rattle.machine_runs.proofs.WaitingRun.{write, read, run2, happens1, happens2, none_due}
 use Rattle.machine_runs.proofs.ResetRun.{halted, stopped_here}
 
@@ -39,11 +39,11 @@ becomes p = record { served = refl; stuck = λ dead. none_dead p dead; dies = λ
 abbrev before : Machine → ℕ → Moment
 before m n = record { machine = record m { book = tried n ∷ waits ∷ []; kept = [] }; ports = ports }
 
-again : (m : Machine) (n : ℕ) → ((p : Port) → m.present p ≡ true) → n < 4 → Happens (before m n) (retry n)
-again m n present few = record {
+again : (m : Machine) (n : ℕ) → m.rows ≡ two_rows → ((p : Port) → m.present p ≡ true) → n < 4 → Happens (before m n) (retry n)
+again m n rows present few = record {
   may = (
-    ((tt, tt), ((0, omega arith, refl), refl, few)),
-    ((0, omega arith, refl), record { here = (0, omega arith, refl); clear = refl; slot = λ _. omega arith }, λ e h. absurd (All-contains (λ _. ⊥) [] e (All-nil (λ _. ⊥)) h)),
+    ((tt, tt), ((0, omega arith, refl), refl, few, granted 0 row_zero rows)),
+    ((0, omega arith, refl), record { here = (0, omega arith, refl); clear = refl; slot = λ _. omega arith }, λ e h. absurd (All-contains (λ _. ⊥) [] e (All-nil (λ _. ⊥)) h), granted 0 row_zero rows),
   );
   belong = (((tt, inr tt), inr refl), inr (refl, refl));
   last = (((tt, λ id h i. false≢true i), λ id h i. false≢true i), λ id h i. false≢true i);
@@ -70,12 +70,12 @@ again m n present few = record {
 happens6 : Happens (moment_of first run5) abort
 happens6 = record {
   may = (
-    ((tt, tt), (0, omega arith, refl)),
-    ((0, omega arith, refl), record { here = (0, omega arith, refl); clear = refl; slot = λ _. omega arith }, λ e h. absurd (All-contains (λ _. ⊥) [] e (All-nil (λ _. ⊥)) h)),
+    ((tt, tt), ((0, omega arith, refl), granted 0 row_zero refl)),
+    ((0, omega arith, refl), record { here = (0, omega arith, refl); clear = refl; slot = λ _. omega arith }, λ e h. absurd (All-contains (λ _. ⊥) [] e (All-nil (λ _. ⊥)) h), granted 0 row_zero refl),
   );
   belong = (((tt, inr tt), inr tt), inr (refl, refl));
   last = (((tt, λ id h i. false≢true i), λ id h i. false≢true i), λ id h i. false≢true i);
-  lawful = (tt, (record { pending = tried 4; here = (0, omega arith, refl); id_is = refl; issued = refl }, refl, refl, (0, omega arith, refl), (refl, refl)));
+  lawful = (tt, (record { pending = tried 4; here = (0, omega arith, refl); id_is = refl; issued = refl }, refl, (refl, (0, omega arith, refl), (refl, refl))));
   fit = ports_fit Ready refl;
   disks = λ e o h i same. (refl, refl);
   answered = record {
@@ -103,7 +103,7 @@ goes_again_in_resets = record {
   two = retry 2;
   three = retry 3;
   four = abort;
-  runs = (((((((empty_starts, ports_fit Ready refl), happens1), happens2), again (moment_of first run2).machine 1 (λ p. refl) (omega arith)), again (moment_of first (retry 1 ∷ run2)).machine 2 (λ p. refl) (omega arith)), again (moment_of first (retry 2 ∷ retry 1 ∷ run2)).machine 3 (λ p. refl) (omega arith)), happens6);
+  runs = (((((((empty_starts, ports_fit Ready refl), happens1), happens2), again (moment_of first run2).machine 1 refl (λ p. refl) (omega arith)), again (moment_of first (retry 1 ∷ run2)).machine 2 refl (λ p. refl) (omega arith)), again (moment_of first (retry 2 ∷ retry 1 ∷ run2)).machine 3 refl (λ p. refl) (omega arith)), happens6);
   resets = (refl, refl, refl, refl);
   issued = tried 1;
   waits = waits;

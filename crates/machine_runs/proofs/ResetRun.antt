@@ -13,8 +13,8 @@ use Rattle.block_machine.specs.Events.{Moment, Service, Tick, Reset, Served, Was
 use Rattle.machine_runs.specs.Worked.{EndsWithAReset}
 use Rattle.block_machine.proofs.Members.{contains_none, contains_here, contains_cases}
 use Rattle.block_machine.proofs.Keeps.{same_port}
-use Rattle.block_machine.proofs.Setting.{port, frame, empty_starts}
-use Rattle.machine_runs.proofs.Scene.{mode, ports, ports_in, at_port, first, call, at_here, is_ready, is_dead, ready_here, none_dead, emptied_one, one_issued, none_there, one_told, none_told, none_ended, none_unplugged, finds_none, ready_port, restarts_here, only_one, ports_fit}
+use Rattle.block_machine.proofs.Setting.{port, frame, empty_starts, granted}
+use Rattle.machine_runs.proofs.Scene.{mode, ports, ports_in, at_port, first, call, at_here, is_ready, is_dead, ready_here, none_dead, emptied_one, one_issued, none_there, one_told, none_told, none_ended, none_unplugged, finds_none, ready_port, restarts_here, only_one, ports_fit, row_zero}
 use Rattle.block_machine.proofs.Calm.{none}
 use Rattle.machine_runs.proofs.WaitingRun.{write, run1, happens1}
 
@@ -206,8 +206,8 @@ restarted = record {
 happens4 : Happens (moment_of first run3) restarting
 happens4 = record {
   may = (
-    ((tt, tt), (contains_here (aged 3) [] (aged 3) refl, refl, omega arith)),
-    (contains_here waits [] waits refl, record { here = contains_here (unanswered waits) [] (unanswered waits) refl; clear = refl; slot = λ _. omega arith }, λ e h. absurd (contains_none e h)),
+    ((tt, tt), (contains_here (aged 3) [] (aged 3) refl, refl, omega arith, granted 0 row_zero refl)),
+    (contains_here waits [] waits refl, record { here = contains_here (unanswered waits) [] (unanswered waits) refl; clear = refl; slot = λ _. omega arith }, λ e h. absurd (contains_none e h), granted 0 row_zero refl),
   );
   belong = (((tt, inr tt), inr refl), inr (refl, refl));
   last = (((tt, λ id h i. false≢true i), λ id h i. false≢true i), λ id h i. false≢true i);
@@ -265,7 +265,7 @@ told_dead e o h dead = ⊎_elim
 
 happens6 : Happens (moment_of first run5) service
 happens6 = record {
-  may = (tt, contains_here again [] again refl);
+  may = (tt, (contains_here again [] again refl, tt));
   belong = (tt, inr tt);
   last = (tt, λ id h i. false≢true i);
   lawful = (tt, refl);

@@ -17,7 +17,7 @@ use Rattle.block_machine.specs.Ports.{Ports, Evidence, SamePorts, AreFit, IsServ
 use Rattle.block_machine.specs.State.{Accepted, Pending, Machine}
 use Rattle.block_machine.specs.Steps.{Step, Issue, Age, Touch, End, Again, Answer, Release, IsNew, touch, mark_ended}
 use Rattle.block_machine.specs.Left.{after}
-use Rattle.block_machine.specs.Events.{Moment, Ask, AllMay, Belong, IsEmptied, IsRebooted, Submit, StoreAt, LoadAt, Service, Tick, Reset, State, Device, Said, Submitted, Stored, Loaded, Served, WasReset, Shown, Stepped, Event, IsAnswered, Happens, AllLawful, AgesOnce, RestartsHung, ReleasesOnce, IssuesLast, IsRun, IsStillStuck, StaysStuck, accepts_of, is_age, is_release, issues_it, handles, moment_of, situation_of, moment_after}
+use Rattle.block_machine.specs.Events.{Moment, Ask, AllMay, Belong, IsEmptied, IsRebooted, Submit, StoreAt, LoadAt, Service, Tick, Reset, State, Device, RevokeOf, Said, Submitted, Stored, Loaded, Served, WasReset, WasRevoked, Shown, Stepped, Event, IsAnswered, Happens, AllLawful, AgesOnce, RestartsHung, ReleasesOnce, IssuesLast, IsRun, IsStillStuck, StaysStuck, accepts_of, is_age, is_release, issues_it, handles, moment_of, situation_of, moment_after}
 use Rattle.block_machine.proofs.Members.{contains_none, contains_cases, map_in}
 use Rattle.block_machine.proofs.Keeps.{at_keeps}
 use Rattle.block_machine.specs.Confined.{IsGranted}
@@ -75,6 +75,8 @@ kind Service (Served replies) old evidence steps new was a = Serves refl refl (�
 kind Tick (Served replies) old evidence steps new was a = Ticks refl a.ages a.restarts a.emptied (λ w. w)
 kind Reset (WasReset (Some replies)) old evidence steps new was a = Resets refl a.releases a.reboots
 kind Reset (WasReset None) old evidence steps new was a = Sticks refl a.1 tt
+kind (RevokeOf c n) (WasRevoked (Some replies)) old evidence steps new was a = Leaves refl refl a.same (λ w. w)
+kind (RevokeOf c n) (WasRevoked None) old evidence steps new was a = Leaves refl refl a.2 (λ w. w)
 kind ask said old evidence steps new was a = absurd a
 
 -- Ports.
@@ -102,7 +104,7 @@ record IsWelcome (old : Moment) (new : Ports) (r : Accepted) : Type 0 where
   within : r.asked.op ≢ Flush → r.asked.first.0 + r.asked.count ≤ old.ports.sectors r.port
   same : SamePorts old.ports new
 
-welcome : (old : Moment) (new : Ports) (q : Request) (n : Machine) (r : Accepted) → n.rows ≡ old.machine.rows → r.asked ≡ q → IsNew n r → IsAcceptable (situation_of old) q → SamePorts old.ports new
+welcome : (old : Moment) (new : Ports) (q : Request) (n : Machine) (r : Accepted) → ((row : GrantRow) → Contains n.rows row → Contains old.machine.rows row) → r.asked ≡ q → IsNew n r → IsAcceptable (situation_of old) q → SamePorts old.ports new
     → IsWelcome old new r
 welcome old new q n r rows asked fresh ok same = record {
   ready = ⊎_elim (λ y. y) (λ ne. absurd (ok (refused.PortNotReady (old.ports.state r.port)) (ne, (g.row, named, ap old.ports.state (sym g.port))))) (ready_or (old.ports.state r.port));
@@ -124,7 +126,7 @@ welcome old new q n r rows asked fresh ok same = record {
     g = accepted_is_granted n r fresh
 
     named : IsNamed old.machine.rows q g.row
-    named = subst (λ (x : Request). IsNamed old.machine.rows x g.row) asked (subst (λ (xs : List GrantRow). IsNamed xs r.asked g.row) rows g.named)
+    named = subst (λ (x : Request). IsNamed old.machine.rows x g.row) asked (rows g.row g.named.0, g.named.1)
 
 welcomed : {D : Type 0} (ask : Ask D) (said : Said) (old : Moment) (evidence : Evidence) (steps : List Step) (ports : Ports) (r : Accepted)
     → IsAnswered ask said old evidence steps (record { machine = after old.machine steps; ports = ports }) → AllMay old.machine steps → Belong ask ports steps → Contains (accepts_of steps) r → IsWelcome old ports r
@@ -295,6 +297,7 @@ kept_from old evidence ports m (Release ∷ before) l e h = absurd (contains_non
 kept_from old evidence ports m (Answer p outcome.Ok ∷ before) l e h = moved_kept ports m (Answer p outcome.Ok) before e e refl refl (kept_from old evidence ports m before l.0 e h)
 kept_from old evidence ports m (Answer p (outcome.DeviceError status error) ∷ before) l e h =
     moved_kept ports m (Answer p (outcome.DeviceError status error)) before e e refl refl (kept_from old evidence ports m before l.0 e h)
+kept_from old evidence ports m (Answer p outcome.Revoked ∷ before) l e h = moved_kept ports m (Answer p outcome.Revoked) before e e refl refl (kept_from old evidence ports m before l.0 e h)
 kept_from old evidence ports m (Answer p outcome.Aborted ∷ before) l e h = moved_kept ports m (Answer p outcome.Aborted) before e e refl refl (kept_from old evidence ports m before l.0 e h)
 kept_from old evidence ports m (Answer p outcome.Unplugged ∷ before) l e h = moved_kept ports m (Answer p outcome.Unplugged) before e e refl refl (kept_from old evidence ports m before l.0 e h)
 kept_from old evidence ports m (Answer p outcome.PortDead ∷ before) l e h = go p.issued h (kept_from old evidence ports m before l.0 e)

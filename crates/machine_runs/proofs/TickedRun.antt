@@ -91,7 +91,7 @@ restarted = record {
 
 happens5 : Happens (moment_of first run4) tick
 happens5 = record {
-  may = ((tt, tt), contains_here older_still [] older_still refl);
+  may = ((tt, tt), (contains_here older_still [] older_still refl, tt));
   belong = ((tt, inr tt), inr (inr refl));
   last = ((tt, λ id h i. false≢true i), λ id h i. false≢true i);
   lawful = (tt, (record { pending = over; here = contains_here over [] over refl; id_is = refl; issued = refl }, refl, one_touched, refl));

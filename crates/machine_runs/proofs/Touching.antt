@@ -5,7 +5,7 @@ use Rattle.std.proofs.lemmas.Bool.{or_cases, false≢true}
 use Rattle.std.specs.List.{Contains}
 use Rattle.ata_types.specs.declared.request.Outcome.TheVariants.{Ok}
 use Rattle.block_machine.specs.State.{Accepted, Pending, Machine, sector_of, waiting}
-use Rattle.block_machine.specs.Steps.{Step, Accept, Issue, Touch, End, Age, Again, Answer, Release, Unplug, Replace, Store, Load, IsLiving, May, MayMove, after_step, issue, touch, mark_ended, requeued, newly_accepted}
+use Rattle.block_machine.specs.Steps.{Step, Accept, Issue, Touch, End, Age, Again, Answer, Release, Revoke, Unplug, Replace, Store, Load, IsLiving, May, MayMove, after_step, issue, touch, mark_ended, requeued, newly_accepted}
 use Rattle.block_machine.specs.Due.{conflict}
 use Rattle.block_machine.specs.Left.{after, IsLegal, IsStart, IsIssue, IsTouch, IsEnd, HasTouchedSince, HasEndedSince}
 use Rattle.block_machine.specs.Events.{Moment, Event, IsRun, steps_of}
@@ -100,6 +100,7 @@ marks m (Age ready) may s e j =
     inl (as_before m (Age ready) e r.0 r.1 (sym (ap (λ (y : Pending). y.request) r.2 ∙ older_keeps ready r.0)) (λ x. x)
     (ap (λ (y : Pending). y.touched) r.2 ∙ older_touched ready r.0) (ap (λ (y : Pending). y.ended) r.2 ∙ older_ended ready r.0))
 marks m (Answer p o) may s e j = inl (stayed m (Answer p o) e e (without_in p.request.id m.book e j).0 refl (λ x. x))
+marks m (Revoke client number) may s e j = inl (stayed m (Revoke client number) e e j refl (λ x. x))
 marks m Release may s e j = inl (stayed m Release e e j refl (λ x. x))
 marks m (Unplug p) may s e j = inl (stayed m (Unplug p) e e j refl (λ x. x))
 marks m (Replace p id size disk) may s e j = inl (stayed m (Replace p id size disk) e e j refl (λ x. x))
@@ -136,13 +137,13 @@ pub ok_was_touched : {D : Type 0} (first : Moment) (run : List (Event D)) (late 
     → (i : ℕ) → i < e.request.asked.count → HasTouchedSince e.request (sector_of e.request i) early
 ok_was_touched first run late early e r split i lt =
     let u = step_of_run first run late (Answer e Ok) early r split in
-    (traced_marks first.machine early (run_starts first run r) u.0 e u.1).touched i (u.2.0 i lt)
+    (traced_marks first.machine early (run_starts first run r) u.0 e u.1.0).touched i (u.2.0 i lt)
 
 pub ok_was_ended : {D : Type 0} (first : Moment) (run : List (Event D)) (late early : List Step) (e : Pending) → IsRun first run → steps_of run ≡ late ++ Answer e Ok ∷ early
     → HasEndedSince e.request early
 ok_was_ended first run late early e r split =
     let u = step_of_run first run late (Answer e Ok) early r split in
-    (traced_marks first.machine early (run_starts first run r) u.0 e u.1).ended u.2.1
+    (traced_marks first.machine early (run_starts first run r) u.0 e u.1.0).ended u.2.1
 
 -- a request isn't moved while an earlier one that conflicts with it is there
 pub take_turns : (start : Machine) (history : List Step) (earlier later : Pending) → IsStart start → IsLegal start history → IsLiving (after start history) earlier → MayMove (after start history) later

@@ -18,7 +18,7 @@ use Rattle.block_machine.specs.Events.{Moment, Submit, Service, Device, Submitte
 use Rattle.machine_runs.specs.Worked.{MeetsTrouble}
 use Rattle.block_machine.proofs.Members.{contains_none, contains_here, contains_there, contains_cases, none_of}
 use Rattle.block_machine.proofs.Keeps.{same_port}
-use Rattle.block_machine.proofs.Setting.{on, frame, row, two_rows, empty, empty_starts, acceptable}
+use Rattle.block_machine.proofs.Setting.{on, frame, row, two_rows, empty, empty_starts, acceptable, granted}
 use Rattle.machine_runs.proofs.Scene.{mode, id, one_sector, done, is_ready, is_dead, IsQuiet, row_zero, write_at, fit_read, new, none_waits, none_there, one_told, none_told, one_touched, none_ended, last_ended, none_unplugged, is_unfit, is_told_dead, spares_ports, no_faults, one_fault, emptied_at}
 use Rattle.block_machine.proofs.Calm.{none, is_fault}
 
@@ -225,7 +225,7 @@ quiet3 = quiet 0 (moment_of first run3) row_zero refl refl refl (omega arith) (o
 
 happens1 : Happens (moment_of first run0) (submit lost)
 happens1 = record {
-  may = ((tt, new 1 (moment_of first run0) lost quiet0 (fit_read 1 (moment_of first run0) 42 quiet0 refl refl) refl refl refl), (contains_here (newly_accepted lost) [] (newly_accepted lost) refl, record { here = contains_here (unanswered (newly_accepted lost)) [] (unanswered (newly_accepted lost)) refl; clear = refl; slot = λ _. omega arith }, λ e h. absurd (contains_none e h)));
+  may = ((tt, new 1 (moment_of first run0) lost quiet0 (fit_read 1 (moment_of first run0) 42 quiet0 refl refl) refl refl refl), (contains_here (newly_accepted lost) [] (newly_accepted lost) refl, record { here = contains_here (unanswered (newly_accepted lost)) [] (unanswered (newly_accepted lost)) refl; clear = refl; slot = λ _. omega arith }, λ e h. absurd (contains_none e h), granted 1 quiet0.mine refl));
   belong = ((tt, inr refl), inr (refl, refl));
   last = ((tt, λ id h i. false≢true i), λ id h i. false≢true i);
   lawful = tt;
@@ -247,7 +247,7 @@ fourth a b c d = contains_there a (b ∷ c ∷ d ∷ []) d (third b c d)
 
 happens2 : Happens (moment_of first run1) (submit failed)
 happens2 = record {
-  may = ((tt, new 0 (moment_of first run1) failed quiet1 (write_at 0 (moment_of first run1) 100 40 quiet1 (omega arith) (omega arith) refl refl) refl refl refl), (second losing (newly_accepted failed), record { here = second (unanswered losing) (unanswered (newly_accepted failed)); clear = refl; slot = λ _. omega arith }, λ e h. absurd (contains_none e h)));
+  may = ((tt, new 0 (moment_of first run1) failed quiet1 (write_at 0 (moment_of first run1) 100 40 quiet1 (omega arith) (omega arith) refl refl) refl refl refl), (second losing (newly_accepted failed), record { here = second (unanswered losing) (unanswered (newly_accepted failed)); clear = refl; slot = λ _. omega arith }, λ e h. absurd (contains_none e h), granted 0 row_zero refl));
   belong = ((tt, inr refl), inr (refl, refl));
   last = ((tt, λ id h i. false≢true i), λ id h i. false≢true i);
   lawful = tt;
@@ -259,7 +259,7 @@ happens2 = record {
 
 happens3 : Happens (moment_of first run2) (submit again)
 happens3 = record {
-  may = ((tt, new 0 (moment_of first run2) again quiet2 (write_at 0 (moment_of first run2) 101 41 quiet2 (omega arith) (omega arith) refl refl) refl refl refl), (third losing failing (newly_accepted again), record { here = third (unanswered losing) (unanswered failing) (unanswered (newly_accepted again)); clear = refl; slot = λ _. omega arith }, λ e h. absurd (contains_none e h)));
+  may = ((tt, new 0 (moment_of first run2) again quiet2 (write_at 0 (moment_of first run2) 101 41 quiet2 (omega arith) (omega arith) refl refl) refl refl refl), (third losing failing (newly_accepted again), record { here = third (unanswered losing) (unanswered failing) (unanswered (newly_accepted again)); clear = refl; slot = λ _. omega arith }, λ e h. absurd (contains_none e h), granted 0 row_zero refl));
   belong = ((tt, inr refl), inr (refl, refl));
   last = ((tt, λ id h i. false≢true i), λ id h i. false≢true i);
   lawful = tt;
@@ -271,7 +271,7 @@ happens3 = record {
 
 happens4 : Happens (moment_of first run3) (submit finished)
 happens4 = record {
-  may = ((tt, new 0 (moment_of first run3) finished quiet3 (write_at 0 (moment_of first run3) 102 43 quiet3 (omega arith) (omega arith) refl refl) refl refl refl), (fourth losing failing (tried 1) (newly_accepted finished), record { here = fourth (unanswered losing) (unanswered failing) (unanswered (tried 1)) (unanswered (newly_accepted finished)); clear = refl; slot = λ _. omega arith }, λ e h. absurd (contains_none e h)));
+  may = ((tt, new 0 (moment_of first run3) finished quiet3 (write_at 0 (moment_of first run3) 102 43 quiet3 (omega arith) (omega arith) refl refl) refl refl refl), (fourth losing failing (tried 1) (newly_accepted finished), record { here = fourth (unanswered losing) (unanswered failing) (unanswered (tried 1)) (unanswered (newly_accepted finished)); clear = refl; slot = λ _. omega arith }, λ e h. absurd (contains_none e h), granted 0 row_zero refl));
   belong = ((tt, inr refl), inr (refl, refl));
   last = ((tt, λ id h i. false≢true i), λ id h i. false≢true i);
   lawful = tt;
@@ -352,6 +352,7 @@ told_one : (e : Pending) (o : Outcome) → e.request.port.0 ≡ 1 → tells_othe
 told_one e outcome.Ok one h = inl refl
 told_one e outcome.Unplugged one h = inr refl
 told_one e (outcome.DeviceError status error) one h = absurd (false≢true (sym h ∙ eq-eqb e.request.port.0 1 one))
+told_one e outcome.Revoked one h = absurd (false≢true (sym h ∙ eq-eqb e.request.port.0 1 one))
 told_one e outcome.Aborted one h = absurd (false≢true (sym h ∙ eq-eqb e.request.port.0 1 one))
 told_one e outcome.PortDead one h = absurd (false≢true (sym h ∙ eq-eqb e.request.port.0 1 one))
 
@@ -394,12 +395,12 @@ happens7 = record {
   may = (
     (
       (
-        ((tt, fourth losing failing (tried 1) (done finished)), contains_there losing (failing ∷ tried 1 ∷ []) failing (contains_here failing (tried 1 ∷ []) failing refl)),
-        (second losing (tried 1), refl, omega arith),
+        ((tt, (fourth losing failing (tried 1) (done finished), tt)), (contains_there losing (failing ∷ tried 1 ∷ []) failing (contains_here failing (tried 1 ∷ []) failing refl), tt)),
+        (second losing (tried 1), refl, omega arith, granted 0 row_zero refl),
       ),
-      (second losing (requeued (tried 1)), record { here = second (unanswered losing) (unanswered (requeued (tried 1))); clear = refl; slot = λ _. omega arith }, λ e h. absurd (contains_none e h)),
+      (second losing (requeued (tried 1)), record { here = second (unanswered losing) (unanswered (requeued (tried 1))); clear = refl; slot = λ _. omega arith }, λ e h. absurd (contains_none e h), granted 0 row_zero refl),
     ),
-    contains_here losing (tried 2 ∷ []) losing refl,
+    (contains_here losing (tried 2 ∷ []) losing refl, tt),
   );
   belong = (((((tt, inr tt), inr tt), inr refl), inr (refl, refl)), inr tt);
   last = (((((tt, λ id h i. false≢true i), λ id h i. false≢true i), λ id h i. false≢true i), λ id h i. false≢true i), apart);
@@ -469,9 +470,9 @@ before m n = record { machine = record m { book = tried n ∷ []; kept = [] }; p
 retry_heeds : (m : Machine) (n : ℕ) → m.present (on 0) ≡ true → (p : Port) → both Ready Absent p ≡ Ready → ServesReady (before m n) failure (retry n).steps (moment_after (before m n) (retry n)) p
 retry_heeds m n in_before p ready = fails (before m n) (moment_after (before m n) (retry n)) (retry n).steps p ready in_before refl refl (λ e h _ _. left_anew (suc n) (retry n).steps refl e h)
 
-retried : (m : Machine) (n : ℕ) → m.present (on 0) ≡ true → n < 4 → Happens (before m n) (retry n)
-retried m n in_before few = record {
-  may = ((tt, (contains_here (tried n) [] (tried n) refl, refl, few)), (contains_here (requeued (tried n)) [] (requeued (tried n)) refl, record { here = contains_here (unanswered (requeued (tried n))) [] (unanswered (requeued (tried n))) refl; clear = refl; slot = λ _. omega arith }, λ e h. absurd (contains_none e h)));
+retried : (m : Machine) (n : ℕ) → m.rows ≡ two_rows → m.present (on 0) ≡ true → n < 4 → Happens (before m n) (retry n)
+retried m n rows in_before few = record {
+  may = ((tt, (contains_here (tried n) [] (tried n) refl, refl, few, granted 0 row_zero rows)), (contains_here (requeued (tried n)) [] (requeued (tried n)) refl, record { here = contains_here (unanswered (requeued (tried n))) [] (unanswered (requeued (tried n))) refl; clear = refl; slot = λ _. omega arith }, λ e h. absurd (contains_none e h), granted 0 row_zero rows));
   belong = ((tt, inr refl), inr (refl, refl));
   last = ((tt, λ id h i. false≢true i), λ id h i. false≢true i);
   lawful = (tt, contains_here (on 0) [] (on 0) refl);
@@ -492,10 +493,10 @@ retried m n in_before few = record {
 
 happens10 : Happens (moment_of first run9) abort
 happens10 = record {
-  may = (tt, contains_here (tried 4) [] (tried 4) refl);
+  may = (tt, (contains_here (tried 4) [] (tried 4) refl, granted 0 row_zero refl));
   belong = (tt, inr tt);
   last = (tt, λ id h i. false≢true i);
-  lawful = (tt, (record { pending = tried 4; here = contains_here (tried 4) [] (tried 4) refl; id_is = refl; issued = refl }, refl, refl, contains_here (on 0) [] (on 0) refl, (refl, refl)));
+  lawful = (tt, (record { pending = tried 4; here = contains_here (tried 4) [] (tried 4) refl; id_is = refl; issued = refl }, refl, (refl, contains_here (on 0) [] (on 0) refl, (refl, refl))));
   fit = fit Ready Absent refl refl;
   disks = λ e o h i same. (refl, refl);
   answered = record {
@@ -519,7 +520,7 @@ meets_trouble = record {
   third = retry 2;
   fourth = retry 3;
   last = abort;
-  runs = (((((((((((empty_starts, fit Ready Ready refl refl), happens1), happens2), happens3), happens4), happens5), happens6), happens7), retried (moment_of first run7).machine 2 refl (omega arith)), retried (moment_of first (retry 2 ∷ run7)).machine 3 refl (omega arith)), happens10);
+  runs = (((((((((((empty_starts, fit Ready Ready refl refl), happens1), happens2), happens3), happens4), happens5), happens6), happens7), retried (moment_of first run7).machine 2 refl refl (omega arith)), retried (moment_of first (retry 2 ∷ run7)).machine 3 refl refl (omega arith)), happens10);
   told = (((((((((((((((((((((tt, tt), tt), tt), tt), tt), tt), tt), tt), λ e. absurd (false≢true (ap is_reader e))), tt), tt), tt), tt), tt), tt), tt), tt), tt), tt), tt), tt);
   volatile = (((((((((((((((((((((tt, tt), tt), tt), tt), tt), tt), tt), tt), tt), tt), tt), tt), tt), tt), tt), tt), tt), tt), tt), tt), tt);
   lost = losing;

@@ -148,7 +148,7 @@ told_in_order = record {
 
 happens6 : Happens (moment_of first run5) tick
 happens6 = record {
-  may = (((tt, tt), contains_here (aged 3) (waits ∷ []) (aged 3) refl), contains_here waits [] waits refl);
+  may = (((tt, tt), (contains_here (aged 3) (waits ∷ []) (aged 3) refl, tt)), (contains_here waits [] waits refl, tt));
   belong = (((tt, inr tt), inr (inl tt)), inr (inl tt));
   last = (((tt, λ id h i. false≢true i), λ id h i. false≢true i), λ id h i. false≢true i);
   lawful = (

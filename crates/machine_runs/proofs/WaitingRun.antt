@@ -13,7 +13,7 @@ use Rattle.block_machine.specs.Events.{Submit, Service, Device, Submitted, Serve
 use Rattle.machine_runs.specs.Worked.{WaitsItsTurn}
 use Rattle.block_machine.proofs.Members.{contains_none, contains_here, contains_there, contains_cases}
 use Rattle.block_machine.proofs.Counting.{issued_not_due}
-use Rattle.block_machine.proofs.Setting.{port, empty_starts, acceptable}
+use Rattle.block_machine.proofs.Setting.{port, empty_starts, acceptable, granted}
 use Rattle.machine_runs.proofs.Scene.{mode, first, id, call, reply, sector_request, done, served, IsQuiet, row_zero, fit_write, fit_read, new, one_issued, none_there, one_told, one_touched, ports_fit, none_ended, last_ended, all_calmly, plain_service, only_one, in_ready, spares_ports}
 
 abbrev pub run0 : List (Event (Unit {0}))
@@ -68,7 +68,7 @@ quiet1 = record { rows = refl; mine = row_zero; ready = refl; size = refl; room 
 
 pub happens1 : Happens (moment_of first run0) event1
 happens1 = record {
-  may = ((tt, new 0 (moment_of first run0) write quiet0 (fit_write (moment_of first run0) 40 quiet0 refl refl) refl refl refl), (contains_here (newly_accepted write) [] (newly_accepted write) refl, record { here = contains_here (unanswered (newly_accepted write)) [] (unanswered (newly_accepted write)) refl; clear = refl; slot = λ _. omega arith }, λ e h. absurd (contains_none e h)));
+  may = ((tt, new 0 (moment_of first run0) write quiet0 (fit_write (moment_of first run0) 40 quiet0 refl refl) refl refl refl), (contains_here (newly_accepted write) [] (newly_accepted write) refl, record { here = contains_here (unanswered (newly_accepted write)) [] (unanswered (newly_accepted write)) refl; clear = refl; slot = λ _. omega arith }, λ e h. absurd (contains_none e h), granted 0 row_zero refl));
   belong = ((tt, inr refl), inr (refl, refl));
   last = ((tt, λ id h i. false≢true i), λ id h i. false≢true i);
   lawful = tt;
@@ -112,9 +112,9 @@ happens3 = record {
         (tt, (inl (contains_here (issue (newly_accepted write)) (newly_accepted read ∷ []) (issue (newly_accepted write)) refl, refl), omega arith, refl, omega arith, λ _ b lt. refl)),
         (inl (contains_here (touch 0 (issue (newly_accepted write))) (newly_accepted read ∷ []) (touch 0 (issue (newly_accepted write))) refl, refl), one_touched, refl),
       ),
-      contains_here (done write) (newly_accepted read ∷ []) (done write) refl,
+      (contains_here (done write) (newly_accepted read ∷ []) (done write) refl, tt),
     ),
-    (contains_here (newly_accepted read) [] (newly_accepted read) refl, record { here = contains_here (unanswered (newly_accepted read)) [] (unanswered (newly_accepted read)) refl; clear = refl; slot = λ _. omega arith }, λ e h. absurd (contains_none e h)),
+    (contains_here (newly_accepted read) [] (newly_accepted read) refl, record { here = contains_here (unanswered (newly_accepted read)) [] (unanswered (newly_accepted read)) refl; clear = refl; slot = λ _. omega arith }, λ e h. absurd (contains_none e h), granted 0 row_zero refl),
   );
   belong = ((((tt, inl tt), inl tt), inr tt), inr (refl, refl));
   last = ((((tt, λ id h i. false≢true i), λ id h i. false≢true i), λ id h i. false≢true i), λ id h i. false≢true i);
@@ -139,7 +139,7 @@ happens4 = record {
 
 happens5 : Happens (moment_of first run4) event5
 happens5 = record {
-  may = (tt, contains_here (done read) [] (done read) refl);
+  may = (tt, (contains_here (done read) [] (done read) refl, tt));
   belong = (tt, inr tt);
   last = (tt, λ id h i. false≢true i);
   lawful = (tt, (record { pending = done read; here = contains_here (done read) [] (done read) refl; id_is = refl; issued = refl }, refl, one_touched, refl));

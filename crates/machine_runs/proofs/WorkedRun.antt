@@ -15,7 +15,7 @@ use Rattle.block_machine.specs.Events.{Submit, StoreAt, LoadAt, Service, Device,
 use Rattle.machine_runs.specs.Durable.{SameBytes, HeldSince}
 use Rattle.machine_runs.specs.Worked.{FindsTheFlushed, MayComeBack, ReadsOneOf}
 use Rattle.block_machine.proofs.Members.{contains_none, contains_here, contains_there, contains_cases}
-use Rattle.block_machine.proofs.Setting.{client, port, frame, request, empty, empty_starts, acceptable}
+use Rattle.block_machine.proofs.Setting.{client, port, frame, request, empty, empty_starts, acceptable, granted}
 use Rattle.machine_runs.proofs.Scene.{mode, first, at_port, ports_in, id, call, reply, sector_request, done, served, is_open, IsQuiet, row_zero, fit_write, fit_read, fit_flush, new, one_issued, none_there, one_told, none_told, one_touched, ports_fit, none_dead, none_ended, none_unplugged, all_calmly, plain_service, ready_port, in_ready, shows_none, changed_here, spares_ports, absent_not_ready, absent_not_dead}
 use Rattle.block_machine.proofs.Calm.{none}
 
@@ -169,7 +169,7 @@ happens1 = record {
 
 happens2 : Happens (moment_of first run1) event2
 happens2 = record {
-  may = ((tt, new 0 (moment_of first run1) write quiet1 (fit_write (moment_of first run1) 40 quiet1 refl refl) refl refl refl), (contains_here (newly_accepted write) [] (newly_accepted write) refl, record { here = contains_here (unanswered (newly_accepted write)) [] (unanswered (newly_accepted write)) refl; clear = refl; slot = λ _. omega arith }, λ e h. absurd (contains_none e h)));
+  may = ((tt, new 0 (moment_of first run1) write quiet1 (fit_write (moment_of first run1) 40 quiet1 refl refl) refl refl refl), (contains_here (newly_accepted write) [] (newly_accepted write) refl, record { here = contains_here (unanswered (newly_accepted write)) [] (unanswered (newly_accepted write)) refl; clear = refl; slot = λ _. omega arith }, λ e h. absurd (contains_none e h), granted 0 row_zero refl));
   belong = ((tt, inr refl), inr (refl, refl));
   last = ((tt, λ id h i. false≢true i), λ id h i. false≢true i);
   lawful = tt;
@@ -181,7 +181,7 @@ happens2 = record {
 
 happens3 : Happens (moment_of first run2) event3
 happens3 = record {
-  may = (((tt, (inl (contains_here (issue (newly_accepted write)) [] (issue (newly_accepted write)) refl, refl), omega arith, refl, omega arith, λ _ b lt. refl)), (inl (contains_here (touch 0 (issue (newly_accepted write))) [] (touch 0 (issue (newly_accepted write))) refl, refl), one_touched, refl)), contains_here (done write) [] (done write) refl);
+  may = (((tt, (inl (contains_here (issue (newly_accepted write)) [] (issue (newly_accepted write)) refl, refl), omega arith, refl, omega arith, λ _ b lt. refl)), (inl (contains_here (touch 0 (issue (newly_accepted write))) [] (touch 0 (issue (newly_accepted write))) refl, refl), one_touched, refl)), (contains_here (done write) [] (done write) refl, tt));
   belong = (((tt, inl tt), inl tt), inr tt);
   last = (((tt, λ id h i. false≢true i), λ id h i. false≢true i), λ id h i. false≢true i);
   lawful = (tt, (record { pending = issue (newly_accepted write); here = contains_here (issue (newly_accepted write)) [] (issue (newly_accepted write)) refl; id_is = refl; issued = refl }, refl, one_touched, refl));
@@ -193,7 +193,7 @@ happens3 = record {
 
 happens4 : Happens (moment_of first run3) event4
 happens4 = record {
-  may = ((tt, new 0 (moment_of first run3) flush quiet3 (fit_flush (moment_of first run3) quiet3) refl refl refl), (contains_here (newly_accepted flush) [] (newly_accepted flush) refl, record { here = contains_here (unanswered (newly_accepted flush)) [] (unanswered (newly_accepted flush)) refl; clear = refl; slot = λ _. omega arith }, λ e h. absurd (contains_none e h)));
+  may = ((tt, new 0 (moment_of first run3) flush quiet3 (fit_flush (moment_of first run3) quiet3) refl refl refl), (contains_here (newly_accepted flush) [] (newly_accepted flush) refl, record { here = contains_here (unanswered (newly_accepted flush)) [] (unanswered (newly_accepted flush)) refl; clear = refl; slot = λ _. omega arith }, λ e h. absurd (contains_none e h), granted 0 row_zero refl));
   belong = ((tt, inr refl), inr (refl, refl));
   last = ((tt, λ id h i. false≢true i), λ id h i. false≢true i);
   lawful = tt;
@@ -205,7 +205,7 @@ happens4 = record {
 
 happens5 : Happens (moment_of first run4) event5
 happens5 = record {
-  may = ((tt, (inl (contains_here (issue (newly_accepted flush)) [] (issue (newly_accepted flush)) refl, refl), (λ k lt. absurd (omega (arith, lt))), refl)), contains_here (mark_ended (issue (newly_accepted flush))) [] (mark_ended (issue (newly_accepted flush))) refl);
+  may = ((tt, (inl (contains_here (issue (newly_accepted flush)) [] (issue (newly_accepted flush)) refl, refl), (λ k lt. absurd (omega (arith, lt))), refl)), (contains_here (mark_ended (issue (newly_accepted flush))) [] (mark_ended (issue (newly_accepted flush))) refl, tt));
   belong = ((tt, inl tt), inr tt);
   last = ((tt, λ id h i. false≢true i), λ id h i. false≢true i);
   lawful = (tt, (record { pending = issue (newly_accepted flush); here = contains_here (issue (newly_accepted flush)) [] (issue (newly_accepted flush)) refl; id_is = refl; issued = refl }, refl, (λ k lt. absurd (omega (arith, lt))), refl));
@@ -229,7 +229,7 @@ happens6 = record {
 
 happens7 : Happens (moment_of first run6) event7
 happens7 = record {
-  may = ((tt, new 0 (moment_of first run6) later quiet6 (fit_write (moment_of first run6) 40 quiet6 refl refl) refl refl refl), (contains_here (newly_accepted later) [] (newly_accepted later) refl, record { here = contains_here (unanswered (newly_accepted later)) [] (unanswered (newly_accepted later)) refl; clear = refl; slot = λ _. omega arith }, λ e h. absurd (contains_none e h)));
+  may = ((tt, new 0 (moment_of first run6) later quiet6 (fit_write (moment_of first run6) 40 quiet6 refl refl) refl refl refl), (contains_here (newly_accepted later) [] (newly_accepted later) refl, record { here = contains_here (unanswered (newly_accepted later)) [] (unanswered (newly_accepted later)) refl; clear = refl; slot = λ _. omega arith }, λ e h. absurd (contains_none e h), granted 0 row_zero refl));
   belong = ((tt, inr refl), inr (refl, refl));
   last = ((tt, λ id h i. false≢true i), λ id h i. false≢true i);
   lawful = tt;
@@ -241,7 +241,7 @@ happens7 = record {
 
 happens8 : Happens (moment_of first run7) event8
 happens8 = record {
-  may = (((tt, (inl (contains_here (issue (newly_accepted later)) [] (issue (newly_accepted later)) refl, refl), omega arith, refl, omega arith, λ _ b lt. refl)), (inl (contains_here (touch 0 (issue (newly_accepted later))) [] (touch 0 (issue (newly_accepted later))) refl, refl), one_touched, refl)), contains_here (done later) [] (done later) refl);
+  may = (((tt, (inl (contains_here (issue (newly_accepted later)) [] (issue (newly_accepted later)) refl, refl), omega arith, refl, omega arith, λ _ b lt. refl)), (inl (contains_here (touch 0 (issue (newly_accepted later))) [] (touch 0 (issue (newly_accepted later))) refl, refl), one_touched, refl)), (contains_here (done later) [] (done later) refl, tt));
   belong = (((tt, inl tt), inl tt), inr tt);
   last = (((tt, λ id h i. false≢true i), λ id h i. false≢true i), λ id h i. false≢true i);
   lawful = (tt, (record { pending = issue (newly_accepted later); here = contains_here (issue (newly_accepted later)) [] (issue (newly_accepted later)) refl; id_is = refl; issued = refl }, refl, one_touched, refl));
@@ -344,7 +344,7 @@ happens12 disk = record {
 
 happens13 : (disk : Disk) → Happens (moment_of first (run12 disk)) (event13 disk)
 happens13 disk = record {
-  may = ((tt, new 0 (moment_of first (run12 disk)) (read disk) (quiet12 disk) (fit_read 0 (moment_of first (run12 disk)) 41 (quiet12 disk) refl refl) refl refl refl), (contains_here (newly_accepted (read disk)) [] (newly_accepted (read disk)) refl, record { here = contains_here (unanswered (newly_accepted (read disk))) [] (unanswered (newly_accepted (read disk))) refl; clear = refl; slot = λ _. omega arith }, λ e h. absurd (contains_none e h)));
+  may = ((tt, new 0 (moment_of first (run12 disk)) (read disk) (quiet12 disk) (fit_read 0 (moment_of first (run12 disk)) 41 (quiet12 disk) refl refl) refl refl refl), (contains_here (newly_accepted (read disk)) [] (newly_accepted (read disk)) refl, record { here = contains_here (unanswered (newly_accepted (read disk))) [] (unanswered (newly_accepted (read disk))) refl; clear = refl; slot = λ _. omega arith }, λ e h. absurd (contains_none e h), granted 0 row_zero refl));
   belong = ((tt, inr refl), inr (refl, refl));
   last = ((tt, λ id h i. false≢true i), λ id h i. false≢true i);
   lawful = tt;
@@ -356,7 +356,7 @@ happens13 disk = record {
 
 happens14 : (disk : Disk) → Happens (moment_of first (run13 disk)) (event14 disk)
 happens14 disk = record {
-  may = (((tt, (inl (contains_here (issue (newly_accepted (read disk))) [] (issue (newly_accepted (read disk))) refl, refl), omega arith, refl, omega arith, λ e. absurd (false≢true (sym (ap is_reader e))))), (inl (contains_here (touch 0 (issue (newly_accepted (read disk)))) [] (touch 0 (issue (newly_accepted (read disk)))) refl, refl), one_touched, refl)), contains_here (done (read disk)) [] (done (read disk)) refl);
+  may = (((tt, (inl (contains_here (issue (newly_accepted (read disk))) [] (issue (newly_accepted (read disk))) refl, refl), omega arith, refl, omega arith, λ e. absurd (false≢true (sym (ap is_reader e))))), (inl (contains_here (touch 0 (issue (newly_accepted (read disk)))) [] (touch 0 (issue (newly_accepted (read disk)))) refl, refl), one_touched, refl)), (contains_here (done (read disk)) [] (done (read disk)) refl, tt));
   belong = (((tt, inl tt), inl tt), inr tt);
   last = (((tt, λ id h i. false≢true i), λ id h i. false≢true i), λ id h i. false≢true i);
   lawful = (tt, (record { pending = issue (newly_accepted (read disk)); here = contains_here (issue (newly_accepted (read disk))) [] (issue (newly_accepted (read disk))) refl; id_is = refl; issued = refl }, refl, one_touched, refl));

@@ -1,3 +1,4 @@
 pub mod Durable
 pub mod Told
 pub mod Worked
+pub mod Revoked

@@ -2,7 +2,7 @@
 //! do nothing, and nothing calls them. `D` are the steps that a device can be told to do: a law on runs holds for any
 //! device.
 
-ghost use Rattle.std.specs.Prelude.{◌≡◌, ◌≢◌, ◌⊎◌, ◌+◌, ◌<◌, ◌≤◌, ◌==◌, ℕ, true, List, ◌∷◌, ◌++◌, cond, count_by, Contains};
+ghost use Rattle.std.specs.Prelude.{◌≡◌, ◌≢◌, ◌⊎◌, ◌+◌, ◌<◌, ◌≤◌, ◌==◌, ℕ, false, true, List, ◌∷◌, ◌++◌, cond, count_by, Contains};
 ghost use Rattle.ata_types.specs.declared.Port.{Port};
 ghost use Rattle.ata_types.specs.declared.PortState.TheVariants.{Ready, Dead};
 ghost use Rattle.ata_types.specs.declared.request.Frame.{Frame};
@@ -14,12 +14,13 @@ ghost use Rattle.ata_types.specs.declared.request.Reply.{Reply};
 ghost use Rattle.ata_types.specs.declared.grant.GrantRow.{GrantRow};
 ghost use Rattle.block_machine.specs.Due.{conflict};
 ghost use Rattle.block_machine.specs.State.{Block, Accepted, Pending, Machine, sector_of, waiting};
-ghost use Rattle.block_machine.specs.Steps.{Step, Answer, after_step, IsLiving, MayMove};
+ghost use Rattle.block_machine.specs.Steps.{Step, Answer, HasGrant, after_step, IsLiving, MayMove};
 ghost use Rattle.block_machine.specs.Left.{IsStart, IsLegal, HasTouched, HasTouchedSince, HasEndedSince, IsLeft, after, bytes_when_plugged, disk_read};
 ghost use Rattle.block_machine.specs.Confined.{GrantsNoWrites, WasAccepted, MayChangeByte, MayChangeSector};
 ghost use Rattle.machine_runs.specs.Durable.{IsVolatile, EveryPlugFinds};
 ghost use Rattle.block_machine.specs.Events.{Moment, Event, AllIssued, Happens, EveryReadHolds, IsLawful, IsRun, IsStillStuck, accepts_it, answers_it, issues_it, gives_id, replies_of, all_replies, WasGiven, moment_of, steps_of};
 ghost use Rattle.machine_runs.specs.Told.{AsksFor, CameFrom, IsAnsweredOk, WasAsked, waits_again};
+ghost use Rattle.machine_runs.specs.Revoked.{IsTakenBack};
 ghost use Rattle.machine_runs.specs.Worked.{FindsTheFlushed, WaitsItsTurn, EndsWithAReset, MeetsTrouble, EndsAtATick, IsTakenOutBeforeATick, GoesAgainInResets, DiesInAService, GoesWrong};
 
 /// Where no grant lets its client write or trim, what is left on a sector for a read is what the disk that it found
@@ -109,6 +110,12 @@ pub fn replied_was_given<D>()
     ensures { (first : Moment) (past : List (Event D)) (event : Event D) (reply : Reply)
         → IsRun first (event ∷ past) → Contains (replies_of event.said) reply
         → WasGiven reply.id reply.client past }
+{}
+
+/// Each request that was accepted is one for which a submit of the run asked.
+pub fn accepted_was_asked<D>()
+    ensures { (first : Moment) (run : List (Event D)) (r : Accepted) → IsRun first run
+        → WasAccepted first.machine (steps_of run) r → WasAsked r run }
 {}
 
 /// Each reply of a call is an answer of its steps, to a request for which an earlier submit of the run asked.
@@ -267,6 +274,19 @@ pub fn a_worked_run_exists()
 /// A run exists in which a request waits for another, and is issued by the call that answers that one.
 pub fn a_waiting_run_exists()
     ensures { WaitsItsTurn }
+{}
+
+/// Between any two calls of a run a request that waits has its grant: it is never due and yet not to be issued.
+pub fn what_waits_has_its_grant<D>()
+    ensures { (first : Moment) (run : List (Event D)) (e : Pending) → IsRun first run
+        → Contains (moment_of first run).machine.book e → e.issued ≡ false
+        → HasGrant (moment_of first run).machine e }
+{}
+
+/// A run exists in which a grant is taken back while a request of it is issued and another waits: this one is answered
+/// Revoked, and that one Ok.
+pub fn a_revoking_run_exists()
+    ensures { IsTakenBack }
 {}
 
 /// A run exists in which two ports serve requests, the one fails and the other loses its disk, and a fault, an

@@ -38,6 +38,7 @@ outcome_words (outcome.DeviceError status error) = codes "DeviceError" ∷ encod
 outcome_words outcome.Aborted = codes "Aborted" ∷ []
 outcome_words outcome.Unplugged = codes "Unplugged" ∷ []
 outcome_words outcome.PortDead = codes "PortDead" ∷ []
+outcome_words outcome.Revoked = codes "Revoked" ∷ []
 
 -- a fault of frames, with the place of the frame
 abbrev pub fault_words : FrameFault → List Word

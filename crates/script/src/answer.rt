@@ -96,6 +96,7 @@ impl fmt::Display for Ended {
             Outcome::Aborted => write!(f, "Aborted"),
             Outcome::Unplugged => write!(f, "Unplugged"),
             Outcome::PortDead => write!(f, "PortDead"),
+            Outcome::Revoked => write!(f, "Revoked"),
         }
     }
 }

@@ -17,7 +17,7 @@ use Rattle.adapter.proofs.KeptLemmas.{steps_keep}
 use Rattle.block_machine.specs.Due.{is_plain}
 use Rattle.block_machine.specs.declared.due.Mode.{Mode}
 use Rattle.block_machine.specs.State.{Pending, Machine}
-use Rattle.block_machine.specs.Steps.{Step, Accept, Issue, Touch, End, Age, Again, Answer, Release, Unplug, Replace, Store, Load, after_step}
+use Rattle.block_machine.specs.Steps.{Step, Accept, Issue, Touch, End, Age, Again, Answer, Revoke, Release, Unplug, Replace, Store, Load, after_step}
 use Rattle.block_machine.specs.Events.{IsDevices}
 use Rattle.block_machine.specs.Left as left
 use Rattle.block_machine.specs.Left.{IsTold}
@@ -111,6 +111,7 @@ own_backed d m step own = record {
     told (Age ready) o = tt
     told (Again e) o = tt
     told (Answer e outcome) o = tt
+    told (Revoke client number) o = tt
     told Release o = tt
     told (Store client frame offset bytes) o = tt
     told (Load client frame offset bytes) o = tt
@@ -125,6 +126,7 @@ own_backed d m step own = record {
     puts (Age ready) o q = refl
     puts (Again e) o q = refl
     puts (Answer e outcome) o q = refl
+    puts (Revoke client number) o q = refl
     puts Release o q = refl
     puts (Store client frame offset bytes) o q = refl
     puts (Load client frame offset bytes) o q = refl

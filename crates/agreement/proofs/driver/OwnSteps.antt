@@ -250,6 +250,7 @@ keeping_knows k m e outcome r x here stay = record {
     was_issued (told.DeviceError status error) h = true_false h refl
     was_issued told.Aborted h = true_false h refl
     was_issued told.Unplugged h = true_false h refl
+    was_issued told.Revoked h = true_false h refl
 
     goes : (y : Pending) → MayMove m y → MayMove (after_step m (Answer e outcome)) y
     goes y (inr z) = inr (subst (λ (es : List Pending). Contains es y) (sym kept) (contains_there e m.kept y z))

@@ -77,6 +77,7 @@ puts_append q first then early (machine.End e ∷ late) a b = puts_append q firs
 puts_append q first then early (machine.Age ready ∷ late) a b = puts_append q first then early late a b
 puts_append q first then early (machine.Again e ∷ late) a b = puts_append q first then early late a b
 puts_append q first then early (machine.Answer e outcome ∷ late) a b = puts_append q first then early late a b
+puts_append q first then early (machine.Revoke client number ∷ late) a b = puts_append q first then early late a b
 puts_append q first then early (machine.Release ∷ late) a b = puts_append q first then early late a b
 puts_append q first then early (machine.Unplug p ∷ late) a b = puts_append q first then early late a b
 puts_append q first then early (machine.Store client frame offset bytes ∷ late) a b = puts_append q first then early late a b

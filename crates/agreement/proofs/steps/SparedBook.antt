@@ -7,7 +7,7 @@ use Rattle.ata_types.specs.declared.request.Frame.{Frame}
 use Rattle.ata_types.specs.declared.request.RequestId.{RequestId}
 use Rattle.adapter.specs.Device.{Device}
 use Rattle.block_machine.specs.State.{Accepted, Block, Memory, Pending, Machine, frame_at, unanswered, is_reader}
-use Rattle.block_machine.specs.Steps.{Step, Accept, Issue, Touch, End, Age, Again, Answer, Release, Unplug, Replace, Store, Load, May, MayMove, NoneKept, after_step, at, touch, mark_ended, put_bytes, memory_after}
+use Rattle.block_machine.specs.Steps.{Step, Accept, Issue, Touch, End, Age, Again, Answer, Revoke, Release, Unplug, Replace, Store, Load, May, MayMove, NoneKept, after_step, at, touch, mark_ended, put_bytes, memory_after}
 use Rattle.block_machine.specs.Left.{after}
 use Rattle.block_machine.specs.Events.{IsDevices, AllDevices, AllMay}
 use Rattle.block_machine.specs.Histories.{IsReached}
@@ -102,6 +102,7 @@ step_spares m (Issue mode e) is = absurd is
 step_spares m (Age ready) is = absurd is
 step_spares m (Again e) is = absurd is
 step_spares m (Answer e outcome) is = absurd is
+step_spares m (Revoke client number) is = absurd is
 step_spares m Release is = absurd is
 step_spares m (Store client frame offset bytes) is = absurd is
 step_spares m (Load client frame offset bytes) is = absurd is
@@ -179,6 +180,7 @@ step_frames m s (Issue mode e) is may frame none b = absurd is
 step_frames m s (Age ready) is may frame none b = absurd is
 step_frames m s (Again e) is may frame none b = absurd is
 step_frames m s (Answer e outcome) is may frame none b = absurd is
+step_frames m s (Revoke client number) is may frame none b = absurd is
 step_frames m s Release is may frame none b = absurd is
 step_frames m s (Store client f offset bytes) is may frame none b = absurd is
 step_frames m s (Load client f offset bytes) is may frame none b = absurd is

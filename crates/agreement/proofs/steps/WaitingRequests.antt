@@ -14,7 +14,7 @@ use Rattle.block_machine.specs.declared.due.Mode.{Mode}
 use Rattle.block_machine.specs.declared.due.Unanswered.{Unanswered}
 use Rattle.block_machine.specs.State.{Accepted, Pending, Machine, unanswered}
 use Rattle.block_machine.specs.Due.{IsDue}
-use Rattle.block_machine.specs.Steps.{Step, Accept, Issue, Touch, End, Age, Again, Answer, Release, Unplug, Replace, Store, Load, May, MayMove, after_step, at, touch, mark_ended}
+use Rattle.block_machine.specs.Steps.{Step, Accept, Issue, Touch, End, Age, Again, Answer, Revoke, Release, Unplug, Replace, Store, Load, HasGrant, May, MayMove, after_step, at, touch, mark_ended}
 use Rattle.block_machine.specs.Left as left
 use Rattle.block_machine.specs.Events.{AllMay, IsDevices, AllDevices}
 use Rattle.block_machine.specs.Histories.{IsReached}
@@ -85,6 +85,7 @@ step_have uses m (Issue mode x) is port parked had = absurd is
 step_have uses m (Age ready) is port parked had = absurd is
 step_have uses m (Again x) is port parked had = absurd is
 step_have uses m (Answer x outcome) is port parked had = absurd is
+step_have uses m (Revoke client number) is port parked had = absurd is
 step_have uses m Release is port parked had = absurd is
 step_have uses m (Store client frame offset bytes) is port parked had = absurd is
 step_have uses m (Load client frame offset bytes) is port parked had = absurd is
@@ -122,12 +123,13 @@ module _ (m : Machine) (s : Sound m) (mode : Mode) (e : Pending) (may : May m (I
     same_book [] = refl
     same_book (y ∷ ys) = let a : unanswered (at x.request.id f y) ≡ unanswered y = same_unanswered y in let b : map unanswered (map (at x.request.id f) ys) ≡ map unanswered ys = same_book ys in λ i. a i ∷ b i
 
-    changed_may : Contains (map (at x.request.id f) m.book) e × IsDue mode (map unanswered (map (at x.request.id f) m.book)) (unanswered e) × ((y : Pending) → Contains (map (at x.request.id f) m.kept) y → y.request.port ≢ e.request.port)
+    changed_may : Contains (map (at x.request.id f) m.book) e × IsDue mode (map unanswered (map (at x.request.id f) m.book)) (unanswered e) × ((y : Pending) → Contains (map (at x.request.id f) m.kept) y → y.request.port ≢ e.request.port) × HasGrant m e
     changed_may = (
       subst (λ (y : Pending). Contains (map (at x.request.id f) m.book) y) own (into_map (at x.request.id f) m.book e may.0),
       subst (λ (b : List Unanswered). IsDue mode b (unanswered e)) (sym (same_book m.book)) may.1,
       λ y i same. let q = map_in (at x.request.id f) m.kept y i in
           may.2 q.0 q.1 (ap (λ (j : Accepted). j.port) (sym (ap (λ (z : Pending). z.request) q.2 ∙ at_keeps x.request.id f request q.0)) ∙ same),
+      may.3,
     )
 
   step_may : (step : Step) → IsDevices step → May m step → May (after_step m step) (Issue mode e)
@@ -140,6 +142,7 @@ module _ (m : Machine) (s : Sound m) (mode : Mode) (e : Pending) (may : May m (I
   step_may (Age ready) is can = absurd is
   step_may (Again x) is can = absurd is
   step_may (Answer x outcome) is can = absurd is
+  step_may (Revoke client number) is can = absurd is
   step_may Release is can = absurd is
   step_may (Store client frame offset bytes) is can = absurd is
   step_may (Load client frame offset bytes) is can = absurd is

@@ -13,10 +13,10 @@ use Rattle.block_machine.specs.Refusals.{Situation}
 use Rattle.ata_types.specs.declared.refusal.FrameFault.TheVariants.{FrameForeign, FrameTwice, FrameLent}
 use Rattle.ata_types.specs.declared.refusal.Rule.TheVariants.{NoGrant, NoRight, BadCount, OutsideGrant, FrameCount, Frames}
 use Rattle.ata_types.specs.Grant.{Allows, Covers}
-use Rattle.block_machine.specs.Rules.{IsNamed, BreaksNone}
+use Rattle.block_machine.specs.Rules.{IsNamed, BreaksNone, HasRow}
 use Rattle.block_machine.specs.State.{Accepted, Machine, block_of, frame_at}
 use Rattle.block_machine.specs.Steps.{IsNew, unanswered_of}
-use Rattle.block_machine.proofs.Setting.{client, port, frame, row, request, two_rows, its_row, IsFit, acceptable}
+use Rattle.block_machine.proofs.Setting.{client, port, frame, row, request, two_rows, granted, its_row, IsFit, acceptable}
 use Rattle.agreement.specs.Places.{place_in}
 
 -- the request as the machine accepts it next
@@ -33,6 +33,10 @@ new_of m r rows grant unbroken few ids = record {
   few = few;
   held = refl;
 }
+
+-- and that row is there
+pub has_its_grant : {rows : List GrantRow} → rows ≡ two_rows → HasRow client 0 rows
+has_its_grant same = granted 0 (0, omega arith, refl) same
 
 -- ---- a read of eight sectors into one frame
 

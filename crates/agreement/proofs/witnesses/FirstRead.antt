@@ -34,7 +34,7 @@ use Rattle.agreement.specs.Agrees.{Agrees, port_at, IsDiskOf, SameSectors, IsRec
 use Rattle.agreement.specs.Driver.{Knows, IsPrepared, idle}
 use Rattle.agreement.specs.Witness.{first_uses, first_known, ready_port, ready_with, prepared_read, PreparedIsKnown, FirstIsKnown}
 use Rattle.agreement.proofs.relation.OneSlot.{changed_at}
-use Rattle.agreement.proofs.witnesses.AcceptedRequests.{accepted_of, read_into, read_is_new, read_no_trim, places_in}
+use Rattle.agreement.proofs.witnesses.AcceptedRequests.{accepted_of, has_its_grant, read_into, read_is_new, read_no_trim, places_in}
 use Rattle.agreement.proofs.driver.PutSlot.{issued_port, issue_agrees, issue_have}
 use Rattle.agreement.proofs.driver.OwnSteps.{accept_knows}
 use Rattle.agreement.proofs.driver.PermittedAccesses.{issue_is_permitted}
@@ -79,7 +79,7 @@ accepting_reached : IsReached accepting
 accepting_reached = record { first = start; past = Accept accepted ∷ []; starts = starts_with first_memory; legal = (tt, is_new); is = refl }
 
 may_issue : May accepting (Issue plain waits)
-may_issue = ((0, omega arith, refl), record { here = (0, omega arith, refl); clear = refl; slot = λ h. true_false refl h }, λ e h. absurd (All-contains (λ _. ⊥) [] e (All-nil (λ _. ⊥)) h))
+may_issue = ((0, omega arith, refl), record { here = (0, omega arith, refl); clear = refl; slot = λ h. true_false refl h }, λ e h. absurd (All-contains (λ _. ⊥) [] e (All-nil (λ _. ⊥)) h), has_its_grant refl)
 
 abbrev pub issued : Machine
 issued = after_step accepting (Issue plain waits)

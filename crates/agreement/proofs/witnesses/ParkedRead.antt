@@ -29,6 +29,7 @@ use Rattle.agreement.proofs.driver.OwnSteps.{keeping_knows, park_knows}
 use Rattle.agreement.proofs.steps.FollowedSteps.{silent_agrees}
 use Rattle.agreement.proofs.driver.PutSlot.{put_same, put_cases}
 use Rattle.agreement.proofs.relation.OtherSlots.{true_false, fall_follows}
+use Rattle.agreement.proofs.witnesses.AcceptedRequests.{has_its_grant}
 use Rattle.agreement.proofs.witnesses.FirstRead.{waits, issued, reached, first_knows}
 use Rattle.agreement.proofs.steps.RegisterWrites.{written_agrees}
 
@@ -107,7 +108,7 @@ parked_is_known = record {
   unserved = unserved;
   request = issue waits;
   id_is = refl;
-  may = (booked, refl, omega arith);
+  may = (booked, refl, omega arith, has_its_grant refl);
 }
 
 -- ---- kept
@@ -122,7 +123,7 @@ kept_one e h = ⊎_elim (λ (is : e ≡ issue waits). ap (λ (x : Pending). x.re
 pub kept_is_known : KeptIsKnown
 kept_is_known = record {
   machine = keeping;
-  reached = reached_more issued (Answer (issue waits) PortDead ∷ []) reached (tt, booked);
+  reached = reached_more issued (Answer (issue waits) PortDead ∷ []) reached (tt, (booked, tt));
   request = issue waits;
   kept = booked;
   id_is = refl;

@@ -33,7 +33,7 @@ use Rattle.agreement.specs.Places.{table_of}
 use Rattle.agreement.specs.Served.{queued_read, two_memory, two_armed, armed_uses, one_issued, two_issued, one_taken, two_known, TwoAreKnown}
 use Rattle.agreement.specs.Slots.{Free, Serves, Uses, put, Told, Armed}
 use Rattle.agreement.specs.Witness.{first_id, ready_with}
-use Rattle.agreement.proofs.witnesses.AcceptedRequests.{accepted_of, read_into, read_is_new, read_no_trim, places_in}
+use Rattle.agreement.proofs.witnesses.AcceptedRequests.{accepted_of, has_its_grant, read_into, read_is_new, read_no_trim, places_in}
 use Rattle.agreement.proofs.driver.OwnSteps.{accept_knows}
 use Rattle.agreement.proofs.steps.FollowedSteps.{silent_agrees}
 use Rattle.agreement.proofs.driver.PermittedAccesses.{issue_is_permitted}
@@ -116,7 +116,7 @@ first_in : Contains accepted.book first_waits
 first_in = contains_here first_waits (second_waits ∷ []) first_waits refl
 
 may_first : May accepted (Issue queued first_waits)
-may_first = (first_in, record { here = into_map unanswered accepted.book first_waits first_in; clear = refl; slot = λ _. omega arith }, λ e h. absurd (contains_none e h))
+may_first = (first_in, record { here = into_map unanswered accepted.book first_waits first_in; clear = refl; slot = λ _. omega arith }, λ e h. absurd (contains_none e h), has_its_grant refl)
 
 abbrev issuing : Machine
 issuing = after_step accepted (Issue queued first_waits)
@@ -128,7 +128,7 @@ second_in : Contains issuing.book second_waits
 second_in = contains_there (issue first_waits) (second_waits ∷ []) second_waits (contains_here second_waits [] second_waits refl)
 
 may_second : May issuing (Issue queued second_waits)
-may_second = (second_in, record { here = into_map unanswered issuing.book second_waits second_in; clear = refl; slot = λ _. omega arith }, λ e h. absurd (contains_none e h))
+may_second = (second_in, record { here = into_map unanswered issuing.book second_waits second_in; clear = refl; slot = λ _. omega arith }, λ e h. absurd (contains_none e h), has_its_grant refl)
 
 abbrev machine : Machine
 machine = after_step issuing (Issue queued second_waits)

@@ -22,7 +22,7 @@ use Rattle.agreement.specs.Driver.{Knows, IsPrepared, idle}
 use Rattle.agreement.specs.Slots.{Free, Serves, Told}
 use Rattle.agreement.specs.Trimmed.{trim, trim_block, trim_memory, prepared_trim, issued_trim, taken_trim, trim_known, TrimIsKnown}
 use Rattle.agreement.specs.Witness.{first_id, first_uses}
-use Rattle.agreement.proofs.witnesses.AcceptedRequests.{accepted_of, trim_of, trim_is_new}
+use Rattle.agreement.proofs.witnesses.AcceptedRequests.{accepted_of, has_its_grant, trim_of, trim_is_new}
 use Rattle.agreement.proofs.driver.OwnSteps.{accept_knows}
 use Rattle.agreement.proofs.witnesses.EndedRead.{done_is_known}
 use Rattle.agreement.proofs.steps.FollowedSteps.{silent_agrees}
@@ -73,7 +73,7 @@ waits_in : Contains accepted.book waits
 waits_in = contains_here waits [] waits refl
 
 may_issue : May accepted (Issue plain waits)
-may_issue = (waits_in, record { here = into_map unanswered accepted.book waits waits_in; clear = refl; slot = λ h. absurd (true≢false h) }, λ e h. absurd (contains_none e h))
+may_issue = (waits_in, record { here = into_map unanswered accepted.book waits waits_in; clear = refl; slot = λ h. absurd (true≢false h) }, λ e h. absurd (contains_none e h), has_its_grant refl)
 
 abbrev issued : Machine
 issued = after_step accepted (Issue plain waits)

@@ -1,6 +1,7 @@
 use Rattle.block_machine.specs.Steps.{Touch, Issue}
-use Rattle.block_machine.proofs.Accepts.{touch_is_confined, issue_was_accepted}
+use Rattle.block_machine.proofs.Accepts.{touch_is_confined}
 use Rattle.block_machine.proofs.EventLemmas.{run_starts, run_legal, moment_is, step_of_run}
+use Rattle.block_machine.proofs.Ruled.{issues_keep_the_rules}
 use Rattle.block_machine.proofs.laws.runs_are_legal.Goals as goal
 
 pub returns-clause-legal : goal.returns-clause-legal
@@ -14,4 +15,4 @@ returns-clause-touches g c first run late early e i block r split =
 pub returns-clause-issues : goal.returns-clause-issues
 returns-clause-issues g c first run late early mode e r split =
     let s = step_of_run first run late (Issue mode e) early r split in
-    issue_was_accepted first.machine early mode e (run_starts first run r) s.0 s.1
+    issues_keep_the_rules first.machine early mode e (run_starts first run r) s.0 s.1

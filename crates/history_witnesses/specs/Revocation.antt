@@ -1,0 +1,32 @@
+-- A history in which a grant is taken back while a read of it is issued (this project's own).
+use Rattle.std.specs.Prelude.{◌≡◌, true, [], ◌∷◌, Ok, Some}
+use Rattle.ata_types.specs.declared.Port.{Port}
+use Rattle.ata_types.specs.declared.request.Request.{Request}
+use Rattle.adapter.specs.Device.{Device}
+use Rattle.adapter.specs.declared.access.DeviceStep.{DeviceStep}
+use Rattle.agreement.specs.Witness.{first_id}
+use Rattle.block_machine.specs.Events.{RevokeOf, Submit, Submitted, WasRevoked}
+use Rattle.block_machine.specs.Histories.{Instant, Happening, now}
+use Rattle.block_machine.specs.State.{Pending}
+use Rattle.block_machine.specs.Steps.{HasGrant}
+use Rattle.identify.specs.declared.wanted.Wanted.TheVariants.{Any}
+use Rattle.driver_history.specs.Histories.{IsHistory, TiesPort}
+
+-- A read is accepted and issued, and then its grant is taken back. Since no request of it waits, none is answered, and
+-- no access is made. The read goes on: it is issued still, though its grant is gone. Each port's part in both calls is
+-- done.
+pub record RevocationIsAHistory : Type 0 where
+  pub first : Instant Device
+  pub submit : Happening Device DeviceStep
+  pub asked : Request
+  pub submits : (submit.event.ask ≡ Submit asked) × (submit.event.said ≡ Submitted (Ok first_id))
+  pub revoke : Happening Device DeviceStep
+  pub revokes : (revoke.event.ask ≡ RevokeOf asked.client asked.grant) × (revoke.event.said ≡ WasRevoked (Some []))
+  pub issued : Pending
+  pub book : (now first (revoke ∷ submit ∷ [])).moment.machine.book ≡ issued ∷ []
+  pub goes_on : (issued.request.asked ≡ asked) × (issued.issued ≡ true)
+  pub gone : HasGrant (now first (revoke ∷ submit ∷ [])).moment.machine issued → ⊥
+  pub history : IsHistory (Any ∷ Any ∷ []) first (revoke ∷ submit ∷ [])
+  pub accesses : history.2.accesses ≡ []
+  pub submit_parts : (port : Port) → TiesPort first submit history.0.2.accesses port
+  pub revoke_parts : (port : Port) → TiesPort (now first (submit ∷ [])) revoke history.2.accesses port

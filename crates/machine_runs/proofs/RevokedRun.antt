@@ -1,0 +1,126 @@
+-- A run in which a grant is taken back while a write of it runs and a read of it waits.
+use Rattle.std.proofs.Common.{◌≡◌, false, List, [], ◌∷◌, Some, inl, inr, ⊎_elim, refl, sym, ap, ◌∙◌, subst, arith, Contains}
+use Rattle.std.proofs.lemmas.Bool.{false≢true}
+use Rattle.ata_types.specs.declared.PortState.TheVariants.{Ready}
+use Rattle.ata_types.specs.declared.grant.GrantRow.{GrantRow}
+use Rattle.ata_types.specs.declared.request.Outcome.{Outcome}
+use Rattle.ata_types.specs.declared.request.Outcome.TheVariants as outcome
+use Rattle.ata_types.specs.declared.request.Reply.{Reply}
+use Rattle.block_machine.specs.Rules.{HasRow}
+use Rattle.block_machine.specs.State.{Pending, unanswered}
+use Rattle.block_machine.specs.Steps.{Step, Touch, End, Answer, Revoke, newly_accepted, issue, touch}
+use Rattle.block_machine.specs.Events.{RevokeOf, Service, Served, WasRevoked, Event, Happens, IsUnder, reply_of, moment_of}
+use Rattle.machine_runs.specs.Revoked.{IsTakenBack}
+use Rattle.block_machine.proofs.Members.{contains_none, contains_here, contains_there, contains_cases}
+use Rattle.block_machine.proofs.Setting.{client, row, empty_starts, granted}
+use Rattle.machine_runs.proofs.Scene.{first, reply, call, done, served, row_zero, one_issued, none_there, one_told, one_touched, ports_fit, none_ended, all_calmly, plain_service, in_ready, spares_ports}
+use Rattle.machine_runs.proofs.WaitingRun.{run2, write, read, happens1, happens2}
+
+abbrev revoked : Reply
+revoked = reply_of (newly_accepted read, outcome.Revoked)
+
+abbrev event3 : Event (Unit {0})
+event3 = call (RevokeOf client 0) (WasRevoked (Some (revoked ∷ []))) (Answer (newly_accepted read) outcome.Revoked ∷ Revoke client 0 ∷ [])
+
+abbrev run3 : List (Event (Unit {0}))
+run3 = event3 ∷ run2
+
+abbrev event4 : Event (Unit {0})
+event4 = call Service (Served (reply 1 ∷ [])) (served write)
+
+abbrev run4 : List (Event (Unit {0}))
+run4 = event4 ∷ run3
+
+-- the row that is left isn't the one
+no_row : HasRow client 0 (row 1 ∷ []) → ⊥
+no_row (r, i, named) = ⊎_elim
+    (λ (same : r ≡ row 1). let is : r.number ≡ 0 = named.1 in let one : r.number ≡ 1 = ap (λ (x : GrantRow). x.number) same in omega (arith, is, one))
+    (λ n. contains_none r n)
+    (contains_cases (row 1) [] r i)
+
+abbrev told_of : Step → Pending
+told_of (Answer e o) = e
+told_of _ = newly_accepted write
+
+happens3 : Happens (moment_of first run2) event3
+happens3 = record {
+  may = ((tt, granted 0 row_zero refl), (contains_there (issue (newly_accepted write)) (newly_accepted read ∷ []) (newly_accepted read) (contains_here (newly_accepted read) [] (newly_accepted read) refl), no_row));
+  belong = ((tt, inr (refl, refl)), inr refl);
+  last = ((tt, λ id h i. false≢true i), λ id h i. false≢true i);
+  lawful = (tt, inl refl);
+  fit = ports_fit Ready refl;
+  disks = λ e o h i same. (refl, refl);
+  answered = record {
+    there = granted 0 row_zero refl;
+    rows = refl;
+    tells = one_told (newly_accepted read) outcome.Revoked event3.steps refl revoked refl;
+    all = all;
+    only = only;
+    same = λ p. (refl, refl, refl, refl, refl, refl);
+    issues = λ p _. one_issued (unanswered (issue (newly_accepted write))) refl p;
+  };
+  heeds = spares_ports;
+}
+  where
+    all : (e : Pending) → Contains (moment_of first run2).machine.book e → e.issued ≡ false → IsUnder client 0 e.request → Contains event3.steps (Answer e outcome.Revoked)
+    all e h waits under = ⊎_elim
+        (λ (same : e ≡ issue (newly_accepted write)). absurd (false≢true (sym waits ∙ ap (λ (x : Pending). x.issued) same)))
+        (λ i. ⊎_elim
+        (λ (same : e ≡ newly_accepted read). contains_here (Answer (newly_accepted read) outcome.Revoked) (Revoke client 0 ∷ []) (Answer e outcome.Revoked) (ap (λ (x : Pending). Answer x outcome.Revoked) same))
+        (λ n. absurd (contains_none e n))
+        (contains_cases (newly_accepted read) [] e i))
+        (contains_cases (issue (newly_accepted write)) (newly_accepted read ∷ []) e h)
+
+    only : (e : Pending) (o : Outcome) → Contains event3.steps (Answer e o) → Contains (moment_of first run2).machine.book e × (e.issued ≡ false) × IsUnder client 0 e.request
+    only e o h = ⊎_elim
+        (λ (same : Answer e o ≡ Answer (newly_accepted read) outcome.Revoked).
+        let its : e ≡ newly_accepted read = ap told_of same in (
+          contains_there (issue (newly_accepted write)) (newly_accepted read ∷ []) e (contains_here (newly_accepted read) [] e its),
+          ap (λ (x : Pending). x.issued) its,
+          subst (λ (x : Pending). IsUnder client 0 x.request) (sym its) (refl, refl),
+        ))
+        (λ i. ⊎_elim
+        (λ (same : Answer e o ≡ Revoke client 0). let no : ⊥ = cc in absurd no)
+        (λ n. absurd (contains_none (Answer e o) n))
+        (contains_cases (Revoke client 0) [] (Answer e o) i))
+        (contains_cases (Answer (newly_accepted read) outcome.Revoked) (Revoke client 0 ∷ []) (Answer e o) h)
+
+happens4 : Happens (moment_of first run3) event4
+happens4 = record {
+  may = (((tt, (inl (contains_here (issue (newly_accepted write)) [] (issue (newly_accepted write)) refl, refl), omega arith, refl, omega arith, λ _ b lt. refl)), (inl (contains_here (touch 0 (issue (newly_accepted write))) [] (touch 0 (issue (newly_accepted write))) refl, refl), one_touched, refl)), (contains_here (done write) [] (done write) refl, tt));
+  belong = (((tt, inl tt), inl tt), inr tt);
+  last = (((tt, λ id h i. false≢true i), λ id h i. false≢true i), λ id h i. false≢true i);
+  lawful = (tt, (record { pending = issue (newly_accepted write); here = contains_here (issue (newly_accepted write)) [] (issue (newly_accepted write)) refl; id_is = refl; issued = refl }, refl, one_touched, refl));
+  fit = ports_fit Ready refl;
+  disks = λ e o h i same. (refl, refl);
+  answered = plain_service (moment_of first run3).machine (moment_of first run4).machine event4.steps (reply 1 ∷ []) (one_told (done write) outcome.Ok event4.steps refl (reply 1) refl) refl tt (λ p. none_there p) (λ e h. absurd (contains_none e h));
+  heeds = all_calmly (moment_of first run3) (moment_of first run4) event4.steps (in_ready (moment_of first run3).machine refl) (λ p. (refl, refl, refl, refl, refl, refl)) refl (none_ended (moment_of first run3).machine event4.steps refl);
+}
+
+pub is_taken_back : IsTakenBack
+is_taken_back = record {
+  first = first;
+  run = run4;
+  runs = (((((empty_starts, ports_fit Ready refl), happens1), happens2), happens3), happens4);
+  told = ((((((((tt, tt), tt), tt), tt), tt), λ _ b lt. refl), tt), tt);
+  early = run2;
+  call = event3;
+  service = event4;
+  comes = refl;
+  client = client;
+  number = 0;
+  takes = refl;
+  issued = issue (newly_accepted write);
+  waits = newly_accepted read;
+  both = refl;
+  under = ((refl, refl), (refl, refl));
+  is_issued = refl;
+  is_waiting = refl;
+  replies = refl;
+  stays = refl;
+  gone = no_row;
+  serves = refl;
+  done = done write;
+  its = refl;
+  answers = contains_here (Answer (done write) outcome.Ok) (End (touch 0 (issue (newly_accepted write))) ∷ Touch (issue (newly_accepted write)) 0 (write.held 0) ∷ []) (Answer (done write) outcome.Ok) refl;
+}

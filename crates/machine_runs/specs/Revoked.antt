@@ -1,0 +1,38 @@
+-- A run in which a grant is taken back.
+use Rattle.std.specs.Prelude.{◌≡◌, ℕ, true, false, List, [], ◌∷◌, Contains, Some}
+use Rattle.ata_types.specs.declared.request.ClientId.{ClientId}
+use Rattle.ata_types.specs.declared.request.Outcome.TheVariants.{Ok, Revoked}
+use Rattle.block_machine.specs.State.{Pending}
+use Rattle.block_machine.specs.Steps.{Answer, HasGrant}
+use Rattle.block_machine.specs.Left.{AllTold}
+use Rattle.block_machine.specs.Events.{Moment, Event, RevokeOf, Service, WasRevoked, IsUnder, IsRun, reply_of, steps_of, moment_of}
+
+-- In a run of calls two requests of one grant are unanswered at once: one is issued, and the other waits for it. Then
+-- the client's grant is taken back: the one that waits is answered Revoked, and the row is gone. The issued one stays,
+-- and the service that finds it ended answers it Ok, though its row isn't there.
+pub record IsTakenBack : Type 0 where
+  pub first : Moment
+  pub run : List (Event (Unit {0}))
+  pub runs : IsRun first run
+  pub told : AllTold first.machine (steps_of run)
+  -- the run's events: these before the grant is taken back, and one after it
+  pub early : List (Event (Unit {0}))
+  pub call : Event (Unit {0})
+  pub service : Event (Unit {0})
+  pub comes : run ≡ service ∷ call ∷ early
+  pub client : ClientId
+  pub number : ℕ
+  pub takes : call.ask ≡ RevokeOf client number
+  pub issued : Pending
+  pub waits : Pending
+  pub both : (moment_of first early).machine.book ≡ issued ∷ waits ∷ []
+  pub under : IsUnder client number issued.request × IsUnder client number waits.request
+  pub is_issued : issued.issued ≡ true
+  pub is_waiting : waits.issued ≡ false
+  pub replies : call.said ≡ WasRevoked (Some (reply_of (waits, Revoked) ∷ []))
+  pub stays : (moment_of first (call ∷ early)).machine.book ≡ issued ∷ []
+  pub gone : HasGrant (moment_of first (call ∷ early)).machine issued → ⊥
+  pub serves : service.ask ≡ Service
+  pub done : Pending
+  pub its : done.request ≡ issued.request
+  pub answers : Contains service.steps (Answer done Ok)
