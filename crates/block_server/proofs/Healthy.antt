@@ -1,7 +1,7 @@
 -- The calls of a list keep their promise.
-use Rattle.std.proofs.Common.{ℕ, Bool, true, false, ◌≡◌, ◌≢◌, ◌<◌, ◌∙◌, List, [], ◌∷◌, ◌++◌, refl, sym, ap, subst}
+use Rattle.std.proofs.Common.{ℕ, Bool, true, false, ◌≡◌, ◌≢◌, ◌<◌, ◌∙◌, None, Some, List, [], ◌∷◌, ◌++◌, refl, sym, ap, subst}
 use Rattle.std.proofs.lemmas.List.{append_assoc, append_cancel_left, append-nil, map-append, reverse-append}
-use Rattle.std.proofs.lemmas.List.Elements.{All-cons, All-head, All-nil, All-tail}
+use Rattle.std.proofs.lemmas.List.Elements.{All-cons, All-contains, All-head, All-nil, All-tail}
 use Rattle.std.specs.Prelude.{map, reverse}
 use Rattle.std.specs.List.{All, Contains}
 use Rattle.ata_types.specs.declared.Port.{Port}
@@ -18,12 +18,12 @@ use Rattle.adapter.specs.declared.tape.Entry.{Entry}
 use Rattle.agreement.specs.Acts.{InSlots}
 use Rattle.agreement.specs.Facts.{IsDisturbance, RunsWell, Undisturbed}
 use Rattle.agreement.specs.Slots.{ServesRequest}
-use Rattle.block_machine.specs.Events.{Ask, Said as MachineSaid, Service as AskService, Tick, Reset, EveryReadHolds, HeedsAt, IsHung, IsRun, moment_after, steps_of}
+use Rattle.block_machine.specs.Events.{Ask, Said as MachineSaid, Service as AskService, Tick, Reset, RevokeOf, WasRevoked, Moment, EveryReadHolds, HeedsAt, IsAnswered, IsHung, IsRun, WasIssued, moment_after, steps_of}
 use Rattle.block_machine.specs.Histories.{Happening, Instant, events_of, now}
-use Rattle.block_machine.specs.Ports.{AreFit, Ports}
+use Rattle.block_machine.specs.Ports.{AreFit, Evidence, Ports}
 use Rattle.block_machine.specs.State.{Pending}
-use Rattle.block_machine.specs.Steps.{Answer}
-use Rattle.driver_history.specs.Claims.{AnswerRests, GoesWellFor, IsHealthyFor}
+use Rattle.block_machine.specs.Steps.{AllTouched, Answer, Step}
+use Rattle.driver_history.specs.Claims.{AnswerRests, GoesWellFor, IsCalmlyTold, IsHealthyFor}
 use Rattle.driver_history.specs.Evidence.{StaysHealthy}
 use Rattle.driver_history.specs.Histories.{IsHistory}
 use Rattle.driver_history.specs.Holds.{HoldsAt, HoldsOf, NoneWaits}
@@ -39,7 +39,7 @@ use Rattle.server_history.specs.Histories.{AddsEvent, Leads}
 use Rattle.server_history.specs.Server.{is_served, ports_of, state_of}
 use Rattle.block_server.specs.Clients.{AreCalls, EachAfter, HoldsBetween, IsConfinedCall, IsInState, IsSeenAt}
 use Rattle.block_server.specs.Made.{IsNew}
-use Rattle.block_server.specs.Promise.{IsServedWell, Simulates, ServesPorts}
+use Rattle.block_server.specs.Promise.{IsServedWell, IsToldWell, Simulates, ServesPorts}
 use Rattle.block_server.specs.Running.{ask_of, said_of}
 use Rattle.block_server.specs.View.{ServerView, server_of, visible_of}
 use Rattle.block_server.specs.declared.types.Event.{Event}
@@ -178,6 +178,17 @@ parts port old mid new one two first second u =
       after = record { gained = two; tape = second; calm = all_after (λ e. IsDisturbance port e → ⊥) one two calm };
     }
 
+-- ---- what is told where nothing goes wrong
+
+told_well : (ask : Ask DeviceStep) (said : MachineSaid) (old : Moment) (evidence : Evidence) (steps : List Step) (new : Moment) (e : Pending) (told : Outcome)
+    → IsAnswered ask said old evidence steps new → Contains steps (Answer e told) → IsCalmlyTold ask told
+    → (told ≡ Ok → WasIssued old.machine e.request.id × (e.issued ≡ true) × AllTouched e × (e.ended ≡ true)) → IsToldWell ask old.machine e told
+told_well (RevokeOf client number) (WasRevoked (Some replies)) old evidence steps new e told answered here calm rests = (calm, (answered.only e told here).1)
+told_well (RevokeOf client number) (WasRevoked None) old evidence steps new e told answered here calm rests =
+    absurd (All-contains (λ _. ⊥) [] (Answer e told) (All-nil (λ _. ⊥)) (subst (λ (list : List Step). Contains list (Answer e told)) answered.1 here))
+told_well (RevokeOf client number) said old evidence steps new e told answered here calm rests = absurd answered
+told_well ask said old evidence steps new e told answered here calm rests = let r = rests calm in (calm, r.0, r.1, r.2, r.3)
+
 module _ (laws : HistoryLaws) where
   served_well : (wanted : List Wanted) (first : Instant Device) (past : List (Happening Device DeviceStep)) (h : Happening Device DeviceStep) (port : Port)
       → IsHistory wanted first (h ∷ past) → IsHealthyFor (now first past) h port → IsServedWell port (now first past) h
@@ -188,10 +199,9 @@ module _ (laws : HistoryLaws) where
         goes,
         record {
           same = goes.spared.same;
-          answers = λ e told here own.
-              let ok = goes.spared.told e told here own in
-              let rests = subst (AnswerRests old h history.2.accesses e) ok (laws.rest wanted first past h history e told here) in
-              (ok, rests.0, rests.1, rests.2, rests.3);
+          answers = λ e told here own. told_well h.event.ask h.event.said old.moment h.event.evidence h.event.steps (moment_after old.moment h.event) e told history.1.answered here
+              (goes.spared.told e told here own)
+              (λ ok. subst (AnswerRests old h history.2.accesses e) ok (laws.rest wanted first past h history e told here));
           ended = λ asks.
               (subst (λ (ask : Ask DeviceStep). HeedsAt port ask old.moment h.event.evidence h.event.steps (moment_after old.moment h.event)) asks heeds healthy.ready).ended;
           issues = goes.issues;

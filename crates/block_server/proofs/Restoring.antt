@@ -173,7 +173,7 @@ module _ (x : Recovery) where
       (x.laws.bootable x.s x.rest.mid x.one x.port stopped x.sees.kept x.sees.ready x.rest.mended x.rest.followed (x.rest.next_is ∙ is))
 
   pub sound : IsSound x.t x.b
-  sound = subst (λ (n : Server). IsSound n.table n.book) x.rest.mid_is (record { ordered = x.rest.kept.ordered; rows = x.rest.mid.grants; accepted = x.rest.kept.accepted })
+  sound = subst (λ (n : Server). IsSound n.table n.book) x.rest.mid_is (record { ordered = x.rest.kept.ordered; accepted = x.rest.kept.accepted })
 
   places : (kept_at x.s.kept x.port.0 ≡ []) × (count_by (λ (e : Held). e.entry.issued) (requests_of x.port x.b) ≤ 32)
   places = subst (λ (n : Server). (kept_at n.kept x.port.0 ≡ []) × (count_by (λ (e : Held). e.entry.issued) (requests_of x.port n.book) ≤ 32)) x.rest.mid_is (x.laws.places x.rest.mid x.port x.rest.kept mid_ready)

@@ -49,7 +49,7 @@ as_own s table book kept remembered ports l = record { may = l.may; table_is = l
 pub sound_then : (s : Server) (table : Table) (book : List Held) (kept : List (List Lending)) (remembered : List (Option DiskInfo)) (ports : List Found) → LendsBook s table book kept remembered ports
     → IsSound table book
 sound_then s table book kept remembered ports l =
-    subst (λ (x : Table). IsSound x book) l.table_is (subst (λ (x : List Held). IsSound s.table x) l.book_is (record { ordered = l.may.ordered; rows = s.grants; accepted = l.may.accepted }))
+    subst (λ (x : Table). IsSound x book) l.table_is (subst (λ (x : List Held). IsSound s.table x) l.book_is (record { ordered = l.may.ordered; accepted = l.may.accepted }))
 
 -- The port's requests met their fates, from what was lent.
 pub settles_port : (port : Port) (place : ℕ) → place ≡ port.0 → port.0 < 4 → (s : Server) (table new_table : Table) (book new_book : List Held) (kept : List (List Lending)) (loans new_kept : List Lending) → LendsBook s table book kept s.remembered s.ports

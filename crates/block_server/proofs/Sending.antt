@@ -1,11 +1,10 @@
 -- A due request of a port is issued: what is asked of the calls, and what the server then is.
 use Rattle.std.proofs.Common.{ℕ, ◌≡◌, ◌≢◌, ◌+◌, ◌/◌, ◌%◌, ◌^◌, ◌<◌, ◌≤◌, Bool, not, true, inl, inr, List, [], ◌∷◌, drop, length, map, get_or, set, Some, refl, sym, ◌∙◌, ap, subst, arith}
-use Rattle.std.specs.List.{All, Contains}
+use Rattle.std.specs.List.{Contains}
 use Rattle.std.proofs.lemmas.List.{drop_more, get_or_default, get_or-set_same, set-get_or, set-set}
 use Rattle.std.proofs.lemmas.List.Elements.{All-contains}
 use Rattle.ata_types.specs.declared.Port.{Port}
 use Rattle.ata_types.specs.declared.PortState.TheVariants.{Absent, Ready}
-use Rattle.ata_types.specs.declared.grant.GrantRow.{GrantRow}
 use Rattle.ata_types.specs.declared.request.Frame.{Frame}
 use Rattle.ata_types.specs.declared.request.Op.{Op}
 use Rattle.ata_types.specs.declared.request.Op.TheVariants.{Read, Write, Trim, Flush}
@@ -14,7 +13,6 @@ use Rattle.adapter.specs.Device.{Device}
 use Rattle.agreement.specs.Readying.{IsStored}
 use Rattle.block_machine.specs.Due.{AreDueInTurn, IsDue, is_plain}
 use Rattle.block_machine.proofs.Members.{map_in}
-use Rattle.block_machine.specs.Left.{IsRow}
 use Rattle.block_machine.specs.Rules.{IsCount, frames_for}
 use Rattle.block_machine.specs.declared.due.Mode.{Mode}
 use Rattle.block_machine.specs.declared.due.Unanswered.{Unanswered}
@@ -36,7 +34,7 @@ use Rattle.ncq.specs.Tasks.{HasBlockOf, IssuesTask, addresses_of, meaning_of}
 
 -- ---- what a request of the book is
 
-module _ (rows : List GrantRow) (table : Table) (e : Held) (configured : All IsRow rows) (is : IsAccepted rows table e) (mode : Mode) (slot : ℕ)
+module _ (table : Table) (e : Held) (is : IsAccepted table e) (mode : Mode) (slot : ℕ)
     (head : is_plain mode e.entry.op ≡ true → slot ≡ 0) where
   counted : (op : Op) → e.entry.op ≡ op → IsCount op e.entry.range.count
   counted op same = subst (λ (o : Op). IsCount o e.entry.range.count) same is.sectors
@@ -47,14 +45,14 @@ module _ (rows : List GrantRow) (table : Table) (e : Held) (configured : All IsR
   not_flush : (op : Op) → op ≢ Flush → e.entry.op ≡ op → e.entry.op ≢ Flush
   not_flush op other same flush = other (sym same ∙ flush)
 
-  -- a grant's sectors are below 2^48
-  below : e.entry.op ≢ Flush → e.entry.range.first.0 + e.entry.range.count ≤ 2 ^ 48
-  below other = let covers = (is.row.6 other).1 in let row = (All-contains IsRow rows is.row.0 configured is.row.1).below in omega (arith, covers, row)
+  -- and so is the first of some
+  first : e.entry.op ≢ Flush → 1 ≤ e.entry.range.count → e.entry.range.first.0 < 2 ^ 48
+  first other some = let below = is.below other in omega (arith, some, below)
 
   goes : (queued : Bool) → queued ≡ not (is_plain mode e.entry.op) → (op : Op) → e.entry.op ≡ op → MayGoIn op (record { op = e.entry.op; range = e.entry.range; queued = queued }) e.frames slot
-  goes queued kind Read same = record { transfers = inl same; some = (counted Read same).0; few = (counted Read same).1; first = is.first (not_flush Read (λ e. cc) same); number = enough Read same }
-  goes queued kind Write same = record { transfers = inr same; some = (counted Write same).0; few = (counted Write same).1; first = is.first (not_flush Write (λ e. cc) same); number = enough Write same }
-  goes queued kind Trim same = (head (ap (is_plain mode) same), kind ∙ ap (λ (o : Op). not (is_plain mode o)) same, (counted Trim same).0, (counted Trim same).1, below (not_flush Trim (λ e. cc) same))
+  goes queued kind Read same = record { transfers = inl same; some = (counted Read same).0; few = (counted Read same).1; first = first (not_flush Read (λ e. cc) same) (counted Read same).0; number = enough Read same }
+  goes queued kind Write same = record { transfers = inr same; some = (counted Write same).0; few = (counted Write same).1; first = first (not_flush Write (λ e. cc) same) (counted Write same).0; number = enough Write same }
+  goes queued kind Trim same = (head (ap (is_plain mode) same), kind ∙ ap (λ (o : Op). not (is_plain mode o)) same, (counted Trim same).0, (counted Trim same).1, is.below (not_flush Trim (λ e. cc) same))
   goes queued kind Flush same = (head (ap (is_plain mode) same), kind ∙ ap (λ (o : Op). not (is_plain mode o)) same)
 
   -- it may go in the slot, wherever its entry and its frames are told
@@ -119,8 +117,8 @@ module _ (s : Server) (device : Device) (book : List Held) (slots : PortSlots) (
     its_slots : slots ≡ slots_at s.slots e.entry.port.0
     its_slots = sym l.slots_are ∙ ap (λ (p : Port). slots_at s.slots p.0) (sym turn.3)
 
-    pub its : IsAccepted s.grants s.table e
-    its = All-contains (IsAccepted s.grants s.table) s.book e l.kept.accepted here
+    pub its : IsAccepted s.table e
+    its = All-contains (IsAccepted s.table) s.book e l.kept.accepted here
 
     -- what was found in the book by its id
     module _ (one : (entries : List Held) (a b : Held) → IsInOrder entries → Contains entries a → Contains entries b → a.entry.id ≡ b.entry.id → a ≡ b) where

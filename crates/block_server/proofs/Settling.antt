@@ -2,7 +2,7 @@
 use Rattle.std.proofs.Common.{◌≡◌, ◌≢◌, ◌==◌, ◌+◌, ◌≤◌, ◌++◌, ◌<◌, arith, Option, Some, Bool, true, false, cond, List, [], ◌∷◌, length, filter, map, refl, sym, ap, ◌∙◌, subst, None, append_assoc, append-nil, suc, zero, ℕ, drop, get_or}
 use Rattle.std.proofs.lemmas.Bool.{eqb-false, false≢true}
 use Rattle.ata_types.specs.declared.request.Outcome.{Outcome}
-use Rattle.ata_types.specs.declared.request.Outcome.TheVariants.{Aborted, DeviceError, Ok, PortDead, Unplugged}
+use Rattle.ata_types.specs.declared.request.Outcome.TheVariants.{Aborted, DeviceError, Ok, PortDead, Revoked, Unplugged}
 use Rattle.std.proofs.lemmas.List.{length-map, length_push}
 use Rattle.std.proofs.lemmas.List.Kept.{AllPairs-filter}
 use Rattle.ata_types.specs.declared.Port.{Port}
@@ -16,7 +16,7 @@ use Rattle.ata_types.specs.declared.request.RequestId.{RequestId}
 use Rattle.ata_types.specs.declared.limits.TheConstants.{MOST_UNANSWERED}
 use Rattle.std.specs.List.{All, AllPairs, Contains}
 use Rattle.block_server.proofs.Finishing as finishing
-use Rattle.request_queue.specs.Entries.{HasIssuesLeft, Held, IsEarlier, IsInOrder, at, ids_where, is_of, requeued, without}
+use Rattle.request_queue.specs.Entries.{HasFewIssues, Held, IsEarlier, IsInOrder, at, ids_where, is_of, requeued, without}
 use Rattle.request_queue.specs.Fates.{EndsLoan, Holdings, MeetFates, MeetsFate, fate_of, fate_on, keeps_loan, reply_to}
 use Rattle.request_queue.specs.declared.Entry.{Entry}
 use Rattle.request_queue.specs.declared.fate.Fate.{Fate}
@@ -33,15 +33,17 @@ kept_issued Ok e is = absurd (false≢true is)
 kept_issued (DeviceError status error) e is = absurd (false≢true is)
 kept_issued Aborted e is = absurd (false≢true is)
 kept_issued Unplugged e is = absurd (false≢true is)
+kept_issued Revoked e is = absurd (false≢true is)
 
 -- one that goes again is issued, and was fewer than four times
 again_on : (prospect : Prospect) (e : Entry) → fate_on prospect e ≡ GoesAgain → (e.issued ≡ true) × ((e.issues == 4) ≡ false)
-again_on SameDisk e is = by e.issued (e.issues == 4) is
+again_on SameDisk e is = by e.issued e.revoked (e.issues == 4) is
   where
-    by : (a b : Bool) → (if a then (if b then Ends Aborted else GoesAgain) else Waits) ≡ GoesAgain → (a ≡ true) × (b ≡ false)
-    by true true same = let z : Ends Aborted ≡ GoesAgain = same in absurd cc
-    by true false same = (refl, refl)
-    by false b same = let z : Waits ≡ GoesAgain = same in absurd cc
+    by : (a b c : Bool) → (if a then (if b then Ends Revoked else (if c then Ends Aborted else GoesAgain)) else Waits) ≡ GoesAgain → (a ≡ true) × (c ≡ false)
+    by true true c same = let z : Ends Revoked ≡ GoesAgain = same in absurd cc
+    by true false true same = let z : Ends Aborted ≡ GoesAgain = same in absurd cc
+    by true false false same = (refl, refl)
+    by false b c same = let z : Waits ≡ GoesAgain = same in absurd cc
 again_on DiskLost e is = let z : Ends Unplugged ≡ GoesAgain = is in absurd cc
 again_on Dead e is = let z : Ends PortDead ≡ GoesAgain = is in absurd cc
 
@@ -56,7 +58,7 @@ again_of (Some failed) prospect e is = by (failed.id.0 == e.id.0) is
 pub may_go_again : (failed : Option Failed) (prospect : Prospect) (e : Held) (book : List Held) → IsInOrder book → Contains book e → fate_of failed prospect e.entry ≡ GoesAgain → (e.entry.issued ≡ true) × (e.entry.issues < 4)
 may_go_again failed prospect e book order here is =
     let a = again_of failed prospect e.entry is in
-    let few = (All-contains (λ (x : Held). HasIssuesLeft x.entry) book e order.issues here).0 in
+    let few = (All-contains (λ (x : Held). HasFewIssues x.entry) book e order.issues here).0 in
     let other = eqb-false e.entry.issues 4 a.1 in
     (a.0, omega (arith, few, other))
 

@@ -1,6 +1,5 @@
 -- What a port's unanswered requests hold, and room for what is kept of it (this project's own).
 use Rattle.std.specs.Prelude.{◌≤◌, ◌<◌, ◌+◌, ◌≡◌, true, List, All, count_by, length}
-use Rattle.ata_types.specs.declared.grant.GrantRow.{GrantRow}
 use Rattle.dma_frames.specs.Loan.{Lending}
 use Rattle.dma_frames.specs.Table.{Table}
 use Rattle.request_queue.specs.Entries.{Held, IsAccepted, IsInOrder}
@@ -12,8 +11,7 @@ holding book table kept = record { book = book; table = table; kept = kept }
 -- a book in order, each request of which is as it was accepted, and has its frames lent to it
 pub record IsSound (table : Table) (book : List Held) : Type 0 where
   pub ordered : IsInOrder book
-  pub rows : List GrantRow
-  pub accepted : All (IsAccepted rows table) book
+  pub accepted : All (IsAccepted table) book
 
 -- there is a place for the request's loan, if it is issued
 abbrev pub HasPlaces : Held → List Lending → Type 0

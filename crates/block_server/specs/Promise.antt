@@ -9,10 +9,10 @@ use Rattle.adapter.specs.Device.{Device}
 use Rattle.adapter.specs.declared.access.DeviceStep.{DeviceStep}
 use Rattle.agreement.specs.Facts.{RunsWell}
 use Rattle.agreement.specs.Slots.{ServesRequest}
-use Rattle.block_machine.specs.Events.{Event as Call, Moment, Reset, Service, Tick, AnswersEnded, IsHung, WasIssued, moment_after}
+use Rattle.block_machine.specs.Events.{Event as Call, Ask, Moment, Reset, RevokeOf, Service, Tick, AnswersEnded, IsHung, WasIssued, moment_after}
 use Rattle.block_machine.specs.Histories.{Happening, Instant, now}
 use Rattle.block_machine.specs.Ports.{SamePort}
-use Rattle.block_machine.specs.State.{Pending}
+use Rattle.block_machine.specs.State.{Machine, Pending}
 use Rattle.block_machine.specs.Steps.{Answer, AllTouched}
 use Rattle.driver_history.specs.Claims.{GoesWellFor, IsHealthyFor}
 use Rattle.driver_history.specs.Evidence.{StaysHealthy}
@@ -26,15 +26,22 @@ use Rattle.block_server.specs.View.{ServerView, server_of, visible_of}
 use Rattle.block_server.specs.declared.types.Event.{Event}
 use Rattle.block_server.specs.declared.types.Said.{Said}
 
+-- What is told where nothing goes wrong. A call that takes a grant back tells Revoked, of requests that aren't issued
+-- (which ones: `AnswersRevoke`). Each other one tells Ok, of a request that was issued when the call began, of which
+-- each sector was moved or cleared since its last issue, and which was ended.
+abbrev pub IsToldWell : Ask DeviceStep → Machine → Pending → Outcome → Type 0
+IsToldWell (RevokeOf client number) old e told = (told ≡ outcome.Revoked) × (e.issued ≡ false)
+IsToldWell ask old e told = (told ≡ outcome.Ok) × WasIssued old e.request.id × (e.issued ≡ true) × AllTouched e
+    × (e.ended ≡ true)
+
 -- What a call is to the clients of a port that is ready and stays healthy, with no register in it. The port is what it
--- was, with the same disk. What is answered there is answered Ok, and is a request that was issued when the call began,
--- of which each sector was moved or cleared since its last issue, and which was ended; a service answers each that had
--- ended when it began. And of the port's unanswered requests a submit and a service issue exactly those that are due
+-- was, with the same disk. What is answered there is told so; a service answers each request that had ended when it
+-- began. And of the port's unanswered requests a submit, a service and a revocation issue exactly those that are due
 -- once all else is done.
 pub record ServesClientsOf (port : Port) (old : Moment) (call : Call DeviceStep) : Type 0 where
   pub same : SamePort old.ports call.ports port
   pub answers : (e : Pending) (told : Outcome) → Contains call.steps (Answer e told) → e.request.port ≡ port
-      → (told ≡ outcome.Ok) × WasIssued old.machine e.request.id × (e.issued ≡ true) × AllTouched e × (e.ended ≡ true)
+      → IsToldWell call.ask old.machine e told
   pub ended : call.ask ≡ Service → AnswersEnded old.machine call.steps port
   pub issues : Issues call.ask call.steps (moment_after old call).machine call.ports port
 

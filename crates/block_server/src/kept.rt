@@ -4,9 +4,8 @@ ghost use Rattle.std.specs.Prelude.{◌≡◌, ◌<◌, ◌++◌, ◌∷◌, [],
 ghost use Rattle.server_history.specs.Kept.{IsKeptIn, MayGoBack, TakesBack};
 ghost use Rattle.server_history.specs.Server.{AreOfTwo, IsLentOut, kept_at};
 
-use ata_types::PORTS;
+use ata_types::{PORTS, SLOTS};
 use dma_frames::{FrameTable, Loan};
-use slots::SLOTS;
 use std::alloc::{AllocError, Global};
 use std::marker::Model;
 

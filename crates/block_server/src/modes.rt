@@ -9,10 +9,10 @@ ghost use Rattle.request_queue.specs.Entries.{is_among};
 ghost use Rattle.server_history.specs.Server.{mode_at, mode_found, slots_at, used_for};
 ghost use Rattle.server_history.specs.Turns.{is_ready};
 
-use ata_types::PORTS;
+use ata_types::{PORTS, SLOTS};
 use block_machine::Mode;
 use host_boot::{Found, Host};
-use slots::{SLOTS, Slots};
+use slots::Slots;
 
 /// One plain command at a time.
 pub(crate) const PLAIN: Mode = Mode {

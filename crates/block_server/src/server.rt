@@ -283,6 +283,7 @@ impl<A: Adapter> Server<A> {
             issued: false,
             issues: 0,
             age: 0,
+            revoked: false,
         };
         self.book.accept(entry, loan);
         self.last = id.0;

@@ -1,4 +1,5 @@
 mod Halving
 mod PermutedPairs
+mod Revoking
 mod RowLemmas
 mod RuleLemmas

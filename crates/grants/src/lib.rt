@@ -4,11 +4,11 @@
 //! or disk, or for a full book, is the server's.
 #![tactic(auto)]
 
-ghost use Rattle.std.specs.Prelude.{◌≡◌, ◌≢◌, ◌≤◌, ◌<◌, ◌+◌, ◌*◌, ◌^◌, ◌↔◌, length, map, All, AllPairs, Contains, Some, IsTrue, OnOk, IfErr, IfOk};
+ghost use Rattle.std.specs.Prelude.{◌≡◌, ◌≢◌, ◌≤◌, ◌<◌, ◌+◌, ◌*◌, ◌^◌, ◌↔◌, length, map, All, AllPairs, Contains, None, Some, IsTrue, OnOk, IfErr, IfOk, IfSome};
 ghost use Rattle.ata_types.specs.Grant.{Covers};
 ghost use Rattle.ata_types.specs.declared.grant.GrantRow.{GrantRow};
 ghost use Rattle.ata_types.specs.declared.request.Op.TheVariants.{Flush};
-ghost use Rattle.block_machine.specs.Rules.{Names, DifferInName, IsCount, frames_for, BreaksNone, IsFirstBroken};
+ghost use Rattle.block_machine.specs.Rules.{Names, DifferInName, HasRow, without_row, IsCount, frames_for, BreaksNone, IsFirstBroken};
 ghost use Rattle.dma_frames.specs.Table.{owner_of, lent_to};
 ghost use Rattle.grants.specs.Names.{AreInOrder, IsPlaceOf, IsRowAt, name_of};
 ghost use Rattle.grants.specs.Rows.{SameRows};
@@ -77,6 +77,20 @@ impl Grants {
             Some(place) => Some(self.rows[place]),
             None => None,
         }
+    }
+
+    /// Takes the client's row under this number out, and gives it. There may be none: then nothing changes. The others
+    /// stay in their order. No memory is taken.
+    pub fn revoke(&mut self, client: ClientId, number: u8) -> Option<GrantRow>
+        ensures found { IfSome result (λ row. Contains self.old row × Names client number row
+            × (self.new ≡ without_row client number self.old)) }
+        ensures none { result ≡ None → (self.new ≡ self.old) × (HasRow client number self.old → ⊥) }
+    {
+        let mut compared = Compared::none();
+        let place = self.find(client, number, &mut compared)?;
+        self.keys.remove(place);
+        let row = self.rows.remove(place);
+        Some(row)
     }
 }
 

@@ -6,12 +6,14 @@ use Rattle.std.proofs.lemmas.List.{get_or-map, length-map, get_or-set_same, get_
 use Rattle.std.proofs.lemmas.List.Elements.{All-push, All-contains, All-filter}
 use Rattle.std.proofs.lemmas.List.Kept.{AllPairs-filter}
 use Rattle.std.proofs.lemmas.List.Quantifiers.{all_pairs_push}
-use Rattle.std.proofs.lemmas.Option.{slice_get_within, get_or_from_slice_get, same_Some}
+use Rattle.std.specs.Option.{IfSome}
+use Rattle.std.proofs.lemmas.Option.{slice_get-get_or, slice_get_within, get_or_from_slice_get, same_Some}
 use Rattle.ata_types.specs.declared.Port.{Port}
+use Rattle.ata_types.specs.declared.request.ClientId.{ClientId}
 use Rattle.ata_types.specs.declared.request.RequestId.{RequestId}
 use Rattle.block_machine.specs.declared.due.Unanswered.{Unanswered}
 use Rattle.block_machine.specs.Due as machine
-use Rattle.request_queue.specs.Entries.{Held, asks, asks_of, has_id, at, without, issue, requeued, older, aged, unanswered_of, IsEarlier, IsInOrder, HasIssuesLeft, IsFresh}
+use Rattle.request_queue.specs.Entries.{Held, asks, asks_of, has_id, at, without, issue, requeued, older, revoked_under, unanswered_of, IsEarlier, IsInOrder, HasFewIssues, IsFresh}
 use Rattle.request_queue.specs.declared.Entry.{Entry}
 use Rattle.request_queue.proofs.Members.{count_cons, count_append, count_map, contains_here, contains_there, contains_cases}
 
@@ -122,7 +124,7 @@ dropped_at (x ∷ xs) (suc place) e id ordered is named =
 pub record Leaves (e x : Held) : Type 0 where
   pub id : x.entry.id.0 ≡ e.entry.id.0
   pub client : x.entry.client.0 ≡ e.entry.client.0
-  pub issues : HasIssuesLeft x.entry
+  pub issues : HasFewIssues x.entry
 
 pub changed_in_order : (es : List Held) (g : Held → Held) → ((e : Held) → Contains es e → Leaves e (g e)) → IsInOrder es → IsInOrder (map g es)
 changed_in_order es g leaves s = record {
@@ -146,7 +148,7 @@ changed_in_order es g leaves s = record {
       omega (arith, f, same);
   issues = λ i d below.
       let x = at_place i d (short i below) in
-      subst (λ (z : Held). HasIssuesLeft z.entry) (sym x.1) x.0.issues;
+      subst (λ (z : Held). HasFewIssues z.entry) (sym x.1) x.0.issues;
 }
   where
     short : (k : ℕ) → k < length (map g es) → k < length es
@@ -157,29 +159,29 @@ changed_in_order es g leaves s = record {
 
 -- a change of one request, that the request bears
 pub one_in_order : (es : List Held) (id : RequestId) (f : Entry → Entry) → ((r : Entry) → (f r).id.0 ≡ r.id.0) → ((r : Entry) → (f r).client.0 ≡ r.client.0)
-    → ((e : Held) → Contains es e → e.entry.id.0 ≡ id.0 → HasIssuesLeft (f e.entry)) → IsInOrder es → IsInOrder (map (at id f) es)
+    → ((e : Held) → Contains es e → e.entry.id.0 ≡ id.0 → HasFewIssues (f e.entry)) → IsInOrder es → IsInOrder (map (at id f) es)
 one_in_order es id f ids clients bears s = changed_in_order es (at id f) (λ e h. go e h (has_id id e) refl) s
   where
     go : (e : Held) → Contains es e → (b : Bool) → has_id id e ≡ b → Leaves e (at id f e)
     go e h true named = subst (λ (x : Held). Leaves e x) (sym (cond-true (has_id id e) (record e { entry = f e.entry }) e named))
         (record { id = ids e.entry; client = clients e.entry; issues = bears e h (eqb-true e.entry.id.0 id.0 named) })
     go e h false named = subst (λ (x : Held). Leaves e x) (sym (cond-false (has_id id e) (record e { entry = f e.entry }) e named))
-        (record { id = refl; client = refl; issues = All-contains (λ (x : Held). HasIssuesLeft x.entry) es e s.issues h })
+        (record { id = refl; client = refl; issues = All-contains (λ (x : Held). HasFewIssues x.entry) es e s.issues h })
 
 pub issued_in_order : (es : List Held) (id : RequestId) (e : Held) → IsInOrder es → Contains es e → e.entry.id ≡ id → e.entry.issued ≡ false → IsInOrder (map (at id issue) es)
 issued_in_order es id e s here named waits = one_in_order es id issue (λ r. refl) (λ r. refl) bears s
   where
-    bears : (x : Held) → Contains es x → x.entry.id.0 ≡ id.0 → HasIssuesLeft (issue x.entry)
+    bears : (x : Held) → Contains es x → x.entry.id.0 ≡ id.0 → HasFewIssues (issue x.entry)
     bears x h same =
         let is : x ≡ e = one_by_id es x e s.ordered h here (same ∙ sym (ap (λ (i : RequestId). i.0) named)) in
-        let left = (All-contains (λ (y : Held). HasIssuesLeft y.entry) es e s.issues here).1 waits in
+        let left = (All-contains (λ (y : Held). HasFewIssues y.entry) es e s.issues here).1 waits in
         let n = ap (λ (y : Held). y.entry.issues) is in
         (omega (arith, left, n), λ no. absurd (false≢true (sym no)))
 
 pub waiting_in_order : (es : List Held) (id : RequestId) (e : Held) → IsInOrder es → Contains es e → e.entry.id ≡ id → e.entry.issues < 4 → IsInOrder (map (at id requeued) es)
 waiting_in_order es id e s here named few = one_in_order es id requeued (λ r. refl) (λ r. refl) bears s
   where
-    bears : (x : Held) → Contains es x → x.entry.id.0 ≡ id.0 → HasIssuesLeft (requeued x.entry)
+    bears : (x : Held) → Contains es x → x.entry.id.0 ≡ id.0 → HasFewIssues (requeued x.entry)
     bears x h same =
         let is : x ≡ e = one_by_id es x e s.ordered h here (same ∙ sym (ap (λ (i : RequestId). i.0) named)) in
         let n = ap (λ (y : Held). y.entry.issues) is in
@@ -191,7 +193,7 @@ longer_in_order es e s newest fresh low high has_room = record {
   ordered = all_pairs_push IsEarlier es e s.ordered newest;
   clients = All-push (λ (x : Held). (1 ≤ x.entry.client.0) × (x.entry.client.0 ≤ 8)) es e s.clients (low, high);
   few = λ client. few client (cases_eq e.entry.client.0 client);
-  issues = All-push (λ (x : Held). HasIssuesLeft x.entry) es e s.issues (let n = fresh.1 in (omega (arith, n), λ no. omega (arith, n)));
+  issues = All-push (λ (x : Held). HasFewIssues x.entry) es e s.issues (let n = fresh.1 in (omega (arith, n), λ no. omega (arith, n)));
 }
   where
     counted : (client : ℕ) → unanswered_of (es ++ e ∷ []) client ≡ unanswered_of es client + cond {A = ℕ} (e.entry.client.0 == client) 1 0
@@ -214,39 +216,66 @@ longer_in_order es e s newest fresh low high has_room = record {
         let none : ◌≡◌ {A = ℕ} (cond (e.entry.client.0 == client) 1 0) 0 = cond-false (e.entry.client.0 == client) 1 0 (ne_eqb e.entry.client.0 client other) in
         omega (arith, counted client, none, s.few client)
 
--- ---- and as all get older
+-- ---- and as each is changed
 
-pub older_in_order : (ports : Port → Bool) (es : List Held) → IsInOrder es → IsInOrder (aged ports es)
-older_in_order ports es s = changed_in_order es (λ (e : Held). record e { entry = older ports e.entry }) leaves s
+-- each of them changed
+abbrev pub all_changed : (Entry → Entry) → List Held → List Held
+all_changed f es = map (λ (e : Held). record e { entry = f e.entry }) es
+
+-- a test's change of an entry, or none, has what both have
+pub either_way : (P : Entry → Type 0) (b : Bool) (x y : Entry) → P x → P y → P (cond b x y)
+either_way P true x y p q = p
+either_way P false x y p q = q
+
+-- what a change of all leaves of an entry
+pub record Spares (r x : Entry) : Type 0 where
+  pub asked : asks x ≡ asks r
+  pub client : x.client ≡ r.client
+  pub issues : x.issues ≡ r.issues
+
+pub older_spares : (ports : Port → Bool) (r : Entry) → Spares r (older ports r)
+older_spares ports r = either_way (Spares r) (r.issued && ports r.port) (record r { age = min (suc r.age) 3 }) r
+    (record { asked = refl; client = refl; issues = refl }) (record { asked = refl; client = refl; issues = refl })
+
+pub revoked_spares : (client : ClientId) (grant : ℕ) (r : Entry) → Spares r (revoked_under client grant r)
+revoked_spares client grant r = either_way (Spares r) (r.client.0 == client.0 && r.grant == grant) (record r { revoked = true }) r
+    (record { asked = refl; client = refl; issues = refl }) (record { asked = refl; client = refl; issues = refl })
+
+pub all_in_order : (f : Entry → Entry) → ((r : Entry) → Spares r (f r)) → (es : List Held) → IsInOrder es → IsInOrder (all_changed f es)
+all_in_order f spares es s = changed_in_order es (λ (e : Held). record e { entry = f e.entry }) leaves s
   where
-    leaves : (e : Held) → Contains es e → Leaves e (record e { entry = older ports e.entry })
-    leaves e h = go (e.entry.issued && ports e.entry.port) refl
-      where
-        left : HasIssuesLeft e.entry
-        left = All-contains (λ (x : Held). HasIssuesLeft x.entry) es e s.issues h
+    leaves : (e : Held) → Contains es e → Leaves e (record e { entry = f e.entry })
+    leaves e h =
+        let k = spares e.entry in
+        let left : HasFewIssues e.entry = All-contains (λ (x : Held). HasFewIssues x.entry) es e s.issues h in
+        record {
+          id = ap (λ (u : Unanswered). u.id.0) k.asked;
+          client = ap (λ (c : ClientId). c.0) k.client;
+          issues = subst (λ (n : ℕ). (n ≤ 4) × ((f e.entry).issued ≡ false → n < 4)) (sym k.issues) (left.0, λ waits. left.1 (sym (ap (λ (u : Unanswered). u.issued) k.asked) ∙ waits));
+        }
 
-        go : (b : Bool) → (e.entry.issued && ports e.entry.port) ≡ b → Leaves e (record e { entry = older ports e.entry })
-        go true t = subst (λ (r : Entry). Leaves e (record e { entry = r })) (sym (cond-true (e.entry.issued && ports e.entry.port) (record (e.entry) { age = min (suc e.entry.age) 3 }) e.entry t))
-            (record { id = refl; client = refl; issues = left })
-        go false t = subst (λ (r : Entry). Leaves e (record e { entry = r })) (sym (cond-false (e.entry.issued && ports e.entry.port) (record (e.entry) { age = min (suc e.entry.age) 3 }) e.entry t))
-            (record { id = refl; client = refl; issues = left })
+pub all_asked : (f : Entry → Entry) → ((r : Entry) → Spares r (f r)) → (es : List Held) → asks_of (all_changed f es) ≡ asks_of es
+all_asked f spares [] = refl
+all_asked f spares (e ∷ es) =
+    ap (λ (u : Unanswered). u ∷ asks_of (all_changed f es)) (spares e.entry).asked
+    ∙ ap (λ (us : List Unanswered). asks e.entry ∷ us) (all_asked f spares es)
 
--- those before a place are older, and the others are as they were
-pub record OlderSoFar (ports : Port → Bool) (old now : List Held) (place : ℕ) : Type 0 where
-  pub done : (k : ℕ) (d : Held) → k < place → k < length old → get_or now k d ≡ record (get_or old k d) { entry = older ports (get_or old k d).entry }
+-- those before a place are changed, and the others are as they were
+pub record ChangedSoFar (f : Entry → Entry) (old now : List Held) (place : ℕ) : Type 0 where
+  pub done : (k : ℕ) (d : Held) → k < place → k < length old → get_or now k d ≡ record (get_or old k d) { entry = f (get_or old k d).entry }
   pub rest : (k : ℕ) (d : Held) → place ≤ k → get_or now k d ≡ get_or old k d
   pub long : length now ≡ length old
 
-pub one_older_more : (ports : Port → Bool) (old now : List Held) (place : ℕ) (e : Held) (r : Entry) → OlderSoFar ports old now place → slice_get now place ≡ Some e → r ≡ older ports e.entry
-    → OlderSoFar ports old (set now place (record e { entry = r })) (place + 1)
-one_older_more ports old now place e r so_far is changed = record {
+one_changed_more : (f : Entry → Entry) (old now : List Held) (place : ℕ) (e : Held) (r : Entry) → ChangedSoFar f old now place → slice_get now place ≡ Some e → r ≡ f e.entry
+    → ChangedSoFar f old (set now place (record e { entry = r })) (place + 1)
+one_changed_more f old now place e r so_far is changed = record {
   done = λ k d lt short. ⊎_elim
       (λ (here : k ≡ place).
       let its : get_or old k d ≡ e = ap (λ (n : ℕ). get_or old n d) here ∙ (sym (so_far.rest place d (omega arith)) ∙ get_or_from_slice_get now place e d is) in
       ap (λ (n : ℕ). get_or (set now place new) n d) here
       ∙ (get_or-set_same now place new d (slice_get_within now place e is)
       ∙ (ap (λ (x : Entry). record e { entry = x }) changed
-      ∙ ap (λ (x : Held). record x { entry = older ports x.entry }) (sym its))))
+      ∙ ap (λ (x : Held). record x { entry = f x.entry }) (sym its))))
       (λ (other : k ≢ place). get_or-set_other now place k new d other ∙ so_far.done k d (omega (arith, lt, other)) short)
       (cases_eq k place);
   rest = λ k d le. get_or-set_other now place k new d (λ here. let no : ⊥ = omega (arith, here, le) in no) ∙ so_far.rest k d (omega (arith, le));
@@ -256,12 +285,27 @@ one_older_more ports old now place e r so_far is changed = record {
     new : Held
     new = record e { entry = r }
 
-pub all_older : (ports : Port → Bool) (old now : List Held) (place : ℕ) → length old ≤ place → OlderSoFar ports old now place → now ≡ aged ports old
-all_older ports old now place all so_far =
-    same_lists now (aged ports old) (so_far.long ∙ sym (length-map old (λ (e : Held). record e { entry = older ports e.entry })))
+pub all_are_changed : (f : Entry → Entry) (old now : List Held) (place : ℕ) → length old ≤ place → ChangedSoFar f old now place → now ≡ all_changed f old
+all_are_changed f old now place all so_far =
+    same_lists now (all_changed f old) (so_far.long ∙ sym (length-map old (λ (e : Held). record e { entry = f e.entry })))
     (λ k d lt.
     let short : k < length old = omega (arith, lt, so_far.long) in
-    so_far.done k d (omega (arith, short, all)) short ∙ sym (get_or-map (λ (e : Held). record e { entry = older ports e.entry }) old k d d short))
+    so_far.done k d (omega (arith, short, all)) short ∙ sym (get_or-map (λ (e : Held). record e { entry = f e.entry }) old k d d short))
+
+-- the request in a place, changed, keeps its id
+pub keeps_its_id : (f : Entry → Entry) → ((r : Entry) → Spares r (f r)) → (es : List Held) (place : ℕ) (r x : Entry) → slice_get (map (λ (e : Held). e.entry) es) place ≡ Some r → x ≡ f r
+    → IfSome (slice_get es place) (λ old. x.id ≡ old.entry.id)
+keeps_its_id f spares es place r x is changed =
+    let d : Held = record { entry = r; frames = [] } in
+    subst (λ (o : Option Held). IfSome o (λ old. x.id ≡ old.entry.id)) (sym (slice_get-get_or es place d (place_within es place r is)))
+    (ap (λ (y : Entry). y.id) changed ∙ (ap (λ (u : Unanswered). u.id) (spares r).asked ∙ ap (λ (y : Entry). y.id) (sym (request_is es place r d is))))
+
+-- and put back it is one changed more
+pub next_changed : (f : Entry → Entry) (old now later : List Held) (place : ℕ) (r x : Entry) → ChangedSoFar f old now place → slice_get (map (λ (e : Held). e.entry) now) place ≡ Some r → x ≡ f r
+    → (e : Held) × (slice_get now place ≡ Some e) × (later ≡ set now place (record e { entry = x })) → ChangedSoFar f old later (place + 1)
+next_changed f old now later place r x so_far is changed e =
+    subst (λ (es : List Held). ChangedSoFar f old es (place + 1)) (sym e.2)
+    (one_changed_more f old now place e.0 x so_far e.1 (changed ∙ ap f (sym (request_at now place r e.0 is e.1))))
 
 -- ---- and as one goes
 
@@ -286,7 +330,7 @@ fewer_in_order id es s = record {
   ordered = AllPairs-filter IsEarlier (λ e. not (has_id id e)) es s.ordered;
   clients = All-filter (λ e. not (has_id id e)) (λ (x : Held). (1 ≤ x.entry.client.0) × (x.entry.client.0 ≤ 8)) es s.clients;
   few = λ client. let a = fewer_counted id (λ (x : Held). x.entry.client.0 == client) es in let b = s.few client in omega (arith, a, b);
-  issues = All-filter (λ e. not (has_id id e)) (λ (x : Held). HasIssuesLeft x.entry) es s.issues;
+  issues = All-filter (λ e. not (has_id id e)) (λ (x : Held). HasFewIssues x.entry) es s.issues;
 }
 
 -- ---- the walk is given a book in order

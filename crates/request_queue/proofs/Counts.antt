@@ -1,17 +1,16 @@
 -- How many requests there are, of a client and of all.
 use Rattle.ata_types.specs.declared.limits.TheConstants.{MOST_UNANSWERED}
-use Rattle.std.proofs.Common.{min, ◌&&◌, ◌≢◌, ◌++◌, ◌∙◌, Some, drop, get_or, map, set, sym, take, ℕ, zero, suc, ◌≡◌, ◌<◌, ◌≤◌, ◌+◌, ◌*◌, ◌==◌, ◌⊎◌, Bool, true, false, cond, List, [], ◌∷◌, length, refl, ap, arith, ⊎_elim, inl, inr, ltb-true, lt-ltb, eq-eqb}
+use Rattle.std.proofs.Common.{◌≢◌, ◌++◌, ◌∙◌, Some, drop, get_or, map, set, sym, take, ℕ, zero, suc, ◌≡◌, ◌<◌, ◌≤◌, ◌+◌, ◌*◌, ◌==◌, ◌⊎◌, Bool, true, false, cond, List, [], ◌∷◌, length, refl, ap, arith, ⊎_elim, inl, inr, ltb-true, lt-ltb, eq-eqb}
 use Rattle.std.specs.Prelude.{nat_lt}
 use Rattle.std.specs.List.{All, count_by, remove, slice_get}
 use Rattle.std.proofs.Math.Seq.{drop-cons}
 use Rattle.std.proofs.lemmas.List.{length-set, get_or-set_same, get_or-set_other, take-append-drop}
 use Rattle.std.proofs.lemmas.Option.{slice_get_within, get_or_from_slice_get}
-use Rattle.ata_types.specs.declared.Port.{Port}
 use Rattle.ata_types.specs.declared.request.RequestId.{RequestId}
 use Rattle.std.proofs.lemmas.Bool.{false≢true, cases_eq, ne_eqb}
 use Rattle.std.proofs.lemmas.List.Elements.{All-head, All-tail}
 use Rattle.request_queue.specs.Counts.{AreCounts}
-use Rattle.request_queue.specs.Entries.{Held, aged, at, has_id, older, unanswered_of}
+use Rattle.request_queue.specs.Entries.{Held, at, has_id, unanswered_of}
 use Rattle.request_queue.specs.declared.Entry.{Entry}
 use Rattle.request_queue.proofs.Members.{count_append, count_cons, count_map}
 
@@ -168,13 +167,8 @@ either : (b : Bool) (x y : Held) → x.entry.client.0 ≡ y.entry.client.0 → (
 either true x y same = same
 either false x y same = refl
 
-either_one : (b : Bool) (x y : Entry) → x.client.0 ≡ y.client.0 → (cond b x y).client.0 ≡ y.client.0
-either_one true x y same = same
-either_one false x y same = refl
-
 pub counts_at : (es : List Held) (id : RequestId) (f : Entry → Entry) (counts : List ℕ) → ((r : Entry) → (f r).client.0 ≡ r.client.0) → AreCounts es counts → AreCounts (map (at id f) es) counts
 counts_at es id f counts same are = changed_counts es (at id f) counts (λ e. either (has_id id e) (record e { entry = f e.entry }) e (same e.entry)) are
 
-pub counts_aged : (es : List Held) (ports : Port → Bool) (counts : List ℕ) → AreCounts es counts → AreCounts (aged ports es) counts
-counts_aged es ports counts are = changed_counts es (λ (e : Held). record e { entry = older ports e.entry }) counts
-    (λ e. either_one (e.entry.issued && ports e.entry.port) (record (e.entry) { age = min (suc e.entry.age) 3 }) e.entry refl) are
+pub counts_changed : (es : List Held) (f : Entry → Entry) (counts : List ℕ) → ((r : Entry) → (f r).client.0 ≡ r.client.0) → AreCounts es counts → AreCounts (map (λ (e : Held). record e { entry = f e.entry }) es) counts
+counts_changed es f counts same are = changed_counts es (λ (e : Held). record e { entry = f e.entry }) counts (λ e. same e.entry) are

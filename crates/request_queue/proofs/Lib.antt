@@ -5,6 +5,7 @@ pub mod Own
 pub mod Stepping
 pub mod Counts
 pub mod Changing
+pub mod AllChanged
 pub mod Ending
 pub mod Working
 pub mod Listing

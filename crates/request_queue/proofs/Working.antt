@@ -1,14 +1,16 @@
 -- What the book's operations make of what says which requests are due.
-use Rattle.std.proofs.Common.{min, suc, ◌≡◌, ◌==◌, ◌&&◌, Bool, true, false, cond, not, List, [], ◌∷◌, map, refl, sym, ap, ◌∙◌, subst}
+use Rattle.std.proofs.Common.{ℕ, ◌≡◌, ◌==◌, Bool, true, false, cond, not, List, [], ◌∷◌, map, refl, sym, ap, ◌∙◌, subst}
 use Rattle.std.proofs.lemmas.Bool.{cond-true, cond-false, not-true, and_parts}
 use Rattle.ata_types.specs.declared.Port.{Port}
+use Rattle.ata_types.specs.declared.request.ClientId.{ClientId}
 use Rattle.ata_types.specs.declared.request.RequestId.{RequestId}
 use Rattle.block_machine.specs.declared.due.Mode.{Mode}
 use Rattle.block_machine.specs.declared.due.Unanswered.{Unanswered}
 use Rattle.block_machine.specs.Due.{IsDue, with_issued, with_waiting, with_none, AreDueInTurn}
-use Rattle.request_queue.specs.Entries.{Held, asks, asks_of, has_id, at, without, issue, requeued, older, aged, IsWaiting}
+use Rattle.request_queue.specs.Entries.{Held, asks, asks_of, has_id, at, without, issue, requeued, older, aged, revoked_under, revoked_all, IsWaiting}
 use Rattle.request_queue.specs.declared.Entry.{Entry}
 use Rattle.request_queue.proofs.Members.{map_in}
+use Rattle.request_queue.proofs.Changing.{all_asked, older_spares, revoked_spares}
 
 -- a due request waits
 pub due_waits : (mode : Mode) (es : List Held) (r : Unanswered) → IsDue mode (asks_of es) r → IsWaiting r.id es
@@ -53,14 +55,10 @@ after_answer (e ∷ es) id = go (not (has_id id e)) (after_answer es id)
     go false rest = rest
 
 pub after_tick : (es : List Held) (ports : Port → Bool) → asks_of (aged ports es) ≡ asks_of es
-after_tick [] ports = refl
-after_tick (e ∷ es) ports =
-    ap (λ (u : Unanswered). u ∷ asks_of (aged ports es)) (one (e.entry.issued && ports e.entry.port) refl)
-    ∙ ap (λ (us : List Unanswered). asks e.entry ∷ us) (after_tick es ports)
-  where
-    one : (b : Bool) → (e.entry.issued && ports e.entry.port) ≡ b → asks (older ports e.entry) ≡ asks e.entry
-    one true t = ap asks (cond-true (e.entry.issued && ports e.entry.port) (record (e.entry) { age = min (suc e.entry.age) 3 }) e.entry t)
-    one false t = ap asks (cond-false (e.entry.issued && ports e.entry.port) (record (e.entry) { age = min (suc e.entry.age) 3 }) e.entry t)
+after_tick es ports = all_asked (older ports) (older_spares ports) es
+
+pub after_revoke : (es : List Held) (client : ClientId) (grant : ℕ) → asks_of (revoked_all client grant es) ≡ asks_of es
+after_revoke es client grant = all_asked (revoked_under client grant) (revoked_spares client grant) es
 
 -- ---- a walk that issues
 

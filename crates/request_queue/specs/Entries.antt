@@ -1,9 +1,7 @@
 -- Unanswered requests of all ports, in order of acceptance (this project's own).
-use Rattle.std.specs.Prelude.{ℕ, suc, min, ◌≡◌, ◌≢◌, ◌^◌, ◌<◌, ◌≤◌, ◌==◌, Bool, true, false, not, ◌&&◌, if◌then◌else◌, List, map, filter, count_by, Option, Some, None, All, AllPairs, Contains, slice_index_or, length}
+use Rattle.std.specs.Prelude.{ℕ, suc, min, ◌≡◌, ◌≢◌, ◌+◌, ◌^◌, ◌<◌, ◌≤◌, ◌==◌, Bool, true, false, not, ◌&&◌, if◌then◌else◌, List, map, filter, count_by, Option, Some, None, All, AllPairs, Contains, slice_index_or, length}
 use Rattle.std.specs.List.{find}
-use Rattle.ata_types.specs.Grant.{Allows, Covers}
 use Rattle.ata_types.specs.declared.Port.{Port}
-use Rattle.ata_types.specs.declared.grant.GrantRow.{GrantRow}
 use Rattle.ata_types.specs.declared.memory.TheConstants.{DRIVER_FRAMES}
 use Rattle.ata_types.specs.declared.request.ClientId.{ClientId}
 use Rattle.ata_types.specs.declared.request.Frame.{Frame}
@@ -66,6 +64,14 @@ older ports r = if r.issued && ports r.port then record r { age = min (suc r.age
 abbrev pub aged : (Port → Bool) → List Held → List Held
 aged ports entries = map (λ (e : Held). record e { entry = older ports e.entry }) entries
 
+-- the request is marked, if it was accepted under this grant of the client: the grant is revoked
+abbrev pub revoked_under : ClientId → ℕ → Entry → Entry
+revoked_under client grant r = if r.client.0 == client.0 && r.grant == grant then record r { revoked = true } else r
+
+-- each request marked that was accepted under this grant of the client
+abbrev pub revoked_all : ClientId → ℕ → List Held → List Held
+revoked_all client grant entries = map (λ (e : Held). record e { entry = revoked_under client grant e.entry }) entries
+
 -- the ids of the requests that pass, in order of acceptance
 abbrev pub ids_where : (Entry → Bool) → List Held → List RequestId
 ids_where passes entries = map (λ e. e.entry.id) (filter (λ e. passes e.entry) entries)
@@ -101,7 +107,7 @@ MayGoAgain id entries = (e : Held) × Contains entries e × (e.entry.id ≡ id) 
 
 -- it was just accepted
 abbrev pub IsFresh : Entry → Type 0
-IsFresh r = (r.issued ≡ false) × (r.issues ≡ 0) × (r.age ≡ 0)
+IsFresh r = (r.issued ≡ false) × (r.issues ≡ 0) × (r.age ≡ 0) × (r.revoked ≡ false)
 
 -- the port is one of these
 abbrev pub is_among : List Bool → Port → Bool
@@ -116,32 +122,25 @@ abbrev pub IsOverdue : Port → List Held → Type 0
 IsOverdue port entries = (e : Held) × Contains entries e × IsOverdueOn port e.entry
 
 -- A request was issued four times at most; and fewer times where it waits, so that it may be issued.
-abbrev pub HasIssuesLeft : Entry → Type 0
-HasIssuesLeft r = (r.issues ≤ 4) × (r.issued ≡ false → r.issues < 4)
+abbrev pub HasFewIssues : Entry → Type 0
+HasFewIssues r = (r.issues ≤ 4) × (r.issued ≡ false → r.issues < 4)
 
 -- Requests as a book holds them: their ids rise, each is of a client 1 to 8, no client has more than 16, and each has
--- issues left. So there are 128 at most.
+-- few issues. So there are 128 at most.
 pub record IsInOrder (entries : List Held) : Type 0 where
   pub ordered : AllPairs IsEarlier entries
   pub clients : All (λ e. (1 ≤ e.entry.client.0) × (e.entry.client.0 ≤ 8)) entries
   pub few : (client : ℕ) → unanswered_of entries client ≤ 16
-  pub issues : All (λ e. HasIssuesLeft e.entry) entries
+  pub issues : All (λ e. HasFewIssues e.entry) entries
 
--- The request is of its client's grant of this number, which is for its port, and lets the client do what it asks, with
--- its sectors. (A flush has none.)
-abbrev pub IsCovered : List GrantRow → Entry → Type 0
-IsCovered rows e = (row : GrantRow) × Contains rows row × (row.client ≡ e.client) × (row.number ≡ e.grant)
-    × (row.port ≡ e.port) × Allows row.rights e.op × (e.op ≢ Flush → Covers row e.range.first.0 e.range.count)
-
--- An accepted request: of a client 1 to 8, of as many sectors as its operation may have, below 2^48 and within its
--- grant, with as many frames as it needs, each another one, all of them the client's own and lent to it.
-pub record IsAccepted (rows : List GrantRow) (table : Table) (held : Held) : Type 0 where
+-- An accepted request: of a client 1 to 8, of as many sectors as its operation may have, all of them below 2^48 (a
+-- flush has none), with as many frames as it needs, each another one, all of them the client's own and lent to it.
+pub record IsAccepted (table : Table) (held : Held) : Type 0 where
   pub client_from : 1 ≤ held.entry.client.0
   pub client_to : held.entry.client.0 ≤ 8
   pub sectors : IsCount held.entry.op held.entry.range.count
-  pub first : held.entry.op ≢ Flush → held.entry.range.first.0 < 2 ^ 48
+  pub below : held.entry.op ≢ Flush → held.entry.range.first.0 + held.entry.range.count ≤ 2 ^ 48
   pub frames : length held.frames ≡ frames_for held.entry.op held.entry.range.count
-  pub row : IsCovered rows held.entry
   pub clients : All (λ frame. DRIVER_FRAMES ≤ frame.0) held.frames
   pub own : All (λ frame. owner_of table frame ≡ Some held.entry.client) held.frames
   pub apart : AllPairs (λ a b. a ≢ b) held.frames

@@ -1,7 +1,7 @@
 -- What becomes of the unanswered requests of a port that was stopped (this project's own).
 use Rattle.std.specs.Prelude.{◌≡◌, ◌==◌, ◌++◌, Bool, true, false, List, [], ◌∷◌, Option, None, Some, map, if◌then◌else◌}
 use Rattle.ata_types.specs.declared.request.Outcome.{Outcome}
-use Rattle.ata_types.specs.declared.request.Outcome.TheVariants.{Aborted, DeviceError, PortDead, Unplugged}
+use Rattle.ata_types.specs.declared.request.Outcome.TheVariants.{Aborted, DeviceError, PortDead, Revoked, Unplugged}
 use Rattle.ata_types.specs.declared.request.Reply.{Reply}
 use Rattle.dma_frames.specs.Loan.{Lending}
 use Rattle.dma_frames.specs.Table.{Table, LendsOnly}
@@ -15,10 +15,12 @@ use Rattle.request_queue.specs.declared.fate.Prospect.TheVariants.{SameDisk, Dis
 
 -- ---- the rule
 
--- one that didn't fail goes again on the disk that it had, if it was issued fewer than four times; else it is told what
--- its port is
+-- one that didn't fail goes again on the disk that it had, unless its grant was revoked, or it was issued four times;
+-- else it is told what its port is
 abbrev pub fate_on : Prospect → Entry → Fate
-fate_on SameDisk e = if e.issued then (if e.issues == 4 then Ends Aborted else GoesAgain) else Waits
+fate_on SameDisk e =
+    if e.issued then (if e.revoked then Ends Revoked else (if e.issues == 4 then Ends Aborted else GoesAgain))
+    else Waits
 fate_on DiskLost e = Ends Unplugged
 fate_on Dead e = Ends PortDead
 

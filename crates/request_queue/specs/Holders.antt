@@ -1,4 +1,5 @@
--- What each waiting read or write waits for (this project's own).
+-- An earlier request that each waiting read or write conflicts with: its holder, for which it waits (this project's
+-- own).
 use Rattle.std.specs.Prelude.{ℕ, ◌≡◌, ◌<◌, Bool, true, false, not, ◌&&◌, ◌==◌, List, filter, length, Option, Some, None, Contains, slice_index_or}
 use Rattle.std.specs.List.{list_any}
 use Rattle.ata_types.specs.declared.Port.{Port}
@@ -15,7 +16,8 @@ is_read_or_write Write = true
 is_read_or_write Trim = false
 is_read_or_write Flush = false
 
--- the request is a read or a write that waits
+-- The request is a read or a write that waits. No other has a holder: an issued one has a slot, and at a trim or a
+-- flush the walk for what is due ends, so that it has to come to them.
 abbrev pub may_have_holder : Unanswered → Bool
 may_have_holder r = not r.issued && is_read_or_write r.op
 

@@ -21,6 +21,7 @@ blank = record {
   issued = false;
   issues = 0;
   age = 0;
+  revoked = false;
 }
 
 -- the frames of a loan, if there is one

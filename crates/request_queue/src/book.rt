@@ -1,7 +1,7 @@
 // The book.
 ghost use Rattle.std.specs.Prelude.{◌≡◌, ◌↔◌, ◌<◌, ◌≤◌, ◌++◌, ◌∷◌, [], length, map, All, AllPairs, Contains, IfOk, IsTrue, Some, slice_get};
 ghost use Rattle.request_queue.specs.Entries.{due_ids};
-ghost use Rattle.request_queue.specs.Entries.{Held, GivesBack, IsEarlier, IsFresh, IsInOrder, IsUnanswered, IsWaiting, MayGoAgain, Stands, IsOverdue, IsOverdueOn, aged, asks_of, at, ids_where, is_among, is_of, issue, older, requeued, unanswered_of, waits_under, without};
+ghost use Rattle.request_queue.specs.Entries.{Held, GivesBack, IsEarlier, IsFresh, IsInOrder, IsUnanswered, IsWaiting, MayGoAgain, Stands, IsOverdue, IsOverdueOn, aged, asks_of, at, ids_where, is_among, is_of, issue, older, requeued, revoked_all, revoked_under, unanswered_of, waits_under, without};
 
 use crate::Entry;
 use crate::due::due;
@@ -35,7 +35,7 @@ pub struct Book {
     sectors: [Ranges; PORTS],
     /// The flushes of all ports, in order of acceptance. A flush has no sectors, and conflicts all the same.
     flushes: Vec<Flush>,
-    /// For each request the earlier one that it waits for, if there is one: its holder.
+    /// For each waiting read or write an earlier one that conflicts with it, if there is one: its holder.
     holders: Vec<Option<RequestId>>,
     /// How many of the requests each client has, by its number. None is of client 0.
     counts: [usize; COUNTS],
@@ -115,7 +115,8 @@ impl Book {
         self.store.push(request, loan);
     }
 
-    /// The due requests of a port that takes commands in this mode, in order of acceptance.
+    /// The due requests of a port that takes commands in this mode, in order of acceptance. A request that was answered
+    /// and whose frames stay lent takes none of the slots that are counted: its port is dead.
     pub fn issuable(&self, mode: Mode, port: Port) -> ArrayVec<RequestId, 32>
         requires { mode.usable ≤ 32 }
         ensures { result.items ≡ due_ids mode port (asks_of self.now) }
@@ -147,8 +148,8 @@ impl Book {
         ids_of(&self.store, port)
     }
 
-    /// The ids of the requests that wait, and were accepted under this grant of the client: those that are to be
-    /// answered once the grant is taken back, which no call does yet.
+    /// The ids of the requests that wait, and were accepted under this grant of the client: those that are answered
+    /// once it is revoked.
     pub fn waiting_of(&self, client: ClientId, grant: u8) -> ArrayVec<RequestId, MOST_UNANSWERED>
         ensures { result.items ≡ ids_where (waits_under client grant) self.now }
     {
@@ -174,7 +175,7 @@ impl Book {
         self.holders[place] = None;
     }
 
-    /// Notes that an issued request waits again, in its old place and with its loan.
+    /// Notes that a request which was issued fewer than four times waits again, in its old place and with its loan.
     pub fn requeue(&mut self, id: RequestId)
         requires { MayGoAgain id self.old }
         ensures { self.new ≡ map (at id requeued) self.old }
@@ -204,7 +205,14 @@ impl Book {
         age(&mut self.store, ports);
     }
 
-    /// Whether an issued request of the port is overdue: it was issued three ticks ago, and isn't answered.
+    /// Notes that a client's grant was revoked: the requests that were accepted under it are marked.
+    pub fn revoke(&mut self, client: ClientId, grant: u8)
+        ensures { self.new ≡ revoked_all client grant self.old }
+    {
+        mark(&mut self.store, client, grant);
+    }
+
+    /// Whether an issued request of the port is overdue: it was issued three ticks of its port ago, and isn't answered.
     pub fn overdue(&self, port: Port) -> bool
         ensures { IsTrue result ↔ IsOverdue port self.now }
     {
@@ -316,6 +324,30 @@ fn age(store: &mut Store, ports: &[bool])
     for place in 0..store.len() {
         let request = store.request(place);
         store.replace(place, older(request, ports));
+    }
+}
+
+/// Marks the requests that were accepted under this grant of the client.
+fn mark(store: &mut Store, client: ClientId, grant: u8)
+    ensures { store.new ≡ revoked_all client grant store.old }
+{
+    for place in 0..store.len() {
+        let request = store.request(place);
+        store.replace(place, revoked(request, client, grant));
+    }
+}
+
+/// The request, marked if it was accepted under this grant of the client.
+fn revoked(request: Entry, client: ClientId, grant: u8) -> Entry
+    ensures { result ≡ revoked_under client grant request }
+{
+    if request.client.0 == client.0 && request.grant == grant {
+        Entry {
+            revoked: true,
+            ..request
+        }
+    } else {
+        request
     }
 }
 

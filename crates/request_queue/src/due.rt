@@ -23,8 +23,9 @@ struct Issued {
     alone: bool,
 }
 
-/// The ids of the port's due requests, in order of acceptance: one walk over the port's requests without a holder,
-/// which counts the slots that it gives away, and ends where no later request can be due.
+/// The ids of the port's due requests, in order of acceptance: one pass that finds the port's requests without a
+/// holder, and one walk over these, which counts the slots that it gives away, and ends where no later request can be
+/// due.
 pub fn due(
     store: &Store,
     holders: &[Option<RequestId>],

@@ -42,8 +42,8 @@ pub enum Fate {
 
 impl Entry {
     /// What becomes of the request, when its port was stopped: the one that failed is told so. On the disk that it had,
-    /// one that was issued goes again, unless it was issued four times, and one that waits goes on waiting. Where the
-    /// disk is another, or there is none, or the port is dead, each is told that.
+    /// one that was issued goes again, unless its grant was revoked or it was issued four times; one that waits goes on
+    /// waiting. Where the disk is another, or there is none, or the port is dead, each is told that.
     pub fn fate(&self, failed: &Option<Failed>, prospect: Prospect) -> Fate
         ensures { result ≡ fate_of failed.now prospect self.now }
     {
@@ -59,6 +59,7 @@ impl Entry {
             Prospect::DiskLost => Fate::Ends(Outcome::Unplugged),
             Prospect::Dead => Fate::Ends(Outcome::PortDead),
             Prospect::SameDisk if !self.issued => Fate::Waits,
+            Prospect::SameDisk if self.revoked => Fate::Ends(Outcome::Revoked),
             Prospect::SameDisk if self.issues == MOST_ISSUES => Fate::Ends(Outcome::Aborted),
             Prospect::SameDisk => Fate::GoesAgain,
         }

@@ -1,4 +1,4 @@
-// What each waiting read or write waits for, so that no walk has to search for it anew.
+// An earlier request that each waiting read or write conflicts with, so that no walk has to search for it anew.
 ghost use Rattle.std.specs.Prelude.{◌≡◌, ◌<◌, ◌≤◌, ◌&&◌, [], length, List, IfOk, not, remove, vec_capacity};
 ghost use Rattle.block_machine.specs.declared.due.Unanswered.{Unanswered};
 ghost use Rattle.request_queue.specs.Entries.{asks_of};

@@ -1,7 +1,6 @@
 //! Laws of the definitions, for callers: the clause is the theorem. These functions do nothing.
 ghost use Rattle.std.specs.Prelude.{◌≡◌, ◌≢◌, ◌↔◌, ◌++◌, ◌∷◌, ◌<◌, ◌≤◌, [], ℕ, Bool, List, Option, None, Some, All, Contains, length, map};
 ghost use Rattle.ata_types.specs.declared.Port.{Port};
-ghost use Rattle.ata_types.specs.declared.grant.GrantRow.{GrantRow};
 ghost use Rattle.ata_types.specs.declared.request.ClientId.{ClientId};
 ghost use Rattle.ata_types.specs.declared.request.Frame.{Frame};
 ghost use Rattle.ata_types.specs.declared.request.Outcome.{Outcome};
@@ -13,7 +12,7 @@ ghost use Rattle.block_machine.specs.Steps as steps;
 ghost use Rattle.block_machine.specs.declared.due.Mode.{Mode};
 ghost use Rattle.block_machine.specs.declared.due.Unanswered.{Unanswered};
 ghost use Rattle.dma_frames.specs.Table.{Table, LendsOnly, lent_to};
-ghost use Rattle.request_queue.specs.Entries.{Held, IsAccepted, IsEarlier, IsFresh, IsInOrder, IsUnanswered, IsWaiting, MayGoAgain, Stands, aged, asks_of, at, due_ids, held_of, issue, requeued, unanswered_of, without};
+ghost use Rattle.request_queue.specs.Entries.{Held, IsAccepted, IsEarlier, IsFresh, IsInOrder, IsUnanswered, IsWaiting, MayGoAgain, Stands, aged, asks_of, at, due_ids, held_of, issue, requeued, revoked_all, unanswered_of, without};
 ghost use Rattle.request_queue.specs.Machine.{IsBook, IsEntry};
 ghost use Rattle.request_queue.specs.declared.Entry.{Entry};
 
@@ -50,6 +49,8 @@ pub fn steps_change_the_book()
         → IsBook (without p.request.id entries) (steps.after_step m (steps.Answer p outcome)).book }
     ensures age { (entries : List Held) (m : Machine) (ports : Port → Bool) → IsBook entries m.book
         → IsBook (aged ports entries) (steps.after_step m (steps.Age ports)).book }
+    ensures revoke { (entries : List Held) (m : Machine) (client : ClientId) (grant : ℕ) → IsBook entries m.book
+        → IsBook (revoked_all client grant entries) (steps.after_step m (steps.Revoke client grant)).book }
     ensures touch { (entries : List Held) (m : Machine) (p : machine.Pending) (i : ℕ) (block : machine.Block)
         → IsBook entries m.book → IsBook entries (steps.after_step m (steps.Touch p i block)).book }
     ensures end { (entries : List Held) (m : Machine) (p : machine.Pending) → IsBook entries m.book
@@ -74,6 +75,8 @@ pub fn operations_change_what_is_due()
     ensures answer { (entries : List Held) (id : RequestId)
         → asks_of (without id entries) ≡ with_none id (asks_of entries) }
     ensures tick { (entries : List Held) (ports : Port → Bool) → asks_of (aged ports entries) ≡ asks_of entries }
+    ensures revoked { (entries : List Held) (client : ClientId) (grant : ℕ)
+        → asks_of (revoked_all client grant entries) ≡ asks_of entries }
 {}
 
 /// The due requests of a port may be issued one after the other: each of them waits when its turn comes; and then none
@@ -129,6 +132,8 @@ pub fn the_book_stays_in_order()
     ensures requeued { (entries : List Held) (id : RequestId) → IsInOrder entries → MayGoAgain id entries
         → IsInOrder (map (at id requeued) entries) }
     ensures older { (entries : List Held) (ports : Port → Bool) → IsInOrder entries → IsInOrder (aged ports entries) }
+    ensures revoked { (entries : List Held) (client : ClientId) (grant : ℕ) → IsInOrder entries
+        → IsInOrder (revoked_all client grant entries) }
     ensures answered { (entries : List Held) (id : RequestId) → IsInOrder entries → IsInOrder (without id entries) }
     ensures all { (entries : List Held) → IsInOrder entries → length entries ≤ MOST_UNANSWERED }
     ensures asks { (entries : List Held) → IsInOrder entries → machine_in_order (asks_of entries) }
@@ -137,25 +142,25 @@ pub fn the_book_stays_in_order()
 /// Accepted requests stay so while frames of none of their own change hands: as another request's frames are lent to it
 /// or given back. No frame is lent to two of them.
 pub fn accepted_requests_stay()
-    ensures apart { (rows : List GrantRow) (table : Table) (a b : Held) → a.entry.id ≢ b.entry.id
-        → IsAccepted rows table a → IsAccepted rows table b → (f : Frame) → Contains a.frames f → Contains b.frames f
-        → ⊥ }
-    ensures one { (rows : List GrantRow) (old new : Table) (frames : List Frame) (to : Option RequestId) (e : Held)
-        → LendsOnly old new frames to → IsAccepted rows old e → ((f : Frame) → Contains e.frames f → Contains frames f
-        → ⊥) → IsAccepted rows new e }
-    ensures lent { (rows : List GrantRow) (old new : Table) (entries : List Held) (frames : List Frame)
-        (to : Option RequestId)
-        → LendsOnly old new frames to → All (λ f. lent_to old f ≡ None) frames → All (IsAccepted rows old) entries
-        → All (IsAccepted rows new) entries }
-    ensures answered { (rows : List GrantRow) (old new : Table) (entries : List Held) (e : Held) → Contains entries e
-        → LendsOnly old new e.frames None → All (IsAccepted rows old) entries
-        → All (IsAccepted rows new) (without e.entry.id entries) }
-    ensures issued { (rows : List GrantRow) (table : Table) (entries : List Held) (id : RequestId)
-        → All (IsAccepted rows table) entries → All (IsAccepted rows table) (map (at id issue) entries) }
-    ensures requeued { (rows : List GrantRow) (table : Table) (entries : List Held) (id : RequestId)
-        → All (IsAccepted rows table) entries → All (IsAccepted rows table) (map (at id requeued) entries) }
-    ensures older { (rows : List GrantRow) (table : Table) (entries : List Held) (ports : Port → Bool)
-        → All (IsAccepted rows table) entries → All (IsAccepted rows table) (aged ports entries) }
-    ensures stand { (rows : List GrantRow) (table : Table) (entries : List Held) → All (IsAccepted rows table) entries
+    ensures apart { (table : Table) (a b : Held) → a.entry.id ≢ b.entry.id → IsAccepted table a → IsAccepted table b
+        → (f : Frame) → Contains a.frames f → Contains b.frames f → ⊥ }
+    ensures one { (old new : Table) (frames : List Frame) (to : Option RequestId) (e : Held)
+        → LendsOnly old new frames to → IsAccepted old e → ((f : Frame) → Contains e.frames f → Contains frames f → ⊥)
+        → IsAccepted new e }
+    ensures lent { (old new : Table) (entries : List Held) (frames : List Frame) (to : Option RequestId)
+        → LendsOnly old new frames to → All (λ f. lent_to old f ≡ None) frames → All (IsAccepted old) entries
+        → All (IsAccepted new) entries }
+    ensures answered { (old new : Table) (entries : List Held) (e : Held) → Contains entries e
+        → LendsOnly old new e.frames None → All (IsAccepted old) entries
+        → All (IsAccepted new) (without e.entry.id entries) }
+    ensures issued { (table : Table) (entries : List Held) (id : RequestId)
+        → All (IsAccepted table) entries → All (IsAccepted table) (map (at id issue) entries) }
+    ensures requeued { (table : Table) (entries : List Held) (id : RequestId)
+        → All (IsAccepted table) entries → All (IsAccepted table) (map (at id requeued) entries) }
+    ensures older { (table : Table) (entries : List Held) (ports : Port → Bool)
+        → All (IsAccepted table) entries → All (IsAccepted table) (aged ports entries) }
+    ensures revoked { (table : Table) (entries : List Held) (client : ClientId) (grant : ℕ)
+        → All (IsAccepted table) entries → All (IsAccepted table) (revoked_all client grant entries) }
+    ensures stand { (table : Table) (entries : List Held) → All (IsAccepted table) entries
         → All (Stands table) entries }
 {}

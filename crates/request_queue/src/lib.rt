@@ -1,9 +1,9 @@
 //! The book of unanswered requests of all ports, in order of acceptance, with their loans.
 //!
-//! Each call names a request by its id, and `new` alone takes memory. `issuable` gives the due
-//! requests of a port, which may be issued one after the other. `fate` says what becomes of a
-//! request once its port was stopped. Laws tie the book to the block machine's, step by step. It
-//! knows no register and no slot. It holds loans, so `give_all_back` alone ends it.
+//! A request is named by its id, and `new` alone takes memory. `issuable` gives the due requests of
+//! a port, which may be issued one after the other. `fate` says what becomes of a request once its
+//! port was stopped. Laws tie the book to the block machine's, step by step. It knows no register,
+//! and counts slots without their numbers. It holds loans, so `give_all_back` alone ends it.
 #![tactic(auto)]
 
 mod book;
@@ -35,4 +35,6 @@ pub struct Entry {
     pub issues: u8,
     /// How many ticks ago it was issued last: three at most, since an older one is overdue all the same.
     pub age: u8,
+    /// Whether its grant was revoked since it was accepted.
+    pub revoked: bool,
 }

@@ -2,6 +2,7 @@
 -- is answered.
 pub mod FateReasons
 pub mod AnswerOrder
+pub mod FittingFates
 pub mod RemainingBook
 pub mod MetFates
 pub mod MoreKeptLoans

@@ -4,6 +4,8 @@ pub mod FirstMembers
 pub mod ListMembers
 pub mod PairedLists
 pub mod ChangedRequests
+pub mod RevokedMarks
+pub mod RevokedGrants
 pub mod DueRequests
 pub mod PortGrounds
 pub mod DeviceSteps

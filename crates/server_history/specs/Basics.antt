@@ -29,7 +29,6 @@ use Rattle.block_machine.specs.State.{Accepted, Machine, Pending}
 use Rattle.block_machine.specs.Steps.{Step, Accept, Age, Again, Issue, Answer, IsLiving, May, MayMove, after_step, stays}
 use Rattle.block_machine.specs.declared.due.Mode.{Mode}
 use Rattle.agreement.specs.Facts.{EndedIn, IsClear, ShowsFault}
-use Rattle.ata_types.specs.declared.grant.GrantRow.{GrantRow}
 use Rattle.dma_frames.specs.Table.{Table}
 use Rattle.request_queue.specs.Entries.{Held, IsAccepted, IsInOrder, aged, asks_of}
 use Rattle.request_queue.specs.Machine.{IsBook}
@@ -134,8 +133,8 @@ pub record AgeLaws : Type 0 where
   pub book : (entries : List Held) (m : Machine) (ready : Port → Bool) → IsBook entries m.book
       → IsBook (aged ready entries) (after_step m (Age ready)).book
   pub ordered : (entries : List Held) (ready : Port → Bool) → IsInOrder entries → IsInOrder (aged ready entries)
-  pub accepted : (rows : List GrantRow) (table : Table) (entries : List Held) (ready : Port → Bool)
-      → All (IsAccepted rows table) entries → All (IsAccepted rows table) (aged ready entries)
+  pub accepted : (table : Table) (entries : List Held) (ready : Port → Bool) → All (IsAccepted table) entries
+      → All (IsAccepted table) (aged ready entries)
   pub asks : (entries : List Held) (ready : Port → Bool) → asks_of (aged ready entries) ≡ asks_of entries
 
 -- requests that are unanswered or kept

@@ -2,7 +2,6 @@
 -- rest on them.
 use Rattle.std.specs.Prelude.{ℕ, true, false, ◌≡◌, ◌≢◌, ◌+◌, ◌*◌, ◌%◌, ◌≤◌, ◌<◌, ◌↔◌, List, [], ◌∷◌, ◌++◌, map, Option, None, All, Contains, length}
 use Rattle.ata_types.specs.declared.Port.{Port}
-use Rattle.ata_types.specs.declared.grant.GrantRow.{GrantRow}
 use Rattle.ata_types.specs.declared.memory.TheConstants.{DRIVER_BYTES, FRAME_BYTES}
 use Rattle.ata_types.specs.declared.request.Frame.{Frame}
 use Rattle.ata_types.specs.declared.request.Outcome.{Outcome}
@@ -90,16 +89,16 @@ pub record LawsBelow : Type 0 where
       ↔ (Contains entries e × (e.entry.id ≢ id))
   pub asked : (entries : List Held) → IsInOrder entries → machine_in_order (asks_of entries)
   -- what is lent
-  pub still_lent : (rows : List GrantRow) (old new : Table) (entries : List Held) (frames : List Frame)
-      (to : Option RequestId) → LendsOnly old new frames to → All (λ f. lent_to old f ≡ None) frames
-      → All (IsAccepted rows old) entries → All (IsAccepted rows new) entries
-  pub still_answered : (rows : List GrantRow) (old new : Table) (entries : List Held) (e : Held) → Contains entries e
-      → LendsOnly old new e.frames None → All (IsAccepted rows old) entries
-      → All (IsAccepted rows new) (without e.entry.id entries)
-  pub still_issued : (rows : List GrantRow) (table : Table) (entries : List Held) (id : RequestId)
-      → All (IsAccepted rows table) entries → All (IsAccepted rows table) (map (at id issue) entries)
-  pub still_requeued : (rows : List GrantRow) (table : Table) (entries : List Held) (id : RequestId)
-      → All (IsAccepted rows table) entries → All (IsAccepted rows table) (map (at id requeued_entry) entries)
+  pub still_lent : (old new : Table) (entries : List Held) (frames : List Frame) (to : Option RequestId)
+      → LendsOnly old new frames to → All (λ f. lent_to old f ≡ None) frames → All (IsAccepted old) entries
+      → All (IsAccepted new) entries
+  pub still_answered : (old new : Table) (entries : List Held) (e : Held) → Contains entries e
+      → LendsOnly old new e.frames None → All (IsAccepted old) entries
+      → All (IsAccepted new) (without e.entry.id entries)
+  pub still_issued : (table : Table) (entries : List Held) (id : RequestId) → All (IsAccepted table) entries
+      → All (IsAccepted table) (map (at id issue) entries)
+  pub still_requeued : (table : Table) (entries : List Held) (id : RequestId) → All (IsAccepted table) entries
+      → All (IsAccepted table) (map (at id requeued_entry) entries)
   -- what becomes of slots, and of the requests in them
   pub slots : SlotLaws
   -- requests that get older

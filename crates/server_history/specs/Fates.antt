@@ -1,7 +1,6 @@
 -- The unanswered requests of a port that was stopped meet their fates in the machine, too (this project's own).
 use Rattle.std.specs.Prelude.{ℕ, Bool, ◌≡◌, ◌≢◌, ◌++◌, true, false, List, [], ◌∷◌, All, AllPairs, Contains}
 use Rattle.ata_types.specs.declared.Port.{Port}
-use Rattle.ata_types.specs.declared.grant.GrantRow.{GrantRow}
 use Rattle.ata_types.specs.declared.request.Frame.{Frame}
 use Rattle.ata_types.specs.declared.request.Outcome.{Outcome}
 use Rattle.ata_types.specs.declared.request.Reply.{Reply}
@@ -21,7 +20,7 @@ use Rattle.request_queue.specs.Machine.{IsBook, IsEntry}
 use Rattle.request_queue.specs.declared.Entry.{Entry}
 use Rattle.request_queue.specs.declared.fate.Fate.{Fate}
 use Rattle.request_queue.specs.declared.fate.Fate.TheVariants.{Ends, GoesAgain}
-use Rattle.server_history.specs.Server.{AreOfTwo}
+use Rattle.server_history.specs.Server.{AreOfTwo, TellsGrant}
 
 -- the step is the server's: a request of the port waits again, or is answered
 abbrev pub DecidesOn : Port → Step → Type 0
@@ -47,17 +46,19 @@ abbrev pub loans_of : List Pending → List Lending
 loans_of [] = []
 loans_of (e ∷ rest) = loans_of rest ++ loan_of e ∷ []
 
--- The machine has the book and the loans. These are requests of the port in the book; no slot serves one of them whose
--- loan isn't kept; and where none is, what is parked of the port are issued ones among them.
-pub record MayMeet (port : Port) (fate : Entry → Fate) (requests : List Held) (now : Holdings) (rows : List GrantRow)
-    (k : Known) (m : Machine) : Type 0 where
+-- The machine has the book and the loans. These are requests of the port in the book, each with a mark that tells
+-- whether the machine has its grant; no slot serves one of them whose loan isn't kept; and where none is, what is
+-- parked of the port are issued ones among them.
+pub record MayMeet (port : Port) (fate : Entry → Fate) (requests : List Held) (now : Holdings) (k : Known)
+    (m : Machine) : Type 0 where
   pub reached : IsReached m
   pub knows : Knows m k
   pub book : IsBook now.book m.book
   pub lent : (frame : Frame) → m.lent frame ≡ lent_to now.table frame
   pub ordered : IsInOrder now.book
-  pub accepted : All (IsAccepted rows now.table) now.book
+  pub accepted : All (IsAccepted now.table) now.book
   pub here : (e : Held) → Contains requests e → Contains now.book e × (e.entry.port ≡ port)
+  pub marked : (e : Held) → Contains requests e → TellsGrant m.rows e.entry
   pub earlier : AllPairs IsEarlier requests
   pub unserved : (e : Held) → Contains requests e → keeps_fate (fate e.entry) e.entry ≡ false
       → HasNoSlot k.uses e.entry.id

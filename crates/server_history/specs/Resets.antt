@@ -88,7 +88,7 @@ SettlePorts port (found ∷ rest) replies old new =
 pub record MaySettle (s : Server) : Type 0 where
   pub four_kept : length s.kept ≡ 4
   pub ordered : IsInOrder s.book
-  pub accepted : All (IsAccepted s.grants s.table) s.book
+  pub accepted : All (IsAccepted s.table) s.book
   pub places : (port : Port) → length (kept_at s.kept port.0) + count_by (λ (e : Held). e.entry.issued)
       (requests_of port s.book) ≤ 32
 

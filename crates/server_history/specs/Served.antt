@@ -137,6 +137,7 @@ accepted_as port r id = record {
     issued = false;
     issues = 0;
     age = 0;
+    revoked = false;
   };
   frames = r.frames.items;
 }

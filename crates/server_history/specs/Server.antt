@@ -22,7 +22,7 @@ use Rattle.block_machine.specs.Histories.{IsReached}
 use Rattle.block_machine.specs.Left.{IsRow}
 use Rattle.block_machine.specs.Ports.{Ports}
 use Rattle.block_machine.specs.Refusals.{Situation}
-use Rattle.block_machine.specs.Rules.{DifferInName}
+use Rattle.block_machine.specs.Rules.{DifferInName, HasRow}
 use Rattle.block_machine.specs.State.{Machine, Pending}
 use Rattle.block_machine.specs.declared.due.Mode.{Mode}
 use Rattle.dma_frames.specs.Loan.{Lending}
@@ -39,6 +39,7 @@ use Rattle.request_queue.specs.Machine.{IsBook}
 use Rattle.slots.specs.Uses.{Uses as PortSlots, use_at, with_use}
 use Rattle.slots.specs.declared.Use.{Use as SlotUse}
 use Rattle.driver_history.specs.Holds.{Runs, mode_of}
+use Rattle.request_queue.specs.declared.Entry.{Entry}
 
 -- The device behind the adapter; the grants; by frame its owner and the request that it is lent to; by port the disk
 -- that is wanted, what it was found to be, which disk it was ready with when it was last mended, or its adapter last
@@ -253,12 +254,22 @@ pub record HasCommand (queued : Bool) (d : Device) (port slot : ℕ) : Type 0 wh
 abbrev pub StandsAlone : List PortSlots → ℕ → ℕ → Type 0
 StandsAlone slots port slot = (slot ≡ 0) × ((other : ℕ) → other ≢ 0 → used_for slots port other ≡ None)
 
+-- a request's mark tells whether its grant is there still, or was revoked
+pub record TellsGrant (rows : List GrantRow) (r : Entry) : Type 0 where
+  pub granted : r.revoked ≡ false → HasRow r.client r.grant rows
+  pub revoked : r.revoked ≡ true → HasRow r.client r.grant rows → ⊥
+
+-- so it is of each, and one that waits has its grant
+pub record IsMarked (rows : List GrantRow) (e : Held) : Type 0 where
+  pub tells : TellsGrant rows e.entry
+  pub waiting : e.entry.issued ≡ false → e.entry.revoked ≡ false
+
 -- What holds of a server at each moment of a call. The adapter is on and has the memory of the driver and of the
 -- clients, and each port that is served; each port is as it was found, and runs if that was ready; of each of the four
 -- ports a disk may be remembered, and 32 loans at most be kept; they take commands as adapter and disk can, and use the
 -- slots that they may, for queued commands or for plain ones, of which each is alone in slot 0; grants are as a
--- configuration may give them; requests are as they were accepted, in order, and of ready ports; and some machine that
--- a history leads to stands for the server.
+-- configuration may give them; requests are as they were accepted, in order, with marks that tell of their grants, and
+-- of ready ports; and some machine that a history leads to stands for the server.
 pub record IsKept (s : Server) : Type 0 where
   pub on : IsOn s.device
   pub room : DRIVER_BYTES ≤ s.device.size
@@ -279,8 +290,9 @@ pub record IsKept (s : Server) : Type 0 where
       → StandsAlone s.slots port slot
   pub rows : All IsRow s.grants
   pub owners : OwnsClientFrames s.table s.device.size
-  pub accepted : All (IsAccepted s.grants s.table) s.book
+  pub accepted : All (IsAccepted s.table) s.book
   pub ordered : IsInOrder s.book
+  pub marked : All (IsMarked s.grants) s.book
   pub handed_out : All (λ e. e.entry.id.0 ≤ s.last) s.book
   pub ready : All (λ e. state_of (found_of s.ports e.entry.port.0) ≡ ReadyState) s.book
   pub machine : Machine

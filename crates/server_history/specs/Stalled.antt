@@ -16,14 +16,14 @@ use Rattle.host_boot.specs.declared.Found.{Found}
 use Rattle.host_boot.specs.declared.Found.TheVariants.{Unserved, Unready}
 use Rattle.request_queue.specs.Entries.{Held, IsAccepted, IsInOrder}
 use Rattle.server_history.specs.Mended.{requests_of}
-use Rattle.server_history.specs.Server.{Server, IsMachineOf, OwnsClientFrames, disk_in, is_served, kept_at, mode_at, plain_mode, remembered_at, slots_at, used_for}
+use Rattle.server_history.specs.Server.{Server, IsMachineOf, IsMarked, OwnsClientFrames, disk_in, is_served, kept_at, mode_at, plain_mode, remembered_at, slots_at, used_for}
 
 -- What holds of a server whether or not its adapter is on. The adapter has the memory of the driver and of the clients.
 -- Ports are served in which a disk is wanted, and which the adapter has; another one is idle, has no slot that is used,
 -- and nobody waits for it. Of each of the four ports a disk may be remembered, and there is a place for the loan of
 -- each of its requests that is issued beside those that are kept. Grants are as a configuration may give them; requests
--- are as they were accepted, in order, of served ports, and by ids that were handed out; and some machine that a
--- history leads to stands for the server.
+-- are as they were accepted, in order, with marks that tell of their grants, of served ports, and by ids that were
+-- handed out; and some machine that a history leads to stands for the server.
 pub record KeepsBooks (s : Server) : Type 0 where
   pub room : DRIVER_BYTES ≤ s.device.size
   pub served : (port : ℕ) → port < 4 → (is_served (found_of s.ports port) ≡ true)
@@ -39,8 +39,9 @@ pub record KeepsBooks (s : Server) : Type 0 where
       (requests_of port s.book) ≤ 32
   pub rows : All IsRow s.grants
   pub owners : OwnsClientFrames s.table s.device.size
-  pub accepted : All (IsAccepted s.grants s.table) s.book
+  pub accepted : All (IsAccepted s.table) s.book
   pub ordered : IsInOrder s.book
+  pub marked : All (IsMarked s.grants) s.book
   pub handed_out : All (λ e. e.entry.id.0 ≤ s.last) s.book
   pub asked : All (λ e. is_served (found_of s.ports e.entry.port.0) ≡ true) s.book
   pub machine : Machine

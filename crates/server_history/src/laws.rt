@@ -1,5 +1,5 @@
 // Laws of the definitions, for callers: the clause is the theorem. Nothing comes of calling these functions.
-ghost use Rattle.std.specs.Prelude.{ℕ, Bool, true, false, ◌≡◌, ◌≢◌, ◌⊎◌, ◌<◌, ◌≤◌, ◌+◌, ◌*◌, ◌/◌, ◌%◌, List, [], ◌∷◌, Option, Some, None, Ok, Err, length, All, AllPairs, Contains, count_by};
+ghost use Rattle.std.specs.Prelude.{ℕ, Bool, true, false, ◌≡◌, ◌≢◌, ◌⊎◌, ◌<◌, ◌≤◌, ◌+◌, ◌*◌, ◌/◌, ◌%◌, List, [], ◌∷◌, Option, Some, None, Ok, Err, length, All, AllPairs, Contains, count_by, filter, not};
 ghost use Rattle.ata_types.specs.declared.Port.{Port};
 ghost use Rattle.ata_types.specs.declared.PortState.TheVariants.{Dead, Ready as ReadyState};
 ghost use Rattle.ata_types.specs.declared.grant.GrantRow.{GrantRow};
@@ -24,7 +24,7 @@ ghost use Rattle.agreement.specs.Slots.{IsOver};
 ghost use Rattle.block_machine.specs.Due.{IsDue, NoneDue, is_plain};
 ghost use Rattle.block_machine.specs.Events.{Submit, StoreAt, LoadAt, Service, State, Tick, Device as Told, Submitted, Served, Shown, Stepped};
 ghost use Rattle.block_machine.specs.Refusals.{IsAcceptable, IsFirstRefusal, IsOpen, IsFirstMemFault};
-ghost use Rattle.block_machine.specs.Rules.{IsNamed};
+ghost use Rattle.block_machine.specs.Rules.{IsNamed, without_row};
 ghost use Rattle.command_table.specs.Written.{IsUnused};
 ghost use Rattle.dma_frames.specs.Loan.{Lending};
 ghost use Rattle.dma_frames.specs.Table.{Table, LendsOnly, owner_of, lent_to};
@@ -34,7 +34,7 @@ ghost use Rattle.identify.specs.declared.DiskInfo.{DiskInfo};
 ghost use Rattle.host_boot.specs.declared.Host.{Host};
 ghost use Rattle.hba_regs.specs.Bits.{bit};
 ghost use Rattle.ncq.specs.Masks.{ReadsDone, SeesClear};
-ghost use Rattle.request_queue.specs.Entries.{Held, asks, asks_of, due_ids};
+ghost use Rattle.request_queue.specs.Entries.{Held, asks, asks_of, due_ids, revoked_all, waits_under};
 ghost use Rattle.request_queue.specs.Fates.{Holdings, MeetFates, fate_of};
 ghost use Rattle.request_queue.specs.declared.fate.Failed.{Failed};
 ghost use Rattle.request_queue.specs.declared.fate.Prospect.{Prospect};
@@ -47,7 +47,7 @@ ghost use Rattle.server_history.specs.Stalled.{KeepsBooks};
 ghost use Rattle.server_history.specs.Tried.{TriesPort};
 ghost use Rattle.server_history.specs.Turns.{HasPart, InRestart, ServePorts, ServesPort, Ticks, TriesUnready, a_tick_older};
 ghost use Rattle.port_look.specs.declared.Trouble.TheVariants.{Hung};
-ghost use Rattle.server_history.specs.Server.{AreOfTwo, Server, mode_found, IsKept, IsLentOut, IsNewServer, IsSettled, kept_at, mode_in, ports_of, situation_of, slots_at, state_of, used_for};
+ghost use Rattle.server_history.specs.Server.{AreOfTwo, IsMarked, Server, mode_found, IsKept, IsLentOut, IsNewServer, IsSettled, kept_at, mode_in, ports_of, situation_of, slots_at, state_of, used_for};
 ghost use Rattle.slots.specs.Uses.{IsLowestFree, IsTaken};
 ghost use Rattle.slots.specs.declared.Use.{Use as SlotUse};
 ghost use Rattle.port_look.specs.Looks.{IsLooking, LooksAt};
@@ -293,6 +293,14 @@ pub fn acceptances_add()
 {
     the_laws_below_hold();
 }
+
+/// As a client's grant of a number is revoked, marks go on to tell which grants are there: its row goes, the requests
+/// that waited under it are answered, and the others under it are marked.
+pub fn marks_tell_of_a_revocation()
+    ensures { (rows : List GrantRow) (client : ClientId) (number : ℕ) (entries : List Held)
+        → All (IsMarked rows) entries → All (IsMarked (without_row client number rows))
+        (revoked_all client number (filter (λ e. not (waits_under client number e.entry)) entries)) }
+{}
 
 /// Ports that have their turns in a service one after another add an event: ready ones are served, and others tried.
 pub fn services_add()

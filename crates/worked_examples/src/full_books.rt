@@ -32,6 +32,7 @@ fn request(id: u64) -> Entry
         issued: false,
         issues: 0,
         age: 0,
+        revoked: false,
     }
 }
 

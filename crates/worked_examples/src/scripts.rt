@@ -72,6 +72,7 @@ const OUTCOMES: &[(u64, Outcome, &str)] = &[
     ),
     (7, Outcome::Aborted, "reply 7 Aborted"),
     (7, Outcome::Unplugged, "reply 7 Unplugged"),
+    (7, Outcome::Revoked, "reply 7 Revoked"),
     (
         u64::MAX,
         Outcome::PortDead,

@@ -11,7 +11,7 @@ use Rattle.ata_types.specs.declared.Port.{Port}
 use Rattle.ata_types.specs.declared.PortState.{PortState}
 use Rattle.ata_types.specs.declared.PortState.TheVariants.{Absent, Dead, Foreign, Ready as ReadyState, Unfit}
 use Rattle.ata_types.specs.declared.request.Outcome.{Outcome}
-use Rattle.ata_types.specs.declared.request.Outcome.TheVariants.{Aborted, DeviceError, Ok, PortDead, Unplugged}
+use Rattle.ata_types.specs.declared.request.Outcome.TheVariants.{Aborted, DeviceError, Ok, PortDead, Revoked, Unplugged}
 use Rattle.ata_types.specs.declared.request.Reply.{Reply}
 use Rattle.agreement.specs.Agrees.{port_at}
 use Rattle.block_machine.specs.Events.{IsLawful, IsToldBefore, Moment, Tells, WasIssued, answers_of, reply_of}
@@ -177,9 +177,11 @@ pub lawful_lift : (old new : Moment) (evidence other : Evidence) (ports later : 
     → IsLawful old evidence ports e o → IsLawful new other later e o
 lawful_lift old new evidence other ports later e Ok was faults lost stopped state disk l = (was l.0, l.1, l.2, l.3)
 lawful_lift old new evidence other ports later e (DeviceError status error) was faults lost stopped state disk l = (was l.0, l.1, faults _ l.2, stopped l.3)
-lawful_lift old new evidence other ports later e Aborted was faults lost stopped state disk l = (was l.0, l.1, state ∙ l.2, stopped l.3, disk l.4)
+lawful_lift old new evidence other ports later e Aborted was faults lost stopped state disk l = (was l.0, l.1, (state ∙ l.2.0, stopped l.2.1, disk l.2.2))
 lawful_lift old new evidence other ports later e Unplugged was faults lost stopped state disk l = (lost l.0, stopped l.1)
 lawful_lift old new evidence other ports later e PortDead was faults lost stopped state disk l = state ∙ l
+lawful_lift old new evidence other ports later e Revoked was faults lost stopped state disk (inl waits) = inl waits
+lawful_lift old new evidence other ports later e Revoked was faults lost stopped state disk (inr again) = inr (state ∙ again.0, stopped again.1, disk again.2)
 
 -- ---- ports that are what they were
 

@@ -113,7 +113,7 @@ module _ (laws : LawsBelow) (port : Port) (m : Machine) where
         changed_left steps e requeued may.0 may.1.0 (All-head (IsOfTurn port) (Again e) steps own) y other (others_left steps (All-tail (IsOfTurn port) (Again e) steps own) may.0 y here other)
     others_left (Answer e o ∷ steps) own may y here other =
         let w = others_left steps (All-tail (IsOfTurn port) (Answer e o) steps own) may.0 y here other in
-        let differs = apart steps may.0 e w.0 may.1 w.1 (All-head (IsOfTurn port) (Answer e o) steps own) (λ same. other (sym (ap (λ r. r.port) w.2.request) ∙ same)) in
+        let differs = apart steps may.0 e w.0 may.1.0 w.1 (All-head (IsOfTurn port) (Answer e o) steps own) (λ same. other (sym (ap (λ r. r.port) w.2.request) ∙ same)) in
         (w.0, without_into e.request.id (after m steps).book w.0 (λ same. differs (ap (λ (i : RequestId). i.0) same)) w.1, w.2)
     others_left (step ∷ steps) own may y here other =
         let w = others_left steps (All-tail (IsOfTurn port) step steps own) may.0 y here other in
@@ -157,7 +157,7 @@ module _ (laws : LawsBelow) (port : Port) (m : Machine) where
   pub handled_own : (step : Step) (steps : List Step) → All (IsOfTurn port) (step ∷ steps) → AllMay m (step ∷ steps) → (id : RequestId) → handles id step ≡ true → IsOwn id
   handled_own (Issue mode e) steps own may id h = own_of steps (All-tail (IsOfTurn port) (Issue mode e) steps own) e may.1.0 (All-head (IsOfTurn port) (Issue mode e) steps own) id h
   handled_own (Again e) steps own may id h = own_of steps (All-tail (IsOfTurn port) (Again e) steps own) e may.1.0 (All-head (IsOfTurn port) (Again e) steps own) id h
-  handled_own (Answer e o) steps own may id h = own_of steps (All-tail (IsOfTurn port) (Answer e o) steps own) e may.1 (All-head (IsOfTurn port) (Answer e o) steps own) id h
+  handled_own (Answer e o) steps own may id h = own_of steps (All-tail (IsOfTurn port) (Answer e o) steps own) e may.1.0 (All-head (IsOfTurn port) (Answer e o) steps own) id h
   handled_own step steps own may id h = absurd (not_handled id step (All-head (IsOfTurn port) step steps own) h)
 
   issues_handles : (id : RequestId) (step : Step) → issues_it id step ≡ true → handles id step ≡ true

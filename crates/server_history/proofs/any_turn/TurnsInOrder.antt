@@ -5,7 +5,7 @@ use Rattle.std.proofs.lemmas.Bool.{cases_eq, false≢true, ne_eqb, or_left, or_r
 use Rattle.std.proofs.lemmas.List.Elements.{All-append, All-contains, All-nil, All-tail, All-weaker, Contains-append_cases, Contains-append_right, Contains-get_or}
 use Rattle.ata_types.specs.declared.Port.{Port}
 use Rattle.ata_types.specs.declared.request.Outcome.{Outcome}
-use Rattle.ata_types.specs.declared.request.Outcome.TheVariants.{Ok, DeviceError, Aborted, Unplugged, PortDead}
+use Rattle.ata_types.specs.declared.request.Outcome.TheVariants.{Ok, DeviceError, Aborted, Unplugged, PortDead, Revoked}
 use Rattle.ata_types.specs.declared.request.RequestId.{RequestId}
 use Rattle.adapter.specs.declared.access.DeviceStep.{DeviceStep}
 use Rattle.agreement.specs.Agrees.{port_at}
@@ -71,6 +71,7 @@ pub grounded_join : (evidence : Evidence) (late early : List Step) → AllGround
 grounded_join evidence [] early a b = b
 grounded_join evidence (Again e ∷ late) early a b = (grounded_join evidence late early a.0 b, a.1)
 grounded_join evidence (Answer e Aborted ∷ late) early a b = (grounded_join evidence late early a.0 b, a.1)
+grounded_join evidence (Answer e Revoked ∷ late) early a b = (grounded_join evidence late early a.0 b, a.1)
 grounded_join evidence (Answer e (DeviceError status error) ∷ late) early a b = (grounded_join evidence late early a.0 b, a.1)
 grounded_join evidence (Answer e Ok ∷ late) early a b = grounded_join evidence late early a b
 grounded_join evidence (Answer e Unplugged ∷ late) early a b = grounded_join evidence late early a b
@@ -81,6 +82,7 @@ pub grounded_on : (evidence other : Evidence) → ((q : Port) → Contains evide
 grounded_on evidence other more [] a = tt
 grounded_on evidence other more (Again e ∷ steps) a = (grounded_on evidence other more steps a.0, more e.request.port a.1)
 grounded_on evidence other more (Answer e Aborted ∷ steps) a = (grounded_on evidence other more steps a.0, more e.request.port a.1)
+grounded_on evidence other more (Answer e Revoked ∷ steps) a = (grounded_on evidence other more steps a.0, more e.request.port a.1)
 grounded_on evidence other more (Answer e (DeviceError status error) ∷ steps) a = (grounded_on evidence other more steps a.0, more e.request.port a.1)
 grounded_on evidence other more (Answer e Ok ∷ steps) a = grounded_on evidence other more steps a
 grounded_on evidence other more (Answer e Unplugged ∷ steps) a = grounded_on evidence other more steps a

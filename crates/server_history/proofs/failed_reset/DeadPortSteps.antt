@@ -46,6 +46,7 @@ module _ (ports : Ports) where
   is_death e (outcome.DeviceError status error) is = absurd is
   is_death e outcome.Aborted is = absurd is
   is_death e outcome.Unplugged is = absurd is
+  is_death e outcome.Revoked is = absurd is
 
   pub death_told : (steps : List Step) → All (TellsDeath ports) steps → (e : Pending) (o : Outcome) → Contains steps (Answer e o) → (o ≡ outcome.PortDead) × (ports.state e.request.port ≡ Dead)
   death_told steps all e o here = is_death e o (All-contains (TellsDeath ports) steps (Answer e o) all here)

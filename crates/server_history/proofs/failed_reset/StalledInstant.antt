@@ -180,6 +180,7 @@ booked_on s new b same idle m reached is = record {
   owners = λ frame client own. let o = b.owners frame client own in (o.0, subst (λ (n : ℕ). 4096 * frame.0 + 4096 ≤ n) (sym same.size) o.1);
   accepted = b.accepted;
   ordered = b.ordered;
+  marked = b.marked;
   handed_out = b.handed_out;
   asked = b.asked;
   machine = m;

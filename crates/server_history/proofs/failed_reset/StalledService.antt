@@ -50,18 +50,21 @@ use Rattle.server_history.specs.Below.{LawsBelow}
 use Rattle.server_history.specs.Fates.{DecidesOn, KeepsNone, MayMeet, MeetsInMachine, keeps_fate, loans_of}
 use Rattle.server_history.specs.Mended.{holdings_of, requests_of}
 use Rattle.server_history.specs.Resets.{IsProspectAnew, MaySettle, SettlePorts, SettlesPort, with_holdings}
-use Rattle.server_history.specs.Server.{AreKept, Server, IsMachineOf, is_served, kept_at, ports_of, state_of}
+use Rattle.server_history.specs.Server.{AreKept, Server, IsMachineOf, is_served, kept_at, ports_of, state_of, IsMarked}
 use Rattle.server_history.specs.Stalled.{KeepsBooks, IsStalled}
 use Rattle.server_history.proofs.failed_reset.ServerBook.{kept_other, kept_same, left, may_settle, settles_on}
 use Rattle.server_history.proofs.failed_reset.DeadPortSteps.{TellsDeath, death_told, deaths_belong, deaths_grounded, deaths_issue_none, deaths_lawful, deaths_unplug_none}
-use Rattle.server_history.proofs.recovery_turn.MendedMachine.{deciding_leaves, fates_owners, in_filter}
+use Rattle.server_history.proofs.recovery_turn.MendedMachine.{deciding_leaves, fates_owners}
 use Rattle.server_history.proofs.any_turn.JoinedParts.{AreToldBelow, told_then}
 use Rattle.server_history.proofs.fates.MoreKeptLoans.{more_kept}
 use Rattle.server_history.proofs.state.FirstMembers.{nowhere}
-use Rattle.server_history.proofs.fates.MetFates.{loans_in, meet, tame, nobody}
-use Rattle.server_history.proofs.fates.RemainingBook.{WasIn, its_requests}
+use Rattle.server_history.proofs.fates.FittingFates.{fits_entry, kept_dead_alone}
+use Rattle.server_history.proofs.fates.MetFates.{loans_in, meet, nobody}
+use Rattle.server_history.proofs.fates.RemainingBook.{WasIn, its_requests, marked_from, was_itself, was_more}
 use Rattle.server_history.proofs.failed_reset.StalledInstant.{either, holds_off, never_ready, never_troubled}
 use Rattle.server_history.proofs.state.PairedLists.{at_left, at_right}
+use Rattle.server_history.proofs.state.RevokedMarks.{tells_of}
+use Rattle.server_history.proofs.state.ListMembers.{in_filter}
 
 -- ---- what a dead port's requests may expect
 
@@ -76,7 +79,7 @@ other_prospect was found prospect expects alive is = alive (subst (IsProspectAne
 
 -- a request that is issued
 an_issued : RequestId → Port → Entry
-an_issued id port = record { id = id; client = record { 0 = 0 }; grant = 0; port = port; op = Flush; range = record { first = record { 0 = 0 }; count = 0 }; issued = true; issues = 0; age = 0 }
+an_issued id port = record { id = id; client = record { 0 = 0 }; grant = 0; port = port; op = Flush; range = record { first = record { 0 = 0 }; count = 0 }; issued = true; issues = 0; age = 0; revoked = false }
 
 an_issued_is : (id : RequestId) (port : Port) → (an_issued id port).issued ≡ true
 unfolding an_issued
@@ -115,7 +118,7 @@ module _ (laws : LawsBelow) (s : Server) (t : IsStalled s) where
     settle = may_settle s b;
     settings = refl;
     owners = refl;
-    from = λ e here. record { was = e; there = here; id = refl; port = refl; op = refl };
+    from = was_itself s.book;
     emptied = λ q small. absurd (omega (arith, small));
   }
 
@@ -163,7 +166,7 @@ module _ (laws : LawsBelow) (s : Server) (t : IsStalled s) where
 
     -- on a port that isn't served no loan is kept
     quiet : found_of s.ports n ≢ Unready Dead → KeepsNone fate
-    quiet alive e = (tame None one.prospect e).alive (other_prospect _ (found_of s.ports n) one.prospect one.expects alive)
+    quiet alive e = kept_dead_alone None one.prospect e (other_prospect _ (found_of s.ports n) one.prospect one.expects alive)
 
     not_dead : found_of s.ports n ≡ Unserved → found_of s.ports n ≢ Unready Dead
     not_dead unserved dead = let z : Unserved ≡ Unready Dead = sym unserved ∙ dead in cc
@@ -177,7 +180,7 @@ module _ (laws : LawsBelow) (s : Server) (t : IsStalled s) where
         subst (HasNoSlot p.stands.uses) x.2.id (laws.slots.waiting p.stands.uses w s.device w_reached p.stands.knows.agrees x.0 x.1 waits))
         (either s t.dead n)
 
-    may_meet : MayMeet (port_at n) fate requests (holdings_of (port_at n) c) s.grants k w
+    may_meet : MayMeet (port_at n) fate requests (holdings_of (port_at n) c) k w
     may_meet = record {
       reached = w_reached;
       knows = p.stands.knows;
@@ -186,6 +189,7 @@ module _ (laws : LawsBelow) (s : Server) (t : IsStalled s) where
       ordered = p.settle.ordered;
       accepted = p.settle.accepted;
       here = of_its;
+      marked = λ e there. tells_of w.rows s.grants e.entry p.stands.rows (marked_from s.grants s.book b.marked e (p.from e (of_its e there).0)).tells;
       earlier = (its_requests (port_at n) c p.settle.ordered p.settle.accepted).earlier;
       unserved = unserved;
       parked = λ none id there. ⊎_elim
@@ -195,7 +199,7 @@ module _ (laws : LawsBelow) (s : Server) (t : IsStalled s) where
     }
 
     met : MeetsInMachine (port_at n) fate requests its (holdings_of (port_at n) c) one.now k w
-    met = meet laws (port_at n) None one.prospect s.grants requests its (holdings_of (port_at n) c) one.now k w may_meet one.meets
+    met = meet laws (port_at n) fate (fits_entry None one.prospect) requests its (holdings_of (port_at n) c) one.now k w may_meet one.meets
 
     abbrev z : Machine
     z = after w met.steps
@@ -274,9 +278,7 @@ module _ (laws : LawsBelow) (s : Server) (t : IsStalled s) where
 
     from_then : (e : Held) → Contains one.now.book e → WasIn s.book e
     from_then e here =
-        let x = (left laws c mid (port_at n) its low p.settle one).from e here in
-        let y = p.from x.was x.there in
-        record { was = y.was; there = y.there; id = x.id ∙ y.id; port = x.port ∙ y.port; op = x.op ∙ y.op }
+        was_more s.book book e p.from ((left laws c mid (port_at n) its low p.settle one).from e here)
 
     none_here : (e : Held) → Contains one.now.book e → e.entry.port.0 ≡ n → ⊥
     none_here e here own =
@@ -427,8 +429,9 @@ module _ (laws : LawsBelow) (s : Server) (t : IsStalled s) where
             places = x.settle.places;
             rows = b.rows;
             owners = λ frame client own. b.owners frame client (ap (λ (owners : List (Option ClientId)). get_or owners frame.0 None) (sym x.owners) ∙ own);
-            accepted = nothing_left (IsAccepted s.grants new.table);
+            accepted = nothing_left (IsAccepted new.table);
             ordered = x.settle.ordered;
+            marked = nothing_left (IsMarked s.grants);
             handed_out = nothing_left (λ e. e.entry.id.0 ≤ s.last);
             asked = nothing_left (λ e. is_served (found_of s.ports e.entry.port.0) ≡ true);
             machine = after b.machine x.steps;

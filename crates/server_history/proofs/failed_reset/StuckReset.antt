@@ -173,6 +173,7 @@ module _ (laws : LawsBelow) (s new : Server) (b : KeepsBooks s) (g : GetsStuck s
         owners = on.owners;
         accepted = on.accepted;
         ordered = on.ordered;
+        marked = on.marked;
         handed_out = on.handed_out;
         asked = All-weaker (λ (e : Held). is_served (found_of s.ports e.entry.port.0) ≡ true) (λ (e : Held). is_served (found_of new.ports e.entry.port.0) ≡ true)
             (λ e its. served_same e.entry.port.0 ∙ its) s.book b.asked;

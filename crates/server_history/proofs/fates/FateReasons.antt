@@ -33,28 +33,26 @@ use Rattle.server_history.proofs.state.FirstMembers.{nowhere, first_here}
 
 -- ---- why
 
--- it failed; or it was issued four times, its disk is another one, or its port is dead
+-- it failed; or it was issued four times, its disk is another one, its port is dead, or its grant was revoked
 abbrev pub Why : Option Failed → Prospect → Entry → Outcome → Type 0
 Why failed prospect e o =
     ((its : Failed) × (failed ≡ Some its) × (its.id.0 ≡ e.id.0) × (o ≡ outcome.DeviceError its.status its.error))
     ⊎ (((prospect ≡ SameDisk) × (e.issued ≡ true) × (e.issues ≡ 4) × (o ≡ outcome.Aborted))
     ⊎ (((prospect ≡ DiskLost) × (o ≡ outcome.Unplugged))
-    ⊎ ((prospect ≡ NoEnd) × (o ≡ outcome.PortDead))))
+    ⊎ (((prospect ≡ NoEnd) × (o ≡ outcome.PortDead))
+    ⊎ ((prospect ≡ SameDisk) × (e.issued ≡ true) × (e.revoked ≡ true) × (o ≡ outcome.Revoked)))))
 
 why_on : (failed : Option Failed) (prospect : Prospect) (e : Entry) (o : Outcome) → fate_on prospect e ≡ Ends o → Why failed prospect e o
-why_on failed SameDisk e o is = by e.issued (e.issues == 4) refl refl
+why_on failed SameDisk e o is = by e.issued e.revoked (e.issues == 4) refl refl refl is
   where
-    by : (a b : Bool) → e.issued ≡ a → (e.issues == 4) ≡ b → Why failed SameDisk e o
-    by true true x y =
-        let w : Ends outcome.Aborted ≡ Ends o = sym (λ i. if x i then (if y i then Ends outcome.Aborted else GoesAgain) else Waits) ∙ is in
-        let told : o ≡ outcome.Aborted = cc in
-        inr (inl (refl, x, eqb-true e.issues 4 y, told))
-    by true false x y =
-        let w : GoesAgain ≡ Ends o = sym (λ i. if x i then (if y i then Ends outcome.Aborted else GoesAgain) else Waits) ∙ is in absurd cc
-    by false b x y =
-        let w : Waits ≡ Ends o = sym (λ i. if x i then (if e.issues == 4 then Ends outcome.Aborted else GoesAgain) else Waits) ∙ is in absurd cc
+    by : (a b c : Bool) → e.issued ≡ a → e.revoked ≡ b → (e.issues == 4) ≡ c
+        → (if a then (if b then Ends outcome.Revoked else (if c then Ends outcome.Aborted else GoesAgain)) else Waits) ≡ Ends o → Why failed SameDisk e o
+    by true true c x y z told = let is : o ≡ outcome.Revoked = cc in inr (inr (inr (inr (refl, x, y, is))))
+    by true false true x y z told = let is : o ≡ outcome.Aborted = cc in inr (inl (refl, x, eqb-true e.issues 4 z, is))
+    by true false false x y z told = absurd cc
+    by false b c x y z told = absurd cc
 why_on failed DiskLost e o is = let w : Ends outcome.Unplugged ≡ Ends o = is in let told : o ≡ outcome.Unplugged = cc in inr (inr (inl (refl, told)))
-why_on failed NoEnd e o is = let w : Ends outcome.PortDead ≡ Ends o = is in let told : o ≡ outcome.PortDead = cc in inr (inr (inr (refl, told)))
+why_on failed NoEnd e o is = let w : Ends outcome.PortDead ≡ Ends o = is in let told : o ≡ outcome.PortDead = cc in inr (inr (inr (inl (refl, told))))
 
 pub why : (failed : Option Failed) (prospect : Prospect) (e : Entry) (o : Outcome) → fate_of failed prospect e ≡ Ends o → Why failed prospect e o
 why None prospect e o is = why_on None prospect e o is
@@ -73,6 +71,7 @@ ok_or_not (outcome.DeviceError status error) = inr (λ e. let z : outcome.Device
 ok_or_not outcome.Aborted = inr (λ e. let z : outcome.Aborted ≡ outcome.Ok = e in absurd cc)
 ok_or_not outcome.Unplugged = inr (λ e. let z : outcome.Unplugged ≡ outcome.Ok = e in absurd cc)
 ok_or_not outcome.PortDead = inr (λ e. let z : outcome.PortDead ≡ outcome.Ok = e in absurd cc)
+ok_or_not outcome.Revoked = inr (λ e. let z : outcome.Revoked ≡ outcome.Ok = e in absurd cc)
 
 -- one goes again only on the disk that it had
 again_on : (prospect : Prospect) (e : Entry) → fate_on prospect e ≡ GoesAgain → prospect ≡ SameDisk
@@ -130,6 +129,7 @@ answered_left laws port done (request ∷ requests) old new (mid, one, its, more
 -- it is told only where the port failed
 abbrev pub RestsOnFailure : Outcome → Type 0
 RestsOnFailure outcome.Aborted = Unit {0}
+RestsOnFailure outcome.Revoked = Unit {0}
 RestsOnFailure (outcome.DeviceError status error) = Unit {0}
 RestsOnFailure o = ⊥
 
@@ -165,7 +165,7 @@ module _ (port : Port) where
   )
   deciding_lawful old evidence ports (step ∷ steps) all answer again = absurd (All-head (DecidesOn port) step steps all)
 
-  -- a request that goes again, is aborted or is told a fault is of a port that failed
+  -- a request that goes again, or is aborted, revoked or told a fault in its place, is of a port that failed
   pub deciding_grounded : (evidence : Evidence) (steps : List Step) → All (DecidesOn port) steps → ((e : Pending) → Contains steps (Again e) → Contains evidence.failed port)
       → ((e : Pending) (o : Outcome) → Contains steps (Answer e o) → RestsOnFailure o → Contains evidence.failed port) → AllGrounded evidence steps
   deciding_grounded evidence [] all again answer = tt
@@ -176,6 +176,10 @@ module _ (port : Port) where
   deciding_grounded evidence (Answer e outcome.Aborted ∷ steps) all again answer = (
     deciding_grounded evidence steps (All-tail (DecidesOn port) (Answer e outcome.Aborted) steps all) (λ x there. again x (contains_there (Answer e outcome.Aborted) steps (Again x) there)) (λ x o there. answer x o (contains_there (Answer e outcome.Aborted) steps (Answer x o) there)),
     subst (Contains evidence.failed) (sym (All-head (DecidesOn port) (Answer e outcome.Aborted) steps all)) (answer e outcome.Aborted (first_here (Answer e outcome.Aborted) steps) tt),
+  )
+  deciding_grounded evidence (Answer e outcome.Revoked ∷ steps) all again answer = (
+    deciding_grounded evidence steps (All-tail (DecidesOn port) (Answer e outcome.Revoked) steps all) (λ x there. again x (contains_there (Answer e outcome.Revoked) steps (Again x) there)) (λ x o there. answer x o (contains_there (Answer e outcome.Revoked) steps (Answer x o) there)),
+    subst (Contains evidence.failed) (sym (All-head (DecidesOn port) (Answer e outcome.Revoked) steps all)) (answer e outcome.Revoked (first_here (Answer e outcome.Revoked) steps) tt),
   )
   deciding_grounded evidence (Answer e (outcome.DeviceError status error) ∷ steps) all again answer = (
     deciding_grounded evidence steps (All-tail (DecidesOn port) (Answer e (outcome.DeviceError status error)) steps all) (λ x there. again x (contains_there (Answer e (outcome.DeviceError status error)) steps (Again x) there)) (λ x o there. answer x o (contains_there (Answer e (outcome.DeviceError status error)) steps (Answer x o) there)),

@@ -1,5 +1,5 @@
 -- Requests meet their fates in the machine, one after another.
-use Rattle.std.proofs.Common.{ℕ, suc, ◌≡◌, ◌≢◌, ◌<◌, ◌==◌, Bool, true, false, not, cond, eq-eqb, if◌then◌else◌, List, [], ◌∷◌, ◌++◌, map, filter, Option, Some, None, inl, inr, append-nil, append_assoc, refl, sym, ap, ◌∙◌, subst, arith, ⊎_elim}
+use Rattle.std.proofs.Common.{ℕ, suc, ◌≡◌, ◌≢◌, ◌<◌, ◌==◌, Bool, true, false, not, cond, eq-eqb, if◌then◌else◌, List, [], ◌∷◌, ◌++◌, map, filter, inl, inr, append-nil, append_assoc, refl, sym, ap, ◌∙◌, subst, arith, ⊎_elim}
 use Rattle.std.specs.List.{All, AllPairs, Contains}
 use Rattle.std.specs.List.Sorted.{IsPermutation}
 use Rattle.std.proofs.lemmas.Bool.{cond-true, eqb-false, false≢true, ne_eqb}
@@ -7,7 +7,6 @@ use Rattle.std.proofs.lemmas.List.Elements.{All-append, All-cons, All-contains, 
 use Rattle.std.proofs.lemmas.List.Kept.{AllPairs-cons}
 use Rattle.std.proofs.lemmas.List.Sorted.{Contains-permutation, IsPermutation-append, IsPermutation-append_comm, IsPermutation-refl, IsPermutation-trans}
 use Rattle.ata_types.specs.declared.Port.{Port}
-use Rattle.ata_types.specs.declared.grant.GrantRow.{GrantRow}
 use Rattle.ata_types.specs.declared.request.Outcome.{Outcome}
 use Rattle.ata_types.specs.declared.request.Outcome.TheVariants as outcome
 use Rattle.ata_types.specs.declared.request.Reply.{Reply}
@@ -21,23 +20,22 @@ use Rattle.block_machine.specs.State.{Machine, Pending}
 use Rattle.block_machine.specs.Steps.{Step, Again, Answer, May, after_step, stays, unlend}
 use Rattle.dma_frames.specs.Loan.{Lending}
 use Rattle.dma_frames.specs.Table.{Table, lent_to}
-use Rattle.request_queue.specs.Entries.{HasIssuesLeft, Held, IsAccepted, IsEarlier, IsInOrder, at, requeued, without}
-use Rattle.request_queue.specs.Fates.{EndsLoan, Holdings, MeetFates, MeetsFate, fate_of, fate_on, keeps_loan, reply_to}
+use Rattle.request_queue.specs.Entries.{HasFewIssues, Held, IsAccepted, IsEarlier, IsInOrder, at, requeued, without}
+use Rattle.request_queue.specs.Fates.{EndsLoan, Holdings, MeetFates, MeetsFate, keeps_loan, reply_to}
 use Rattle.request_queue.specs.Machine.{IsBook, IsEntry}
 use Rattle.request_queue.specs.declared.Entry.{Entry}
-use Rattle.request_queue.specs.declared.fate.Failed.{Failed}
 use Rattle.request_queue.specs.declared.fate.Fate.{Fate}
 use Rattle.request_queue.specs.declared.fate.Fate.TheVariants.{Ends, GoesAgain, Waits}
-use Rattle.request_queue.specs.declared.fate.Prospect.{Prospect}
-use Rattle.request_queue.specs.declared.fate.Prospect.TheVariants.{Dead, DiskLost, SameDisk}
 use Rattle.server_history.specs.Below.{LawsBelow}
 use Rattle.server_history.specs.Fates.{DecidesOn, KeepsNone, MayMeet, MeetsInMachine, keeps_fate, loan_of, loans_of}
-use Rattle.server_history.specs.Server.{AreOfTwo}
+use Rattle.server_history.specs.Server.{AreOfTwo, TellsGrant}
+use Rattle.server_history.proofs.fates.FittingFates.{FitsEntry}
 use Rattle.server_history.proofs.healthy_turn.OneAnswer.{given_back}
 use Rattle.server_history.proofs.any_turn.JoinedParts.{all_pairs_append, answers_append, answers_there, first_or_later}
 use Rattle.adapter.proofs.Changed.{changed_each, changed_other, changed_same}
 use Rattle.server_history.proofs.state.PairedLists.{at_left}
 use Rattle.server_history.proofs.state.FirstMembers.{nowhere}
+use Rattle.server_history.proofs.state.RevokedMarks.{tellable, unmarked_has}
 
 -- ---- fates
 
@@ -47,56 +45,8 @@ stays_is outcome.Ok e p same = refl
 stays_is (outcome.DeviceError status error) e p same = refl
 stays_is outcome.Aborted e p same = refl
 stays_is outcome.Unplugged e p same = refl
+stays_is outcome.Revoked e p same = refl
 stays_is outcome.PortDead e p same = same
-
--- one that waits isn't issued, and one that goes again is, and was fewer than four times; and loans are kept on dead ports alone
-pub record Tame (prospect : Prospect) (fate : Entry → Fate) (e : Entry) : Type 0 where
-  pub alive : prospect ≢ Dead → keeps_fate (fate e) e ≡ false
-  pub waits : fate e ≡ Waits → e.issued ≡ false
-  pub again : fate e ≡ GoesAgain → (e.issued ≡ true) × ((e.issues == 4) ≡ false)
-
--- so it is of one that ends, and isn't kept
-ends_tame : (prospect : Prospect) (fate : Entry → Fate) (e : Entry) (o : Outcome) → (prospect ≢ Dead → keeps_loan o e ≡ false) → fate e ≡ Ends o → Tame prospect fate e
-ends_tame prospect fate e o never is = record {
-  alive = λ lives. ap (λ (f : Fate). keeps_fate f e) is ∙ never lives;
-  waits = λ z. let w : Ends o ≡ Waits = sym is ∙ z in absurd cc;
-  again = λ z. let w : Ends o ≡ GoesAgain = sym is ∙ z in absurd cc;
-}
-
-tame_on : (prospect : Prospect) (e : Entry) → Tame prospect (fate_on prospect) e
-tame_on SameDisk e = by e.issued (e.issues == 4) refl refl
-  where
-    by : (a b : Bool) → e.issued ≡ a → (e.issues == 4) ≡ b → Tame SameDisk (fate_on SameDisk) e
-    by true true x y = ends_tame SameDisk (fate_on SameDisk) e outcome.Aborted (λ lives. refl) (λ i. if x i then (if y i then Ends outcome.Aborted else GoesAgain) else Waits)
-    by true false x y =
-        let is : fate_on SameDisk e ≡ GoesAgain = (λ i. if x i then (if y i then Ends outcome.Aborted else GoesAgain) else Waits) in
-        record {
-          alive = λ lives. ap (λ (f : Fate). keeps_fate f e) is;
-          waits = λ z. let w : GoesAgain ≡ Waits = sym is ∙ z in absurd cc;
-          again = λ z. (x, y);
-        }
-    by false b x y =
-        let is : fate_on SameDisk e ≡ Waits = (λ i. if x i then (if e.issues == 4 then Ends outcome.Aborted else GoesAgain) else Waits) in
-        record {
-          alive = λ lives. ap (λ (f : Fate). keeps_fate f e) is;
-          waits = λ z. x;
-          again = λ z. let w : Waits ≡ GoesAgain = sym is ∙ z in absurd cc;
-        }
-tame_on DiskLost e = ends_tame DiskLost (fate_on DiskLost) e outcome.Unplugged (λ lives. refl) refl
-tame_on Dead e = ends_tame Dead (fate_on Dead) e outcome.PortDead (λ lives. absurd (lives refl)) refl
-
-pub tame : (failed : Option Failed) (prospect : Prospect) (e : Entry) → Tame prospect (fate_of failed prospect) e
-tame None prospect e = let t = tame_on prospect e in record { alive = t.alive; waits = t.waits; again = t.again }
-tame (Some failed) prospect e = by (failed.id.0 == e.id.0) refl
-  where
-    by : (b : Bool) → (failed.id.0 == e.id.0) ≡ b → Tame prospect (fate_of (Some failed) prospect) e
-    by true x =
-        ends_tame prospect (fate_of (Some failed) prospect) e (outcome.DeviceError failed.status failed.error) (λ lives. refl)
-        (λ i. if x i then Ends (outcome.DeviceError failed.status failed.error) else fate_on prospect e)
-    by false x =
-        let is : fate_of (Some failed) prospect e ≡ fate_on prospect e = (λ i. if x i then Ends (outcome.DeviceError failed.status failed.error) else fate_on prospect e) in
-        let t = tame_on prospect e in
-        record { alive = λ lives. ap (λ (f : Fate). keeps_fate f e) is ∙ t.alive lives; waits = λ z. t.waits (sym is ∙ z); again = λ z. t.again (sym is ∙ z) }
 
 -- ---- loans that are kept
 
@@ -169,11 +119,8 @@ forgets_it parked port id =
 
 -- ---- one request
 
-module _ (laws : LawsBelow) (port : Port) (failed : Option Failed) (prospect : Prospect) (rows : List GrantRow) where
-  abbrev fate : Entry → Fate
-  fate = fate_of failed prospect
-
-  module _ (request : Held) (rest : List Held) (now mid : Holdings) (k : Known) (m : Machine) (may : MayMeet port fate (request ∷ rest) now rows k m) where
+module _ (laws : LawsBelow) (port : Port) (fate : Entry → Fate) (fits : (e : Entry) → FitsEntry (fate e) e) where
+  module _ (request : Held) (rest : List Held) (now mid : Holdings) (k : Known) (m : Machine) (may : MayMeet port fate (request ∷ rest) now k m) where
     pub here : Contains now.book request
     here = (may.here request (Contains-get_or (request ∷ rest) 0 request (omega arith))).0
 
@@ -200,6 +147,9 @@ module _ (laws : LawsBelow) (port : Port) (failed : Option Failed) (prospect : P
 
     id_is : p.request.id ≡ request.entry.id
     id_is = entry.2.id
+
+    its_mark : TellsGrant m.rows request.entry
+    its_mark = may.marked request (Contains-get_or (request ∷ rest) 0 request (omega arith))
 
     unserved : keeps_fate (fate request.entry) request.entry ≡ false → HasNoSlot k.uses p.request.id
     unserved never = subst (HasNoSlot k.uses) (sym id_is) (may.unserved request (Contains-get_or (request ∷ rest) 0 request (omega arith)) never)
@@ -285,8 +235,8 @@ module _ (laws : LawsBelow) (port : Port) (failed : Option Failed) (prospect : P
 
   -- ---- one that ends
 
-  module _ (request : Held) (rest : List Held) (now mid new : Holdings) (its later replies : List Reply) (k : Known) (m : Machine) (may : MayMeet port fate (request ∷ rest) now rows k m) (split : replies ≡ its ++ later)
-      (more : (k : Known) (m : Machine) → MayMeet port fate rest mid rows k m → MeetsInMachine port fate rest later mid new k m) (o : Outcome) (is : fate request.entry ≡ Ends o) (meets : MeetsFate request (Ends o) its now mid) where
+  module _ (request : Held) (rest : List Held) (now mid new : Holdings) (its later replies : List Reply) (k : Known) (m : Machine) (may : MayMeet port fate (request ∷ rest) now k m) (split : replies ≡ its ++ later)
+      (more : (k : Known) (m : Machine) → MayMeet port fate rest mid k m → MeetsInMachine port fate rest later mid new k m) (o : Outcome) (is : fate request.entry ≡ Ends o) (meets : MeetsFate request (Ends o) its now mid) where
     abbrev x : Pending
     x = p request rest now mid k m may
 
@@ -294,7 +244,10 @@ module _ (laws : LawsBelow) (port : Port) (failed : Option Failed) (prospect : P
     its_entry = (entry request rest now mid k m may).2
 
     comes : May m (Answer x o)
-    comes = (entry request rest now mid k m may).1
+    comes = (
+      (entry request rest now mid k m may).1,
+      tellable m request x o its_entry (its_mark request rest now mid k m may) (λ told. (fits request.entry).revoked (is ∙ ap Ends told)) (λ told. (fits request.entry).aborted (is ∙ ap Ends told)),
+    )
 
     of_port : x.request.port ≡ port
     of_port = its_entry.port ∙ its_port request rest now mid k m may
@@ -326,7 +279,7 @@ module _ (laws : LawsBelow) (port : Port) (failed : Option Failed) (prospect : P
     -- what comes of it, once the rest met their fates
     module _ (parked : ℕ → List RequestId) (elsewhere : (q : ℕ) → q ≢ port.0 → parked q ≡ k.parked q) (gone : List Pending) (keeps : (after_step m (Answer x o)).kept ≡ gone ++ m.kept)
         (lends : mid.kept ≡ now.kept ++ loans_of gone) (alone : AllPairs AreOfTwo (loans_of gone)) (its_own : (e : Pending) → Contains gone e → IsEntry request e × (keeps_fate (fate request.entry) request.entry ≡ true))
-        (goes : MayMeet port fate rest mid rows (record k { parked = parked }) (after_step m (Answer x o))) where
+        (goes : MayMeet port fate rest mid (record k { parked = parked }) (after_step m (Answer x o))) where
       r : MeetsInMachine port fate rest later mid new (record k { parked = parked }) (after_step m (Answer x o))
       r = more (record k { parked = parked }) (after_step m (Answer x o)) goes
 
@@ -362,13 +315,14 @@ module _ (laws : LawsBelow) (port : Port) (failed : Option Failed) (prospect : P
         (ap (λ (b : Bool). if b then x ∷ m.kept else m.kept) (stay ∙ never)) (loan.0 ∙ sym (append-nil now.kept)) (λ i j d lt below. absurd (omega (arith, lt, below))) (λ e there. absurd (nowhere e there))
         (record {
           reached = reached;
-          knows = laws.slots.answered_agrees k m x o (decided k.parked port.0 request.entry.id) may.reached may.knows comes (stay ∙ never) (unserved request rest now mid k m may (fate_is ∙ never)) (forgets request rest now mid k m may);
+          knows = laws.slots.answered_agrees k m x o (decided k.parked port.0 request.entry.id) may.reached may.knows comes.0 (stay ∙ never) (unserved request rest now mid k m may (fate_is ∙ never)) (forgets request rest now mid k m may);
           book = book;
           lent = λ frame. ap (λ (b : Bool). (if b then m.lent else unlend x.request.id m.lent) frame) (stay ∙ never)
-              ∙ given_back m request x now.table mid.table may.reached (inl comes) its_entry may.lent (All-contains (IsAccepted rows now.table) now.book request may.accepted (here request rest now mid k m may)).lent loan.1 frame;
+              ∙ given_back m request x now.table mid.table may.reached (inl comes.0) its_entry may.lent (All-contains (IsAccepted now.table) now.book request may.accepted (here request rest now mid k m may)).lent loan.1 frame;
           ordered = ordered;
-          accepted = subst (All (IsAccepted rows mid.table)) (sym meets.1) (laws.still_answered rows now.table mid.table now.book request (here request rest now mid k m may) loan.1 may.accepted);
+          accepted = subst (All (IsAccepted mid.table)) (sym meets.1) (laws.still_answered now.table mid.table now.book request (here request rest now mid k m may) loan.1 may.accepted);
           here = still;
+          marked = λ e there. may.marked e (in_rest request rest now mid k m may e there);
           earlier = earlier request rest now mid k m may;
           unserved = λ e there none. may.unserved e (in_rest request rest now mid k m may e there) none;
           parked = left_parked request rest now mid k m may;
@@ -382,14 +336,15 @@ module _ (laws : LawsBelow) (port : Port) (failed : Option Failed) (prospect : P
         (λ e there. ⊎_elim (λ (same : e ≡ x). (subst (IsEntry request) (sym same) its_entry, fate_is ∙ keeps)) (λ none. absurd (nowhere e none)) (first_or_later x [] e there))
         (record {
           reached = reached;
-          knows = laws.slots.kept_agrees k m x o may.reached may.knows comes (stay ∙ keeps);
+          knows = laws.slots.kept_agrees k m x o may.reached may.knows comes.0 (stay ∙ keeps);
           book = book;
           lent = λ frame. ap (λ (b : Bool). (if b then m.lent else unlend x.request.id m.lent) frame) (stay ∙ keeps) ∙ may.lent frame ∙ ap (λ (t : Table). lent_to t frame) (sym loan.1);
           ordered = ordered;
-          accepted = subst (All (IsAccepted rows mid.table)) (sym meets.1) (subst (λ (t : Table). All (IsAccepted rows t) (without request.entry.id now.book)) (sym loan.1)
-              (All-weaker (Contains (without request.entry.id now.book)) (IsAccepted rows now.table) (λ e there. All-contains (IsAccepted rows now.table) now.book e may.accepted ((laws.left now.book request.entry.id e).0 there).0)
+          accepted = subst (All (IsAccepted mid.table)) (sym meets.1) (subst (λ (t : Table). All (IsAccepted t) (without request.entry.id now.book)) (sym loan.1)
+              (All-weaker (Contains (without request.entry.id now.book)) (IsAccepted now.table) (λ e there. All-contains (IsAccepted now.table) now.book e may.accepted ((laws.left now.book request.entry.id e).0 there).0)
               (without request.entry.id now.book) (All-contains_itself (without request.entry.id now.book))));
           here = still;
+          marked = λ e there. may.marked e (in_rest request rest now mid k m may e there);
           earlier = earlier request rest now mid k m may;
           unserved = λ e there none. may.unserved e (in_rest request rest now mid k m may e there) none;
           parked = λ quiet id there. absurd (false≢true (sym (quiet request.entry) ∙ fate_is ∙ keeps));
@@ -406,8 +361,8 @@ module _ (laws : LawsBelow) (port : Port) (failed : Option Failed) (prospect : P
 
   -- ---- each fate
 
-  meet_one : (request : Held) (rest : List Held) (now mid new : Holdings) (its later replies : List Reply) (k : Known) (m : Machine) → MayMeet port fate (request ∷ rest) now rows k m → replies ≡ its ++ later
-      → ((k : Known) (m : Machine) → MayMeet port fate rest mid rows k m → MeetsInMachine port fate rest later mid new k m) → (f : Fate) → fate request.entry ≡ f → MeetsFate request f its now mid
+  meet_one : (request : Held) (rest : List Held) (now mid new : Holdings) (its later replies : List Reply) (k : Known) (m : Machine) → MayMeet port fate (request ∷ rest) now k m → replies ≡ its ++ later
+      → ((k : Known) (m : Machine) → MayMeet port fate rest mid k m → MeetsInMachine port fate rest later mid new k m) → (f : Fate) → fate request.entry ≡ f → MeetsFate request f its now mid
       → MeetsInMachine port fate (request ∷ rest) replies now new k m
   meet_one request rest now mid new its later replies k m may split more Waits is meets = record {
     steps = r.steps;
@@ -431,9 +386,9 @@ module _ (laws : LawsBelow) (port : Port) (failed : Option Failed) (prospect : P
   }
     where
       waiting : request.entry.issued ≡ false
-      waiting = (tame failed prospect request.entry).waits is
+      waiting = (fits request.entry).waits is
 
-      goes : MayMeet port fate rest now rows k m
+      goes : MayMeet port fate rest now k m
       goes = record {
         reached = may.reached;
         knows = may.knows;
@@ -442,6 +397,7 @@ module _ (laws : LawsBelow) (port : Port) (failed : Option Failed) (prospect : P
         ordered = may.ordered;
         accepted = may.accepted;
         here = λ e there. may.here e (in_rest request rest now mid k m may e there);
+        marked = λ e there. may.marked e (in_rest request rest now mid k m may e there);
         earlier = earlier request rest now mid k m may;
         unserved = λ e there never. may.unserved e (in_rest request rest now mid k m may e there) never;
         parked = λ quiet id there.
@@ -453,7 +409,7 @@ module _ (laws : LawsBelow) (port : Port) (failed : Option Failed) (prospect : P
       }
 
       r : MeetsInMachine port fate rest later mid new k m
-      r = more k m (subst (λ (h : Holdings). MayMeet port fate rest h rows k m) (sym meets.1) goes)
+      r = more k m (subst (λ (h : Holdings). MayMeet port fate rest h k m) (sym meets.1) goes)
   meet_one request rest now mid new its later replies k m may split more GoesAgain is meets =
       decides request rest now mid k m may (Again x) its later replies new split comes of_port (λ none. none) (decided k.parked port.0 request.entry.id)
       (λ q ne. changed_other k.parked port.0 (but request.entry.id (k.parked port.0)) q ne) [] refl
@@ -471,45 +427,46 @@ module _ (laws : LawsBelow) (port : Port) (failed : Option Failed) (prospect : P
       x : Pending
       x = p request rest now mid k m may
 
-      its_issue : (request.entry.issued ≡ true) × ((request.entry.issues == 4) ≡ false)
-      its_issue = (tame failed prospect request.entry).again is
+      its_issue : (request.entry.issued ≡ true) × ((request.entry.issues == 4) ≡ false) × (request.entry.revoked ≡ false)
+      its_issue = (fits request.entry).again is
 
       few : request.entry.issues < 4
       few =
-          let most = (All-contains (λ (e : Held). HasIssuesLeft e.entry) now.book request may.ordered.issues (here request rest now mid k m may)).0 in
+          let most = (All-contains (λ (e : Held). HasFewIssues e.entry) now.book request may.ordered.issues (here request rest now mid k m may)).0 in
           let other = eqb-false request.entry.issues 4 its_issue.1 in omega (arith, most, other)
 
       comes : May m (Again x)
       comes =
           let e = entry request rest now mid k m may in
-          (e.1, e.2.issued ∙ its_issue.0, subst (λ (n : ℕ). n < 4) (sym e.2.issues) few)
+          (e.1, e.2.issued ∙ its_issue.0, subst (λ (n : ℕ). n < 4) (sym e.2.issues) few, unmarked_has m request x e.2 (its_mark request rest now mid k m may) its_issue.2)
 
       of_port : x.request.port ≡ port
       of_port = (entry request rest now mid k m may).2.port ∙ its_port request rest now mid k m may
 
-      goes : MayMeet port fate rest (record now { book = map (at request.entry.id requeued) now.book }) rows (left_known request rest now mid k m may) (after_step m (Again x))
+      goes : MayMeet port fate rest (record now { book = map (at request.entry.id requeued) now.book }) (left_known request rest now mid k m may) (after_step m (Again x))
       goes = record {
         reached = laws.basic.reached m (Again x ∷ []) may.reached (tt, comes);
         knows = laws.slots.again_agrees k m x (decided k.parked port.0 request.entry.id) may.reached may.knows comes.0 (unserved request rest now mid k m may (ap (λ (f : Fate). keeps_fate f request.entry) is)) (forgets request rest now mid k m may);
         book = subst (λ (id : RequestId). IsBook (map (at id requeued) now.book) (after_step m (Again x)).book) (id_is request rest now mid k m may) (laws.again now.book m x may.book);
         lent = may.lent;
         ordered = laws.requeued now.book request.entry.id may.ordered (request, here request rest now mid k m may, refl, its_issue.0, few);
-        accepted = laws.still_requeued rows now.table now.book request.entry.id may.accepted;
+        accepted = laws.still_requeued now.table now.book request.entry.id may.accepted;
         here = λ e there.
             let w = may.here e (in_rest request rest now mid k m may e there) in
             (laws.others now.book request.entry.id requeued e w.0 (differs request rest now mid k m may e there), w.1);
+        marked = λ e there. may.marked e (in_rest request rest now mid k m may e there);
         earlier = earlier request rest now mid k m may;
         unserved = λ e there never. may.unserved e (in_rest request rest now mid k m may e there) never;
         parked = left_parked request rest now mid k m may;
       }
 
       r : MeetsInMachine port fate rest later mid new (left_known request rest now mid k m may) (after_step m (Again x))
-      r = more (left_known request rest now mid k m may) (after_step m (Again x)) (subst (λ (h : Holdings). MayMeet port fate rest h rows (left_known request rest now mid k m may) (after_step m (Again x))) (sym meets.1) goes)
+      r = more (left_known request rest now mid k m may) (after_step m (Again x)) (subst (λ (h : Holdings). MayMeet port fate rest h (left_known request rest now mid k m may) (after_step m (Again x))) (sym meets.1) goes)
   meet_one request rest now mid new its later replies k m may split more (Ends o) is meets = meet_end request rest now mid new its later replies k m may split more o is meets
 
-pub meet : LawsBelow → (port : Port) (failed : Option Failed) (prospect : Prospect) (rows : List GrantRow) (requests : List Held) (replies : List Reply) (old new : Holdings) (k : Known) (m : Machine)
-    → MayMeet port (fate_of failed prospect) requests old rows k m → MeetFates (fate_of failed prospect) requests replies old new → MeetsInMachine port (fate_of failed prospect) requests replies old new k m
-meet laws port failed prospect rows [] replies old new k m may (none, is) = record {
+pub meet : LawsBelow → (port : Port) (fate : Entry → Fate) → ((e : Entry) → FitsEntry (fate e) e) → (requests : List Held) (replies : List Reply) (old new : Holdings) (k : Known) (m : Machine)
+    → MayMeet port fate requests old k m → MeetFates fate requests replies old new → MeetsInMachine port fate requests replies old new k m
+meet laws port fate fits [] replies old new k m may (none, is) = record {
   steps = [];
   parked = k.parked;
   may = tt;
@@ -529,7 +486,7 @@ meet laws port failed prospect rows [] replies old new k m may (none, is) = reco
   again = λ e here. absurd (nowhere (Again e) here);
   tells = record { answers = []; same = IsPermutation-refl []; ordered = λ i j d lt below. absurd (omega (arith, lt, below)); told = none };
 }
-meet laws port failed prospect rows (request ∷ rest) replies old new k m may (mid, its, later, split, meets, more) =
-    meet_one laws port failed prospect rows request rest old mid new its later replies k m may split
-    (λ n machine next. meet laws port failed prospect rows rest later mid new n machine next more)
-    (fate_of failed prospect request.entry) refl meets
+meet laws port fate fits (request ∷ rest) replies old new k m may (mid, its, later, split, meets, more) =
+    meet_one laws port fate fits request rest old mid new its later replies k m may split
+    (λ n machine next. meet laws port fate fits rest later mid new n machine next more)
+    (fate request.entry) refl meets

@@ -1,5 +1,5 @@
 -- What is left of a book once requests of a port met their fates.
-use Rattle.std.proofs.Common.{ℕ, ◌≤◌, ◌+◌, cond, length, le_refl, eq-eqb, eqb-true, suc, ◌≡◌, ◌≢◌, ◌<◌, ◌==◌, Bool, true, false, not, if◌then◌else◌, List, [], ◌∷◌, map, Option, None, Some, refl, sym, ap, ◌∙◌, subst, arith, ⊎_elim}
+use Rattle.std.proofs.Common.{ℕ, ◌≤◌, ◌+◌, cond, length, le_refl, eq-eqb, eqb-true, suc, ◌≡◌, ◌≢◌, ◌<◌, ◌==◌, Bool, true, false, not, if◌then◌else◌, List, [], ◌∷◌, map, Option, None, Some, refl, sym, ap, ◌∙◌, subst, arith, ⊎_elim, ◌⊎◌, inl, inr}
 use Rattle.std.specs.List.{All, AllPairs, Contains}
 use Rattle.std.proofs.lemmas.Bool.{eqb-false}
 use Rattle.std.proofs.lemmas.List.{length-append}
@@ -7,14 +7,13 @@ use Rattle.std.proofs.lemmas.List.Elements.{All-contains, All-contains_itself, A
 use Rattle.std.proofs.lemmas.List.Kept.{AllPairs-filter}
 use Rattle.std.specs.Prelude.{filter}
 use Rattle.ata_types.specs.declared.Port.{Port}
-use Rattle.ata_types.specs.declared.grant.GrantRow.{GrantRow}
 use Rattle.ata_types.specs.declared.request.Outcome.{Outcome}
 use Rattle.ata_types.specs.declared.request.Outcome.TheVariants as outcome
 use Rattle.ata_types.specs.declared.request.Reply.{Reply}
 use Rattle.ata_types.specs.declared.request.RequestId.{RequestId}
 use Rattle.server_history.proofs.state.ListMembers.{contains_cases, contains_there, map_in}
 use Rattle.dma_frames.specs.Table.{Table}
-use Rattle.request_queue.specs.Entries.{HasIssuesLeft, Held, IsAccepted, IsEarlier, IsInOrder, at, has_id, is_of, requeued, without}
+use Rattle.request_queue.specs.Entries.{HasFewIssues, Held, IsAccepted, IsEarlier, IsInOrder, at, has_id, is_of, requeued, without}
 use Rattle.request_queue.specs.Fates.{EndsLoan, Holdings, MeetFates, MeetsFate, fate_of, fate_on, keeps_loan}
 use Rattle.request_queue.specs.declared.Entry.{Entry}
 use Rattle.request_queue.specs.declared.fate.Failed.{Failed}
@@ -24,38 +23,13 @@ use Rattle.request_queue.specs.declared.fate.Prospect.{Prospect}
 use Rattle.request_queue.specs.declared.fate.Prospect.TheVariants.{Dead, DiskLost, SameDisk}
 use Rattle.server_history.specs.Below.{LawsBelow}
 use Rattle.server_history.specs.Mended.{holdings_of, requests_of}
-use Rattle.server_history.specs.Server.{Server}
+use Rattle.server_history.specs.Server.{IsMarked, Server}
+use Rattle.server_history.proofs.fates.FittingFates.{FitsEntry}
 use Rattle.server_history.proofs.state.LoanCounts.{counts, fewer_issued, issued_of, kept_issued, one_fewer, requeued_issued}
 use Rattle.server_history.proofs.state.FirstMembers.{nowhere, first_here}
+use Rattle.ata_types.specs.declared.grant.GrantRow.{GrantRow}
 
 -- ---- fates
-
--- one that goes again is issued, and was fewer than four times
-again_on : (prospect : Prospect) (e : Entry) → fate_on prospect e ≡ GoesAgain → (e.issued ≡ true) × ((e.issues == 4) ≡ false)
-again_on SameDisk e again = by e.issued (e.issues == 4) refl refl
-  where
-    by : (a b : Bool) → e.issued ≡ a → (e.issues == 4) ≡ b → (e.issued ≡ true) × ((e.issues == 4) ≡ false)
-    by true false x y = (x, y)
-    by true true x y =
-        let is : fate_on SameDisk e ≡ Ends outcome.Aborted = (λ i. if x i then (if y i then Ends outcome.Aborted else GoesAgain) else Waits) in
-        let z : Ends outcome.Aborted ≡ GoesAgain = sym is ∙ again in absurd cc
-    by false b x y =
-        let is : fate_on SameDisk e ≡ Waits = (λ i. if x i then (if e.issues == 4 then Ends outcome.Aborted else GoesAgain) else Waits) in
-        let z : Waits ≡ GoesAgain = sym is ∙ again in absurd cc
-again_on DiskLost e again = let z : Ends outcome.Unplugged ≡ GoesAgain = again in absurd cc
-again_on Dead e again = let z : Ends outcome.PortDead ≡ GoesAgain = again in absurd cc
-
-again_of : (failed : Option Failed) (prospect : Prospect) (e : Entry) → fate_of failed prospect e ≡ GoesAgain → (e.issued ≡ true) × ((e.issues == 4) ≡ false)
-again_of None prospect e again = again_on prospect e again
-again_of (Some failed) prospect e again = by (failed.id.0 == e.id.0) refl
-  where
-    by : (b : Bool) → (failed.id.0 == e.id.0) ≡ b → (e.issued ≡ true) × ((e.issues == 4) ≡ false)
-    by true x =
-        let is : fate_of (Some failed) prospect e ≡ Ends (outcome.DeviceError failed.status failed.error) = (λ i. if x i then Ends (outcome.DeviceError failed.status failed.error) else fate_on prospect e) in
-        let z : Ends (outcome.DeviceError failed.status failed.error) ≡ GoesAgain = sym is ∙ again in absurd cc
-    by false x =
-        let is : fate_of (Some failed) prospect e ≡ fate_on prospect e = (λ i. if x i then Ends (outcome.DeviceError failed.status failed.error) else fate_on prospect e) in
-        again_on prospect e (sym is ∙ again)
 
 -- where the disk isn't the same, each is answered
 ends_on : (prospect : Prospect) → prospect ≢ SameDisk → (e : Entry) → (o : Outcome) × (fate_on prospect e ≡ Ends o)
@@ -76,14 +50,14 @@ ends_of (Some failed) prospect other e = by (failed.id.0 == e.id.0) refl
 -- ---- what is left
 
 -- the requests are of the port in a book as a server has it, in its order
-pub record MayDecide (port : Port) (rows : List GrantRow) (requests : List Held) (now : Holdings) : Type 0 where
+pub record MayDecide (port : Port) (requests : List Held) (now : Holdings) : Type 0 where
   pub here : (e : Held) → Contains requests e → Contains now.book e × (e.entry.port ≡ port)
   pub earlier : AllPairs IsEarlier requests
   pub ordered : IsInOrder now.book
-  pub accepted : All (IsAccepted rows now.table) now.book
+  pub accepted : All (IsAccepted now.table) now.book
 
 -- so it is with all of the port's
-pub its_requests : (port : Port) (s : Server) → IsInOrder s.book → All (IsAccepted s.grants s.table) s.book → MayDecide port s.grants (requests_of port s.book) (holdings_of port s)
+pub its_requests : (port : Port) (s : Server) → IsInOrder s.book → All (IsAccepted s.table) s.book → MayDecide port (requests_of port s.book) (holdings_of port s)
 its_requests port s ordered accepted = record { here = here; earlier = AllPairs-filter IsEarlier own s.book ordered.ordered; ordered = ordered; accepted = accepted }
   where
     own : Held → Bool
@@ -95,19 +69,23 @@ its_requests port s ordered accepted = record { here = here; earlier = AllPairs-
       ap (λ (n : ℕ). record { 0 = n }) (eqb-true e.entry.port.0 port.0 (All-contains (λ (x : Held). own x ≡ true) (filter own s.book) e (filter_passes own s.book) there)),
     )
 
--- it was in the book before, as another that waited or not
+-- it was in the book before, as another that waited or not, but for a marked one, which doesn't wait again
 pub record WasIn (book : List Held) (e : Held) : Type 0 where
   pub was : Held
   pub there : Contains book was
   pub id : e.entry.id ≡ was.entry.id
+  pub client : e.entry.client ≡ was.entry.client
+  pub grant : e.entry.grant ≡ was.entry.grant
   pub port : e.entry.port ≡ was.entry.port
   pub op : e.entry.op ≡ was.entry.op
+  pub revoked : e.entry.revoked ≡ was.entry.revoked
+  pub waiting : e.entry.issued ≡ false → (was.entry.issued ≡ false) ⊎ (e.entry.revoked ≡ false)
 
 -- The book is as a server has it still; it has no request that it hadn't, and none of these that was answered; each frame has its owner; and no more places are needed for loans
 -- of the port.
-pub record IsLeft (port : Port) (fate : Entry → Fate) (rows : List GrantRow) (requests : List Held) (old new : Holdings) : Type 0 where
+pub record IsLeft (port : Port) (fate : Entry → Fate) (requests : List Held) (old new : Holdings) : Type 0 where
   pub ordered : IsInOrder new.book
-  pub accepted : All (IsAccepted rows new.table) new.book
+  pub accepted : All (IsAccepted new.table) new.book
   pub owners : new.table.owners ≡ old.table.owners
   pub from : (e : Held) → Contains new.book e → WasIn old.book e
   pub gone : (e : Held) (o : Outcome) → Contains requests e → fate e.entry ≡ Ends o → (x : Held) → Contains new.book x → x.entry.id ≢ e.entry.id
@@ -115,29 +93,51 @@ pub record IsLeft (port : Port) (fate : Entry → Fate) (rows : List GrantRow) (
   pub fewer : (q : Port) → issued_of q new.book ≤ issued_of q old.book
 
 pub was_itself : (book : List Held) (e : Held) → Contains book e → WasIn book e
-was_itself book e here = record { was = e; there = here; id = refl; port = refl; op = refl }
+was_itself book e here = record { was = e; there = here; id = refl; client = refl; grant = refl; port = refl; op = refl; revoked = refl; waiting = λ waits. inl waits }
 
 pub was_more : (old mid : List Held) (e : Held) → ((x : Held) → Contains mid x → WasIn old x) → WasIn mid e → WasIn old e
 was_more old mid e before w =
     let v = before w.was w.there in
-    record { was = v.was; there = v.there; id = w.id ∙ v.id; port = w.port ∙ v.port; op = w.op ∙ v.op }
+    record {
+      was = v.was;
+      there = v.there;
+      id = w.id ∙ v.id;
+      client = w.client ∙ v.client;
+      grant = w.grant ∙ v.grant;
+      port = w.port ∙ v.port;
+      op = w.op ∙ v.op;
+      revoked = w.revoked ∙ v.revoked;
+      waiting = λ waits. ⊎_elim
+          (λ between. ⊎_elim (λ first. inl first) (λ plain. inr (w.revoked ∙ plain)) (v.waiting between))
+          (λ plain. inr plain)
+          (w.waiting waits);
+    }
 
-module _ (laws : LawsBelow) (port : Port) (failed : Option Failed) (prospect : Prospect) (rows : List GrantRow) where
-  abbrev fate : Entry → Fate
-  fate = fate_of failed prospect
+-- and so it is marked as it was
+pub marked_from : (rows : List GrantRow) (book : List Held) → All (IsMarked rows) book → (e : Held) → WasIn book e → IsMarked rows e
+marked_from rows book all e w =
+    let m = All-contains (IsMarked rows) book w.was all w.there in
+    record {
+      tells = record {
+        granted = λ plain. let has = m.tells.granted (sym w.revoked ∙ plain) in (has.0, has.1, (has.2.0 ∙ sym w.client, has.2.1 ∙ sym w.grant));
+        revoked = λ marked has. m.tells.revoked (sym w.revoked ∙ marked) (has.0, has.1, (has.2.0 ∙ w.client, has.2.1 ∙ w.grant));
+      };
+      waiting = λ waits. ⊎_elim (λ waited. w.revoked ∙ m.waiting waited) (λ plain. plain) (w.waiting waits);
+    }
 
+module _ (laws : LawsBelow) (port : Port) (fate : Entry → Fate) (fits : (e : Entry) → FitsEntry (fate e) e) where
   -- ---- one request
 
   -- it met its fate, and the others may meet theirs
   record HasMet (request : Held) (rest : List Held) (old mid : Holdings) : Type 0 where
-    may : MayDecide port rows rest mid
+    may : MayDecide port rest mid
     owners : mid.table.owners ≡ old.table.owners
     from : (e : Held) → Contains mid.book e → WasIn old.book e
     gone : (o : Outcome) → fate request.entry ≡ Ends o → (x : Held) → Contains mid.book x → x.entry.id ≢ request.entry.id
     places : length mid.kept + issued_of port mid.book ≤ length old.kept + issued_of port old.book
     fewer : (q : Port) → issued_of q mid.book ≤ issued_of q old.book
 
-  module _ (request : Held) (rest : List Held) (old mid : Holdings) (may : MayDecide port rows (request ∷ rest) old) where
+  module _ (request : Held) (rest : List Held) (old mid : Holdings) (may : MayDecide port (request ∷ rest) old) where
     its : Contains old.book request
     its = (may.here request (first_here request rest)).0
 
@@ -163,14 +163,27 @@ module _ (laws : LawsBelow) (port : Port) (failed : Option Failed) (prospect : P
     })
 
     -- it waits again
-    requeued_was : (e : Held) → Contains (map (at request.entry.id requeued) old.book) e → WasIn old.book e
-    requeued_was e there =
+    requeued_was : request.entry.revoked ≡ false → (e : Held) → Contains (map (at request.entry.id requeued) old.book) e → WasIn old.book e
+    requeued_was plain e there =
         let w = map_in (at request.entry.id requeued) old.book e there in
-        subst (WasIn old.book) (sym w.2) (by w.0 w.1 (has_id request.entry.id w.0))
+        subst (WasIn old.book) (sym w.2) (by w.0 w.1 (has_id request.entry.id w.0) refl)
       where
-        by : (x : Held) → Contains old.book x → (b : Bool) → WasIn old.book (if b then record x { entry = requeued x.entry } else x)
-        by x here true = record { was = x; there = here; id = refl; port = refl; op = refl }
-        by x here false = record { was = x; there = here; id = refl; port = refl; op = refl }
+        is_it : (x : Held) → Contains old.book x → has_id request.entry.id x ≡ true → x ≡ request
+        is_it x here same = laws.one old.book x request may.ordered here its (ap (λ (n : ℕ). record { 0 = n }) (eqb-true x.entry.id.0 request.entry.id.0 same))
+
+        by : (x : Held) → Contains old.book x → (b : Bool) → has_id request.entry.id x ≡ b → WasIn old.book (if b then record x { entry = requeued x.entry } else x)
+        by x here true same = record {
+          was = x;
+          there = here;
+          id = refl;
+          client = refl;
+          grant = refl;
+          port = refl;
+          op = refl;
+          revoked = refl;
+          waiting = λ waits. inr (ap (λ (y : Held). y.entry.revoked) (is_it x here same) ∙ plain);
+        }
+        by x here false same = was_itself old.book x here
 
     goes_again : mid ≡ record old { book = map (at request.entry.id requeued) old.book } → fate request.entry ≡ GoesAgain → HasMet request rest old mid
     goes_again is again = subst (HasMet request rest old) (sym is) (record {
@@ -178,31 +191,31 @@ module _ (laws : LawsBelow) (port : Port) (failed : Option Failed) (prospect : P
         here = λ e there. let w = of_rest e there in (laws.others old.book request.entry.id requeued e w.0 (differs e there), w.1);
         earlier = earlier;
         ordered = laws.requeued old.book request.entry.id may.ordered (request, its, refl, issue.0, few);
-        accepted = laws.still_requeued rows old.table old.book request.entry.id may.accepted;
+        accepted = laws.still_requeued old.table old.book request.entry.id may.accepted;
       };
       owners = refl;
-      from = requeued_was;
+      from = requeued_was issue.2;
       gone = λ o ends. let z : GoesAgain ≡ Ends o = sym again ∙ ends in absurd cc;
       places = let less = requeued_issued port request.entry.id old.book in omega (arith, less);
       fewer = λ q. requeued_issued q request.entry.id old.book;
     })
       where
-        issue : (request.entry.issued ≡ true) × ((request.entry.issues == 4) ≡ false)
-        issue = again_of failed prospect request.entry again
+        issue : (request.entry.issued ≡ true) × ((request.entry.issues == 4) ≡ false) × (request.entry.revoked ≡ false)
+        issue = (fits request.entry).again again
 
         few : request.entry.issues < 4
         few =
-            let most = (All-contains (λ (e : Held). HasIssuesLeft e.entry) old.book request may.ordered.issues its).0 in
+            let most = (All-contains (λ (e : Held). HasFewIssues e.entry) old.book request may.ordered.issues its).0 in
             let other = eqb-false request.entry.issues 4 issue.1 in omega (arith, most, other)
 
     -- it is answered, and its loan is kept, or ends
-    loan_left : (kept : Bool) → EndsLoan kept request old mid → (mid.table.owners ≡ old.table.owners) × All (IsAccepted rows mid.table) (without request.entry.id old.book)
+    loan_left : (kept : Bool) → EndsLoan kept request old mid → (mid.table.owners ≡ old.table.owners) × All (IsAccepted mid.table) (without request.entry.id old.book)
     loan_left true loan = (
       ap (λ (table : Table). table.owners) loan.1,
-      subst (λ (table : Table). All (IsAccepted rows table) (without request.entry.id old.book)) (sym loan.1)
-          (All-filter (λ (e : Held). not (has_id request.entry.id e)) (IsAccepted rows old.table) old.book may.accepted),
+      subst (λ (table : Table). All (IsAccepted table) (without request.entry.id old.book)) (sym loan.1)
+          (All-filter (λ (e : Held). not (has_id request.entry.id e)) (IsAccepted old.table) old.book may.accepted),
     )
-    loan_left false loan = (loan.1.owners, laws.still_answered rows old.table mid.table old.book request its loan.1 may.accepted)
+    loan_left false loan = (loan.1.owners, laws.still_answered old.table mid.table old.book request its loan.1 may.accepted)
 
     -- and then it is one loan more, and one issued request fewer
     loan_placed : mid.book ≡ without request.entry.id old.book → (kept : Bool) → (kept ≡ true → request.entry.issued ≡ true) → EndsLoan kept request old mid
@@ -231,7 +244,7 @@ module _ (laws : LawsBelow) (port : Port) (failed : Option Failed) (prospect : P
                 (subst (λ (list : List Held). Contains list e) (sym book) ((laws.left old.book request.entry.id e).1 (w.0, differs e there)), w.1);
             earlier = earlier;
             ordered = subst IsInOrder (sym book) (laws.fewer old.book request.entry.id may.ordered);
-            accepted = subst (All (IsAccepted rows mid.table)) (sym book) l.1;
+            accepted = subst (All (IsAccepted mid.table)) (sym book) l.1;
           };
           owners = l.0;
           from = λ e there. was_itself old.book e ((laws.left old.book request.entry.id e).0 (subst (λ (list : List Held). Contains list e) book there)).0;
@@ -247,9 +260,9 @@ module _ (laws : LawsBelow) (port : Port) (failed : Option Failed) (prospect : P
 
   -- ---- one after another
 
-  pub fated : (requests : List Held) (replies : List Reply) (old new : Holdings) → MayDecide port rows requests old → MeetFates (fate_of failed prospect) requests replies old new
-      → IsLeft port (fate_of failed prospect) rows requests old new
-  fated [] replies old new may (none, is) = subst (IsLeft port (fate_of failed prospect) rows [] old) (sym is) (record {
+  pub fated : (requests : List Held) (replies : List Reply) (old new : Holdings) → MayDecide port requests old → MeetFates fate requests replies old new
+      → IsLeft port fate requests old new
+  fated [] replies old new may (none, is) = subst (IsLeft port fate [] old) (sym is) (record {
     ordered = may.ordered;
     accepted = may.accepted;
     owners = refl;
@@ -259,7 +272,7 @@ module _ (laws : LawsBelow) (port : Port) (failed : Option Failed) (prospect : P
     fewer = λ q. le_refl (issued_of q old.book);
   })
   fated (request ∷ rest) replies old new may (mid, told, later, split, meets, more) =
-      let one : HasMet request rest old mid = meets_one request rest old mid may (fate_of failed prospect request.entry) refl told meets in
+      let one : HasMet request rest old mid = meets_one request rest old mid may (fate request.entry) refl told meets in
       let rests = fated rest later mid new one.may more in
       record {
         ordered = rests.ordered;
@@ -269,7 +282,7 @@ module _ (laws : LawsBelow) (port : Port) (failed : Option Failed) (prospect : P
         gone = λ e o here ends x there. ⊎_elim
             (λ (is : e ≡ request).
             let w = rests.from x there in
-            let E : Held → Type 0 = λ y. fate_of failed prospect y.entry ≡ Ends o in
+            let E : Held → Type 0 = λ y. fate y.entry ≡ Ends o in
             subst (λ (y : Held). x.entry.id ≢ y.entry.id) (sym is) (λ same. one.gone o (subst E is ends) w.was w.there (sym w.id ∙ same)))
             (λ (later_on : Contains rest e). rests.gone e o later_on ends x there)
             (contains_cases request rest e here);

@@ -92,11 +92,11 @@ module _ (laws : LawsBelow) (port : Port) (done : ℕ) where
       let y : IsAnswer port e old mid m = answer_one laws old mid port e k ready one (over one.slot one.small its) m reached is in
       let first : List Step = Answer y.done Ok ∷ [] in
       let z : AreAnswered port requests mid new (after m first) = each_answered requests mid new (answer_kept laws old mid port e k ready one (over one.slot one.small its))
-      (ready_on e old mid one ready) (over_on e old mid one over) more (after m first) (laws.basic.reached m first reached (tt, y.here)) y.stands in
+      (ready_on e old mid one ready) (over_on e old mid one over) more (after m first) (laws.basic.reached m first reached (tt, (y.here, tt))) y.stands in
       record {
         ended = y.done ∷ z.ended;
         each = (y.has, z.each);
-        may = laws.basic.may m (answers_in z.ended) first (tt, y.here) z.may;
+        may = laws.basic.may m (answers_in z.ended) first (tt, (y.here, tt)) z.may;
         backed = laws.backed_parts old.device mid.device new.device m first (answers_in z.ended)
             (subst (λ (d : Device). IsBacked old.device d m first) (sym (ap (λ (n : Server). n.device) one.server)) (laws.backed_own old.device m (Answer y.done Ok) (λ none. none))) z.backed;
         stands = subst (IsMachineOf new) (sym (laws.basic.joined m (answers_in z.ended) first)) z.stands;

@@ -26,7 +26,7 @@ use Rattle.host_boot.specs.Taken.{found_of}
 use Rattle.request_queue.specs.Entries.{Held, IsAccepted, without}
 use Rattle.request_queue.specs.Machine.{IsBook, IsEntry}
 use Rattle.server_history.specs.Served.{AnswersOne, HasEnded}
-use Rattle.server_history.specs.Server.{Server, IsKept, IsMachineOf, mode_at, slots_at, state_of, usable_of, with_slot, used_for}
+use Rattle.server_history.specs.Server.{Server, IsKept, IsMachineOf, mode_at, slots_at, state_of, usable_of, with_slot, used_for, IsMarked}
 use Rattle.server_history.specs.Below.{LawsBelow}
 use Rattle.server_history.proofs.state.HistorySteps.{kept_then}
 use Rattle.server_history.proofs.state.PlacedSlots.{freed_was, placed_four, placed_has, placed_uses}
@@ -96,8 +96,8 @@ module _ (laws : LawsBelow) (s new : Server) (port : Port) (e : Held) (k : IsKep
   started : (s.device.port port.0).st ≡ true
   started = ((k.behind port.0 low).runs ready).st
 
-  was_accepted : IsAccepted s.grants s.table e
-  was_accepted = All-contains (IsAccepted s.grants s.table) s.book e k.accepted one.here
+  was_accepted : IsAccepted s.table e
+  was_accepted = All-contains (IsAccepted s.table) s.book e k.accepted one.here
 
   module _ (m : Machine) (reached : IsReached m) (is : IsMachineOf s m) where
     serves : is.uses port.0 slot ≡ Serves id
@@ -187,11 +187,12 @@ module _ (laws : LawsBelow) (s new : Server) (port : Port) (e : Held) (k : IsKep
       (λ q n used is plain.
       let a = k.alone q n used (freed_was s.slots port.0 slot in_list in_places q n used is) plain in
       (a.0, λ other ne. still_none q other (a.1 other ne)))
-      (laws.still_answered s.grants s.table new.table s.book e one.here one.lent k.accepted)
+      (laws.still_answered s.table new.table s.book e one.here one.lent k.accepted)
       (laws.fewer s.book id k.ordered)
+      (left_each (IsMarked s.grants) k.marked)
       (left_each (λ y. y.entry.id.0 ≤ s.last) k.handed_out)
       (left_each (λ y. state_of (found_of s.ports y.entry.port.0) ≡ ReadyState) k.ready)
-      (after_step k.machine (Answer a.done outcome.Ok)) (laws.basic.reached k.machine (Answer a.done outcome.Ok ∷ []) k.reached (tt, a.here))
+      (after_step k.machine (Answer a.done outcome.Ok)) (laws.basic.reached k.machine (Answer a.done outcome.Ok ∷ []) k.reached (tt, (a.here, tt)))
       (subst (λ (n : Server). IsMachineOf n (after_step k.machine (Answer a.done outcome.Ok))) one.server a.stands))
     where
       slot_low : slot < usable_of (found_of s.ports port.0) (mode_at s.modes port.0)

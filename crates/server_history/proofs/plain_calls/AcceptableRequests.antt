@@ -28,7 +28,7 @@ use Rattle.block_machine.specs.State.{Machine, block_of}
 use Rattle.block_machine.specs.Steps as steps
 use Rattle.block_machine.specs.Steps.{IsNew, newly_accepted}
 use Rattle.block_machine.proofs.Accepts.{accepted_is_granted}
-use Rattle.block_machine.proofs.Configured.{rows_stay}
+use Rattle.block_machine.proofs.Configured.{rows_differ}
 use Rattle.block_machine.proofs.Limits.{owned}
 use Rattle.block_machine.proofs.RuleLemmas.{one_row}
 use Rattle.dma_frames.specs.Table.{Table, owner_of, lent_to, LendsOnly}
@@ -55,13 +55,6 @@ count_is Write n twice = between n 256 twice
 count_is Trim n twice = between n 4194240 twice
 count_is Flush n twice = ⊎_elim (λ (same : n ≡ 0). same) (λ (other : n ≢ 0). absurd (twice other)) (cases_eq n 0)
 
--- but for a flush, there is a sector
-some_sector : (op : Op) (n : ℕ) → IsCount op n → op ≢ Flush → 1 ≤ n
-some_sector Read n is other = is.0
-some_sector Write n is other = is.0
-some_sector Trim n is other = is.0
-some_sector Flush n is other = absurd (other refl)
-
 ready_is : (state : PortState) → (state ≢ ReadyState → ⊥) → state ≡ ReadyState
 ready_is ReadyState twice = refl
 ready_is Absent twice = absurd (twice (λ e. cc))
@@ -70,10 +63,10 @@ ready_is (Unfit n) twice = absurd (twice (λ e. cc))
 ready_is Dead twice = absurd (twice (λ e. cc))
 
 -- the rows of a machine that is reached differ in name
-rows_differ : (m : Machine) → IsReached m → AllPairs DifferInName m.rows
-rows_differ m reached =
+names_differ : (m : Machine) → IsReached m → AllPairs DifferInName m.rows
+names_differ m reached =
     subst (λ (n : Machine). AllPairs DifferInName n.rows) (sym reached.is)
-    (subst (λ (rows : List GrantRow). AllPairs DifferInName rows) (sym (rows_stay reached.first reached.past)) reached.starts.rows)
+    (rows_differ reached.first reached.past reached.starts.rows)
 
 module _ (s : Server) (r : Request) (acc : IsAcceptable (situation_of s) r) (row : GrantRow) (named : IsNamed s.grants r row) (port : Port) (port_is : row.port ≡ port) where
   -- its port is ready
@@ -119,7 +112,7 @@ module _ (s : Server) (r : Request) (acc : IsAcceptable (situation_of s) r) (row
         unbroken = λ rule broken. allowed (Rule rule) broken;
         port = λ other there.
             let here = subst (λ (rows : List GrantRow). Contains rows row) (sym is.rows) named.0 in
-            sym port_is ∙ ap (λ (x : GrantRow). x.port) (one_row m.rows (rows_differ m reached) r.client r.grant row other here named.1 there.0 there.1);
+            sym port_is ∙ ap (λ (x : GrantRow). x.port) (one_row m.rows (names_differ m reached) r.client r.grant row other here named.1 there.0 there.1);
         few = ⊎_elim (λ (low : steps.unanswered_of m.book r.client < 16). low) (λ high. absurd (allowed ClientFull high)) (cases_lt (steps.unanswered_of m.book r.client) 16);
         held = refl;
       }
@@ -139,12 +132,12 @@ module _ (s : Server) (r : Request) (acc : IsAcceptable (situation_of s) r) (row
       count : IsCount r.op r.count
       count = count_is r.op r.count (λ other. acc (Rule BadCount) other)
 
-      first_below : r.op ≢ Flush → r.first.0 < 2 ^ 48
-      first_below other =
+      -- a grant's sectors are below 2^48
+      below : r.op ≢ Flush → r.first.0 + r.count ≤ 2 ^ 48
+      below other =
           let covers = granted.covered other in
-          let some = some_sector r.op r.count count other in
-          let below = row_is.below in
-          omega (arith, covers.1, some, below)
+          let last = row_is.below in
+          omega (arith, covers.1, last)
 
       own : All (λ frame. owner_of s.table frame ≡ Some r.client) r.frames.items
       own i d small = owned (owner_of s.table (get_or r.frames.items i d)) r.client (λ other. acc (Rule (Frames (FrameForeign i))) (get_or r.frames.items i d, slice_get-get_or r.frames.items i d small, other))
@@ -159,14 +152,13 @@ module _ (s : Server) (r : Request) (acc : IsAcceptable (situation_of s) r) (row
             slice_get-get_or r.frames.items j d small,
           )
 
-      pub is_accepted : (table : Table) → LendsOnly s.table table r.frames.items (Some id) → IsAccepted s.grants table (accepted_as port r id)
+      pub is_accepted : (table : Table) → LendsOnly s.table table r.frames.items (Some id) → IsAccepted table (accepted_as port r id)
       is_accepted table lends = record {
         client_from = subst (λ (c : ClientId). 1 ≤ c.0) granted.named.1.0 row_is.client.0;
         client_to = subst (λ (c : ClientId). c.0 ≤ 8) granted.named.1.0 row_is.client.1;
         sectors = count;
-        first = first_below;
+        below = below;
         frames = ⊎_elim (λ (same : length r.frames.items ≡ frames_for r.op r.count). same) (λ other. absurd (acc (Rule FrameCount) other)) (cases_eq (length r.frames.items) (frames_for r.op r.count));
-        row = (granted.row, there, granted.named.1.0, granted.named.1.1, sym granted.port, granted.right, granted.covered);
         clients = λ i d small. (k.owners (get_or r.frames.items i d) r.client (own i d small)).0;
         own = λ i d small. ap (λ (owners : List (Option ClientId)). get_or owners (get_or r.frames.items i d).0 None) lends.owners ∙ own i d small;
         apart = apart;

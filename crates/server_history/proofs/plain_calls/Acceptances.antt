@@ -43,7 +43,7 @@ use Rattle.adapter.specs.Access.Access.{Loading, Reading, Storing, Writing}
 use Rattle.server_history.specs.Below.{LawsBelow}
 use Rattle.server_history.specs.Histories.{Adds, Leads}
 use Rattle.server_history.specs.Served.{IssuesIn, Accepts, IssuesAll, accepted_as, accepting}
-use Rattle.server_history.specs.Server.{Server, IsKept, IsMachineOf, IsSettled, mode_in, ports_of, situation_of, state_of, used_for}
+use Rattle.server_history.specs.Server.{Server, IsKept, IsMachineOf, IsSettled, mode_in, ports_of, situation_of, state_of, used_for, IsMarked}
 use Rattle.slots.specs.declared.Use.{Use as SlotUse}
 use Rattle.block_machine.specs.declared.due.Mode.{Mode}
 use Rattle.server_history.proofs.state.DueRequests.{none_due}
@@ -119,16 +119,16 @@ module _ (laws : LawsBelow) (s : Server) (k : IsKept s) (r : Request) (acc : IsA
   ready : state_of (found_of s.ports port.0) ≡ ReadyState
   ready = on_ready s r acc row named port port_is
 
-  its : IsAccepted s.grants table e
+  its : IsAccepted table e
   its = is_accepted s r acc row named port port_is id id_is laws k table lends
 
   earlier : All (λ x. IsEarlier x e) s.book
   earlier i d small = let h = k.handed_out i d small in omega (arith, h, id_is)
 
-  accepted : All (IsAccepted s.grants table) (s.book ++ e ∷ [])
+  accepted : All (IsAccepted table) (s.book ++ e ∷ [])
   accepted =
-      All-push (IsAccepted s.grants table) s.book e
-      (laws.still_lent s.grants s.table table s.book r.frames.items (Some id) lends (unlent s r acc row named port port_is) k.accepted) its
+      All-push (IsAccepted table) s.book e
+      (laws.still_lent s.table table s.book r.frames.items (Some id) lends (unlent s r acc row named port port_is) k.accepted) its
 
   module _ (m : Machine) (was : IsReached m) (is : IsMachineOf s m) where
     abbrev request : machine.Accepted
@@ -170,9 +170,14 @@ module _ (laws : LawsBelow) (s : Server) (k : IsKept s) (r : Request) (acc : IsA
       absurd (omega (arith, low, its, id_is)))
       (append_in s.book e h there)
 
+  -- it has the grant that it names
+  its_mark : IsMarked s.grants e
+  its_mark = record { tells = record { granted = λ plain. (row, named.0, named.1); revoked = λ marked. absurd (false≢true marked) }; waiting = λ waits. refl }
+
   pub accept_kept : IsKept more
   accept_kept = kept_then s s.device table s.slots (s.book ++ e ∷ []) (s.last + 1) k k.on (same_refl s.device) k.behind lends.owners k.four k.slots kinds_then k.commands k.alone accepted
-      (laws.longer s.book e k.ordered earlier (refl, refl, refl) its.client_from its.client_to (has_room s r acc row named port port_is))
+      (laws.longer s.book e k.ordered earlier (refl, refl, refl, refl) its.client_from its.client_to (has_room s r acc row named port port_is))
+      (All-push (IsMarked s.grants) s.book e k.marked its_mark)
       (All-push (λ (x : Held). x.entry.id.0 ≤ s.last + 1) s.book e (All-weaker (λ (x : Held). x.entry.id.0 ≤ s.last) (λ (x : Held). x.entry.id.0 ≤ s.last + 1) (λ x low. omega (arith, low)) s.book k.handed_out) (omega (arith, id_is)))
       (All-push (λ (x : Held). state_of (found_of s.ports x.entry.port.0) ≡ ReadyState) s.book e k.ready ready)
       (next k.machine k.reached k.stands) (reached_next k.machine k.reached k.stands) (stands_next k.machine k.reached k.stands)

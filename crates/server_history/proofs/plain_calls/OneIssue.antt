@@ -41,7 +41,7 @@ use Rattle.request_queue.specs.Entries.{asks}
 use Rattle.slots.specs.Uses.{IsLowestFree}
 use Rattle.slots.specs.declared.Use.{Use as SlotUse}
 use Rattle.server_history.specs.Served.{IssuesOne, task_of, use_for}
-use Rattle.server_history.specs.Server.{HasCommand, StandsAlone, Server, IsKept, IsMachineOf, IsPortOf, IsUsedAs, mode_at, mode_in, slots_at, state_of, usable_of, used_for, with_slot}
+use Rattle.server_history.specs.Server.{HasCommand, StandsAlone, Server, IsKept, IsMachineOf, IsPortOf, IsUsedAs, mode_at, mode_in, slots_at, state_of, usable_of, used_for, with_slot, IsMarked}
 use Rattle.server_history.specs.Below.{LawsBelow}
 use Rattle.server_history.proofs.state.DueRequests.{asked_alike, same_book}
 use Rattle.server_history.proofs.state.ChangedRequests.{all_changed}
@@ -56,11 +56,12 @@ use Rattle.agreement.specs.Agrees.{port_at}
 use Rattle.ata_types.specs.declared.request.Op.{Op}
 use Rattle.ata_types.specs.declared.request.Op.TheVariants.{Read, Write, Trim, Flush}
 use Rattle.ncq.specs.Tasks.{operation_of}
-use Rattle.server_history.proofs.state.PortSlots.{free_unused, IsServedBy, its_mode, lowest_may, none_kept, not_dead, not_false, not_own, not_true, of_ready, ready_found, served_request, serves_used, usable_ready, used_or_not, used_there}
+use Rattle.server_history.proofs.state.PortSlots.{due_has, free_unused, IsServedBy, its_mode, lowest_may, none_kept, not_dead, not_false, not_own, not_true, of_ready, ready_found, served_request, serves_used, usable_ready, used_or_not, used_there}
 use Rattle.server_history.proofs.state.PairedLists.{at_left}
 use Rattle.port_look.specs.Services.{IsService}
 use Rattle.ncq.specs.Tasks.{IsIssuing, IsTaskOf, IssuesTask, MayServe, with_serving}
 use Rattle.server_history.proofs.state.TransferAccesses.{issuing_serves}
+use Rattle.server_history.proofs.state.RevokedMarks.{issued_marked}
 
 -- Steps of the device, and then the issue of this request, lead from the machine to one that stands for the new server.
 pub record IsIssue (port : Port) (id : RequestId) (old new : Server) (m : Machine) : Type 0 where
@@ -173,7 +174,12 @@ module _ (laws : LawsBelow) (s new : Server) (port : Port) (id : RequestId) (k :
         subst B (sym (same_book s.book m.book is.book)) (subst R (sym (asked_alike e p x.2)) one.due)
 
     may : May m (Issue mode p)
-    may = (x.1, due, none_kept s m p.request.port is (not_dead s p.request.port.0 (ap (λ (q : Port). state_of (found_of s.ports q.0)) (x.2.port ∙ one.port_is) ∙ issued_ready)))
+    may = (
+      x.1,
+      due,
+      none_kept s m p.request.port is (not_dead s p.request.port.0 (ap (λ (q : Port). state_of (found_of s.ports q.0)) (x.2.port ∙ one.port_is) ∙ issued_ready)),
+      due_has s k m is e one.here mode one.due p x.2,
+    )
 
     its_transfer : IsTaskOf port slot r e.frames mode p
     its_transfer = record {
@@ -385,8 +391,9 @@ module _ (laws : LawsBelow) (s new : Server) (port : Port) (id : RequestId) (k :
       kinds_then
       commands_then
       alone_then
-      (laws.still_issued s.grants s.table s.book id k.accepted)
+      (laws.still_issued s.table s.book id k.accepted)
       (laws.issued s.book id k.ordered (e, one.here, one.id_is, waiting))
+      (all_changed id issue (IsMarked s.grants) (issued_marked s.grants) s.book k.marked)
       (all_changed id issue (λ y. y.entry.id.0 ≤ s.last) (λ y a. a) s.book k.handed_out)
       (all_changed id issue (λ y. state_of (found_of s.ports y.entry.port.0) ≡ ReadyState) (λ y a. a) s.book k.ready)
       (after k.machine (Issue mode i.request ∷ i.steps)) (laws.basic.reached k.machine (Issue mode i.request ∷ i.steps) k.reached i.may)

@@ -15,7 +15,7 @@ use Rattle.ata_types.specs.declared.request.RequestId.{RequestId}
 use Rattle.adapter.specs.declared.access.DeviceStep.{DeviceStep}
 use Rattle.agreement.specs.Driven.{AnyUse, IsFollowed}
 use Rattle.agreement.specs.Driver.{IsBacked}
-use Rattle.block_machine.specs.Events.{AllDevices, AllGrounded, AreTold, AllLawful, AllMay, Belong, GivesUp, IsIssuedIn, IsLawful, IssuesLast, IsToldBefore, Moment, Service, Tells, UnplugsAll, WasIssued, answers_of, issues_it, reply_of}
+use Rattle.block_machine.specs.Events.{AllDevices, AllGrounded, AreTold, AllLawful, AllMay, Belong, GivesUp, IsIssuedIn, IsLawful, IssuesLast, IsToldBefore, Moment, Service, Tells, UnplugsAll, WasIssued, answers_of, issues_it, reply_of, IsReadyAgain}
 use Rattle.block_machine.specs.Histories.{IsReached}
 use Rattle.block_machine.specs.Left.{after}
 use Rattle.block_machine.specs.Ports.{Evidence, Ports, SameDisk}
@@ -23,7 +23,7 @@ use Rattle.block_machine.specs.State.{Machine, Pending}
 use Rattle.block_machine.specs.Steps.{Step, Again, Answer, Issue}
 use Rattle.block_machine.specs.declared.due.Mode.{Mode}
 use Rattle.block_machine.specs.declared.due.Unanswered.{Unanswered}
-use Rattle.server_history.proofs.state.ListMembers.{contains_here, map_in}
+use Rattle.server_history.proofs.state.ListMembers.{contains_here, map_in, in_filter}
 use Rattle.block_machine.specs.Due.{due_of}
 use Rattle.driver_history.specs.Histories.{IssuesDue}
 use Rattle.driver_history.specs.Holds.{NoneWaits}
@@ -56,7 +56,7 @@ use Rattle.server_history.proofs.state.AnswerSteps.{answered_in, ended_stood, is
 use Rattle.server_history.proofs.any_turn.ToldTrouble.{given_up, lost_or_not}
 use Rattle.server_history.proofs.state.DeviceSteps.{devices_belong, devices_lawful}
 use Rattle.server_history.proofs.fates.FateReasons.{RestsOnFailure, Why, answered_left, deciding_belong, deciding_grounded, deciding_issues_none, deciding_lawful, deciding_own, issuing_belong, none_left, ok_or_not, other_ends, why, why_again}
-use Rattle.server_history.proofs.recovery_turn.MendedMachine.{adds_fates, in_filter, in_ports, mid_kept, mid_ready, unnamed}
+use Rattle.server_history.proofs.recovery_turn.MendedMachine.{adds_fates, in_ports, mid_kept, mid_ready, unnamed}
 use Rattle.server_history.proofs.any_turn.JoinedParts.{all_pairs_append, answers_append, answers_there}
 use Rattle.server_history.proofs.healthy_turn.CallPart.{answered_permuted, answers_all, device_grounded, device_own, devices_all, devices_answers, issues_all, none_last, told_ordered}
 use Rattle.server_history.proofs.fates.AnswerOrder.{AreDifferent, AreOfPort, answered_id, told_differ, told_in_order}
@@ -278,6 +278,13 @@ module _ (laws : LawsBelow) (port : Port) (replies : List Reply) (old new : Serv
         was : w.0.entry.issued ≡ true → WasIssued m e.request.id
         was issued = subst (WasIssued m) (sym w.2.id) (was_issued w.0 there issued)
 
+        goes_on : a.prospect ≡ Same → IsReadyAgain began evidence (ports_of new) e.request.port
+        goes_on same = (
+          ap (ports_of new).state its_port ∙ same_ready same,
+          subst (Contains evidence.stopped) (sym its_port) (same_stopped same),
+          subst (SameDisk (ports_of old) (ports_of new)) (sym its_port) (same_shown same),
+        )
+
         by : Why a.failed a.prospect w.0.entry o → IsLawful began evidence (ports_of new) e o
         by (inl x) =
             let issued = failed_issued x.0 x.1 w.0 there x.2 in
@@ -289,16 +296,11 @@ module _ (laws : LawsBelow) (port : Port) (replies : List Reply) (old new : Serv
               subst (Contains evidence.stopped) (sym its_port) (stopped_named port a.mended.result.next (λ stuck. let y : None ≡ Some x.0 = sym (no_way stuck).1 ∙ x.1 in absurd cc)),
             )
         by (inr (inl x)) =
-            subst (IsLawful began evidence (ports_of new) e) (sym x.3) (
-              was x.1,
-              w.2.issues ∙ x.2,
-              ap (ports_of new).state its_port ∙ same_ready x.0,
-              subst (Contains evidence.stopped) (sym its_port) (same_stopped x.0),
-              subst (SameDisk (ports_of old) (ports_of new)) (sym its_port) (same_shown x.0),
-            )
+            subst (IsLawful began evidence (ports_of new) e) (sym x.3) (was x.1, w.2.issues ∙ x.2, goes_on x.0)
         by (inr (inr (inl x))) =
             subst (IsLawful began evidence (ports_of new) e) (sym x.1) (subst (Contains evidence.lost) (sym its_port) (other_lost x.0), subst (Contains evidence.stopped) (sym its_port) (other_stopped x.0))
-        by (inr (inr (inr x))) = subst (IsLawful began evidence (ports_of new) e) (sym x.1) (ap (ports_of new).state its_port ∙ dead_state x.0)
+        by (inr (inr (inr (inl x)))) = subst (IsLawful began evidence (ports_of new) e) (sym x.1) (ap (ports_of new).state its_port ∙ dead_state x.0)
+        by (inr (inr (inr (inr x)))) = subst (IsLawful began evidence (ports_of new) e) (sym x.3) (inr (goes_on x.0))
 
     again_same : (e : Pending) → Contains f.fates (Again e) → (a.prospect ≡ Same) × (e.request.port ≡ port)
     again_same e here = let w = f.again e here in (why_again a.failed a.prospect w.0.entry w.3, w.2.port ∙ (of_its w.0 w.1).1)
@@ -340,7 +342,8 @@ module _ (laws : LawsBelow) (port : Port) (replies : List Reply) (old new : Serv
         none lost (inl x) = let y : None ≡ Some x.0 = sym (nobody (λ failed. let z : Lost ≡ Fails = sym lost ∙ failed in absurd cc)) ∙ x.1 in absurd cc
         none lost (inr (inl x)) = not_same lost x.0
         none lost (inr (inr (inl x))) = subst RestsOnFailure x.1 rests
-        none lost (inr (inr (inr x))) = subst RestsOnFailure x.1 rests
+        none lost (inr (inr (inr (inl x)))) = subst RestsOnFailure x.1 rests
+        none lost (inr (inr (inr (inr x)))) = not_same lost x.0
 
     grounded : a.mended.trouble ≢ Hung → AllGrounded evidence (z.steps ++ base)
     grounded unhung =
@@ -471,7 +474,8 @@ module _ (laws : LawsBelow) (port : Port) (replies : List Reply) (old new : Serv
         by entry (inl x) = let y : None ≡ Some x.0 = sym (nobody other) ∙ x.1 in absurd cc
         by entry (inr (inl x)) = subst GivesUp (sym x.3) tt
         by entry (inr (inr (inl x))) = subst GivesUp (sym x.1) tt
-        by entry (inr (inr (inr x))) = subst GivesUp (sym x.1) tt
+        by entry (inr (inr (inr (inl x)))) = subst GivesUp (sym x.1) tt
+        by entry (inr (inr (inr (inr x)))) = subst GivesUp (sym x.3) tt
 
         by_ok : (o ≡ outcome.Ok) ⊎ (o ≢ outcome.Ok) → GivesUp o ⊎ (o ≡ outcome.Ok)
         by_ok (inl ok) = inr ok
@@ -488,7 +492,8 @@ module _ (laws : LawsBelow) (port : Port) (replies : List Reply) (old new : Serv
         by (inl x) = let y : outcome.Unplugged ≡ outcome.DeviceError x.0.status x.0.error = x.3 in absurd cc
         by (inr (inl x)) = let y : outcome.Unplugged ≡ outcome.Aborted = x.3 in absurd cc
         by (inr (inr (inl x))) = x.0
-        by (inr (inr (inr x))) = let y : outcome.Unplugged ≡ outcome.PortDead = x.1 in absurd cc
+        by (inr (inr (inr (inl x)))) = let y : outcome.Unplugged ≡ outcome.PortDead = x.1 in absurd cc
+        by (inr (inr (inr (inr x)))) = let y : outcome.Unplugged ≡ outcome.Revoked = x.3 in absurd cc
 
     dead_why : (e : Pending) → Contains (z.steps ++ base) (Answer e outcome.PortDead) → a.prospect ≡ NoEnd
     dead_why e here = by (why a.failed a.prospect w.0.entry outcome.PortDead w.3)
@@ -500,7 +505,8 @@ module _ (laws : LawsBelow) (port : Port) (replies : List Reply) (old new : Serv
         by (inl x) = let y : outcome.PortDead ≡ outcome.DeviceError x.0.status x.0.error = x.3 in absurd cc
         by (inr (inl x)) = let y : outcome.PortDead ≡ outcome.Aborted = x.3 in absurd cc
         by (inr (inr (inl x))) = let y : outcome.PortDead ≡ outcome.Unplugged = x.1 in absurd cc
-        by (inr (inr (inr x))) = x.0
+        by (inr (inr (inr (inl x)))) = x.0
+        by (inr (inr (inr (inr x)))) = let y : outcome.PortDead ≡ outcome.Revoked = x.3 in absurd cc
 
     -- but with the same disk, none of the port's requests is left
     none_waits : a.prospect ≢ Same → NoneWaits (after m (z.steps ++ base)) port
@@ -534,14 +540,20 @@ module _ (laws : LawsBelow) (port : Port) (replies : List Reply) (old new : Serv
             (λ named. absurd (unnamed_then named.0 named.1))
             (λ rest. ⊎_elim
             (λ aborted. absurd (disk_lost x aborted.0))
-            (λ rest. ⊎_elim (λ gone. gone.1) (λ dead. absurd (let y : DiskLost ≡ NoEnd = sym x ∙ dead.0 in cc)) rest)
+            (λ rest. ⊎_elim
+            (λ gone. gone.1)
+            (λ rest. ⊎_elim (λ dead. absurd (let y : DiskLost ≡ NoEnd = sym x ∙ dead.0 in cc)) (λ revoked. absurd (disk_lost x revoked.0)) rest)
+            rest)
             rest)
             reason))
         by NoEnd x = inr (told_as outcome.PortDead (λ e o reason. ⊎_elim
             (λ named. absurd (unnamed_then named.0 named.1))
             (λ rest. ⊎_elim
             (λ aborted. absurd (let y : NoEnd ≡ Same = sym x ∙ aborted.0 in cc))
-            (λ rest. ⊎_elim (λ gone. absurd (let y : NoEnd ≡ DiskLost = sym x ∙ gone.0 in cc)) (λ dead. dead.1) rest)
+            (λ rest. ⊎_elim
+            (λ gone. absurd (let y : NoEnd ≡ DiskLost = sym x ∙ gone.0 in cc))
+            (λ rest. ⊎_elim (λ dead. dead.1) (λ revoked. absurd (let y : NoEnd ≡ Same = sym x ∙ revoked.0 in cc)) rest)
+            rest)
             rest)
             reason))
 

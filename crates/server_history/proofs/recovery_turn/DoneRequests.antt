@@ -141,7 +141,8 @@ module _ (laws : LawsBelow) (port : Port) (replies : List Reply) (old new : Serv
           by (inl y) = let z : outcome.Ok ≡ outcome.DeviceError y.0.status y.0.error = y.3 in absurd cc
           by (inr (inl y)) = let z : outcome.Ok ≡ outcome.Aborted = y.3 in absurd cc
           by (inr (inr (inl y))) = let z : outcome.Ok ≡ outcome.Unplugged = y.1 in absurd cc
-          by (inr (inr (inr y))) = let z : outcome.Ok ≡ outcome.PortDead = y.1 in absurd cc
+          by (inr (inr (inr (inl y)))) = let z : outcome.Ok ≡ outcome.PortDead = y.1 in absurd cc
+          by (inr (inr (inr (inr y)))) = let z : outcome.Ok ≡ outcome.Revoked = y.3 in absurd cc
 
   ended_answered : (e : Pending) → Contains d.fates.ended e → Contains d.steps (Answer e outcome.Ok)
   ended_answered e here = subst (λ (steps : List Step). Contains steps (Answer e outcome.Ok)) (sym d.steps_are)

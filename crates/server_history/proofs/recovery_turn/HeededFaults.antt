@@ -222,7 +222,8 @@ module _ (laws : LawsBelow) (port : Port) (replies : List Reply) (old new : Serv
       by (inl y) = ap (λ (i : RequestId). i.0) w.2.id ∙ sym y.2 ∙ ap failed_id (sym y.1)
       by (inr (inl y)) = absurd (no outcome.Aborted y.3 refl)
       by (inr (inr (inl y))) = absurd (no outcome.Unplugged y.1 refl)
-      by (inr (inr (inr y))) = absurd (no outcome.PortDead y.1 refl)
+      by (inr (inr (inr (inl y)))) = absurd (no outcome.PortDead y.1 refl)
+      by (inr (inr (inr (inr y)))) = absurd (no outcome.Revoked y.3 refl)
 
   -- and none where nobody is named
   untold : a.failed ≡ None → count_by (tells_fault port) d.fates.fates ≡ 0
@@ -244,7 +245,8 @@ module _ (laws : LawsBelow) (port : Port) (replies : List Reply) (old new : Serv
           by (inl y) = let z : None ≡ Some y.0 = sym nobody ∙ y.1 in cc
           by (inr (inl y)) = no outcome.Aborted y.3 refl
           by (inr (inr (inl y))) = no outcome.Unplugged y.1 refl
-          by (inr (inr (inr y))) = no outcome.PortDead y.1 refl
+          by (inr (inr (inr (inl y)))) = no outcome.PortDead y.1 refl
+          by (inr (inr (inr (inr y)))) = no outcome.Revoked y.3 refl
 
   silent : (steps : List Step) → ((e : Pending) (o : Outcome) → Contains steps (Answer e o) → o ≡ outcome.Ok) → count_by (tells_fault port) steps ≡ 0
   silent steps ok = none_told port steps (λ e o here. ap (λ (y : Outcome). tells_fault port (Answer e y)) (ok e o here))

@@ -1,10 +1,9 @@
 -- From a machine that stands for the server, a port's recovery, and what its requests meet then, lead to one that stands for the server after them.
-use Rattle.std.proofs.Common.{ℕ, ◌≡◌, ◌≢◌, ◌<◌, ◌++◌, Bool, true, false, cond, eq-eqb, eqb-true, List, [], ◌∷◌, get_or, length, Option, None, inl, refl, sym, ap, ◌∙◌, subst, ⊎_elim, arith}
+use Rattle.std.proofs.Common.{ℕ, ◌≡◌, ◌≢◌, ◌<◌, ◌++◌, Bool, true, false, eq-eqb, eqb-true, List, [], ◌∷◌, get_or, length, Option, None, inl, refl, sym, ap, ◌∙◌, subst, ⊎_elim, arith}
 use Rattle.std.specs.List.{All, Contains}
-use Rattle.std.specs.Prelude.{filter}
-use Rattle.std.proofs.lemmas.Bool.{cases_eq, cond-true, false≢true}
+use Rattle.std.proofs.lemmas.Bool.{cases_eq, false≢true}
 use Rattle.std.proofs.lemmas.List.{get_or-set_other, get_or-set_same}
-use Rattle.std.proofs.lemmas.List.Elements.{All-contains, All-contains_itself, All-filter, All-head, All-tail, Contains-append_cases, Contains-append_left, Contains-append_right, filter_passes}
+use Rattle.std.proofs.lemmas.List.Elements.{All-contains, All-contains_itself, All-filter, All-head, All-tail, Contains-append_cases, filter_passes}
 use Rattle.std.proofs.lemmas.List.Kept.{AllPairs-filter}
 use Rattle.ata_types.specs.declared.Port.{Port}
 use Rattle.ata_types.specs.declared.PortState.TheVariants.{Dead, Ready as ReadyState}
@@ -22,7 +21,7 @@ use Rattle.block_machine.specs.Events.{AllDevices, AllMay}
 use Rattle.block_machine.specs.Histories.{IsReached}
 use Rattle.block_machine.specs.Left.{after}
 use Rattle.block_machine.specs.State.{Machine, Pending}
-use Rattle.block_machine.specs.Steps.{Step, Accept, after_step}
+use Rattle.block_machine.specs.Steps.{Step, Accept, after_step, Revoke}
 use Rattle.block_machine.specs.declared.due.Mode.{Mode}
 use Rattle.dma_frames.specs.Loan.{Lending}
 use Rattle.error_recovery.specs.declared.Next.{Next}
@@ -46,12 +45,12 @@ use Rattle.server_history.specs.Below.{LawsBelow}
 use Rattle.server_history.specs.Fates.{DecidesOn, MayMeet, MeetsInMachine, keeps_fate}
 use Rattle.server_history.specs.Mended.{AreUnused, IsFailed, IsFoundAfter, IsProspect, HasMetFates, holdings_of, requests_of, with_port}
 use Rattle.server_history.specs.Served.{answers_in}
-use Rattle.server_history.specs.Server.{AreKept, AreUsesOf, IsKept, IsMachineOf, Server, is_served, kept_at, slots_at, state_of}
+use Rattle.server_history.specs.Server.{AreKept, AreUsesOf, IsKept, IsMachineOf, Server, is_served, kept_at, slots_at, state_of, IsMarked}
 use Rattle.server_history.proofs.state.HistorySteps.{book_on, still_kept}
-use Rattle.server_history.proofs.any_turn.JoinedParts.{first_or_later}
 use Rattle.server_history.proofs.state.KeptLoans.{none_alive}
 use Rattle.server_history.proofs.plain_calls.Looks.{finding_kept, found_over, looking_kept}
-use Rattle.server_history.proofs.fates.MetFates.{meet, tame}
+use Rattle.server_history.proofs.fates.FittingFates.{fits_entry, kept_dead_alone}
+use Rattle.server_history.proofs.fates.MetFates.{meet}
 use Rattle.server_history.proofs.recovery_turn.RecoveredDevice.{IsPassed, devices_both, passed, uses_then}
 use Rattle.server_history.proofs.recovery_turn.TurnParts.{AddsFates}
 use Rattle.server_history.proofs.recovery_turn.ReplacedPort.{is_listed}
@@ -62,20 +61,10 @@ use Rattle.server_history.proofs.state.PairedLists.{at_left}
 use Rattle.server_history.proofs.fates.MoreKeptLoans.{more_kept}
 use Rattle.server_history.proofs.state.FirstMembers.{nowhere}
 use Rattle.port_look.specs.declared.Trouble.{Trouble}
+use Rattle.server_history.proofs.state.RevokedMarks.{tells_of}
+use Rattle.server_history.proofs.state.ListMembers.{in_filter}
 
 -- ---- lists
-
--- what passes is kept
-pub in_filter : {X : Type 0} (p : X → Bool) (xs : List X) (x : X) → Contains xs x → p x ≡ true → Contains (filter p xs) x
-in_filter p [] x here passes = absurd (nowhere x here)
-in_filter {X} p (y ∷ xs) x here passes = ⊎_elim
-    (λ (same : x ≡ y). subst (λ (list : List X). Contains list x) (sym (cond-true (p y) (y ∷ filter p xs) (filter p xs) (ap p (sym same) ∙ passes))) (Contains-append_left (y ∷ []) (filter p xs) x (0, omega arith, sym same)))
-    (λ (later : Contains xs x). by (p y) (in_filter p xs x later passes))
-    (first_or_later y xs x here)
-  where
-    by : (b : Bool) → Contains (filter p xs) x → Contains (cond b (y ∷ filter p xs) (filter p xs)) x
-    by true there = Contains-append_right (y ∷ []) (filter p xs) x there
-    by false there = there
 
 -- a port that was found with a disk is in the list
 pub in_ports : (ports : List Found) (port : ℕ) (info : DiskInfo) → found_of ports port ≡ Ready info → port < length ports
@@ -86,6 +75,7 @@ in_ports ports port info is = is_listed ports port (ap is_served is)
 -- steps that decide leave the grants, the owners, and the next id
 step_leaves : (port : Port) (m : Machine) (step : Step) → DecidesOn port step → ((after_step m step).rows ≡ m.rows) × ((frame : Frame) → (after_step m step).owner frame ≡ m.owner frame) × ((after_step m step).next ≡ m.next)
 step_leaves port m (Accept r) is = absurd is
+step_leaves port m (Revoke client number) is = absurd is
 step_leaves port m step is = (refl, λ frame. refl, refl)
 
 pub deciding_leaves : (port : Port) (m : Machine) (steps : List Step) → All (DecidesOn port) steps → ((after m steps).rows ≡ m.rows) × ((frame : Frame) → (after m steps).owner frame ≡ m.owner frame) × ((after m steps).next ≡ m.next)
@@ -191,7 +181,7 @@ module _ (laws : LawsBelow) (port : Port) (mid : Server) (k : IsKept mid) (ready
       (λ there. absurd (nowhere id (subst (λ (ids : List RequestId). Contains ids id) (is.unparked port.0 alive) there)))
       (Contains-append_cases _ (is.parked port.0) id (passed.left.its id here))
 
-  may_meet : MayMeet port fate its (holdings_of port mid) mid.grants (at_slots t device) w
+  may_meet : MayMeet port fate its (holdings_of port mid) (at_slots t device) w
   may_meet = record {
     reached = w_reached;
     knows = passed.passes.knows;
@@ -200,6 +190,7 @@ module _ (laws : LawsBelow) (port : Port) (mid : Server) (k : IsKept mid) (ready
     ordered = k.ordered;
     accepted = k.accepted;
     here = of_its;
+    marked = λ e here. tells_of w.rows mid.grants e.entry (spares.rows ∙ is.rows) (All-contains (IsMarked mid.grants) mid.book e k.marked (of_its e here).0).tells;
     earlier = AllPairs-filter IsEarlier (λ (x : Held). is_of port x.entry) mid.book k.ordered.ordered;
     unserved = unserved;
     parked = λ quiet. parked_by;
@@ -207,7 +198,7 @@ module _ (laws : LawsBelow) (port : Port) (mid : Server) (k : IsKept mid) (ready
 
   module _ (later : List Reply) (now : Holdings) (meets : MeetFates fate its later (holdings_of port mid) now) where
     pub met : MeetsInMachine port fate its later (holdings_of port mid) now (at_slots t device) w
-    met = meet laws port failed prospect mid.grants its later (holdings_of port mid) now (at_slots t device) w may_meet meets
+    met = meet laws port fate (fits_entry failed prospect) its later (holdings_of port mid) now (at_slots t device) w may_meet meets
 
     abbrev z : Machine
     z = after w met.steps
@@ -220,7 +211,7 @@ module _ (laws : LawsBelow) (port : Port) (mid : Server) (k : IsKept mid) (ready
         x = met.whose e here
 
         lives : prospect ≢ NoEnd → ⊥
-        lives other = false≢true (sym ((tame failed prospect x.0.entry).alive other) ∙ x.3)
+        lives other = false≢true (sym (kept_dead_alone failed prospect x.0.entry other) ∙ x.3)
 
         by : (p : Prospect) → prospect ≡ p → found ≡ Unready Dead
         by SameDisk same = absurd (lives (λ dead. let y : SameDisk ≡ NoEnd = sym same ∙ dead in absurd cc))
@@ -229,7 +220,7 @@ module _ (laws : LawsBelow) (port : Port) (mid : Server) (k : IsKept mid) (ready
 
     -- on another port nothing is decided
     quiet : found ≢ Unready Dead → (e : Entry) → keeps_fate (fate e) e ≡ false
-    quiet other e = (tame failed prospect e).alive (λ dead. other (subst (IsProspect trouble was found) dead expects))
+    quiet other e = kept_dead_alone failed prospect e (λ dead. other (subst (IsProspect trouble was found) dead expects))
 
     module _ (mode : Mode) (slots : PortSlots) (unused : AreUnused mode slots) where
       abbrev new : Server

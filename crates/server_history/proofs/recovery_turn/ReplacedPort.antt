@@ -48,12 +48,12 @@ use Rattle.slots.specs.Uses.{Uses as PortSlots, use_at}
 use Rattle.slots.specs.declared.Use.{Use as SlotUse}
 use Rattle.server_history.specs.Below.{LawsBelow}
 use Rattle.server_history.specs.Mended.{IsFoundAfter, AreUnused}
-use Rattle.server_history.specs.Server.{HasSlots, Server, IsKept, IsMachineOf, IsPortOf, is_served, kept_at, mode_at, mode_found, mode_in, no_slots, plain_mode, slots_at, state_of, usable_of, used_for}
+use Rattle.server_history.specs.Server.{HasSlots, Server, IsKept, IsMachineOf, IsPortOf, is_served, kept_at, mode_at, mode_found, mode_in, no_slots, plain_mode, slots_at, state_of, usable_of, used_for, IsMarked}
 use Rattle.port_look.specs.declared.Trouble.{Trouble}
 use Rattle.server_history.proofs.state.PortGrounds.{left_on}
 use Rattle.server_history.proofs.recovery_turn.OtherPorts.{Passes}
 use Rattle.server_history.proofs.state.DrivenAccesses.{driven_as}
-use Rattle.server_history.proofs.fates.RemainingBook.{WasIn}
+use Rattle.server_history.proofs.fates.RemainingBook.{WasIn, marked_from}
 use Rattle.server_history.proofs.recovery_turn.FoundDisk.{boot_sees}
 use Rattle.server_history.proofs.recovery_turn.BootOrAbsence.{IsFoundAbsent, boots_or_absent}
 
@@ -200,7 +200,7 @@ with_found port device table found remembered mode its kept book s = record s {
 -- What of a server has to hold then: each request was one of it before, and is of a ready port.
 pub record IsBookLeft (port : Port) (found : Found) (table : Table) (book : List Held) (s : Server) : Type 0 where
   pub owners : table.owners ≡ s.table.owners
-  pub accepted : All (IsAccepted s.grants table) book
+  pub accepted : All (IsAccepted table) book
   pub ordered : IsInOrder book
   pub from : (e : Held) → Contains book e → WasIn s.book e
   pub ready : (e : Held) → Contains book e → e.entry.port.0 ≡ port.0 → state_of found ≡ ReadyState
@@ -295,6 +295,9 @@ module _ (laws : LawsBelow) (port : Port) (s : Server) (k : IsKept s) (low : por
       ∙ All-contains (λ (x : Held). state_of (found_of s.ports x.entry.port.0) ≡ ReadyState) s.book w.was k.ready w.there)
       (cases_eq e.entry.port.0 port.0)
 
+  marked_one : (e : Held) → Contains book e → IsMarked s.grants e
+  marked_one e here = marked_from s.grants s.book k.marked e (left.from e here)
+
   handed_one : (e : Held) → Contains book e → e.entry.id.0 ≤ s.last
   handed_one e here =
       let w = left.from e here in
@@ -338,6 +341,7 @@ module _ (laws : LawsBelow) (port : Port) (s : Server) (k : IsKept s) (low : por
         (o.0, subst (λ (n : ℕ). 4096 * frame.0 + 4096 ≤ n) (sym alike.size) o.1);
     accepted = left.accepted;
     ordered = left.ordered;
+    marked = each_left (IsMarked s.grants) marked_one;
     handed_out = each_left (λ (e : Held). e.entry.id.0 ≤ s.last) handed_one;
     ready = each_left (λ (e : Held). state_of (found_of then_is.ports e.entry.port.0) ≡ ReadyState) ready_one;
     machine = machine;

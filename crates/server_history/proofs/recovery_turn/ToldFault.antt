@@ -22,7 +22,7 @@ use Rattle.block_machine.specs.Histories.{IsReached}
 use Rattle.block_machine.specs.Left.{after}
 use Rattle.block_machine.specs.State.{Machine, Pending}
 use Rattle.block_machine.specs.Steps.{Answer, May, Step}
-use Rattle.server_history.proofs.state.ListMembers.{contains_cases, contains_here, map_in}
+use Rattle.server_history.proofs.state.ListMembers.{contains_cases, contains_here, map_in, in_filter}
 use Rattle.driver_history.specs.Histories.{IsAnsweredFaulty, IsIssuedOn}
 use Rattle.error_log.specs.declared.Failure.{Failure}
 use Rattle.error_recovery.specs.Recovery.{MayRecover, Rests, TellsRecovery}
@@ -50,7 +50,7 @@ use Rattle.server_history.proofs.recovery_turn.MendedPort.{next_dead, state_new}
 use Rattle.server_history.proofs.recovery_turn.DecidedSteps.{DecidesTurn}
 use Rattle.server_history.proofs.state.SlotMasks.{has_ended}
 use Rattle.server_history.proofs.recovery_turn.FailedPort.{may_recover}
-use Rattle.server_history.proofs.recovery_turn.MendedMachine.{in_filter, mid_kept, mid_ready}
+use Rattle.server_history.proofs.recovery_turn.MendedMachine.{mid_kept, mid_ready}
 use Rattle.server_history.proofs.any_turn.JoinedParts.{answers_there}
 use Rattle.server_history.proofs.any_turn.TurnSteps.{StandsIn, stood}
 use Rattle.server_history.proofs.state.PlacedSlots.{placed_other}
@@ -91,7 +91,7 @@ fate_told fate (request ∷ requests) replies old new (mid, its, later, split, m
 pub answer_stood : LawsBelow → (port : Port) (m : Machine) (steps : List Step) → AllMay m steps → All (IsOfTurn port) steps → (e : Pending) (o : Outcome) → Contains steps (Answer e o) → StandsIn m.book e
 answer_stood laws port m [] may own e o here = absurd (nowhere (Answer e o) here)
 answer_stood laws port m (step ∷ steps) may own e o here = ⊎_elim
-    (λ (is : Answer e o ≡ step). stood laws port m steps (All-tail (IsOfTurn port) step steps own) e (subst (May (after m steps)) (sym is) may.1))
+    (λ (is : Answer e o ≡ step). let may_answer : May (after m steps) (Answer e o) = subst (May (after m steps)) (sym is) may.1 in stood laws port m steps (All-tail (IsOfTurn port) step steps own) e may_answer.0)
     (λ (there : Contains steps (Answer e o)). answer_stood laws port m steps may.0 (All-tail (IsOfTurn port) step steps own) e o there)
     (contains_cases step steps (Answer e o) here)
 

@@ -20,7 +20,7 @@ use Rattle.ata_types.specs.declared.request.Frame.{Frame}
 use Rattle.ata_types.specs.declared.request.Outcome.{Outcome}
 use Rattle.ata_types.specs.declared.request.Reply.{Reply}
 use Rattle.ata_types.specs.declared.request.RequestId.{RequestId}
-use Rattle.server_history.proofs.state.ListMembers.{contains_there}
+use Rattle.server_history.proofs.state.ListMembers.{contains_there, in_filter}
 use Rattle.block_machine.specs.Events.{AllMay, IsToldBefore, answers_of, reply_of}
 use Rattle.block_machine.specs.Histories.{IsReached}
 use Rattle.block_machine.specs.Left.{after}
@@ -40,17 +40,19 @@ use Rattle.request_queue.specs.declared.fate.Fate.{Fate}
 use Rattle.request_queue.specs.declared.fate.Fate.TheVariants.{Ends, GoesAgain, Waits}
 use Rattle.request_queue.specs.declared.fate.Prospect.{Prospect}
 use Rattle.request_queue.specs.declared.fate.Prospect.TheVariants.{Dead as NoEnd, DiskLost, SameDisk}
-use Rattle.server_history.proofs.recovery_turn.MendedMachine.{deciding_leaves, in_filter}
+use Rattle.server_history.proofs.recovery_turn.MendedMachine.{deciding_leaves}
 use Rattle.server_history.proofs.any_turn.JoinedParts.{all_pairs_append, answers_append, answers_there}
 use Rattle.server_history.proofs.state.FirstMembers.{first_here, nowhere}
 use Rattle.server_history.proofs.fates.MoreKeptLoans.{more_kept}
-use Rattle.server_history.proofs.fates.MetFates.{meet, tame}
-use Rattle.server_history.proofs.fates.RemainingBook.{IsLeft, WasIn, ends_of, fated, was_itself, was_more}
+use Rattle.server_history.proofs.fates.FittingFates.{fits_entry, kept_dead_alone}
+use Rattle.server_history.proofs.fates.MetFates.{meet}
+use Rattle.server_history.proofs.fates.RemainingBook.{IsLeft, WasIn, ends_of, fated, marked_from, was_itself, was_more}
 use Rattle.server_history.specs.Below.{LawsBelow}
 use Rattle.server_history.specs.Fates.{DecidesOn, MayMeet, MeetsInMachine, keeps_fate}
 use Rattle.server_history.specs.Mended.{holdings_of, requests_of}
 use Rattle.server_history.specs.Resets.{IsProspectAnew, SettlePorts, SettlesPort, with_holdings}
-use Rattle.server_history.specs.Server.{AreKept, Server, kept_at, remembered_at}
+use Rattle.server_history.specs.Server.{AreKept, Server, kept_at, remembered_at, IsMarked}
+use Rattle.server_history.proofs.state.RevokedMarks.{tells_of}
 
 -- ---- a port's requests
 
@@ -108,7 +110,8 @@ pub record IsFatedTo (n : ℕ) (c : Server) (m : Machine) : Type 0 where
   pub lent : (frame : Frame) → m.lent frame ≡ lent_to c.table frame
   pub next : m.next ≡ c.last + 1
   pub ordered : IsInOrder c.book
-  pub accepted : All (IsAccepted c.grants c.table) c.book
+  pub accepted : All (IsAccepted c.table) c.book
+  pub marked : All (IsMarked c.grants) c.book
   pub alive : (e : Held) → Contains c.book e → e.entry.port.0 < n → HasItsDisk c.remembered c.ports e.entry.port.0
 
 -- ---- one port
@@ -129,7 +132,7 @@ module _ (laws : LawsBelow) (n : ℕ) (low : n < 4) (replies : List Reply) (old 
   abbrev found : Found
   found = found_of old.ports n
 
-  may_meet : MayMeet port fate its (holdings_of port old) old.grants (known at.uses at.parked old.device) m
+  may_meet : MayMeet port fate its (holdings_of port old) (known at.uses at.parked old.device) m
   may_meet = record {
     reached = reached;
     knows = at.knows;
@@ -137,6 +140,7 @@ module _ (laws : LawsBelow) (n : ℕ) (low : n < 4) (replies : List Reply) (old 
     lent = at.lent;
     ordered = at.ordered;
     accepted = at.accepted;
+    marked = λ e here. tells_of m.rows old.grants e.entry at.rows (All-contains (IsMarked old.grants) old.book e at.marked (of_requests port old.book e here).0).tells;
     here = of_requests port old.book;
     earlier = AllPairs-filter IsEarlier (λ (x : Held). is_of port x.entry) old.book at.ordered.ordered;
     unserved = λ e here never q slot serves. serves_none old.ports at.uses q slot (at.left q slot) e.entry.id serves;
@@ -144,10 +148,10 @@ module _ (laws : LawsBelow) (n : ℕ) (low : n < 4) (replies : List Reply) (old 
   }
 
   pub met : MeetsInMachine port fate its replies (holdings_of port old) s.now (known at.uses at.parked old.device) m
-  met = meet laws port None s.prospect old.grants its replies (holdings_of port old) s.now (known at.uses at.parked old.device) m may_meet s.meets
+  met = meet laws port fate (fits_entry None s.prospect) its replies (holdings_of port old) s.now (known at.uses at.parked old.device) m may_meet s.meets
 
-  pub left : IsLeft port fate old.grants its (holdings_of port old) s.now
-  left = fated laws port None s.prospect old.grants its replies (holdings_of port old) s.now
+  pub left : IsLeft port fate its (holdings_of port old) s.now
+  left = fated laws port fate (fits_entry None s.prospect) its replies (holdings_of port old) s.now
       (record { here = of_requests port old.book; earlier = may_meet.earlier; ordered = at.ordered; accepted = at.accepted }) s.meets
 
   abbrev z : Machine
@@ -163,7 +167,7 @@ module _ (laws : LawsBelow) (n : ℕ) (low : n < 4) (replies : List Reply) (old 
       x = met.whose e here
 
       lives : s.prospect ≢ NoEnd → ⊥
-      lives other = false≢true (sym ((tame None s.prospect x.0.entry).alive other) ∙ x.3)
+      lives other = false≢true (sym (kept_dead_alone None s.prospect x.0.entry other) ∙ x.3)
 
       by : (p : Prospect) → s.prospect ≡ p → found ≡ Unready Dead
       by SameDisk same = absurd (lives (λ dead. let y : SameDisk ≡ NoEnd = sym same ∙ dead in absurd cc))
@@ -171,7 +175,7 @@ module _ (laws : LawsBelow) (n : ℕ) (low : n < 4) (replies : List Reply) (old 
       by NoEnd same = subst (IsProspectAnew was found) same s.expects
 
   quiet : found ≢ Unready Dead → (e : Entry) → keeps_fate (fate e) e ≡ false
-  quiet lives e = (tame None s.prospect e).alive (λ dead. lives (subst (IsProspectAnew was found) dead s.expects))
+  quiet lives e = kept_dead_alone None s.prospect e (λ dead. lives (subst (IsProspectAnew was found) dead s.expects))
 
   abbrev new : Server
   new = with_holdings port s.now old
@@ -242,6 +246,7 @@ module _ (laws : LawsBelow) (n : ℕ) (low : n < 4) (replies : List Reply) (old 
     next = leaves.2 ∙ at.next;
     ordered = left.ordered;
     accepted = left.accepted;
+    marked = All-weaker (Contains s.now.book) (IsMarked old.grants) (λ e here. marked_from old.grants old.book at.marked e (left.from e here)) s.now.book (All-contains_itself s.now.book);
     alive = alive_then;
   })
 
@@ -297,7 +302,7 @@ module _ (laws : LawsBelow) (n : ℕ) (low : n < 4) (found : Found) (rest : List
         fate = is;
       }
 
-  one_left : IsLeft (port_at n) (fate_of None s.prospect) old.grants (requests_of (port_at n) old.book) (holdings_of (port_at n) old) s.now
+  one_left : IsLeft (port_at n) (fate_of None s.prospect) (requests_of (port_at n) old.book) (holdings_of (port_at n) old) s.now
   one_left = left laws n low its old mid m reached s at
 
   mid_from : (e : Held) → Contains mid.book e → WasIn old.book e

@@ -58,7 +58,7 @@ issued_was id book e here =
     subst (WasIn book) (sym w.2) (by w.0 w.1 (has_id id w.0))
   where
     by : (x : Held) → Contains book x → (b : Bool) → WasIn book (if b then record x { entry = issue x.entry } else x)
-    by x here true = record { was = x; there = here; id = refl; port = refl; op = refl }
+    by x here true = record { was = x; there = here; id = refl; client = refl; grant = refl; port = refl; op = refl; revoked = refl; waiting = λ waits. absurd (false≢true (sym waits)) }
     by x here false = was_itself book x here
 
 each_from : (port : Port) (ids : List RequestId) (old new : Server) → IssuesEach port ids old new → (e : Held) → Contains new.book e → WasIn old.book e

@@ -17,7 +17,7 @@ use Rattle.ata_types.specs.declared.request.Reply.{Reply}
 use Rattle.ata_types.specs.declared.request.RequestId.{RequestId}
 use Rattle.server_history.proofs.state.ListMembers.{contains_cases}
 use Rattle.block_machine.specs.Due.{of_port}
-use Rattle.block_machine.specs.Events.{AllLawful, AllMay, AnswersReset, Belong, FindsAnother, GivesUp, HadDisk, IsLawful, IsRebooted, IssuesLast, KeepsDisks, Moment, NoneKeepsIssue, ReleasesOnce, Reset, ShowsDisk, Tells, UnplugsAll, WasIssued, WasReset, answers_of, issues_it}
+use Rattle.block_machine.specs.Events.{AllLawful, AllMay, AnswersReset, Belong, FindsAnother, GivesUp, HadDisk, IsLawful, IsRebooted, IssuesLast, KeepsDisks, Moment, NoneKeepsIssue, ReleasesOnce, Reset, ShowsDisk, Tells, UnplugsAll, WasIssued, WasReset, answers_of, issues_it, IsReadyAgain}
 use Rattle.block_machine.specs.Histories.{Happening, Instant, IsReached, now}
 use Rattle.block_machine.specs.Left.{after}
 use Rattle.block_machine.specs.Ports.{MayBecome, Ports, SameDisk}
@@ -276,7 +276,10 @@ module _ (laws : ResetLaws) (s taken settled new : Server) (replies : List Reply
       (λ named. let none : None ≡ Some named.0 = named.1 in absurd cc)
       (λ rest. ⊎_elim
       (λ aborted. subst GivesUp (sym aborted.3) tt)
-      (λ rest. ⊎_elim (λ gone. subst GivesUp (sym gone.1) tt) (λ dead. subst GivesUp (sym dead.1) tt) rest)
+      (λ rest. ⊎_elim
+      (λ gone. subst GivesUp (sym gone.1) tt)
+      (λ rest. ⊎_elim (λ dead. subst GivesUp (sym dead.1) tt) (λ revoked. subst GivesUp (sym revoked.3) tt) rest)
+      rest)
       rest)
       (why None has.prospect has.request.entry o has.fate)
 
@@ -336,20 +339,26 @@ module _ (laws : ResetLaws) (s taken settled new : Server) (replies : List Reply
       expects : (p : Prospect) → has.prospect ≡ p → IsProspectAnew (disk_in s e.request.port) (found_of new.ports e.request.port.0) p
       expects p at = subst (IsProspectAnew (disk_in s e.request.port) (found_of new.ports e.request.port.0)) at (expects_new e (Ends o) has)
 
+      goes_on : has.prospect ≡ Same → IsReadyAgain was by.evidence (ports_of new) e.request.port
+      goes_on as_before = (
+        is_ready e.request.port (expects Same as_before),
+        stopped,
+        subst (λ (ports : Ports). SameDisk ports (ports_of new) e.request.port) (sym same) (same_disk e.request.port (expects Same as_before)),
+      )
+
       because : Why None has.prospect has.request.entry o → IsLawful was by.evidence (ports_of new) e o
       because (inl named) = let none : None ≡ Some named.0 = named.1 in absurd cc
       because (inr (inl aborted)) = subst (IsLawful was by.evidence (ports_of new) e) (sym aborted.3) (
         was_issued e o here (has.entry.issued ∙ aborted.1),
         has.entry.issues ∙ aborted.2,
-        is_ready e.request.port (expects Same aborted.0),
-        stopped,
-        subst (λ (ports : Ports). SameDisk ports (ports_of new) e.request.port) (sym same) (same_disk e.request.port (expects Same aborted.0)),
+        goes_on aborted.0,
       )
       because (inr (inr (inl gone))) = subst (IsLawful was by.evidence (ports_of new) e) (sym gone.1) (
         by.lost_all e.request.port (of_served e (Ends o) has) (not_dead e.request.port (expects DiskLost gone.0)) (other_disk e.request.port (expects DiskLost gone.0)),
         stopped,
       )
-      because (inr (inr (inr dead))) = subst (IsLawful was by.evidence (ports_of new) e) (sym dead.1) (ap state_of (expects NoEnd dead.0))
+      because (inr (inr (inr (inl dead)))) = subst (IsLawful was by.evidence (ports_of new) e) (sym dead.1) (ap state_of (expects NoEnd dead.0))
+      because (inr (inr (inr (inr revoked)))) = subst (IsLawful was by.evidence (ports_of new) e) (sym revoked.3) (inr (goes_on revoked.0))
 
   lawful : AllLawful was by.evidence (ports_of new) steps
   lawful = lawful_join was by.evidence (ports_of new) a.steps base (reissued_lawful (ports_of settled) was by.evidence (ports_of new) a.steps a.only)
@@ -392,7 +401,8 @@ module _ (laws : ResetLaws) (s taken settled new : Server) (replies : List Reply
       because (inl x) = let y : outcome.Unplugged ≡ outcome.DeviceError x.0.status x.0.error = x.3 in absurd cc
       because (inr (inl x)) = let y : outcome.Unplugged ≡ outcome.Aborted = x.3 in absurd cc
       because (inr (inr (inl x))) = subst (IsProspectAnew (disk_in s e.request.port) (found_of new.ports e.request.port.0)) x.0 (expects_new e (Ends outcome.Unplugged) has)
-      because (inr (inr (inr x))) = let y : outcome.Unplugged ≡ outcome.PortDead = x.1 in absurd cc
+      because (inr (inr (inr (inl x)))) = let y : outcome.Unplugged ≡ outcome.PortDead = x.1 in absurd cc
+      because (inr (inr (inr (inr x)))) = let y : outcome.Unplugged ≡ outcome.Revoked = x.3 in absurd cc
 
   dead_expects : (e : Pending) → Contains steps (Answer e outcome.PortDead) → found_of new.ports e.request.port.0 ≡ Unready Dead
   dead_expects e here = because (why None has.prospect has.request.entry outcome.PortDead has.fate)
@@ -404,7 +414,8 @@ module _ (laws : ResetLaws) (s taken settled new : Server) (replies : List Reply
       because (inl x) = let y : outcome.PortDead ≡ outcome.DeviceError x.0.status x.0.error = x.3 in absurd cc
       because (inr (inl x)) = let y : outcome.PortDead ≡ outcome.Aborted = x.3 in absurd cc
       because (inr (inr (inl x))) = let y : outcome.PortDead ≡ outcome.Unplugged = x.1 in absurd cc
-      because (inr (inr (inr x))) = subst (IsProspectAnew (disk_in s e.request.port) (found_of new.ports e.request.port.0)) x.0 (expects_new e (Ends outcome.PortDead) has)
+      because (inr (inr (inr (inr x)))) = let y : outcome.PortDead ≡ outcome.Revoked = x.3 in absurd cc
+      because (inr (inr (inr (inl x)))) = subst (IsProspectAnew (disk_in s e.request.port) (found_of new.ports e.request.port.0)) x.0 (expects_new e (Ends outcome.PortDead) has)
 
   -- who is left is of a port that has its disk
   left_has : (e : Pending) → Contains (after m steps).book e → HasItsDisk settled.remembered settled.ports e.request.port.0

@@ -137,7 +137,8 @@ module _ (laws : LawsBelow) (ports : Ports) (m : Machine) where
   answered_issued [] b may none e o here is = absurd (nowhere (Answer e o) here)
   answered_issued (step ∷ steps) b may none e o here is = ⊎_elim
       (λ (same : Answer e o ≡ step).
-      let there : Contains (after m steps).book e = subst (λ (x : Step). May (after m steps) x) (sym same) may.1 in
+      let may_answer : May (after m steps) (Answer e o) = subst (λ (x : Step). May (after m steps) x) (sym same) may.1 in
+      let there = may_answer.0 in
       ⊎_elim (λ issued. absurd (false≢true (sym (rest e.request.id) ∙ issued))) (λ was. was) (issued_from steps b.0 e there is))
       (λ (later : Contains steps (Answer e o)). answered_issued steps b.0 may.0 rest e o later is)
       (contains_cases step steps (Answer e o) here)

@@ -13,11 +13,10 @@ use Rattle.agreement.specs.Driven.{IsFollowedTo, known}
 use Rattle.agreement.specs.Driver.{IsBacked, Known, Knows}
 use Rattle.agreement.specs.Slots.{Free, Serves, Uses}
 use Rattle.agreement.specs.Spares.{SparesBook}
-use Rattle.ata_types.specs.declared.grant.GrantRow.{GrantRow}
 use Rattle.ata_types.specs.declared.request.ClientId.{ClientId}
 use Rattle.ata_types.specs.declared.request.Frame.{Frame}
 use Rattle.ata_types.specs.declared.request.RequestId.{RequestId}
-use Rattle.server_history.proofs.state.ListMembers.{into_map, map_in, none_of}
+use Rattle.server_history.proofs.state.ListMembers.{into_map, map_in, none_of, in_filter}
 use Rattle.block_machine.specs.Confined.{WithinLimits}
 use Rattle.block_machine.specs.Events.{AllDevices, AllMay}
 use Rattle.block_machine.specs.Histories.{IsReached}
@@ -31,7 +30,6 @@ use Rattle.host_boot.specs.declared.Found.{Found}
 use Rattle.request_queue.specs.Entries.{Held, IsAccepted, IsInOrder}
 use Rattle.request_queue.specs.Machine.{IsBook, IsEntry}
 use Rattle.server_history.proofs.plain_calls.Acceptances.{any_in}
-use Rattle.server_history.proofs.recovery_turn.MendedMachine.{in_filter}
 use Rattle.server_history.proofs.state.HistorySteps.{book_on, still_kept}
 use Rattle.server_history.proofs.state.FirstMembers.{nowhere}
 use Rattle.server_history.proofs.state.PairedLists.{at_left}
@@ -244,9 +242,9 @@ module _ (laws : ResetLaws) (s taken : Server) (takes : IsTakenAgain s taken) (m
 -- ---- its requests may meet their fates
 
 -- so each is as it was accepted still
-accepted_then : (grants : List GrantRow) (old new : Table) (entries : List Held) (m : Machine) → WithinLimits m → IsBook entries m.book → ((frame : Frame) → m.lent frame ≡ lent_to new frame) → new.owners ≡ old.owners
-    → All (IsAccepted grants old) entries → All (IsAccepted grants new) entries
-accepted_then grants old new entries m limits book lent owners accepted i d small =
+accepted_then : (old new : Table) (entries : List Held) (m : Machine) → WithinLimits m → IsBook entries m.book → ((frame : Frame) → m.lent frame ≡ lent_to new frame) → new.owners ≡ old.owners
+    → All (IsAccepted old) entries → All (IsAccepted new) entries
+accepted_then old new entries m limits book lent owners accepted i d small =
     let e = get_or entries i d in
     let a = accepted i d small in
     let y = at_left IsEntry entries m.book book e (Contains-get_or entries i d small) in
@@ -254,9 +252,8 @@ accepted_then grants old new entries m limits book lent owners accepted i d smal
       client_from = a.client_from;
       client_to = a.client_to;
       sectors = a.sectors;
-      first = a.first;
+      below = a.below;
       frames = a.frames;
-      row = a.row;
       clients = a.clients;
       own = λ k f inside. ap (λ (list : List (Option ClientId)). get_or list (get_or e.frames k f).0 None) owners ∙ a.own k f inside;
       apart = a.apart;
@@ -280,17 +277,14 @@ module _ (laws : ResetLaws) (s taken : Server) (booked : KeepsBooks s) (takes : 
   pub book_same : taken.book ≡ s.book
   book_same = ap (λ (t : Server). t.book) takes.server
 
-  pub grants_same : taken.grants ≡ s.grants
-  grants_same = ap (λ (t : Server). t.grants) takes.server
-
-  pub accepted_still : All (IsAccepted s.grants taken.table) s.book
-  accepted_still = accepted_then s.grants s.table taken.table s.book end end_limits its.book its.lent takes.back.owners booked.accepted
+  pub accepted_still : All (IsAccepted taken.table) s.book
+  accepted_still = accepted_then s.table taken.table s.book end end_limits its.book its.lent takes.back.owners booked.accepted
 
   pub may_settle : MaySettle taken
   may_settle = record {
     four_kept = takes.four_kept;
     ordered = subst IsInOrder (sym book_same) booked.ordered;
-    accepted = subst (λ (grants : List GrantRow). All (IsAccepted grants taken.table) taken.book) (sym grants_same) (subst (All (IsAccepted s.grants taken.table)) (sym book_same) accepted_still);
+    accepted = subst (All (IsAccepted taken.table)) (sym book_same) accepted_still;
     places = λ port. subst (λ (book : List Held). length (kept_at taken.kept port.0) + count_by (λ (e : Held). e.entry.issued) (requests_of port book) ≤ 32) (sym book_same)
         (subst (λ (loans : List Lending). length loans + count_by (λ (e : Held). e.entry.issued) (requests_of port s.book) ≤ 32) (sym (takes.unkept port.0)) (let few = booked.places port in omega (arith, few)));
   }

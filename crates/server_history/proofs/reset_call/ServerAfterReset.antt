@@ -31,7 +31,7 @@ use Rattle.server_history.proofs.reset_call.RetakenMachine.{IsRetaken, issued_in
 use Rattle.server_history.specs.Ended.{ResetLaws}
 use Rattle.server_history.proofs.state.PairedLists.{at_right}
 use Rattle.server_history.specs.Resets.{IsTakenAgain, IssuePorts, MaySettle, SettlePorts}
-use Rattle.server_history.specs.Server.{HasSlots, IsKept, IsMachineOf, IsSettled, Server, is_served, mode_at, mode_found, state_of, used_for}
+use Rattle.server_history.specs.Server.{HasSlots, IsKept, IsMachineOf, IsSettled, Server, is_served, mode_at, mode_found, state_of, used_for, IsMarked}
 use Rattle.server_history.specs.Stalled.{KeepsBooks}
 
 module _ (laws : ResetLaws) (s taken settled : Server) (booked : KeepsBooks s) (takes : IsTakenAgain s taken) (replies : List Reply) (settles : SettlePorts 0 taken.ports replies taken settled) (m : Machine) (reached : IsReached m)
@@ -77,6 +77,7 @@ module _ (laws : ResetLaws) (s taken settled : Server) (booked : KeepsBooks s) (
     next = its_retaken.next ∙ ap (λ (k : ℕ). k + 1) (sym (ap (λ (c : Server). c.last) takes.server));
     ordered = may.ordered;
     accepted = may.accepted;
+    marked = subst (λ (c : Server). All (IsMarked c.grants) c.book) (sym takes.server) booked.marked;
     alive = λ e here lt. absurd (omega (arith, lt));
   }
 
@@ -178,6 +179,7 @@ module _ (laws : ResetLaws) (s taken settled : Server) (booked : KeepsBooks s) (
         let o = booked.owners frame client (ap (λ (list : List (Option ClientId)). get_or list frame.0 None) (sym (its_fated.owners ∙ takes.back.owners)) ∙ own) in
         (o.0, subst (λ (n : ℕ). 4096 * frame.0 + 4096 ≤ n) (sym size_then) o.1);
     accepted = all_fated.accepted;
+    marked = all_fated.marked;
     ordered = all_fated.ordered;
     handed_out = All-weaker (Contains settled.book) (λ (e : Held). e.entry.id.0 ≤ settled.last)
         (λ e here.

@@ -46,7 +46,7 @@ use Rattle.block_machine.specs.Due.{NoneDue}
 use Rattle.request_queue.specs.Entries.{Held, IsAccepted, IsInOrder, asks_of}
 use Rattle.request_queue.specs.Machine.{IsBook}
 use Rattle.slots.specs.Uses.{Uses as PortSlots}
-use Rattle.server_history.specs.Server.{Server, AreUsesOf, IsKept, IsMachineOf, IsNewServer, IsPortOf, IsSettled, IsUsedAs, is_served, AreKept, AreOfTwo, kept_at, mode_in, ports_of, state_of, use_of, used_for}
+use Rattle.server_history.specs.Server.{Server, AreUsesOf, IsKept, IsMachineOf, IsNewServer, IsPortOf, IsSettled, IsUsedAs, is_served, AreKept, AreOfTwo, kept_at, mode_in, ports_of, state_of, use_of, used_for, IsMarked}
 use Rattle.agreement.proofs.driver.Stretches.{followed_adds}
 use Rattle.server_history.proofs.start.TakenOverPorts.{behind, found_is, four, none_past, ports_on, served_there}
 use Rattle.server_history.proofs.state.FirstMembers.{nowhere}
@@ -260,8 +260,9 @@ module _ (laws : TakenLaws) (s : Server) (host : Host) (d : Device) (is : IsIdle
     kinds = λ port slot used e is. absurd (let z : None ≡ Some used = sym (n.unused port.0 slot) ∙ is in cc);
     commands = λ port slot used is. absurd (let z : None ≡ Some used = sym (n.unused port slot) ∙ is in cc);
     alone = λ port slot used is. absurd (let z : None ≡ Some used = sym (n.unused port slot) ∙ is in cc);
-    accepted = subst (λ (book : List Held). All (IsAccepted s.grants s.table) book) (sym n.book) (All-nil (IsAccepted s.grants s.table));
+    accepted = subst (λ (book : List Held). All (IsAccepted s.table) book) (sym n.book) (All-nil (IsAccepted s.table));
     ordered = subst IsInOrder (sym n.book) none_in_order;
+    marked = subst (λ (book : List Held). All (IsMarked s.grants) book) (sym n.book) (All-nil (IsMarked s.grants));
     handed_out = subst (λ (book : List Held). All (λ e. e.entry.id.0 ≤ s.last) book) (sym n.book) (All-nil (λ (e : Held). e.entry.id.0 ≤ s.last));
     ready = subst (λ (book : List Held). All (λ e. state_of (found_of s.ports e.entry.port.0) ≡ ReadyState) book) (sym n.book) (All-nil (λ (e : Held). state_of (found_of s.ports e.entry.port.0) ≡ ReadyState));
     machine = m;

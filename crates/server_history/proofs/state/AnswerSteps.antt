@@ -81,7 +81,7 @@ told_so port (e ∷ requests) (p ∷ ended) each =
 pub ended_stood : LawsBelow → (m : Machine) (ended : List Pending) → AllMay m (answers_in ended) → (p : Pending) → Contains ended p → Contains m.book p
 ended_stood laws m [] may p here = absurd (nowhere p here)
 ended_stood laws m (x ∷ ended) may p here = ⊎_elim
-    (λ (is : p ≡ x). subst (Contains m.book) (sym is) parts.0.1)
+    (λ (is : p ≡ x). subst (Contains m.book) (sym is) parts.0.1.0)
     (λ (there : Contains ended p). (without_in x.request.id m.book p (ended_stood laws (after_step m (Answer x Ok)) ended parts.1 p there)).0)
     (contains_cases x ended p here)
   where

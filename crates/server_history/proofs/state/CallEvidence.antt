@@ -221,6 +221,7 @@ module _ (d : Device) (ports : Ports) where
   lawful_told old after (Answer e (outcome.DeviceError status error) ∷ steps) l = (lawful_told old after steps l.0, l.1)
   lawful_told old after (Answer e outcome.Aborted ∷ steps) l = (lawful_told old after steps l.0, l.1)
   lawful_told old after (Answer e outcome.Unplugged ∷ steps) l = (lawful_told old after steps l.0, l.1)
+  lawful_told old after (Answer e outcome.Revoked ∷ steps) l = (lawful_told old after steps l.0, l.1)
   lawful_told old after (Answer e outcome.PortDead ∷ steps) l = (lawful_told old after steps l.0, l.1)
   lawful_told old after (Again e ∷ steps) l = (lawful_told old after steps l.0, l.1)
   lawful_told old after (step ∷ steps) l = lawful_told old after steps l

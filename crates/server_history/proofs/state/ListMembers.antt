@@ -1,6 +1,7 @@
 -- Members of lists, after a change: what this crate uses of such lemmas.
-use Rattle.std.proofs.Common.{◌≡◌, ◌≢◌, ◌⊎◌, Bool, true, false, List, [], ◌∷◌, ◌++◌, map}
-use Rattle.std.specs.List.{Contains, list_any}
+use Rattle.std.proofs.Common.{◌≡◌, ◌≢◌, ◌⊎◌, ⊎_elim, ◌∙◌, Bool, true, false, cond, List, [], ◌∷◌, ◌++◌, map, sym, ap, subst}
+use Rattle.std.proofs.lemmas.Bool.{cond-true}
+use Rattle.std.specs.List.{Contains, filter, list_any}
 use Rattle.ata_types.specs.declared.request.RequestId.{RequestId}
 use Rattle.block_machine.specs.State.{Pending}
 use Rattle.block_machine.specs.Steps.{at, without}
@@ -39,3 +40,18 @@ none_of p xs x h i = members.none_of p xs x h i
 -- a member passes
 pub some_in : {X : Type 0} (p : X → Bool) (xs : List X) (x : X) → Contains xs x → p x ≡ true → list_any p xs ≡ true
 some_in p xs x i h = members.some_in p xs x i h
+
+-- what passes is kept, and what is kept passes
+pub in_filter : {X : Type 0} (p : X → Bool) (xs : List X) (x : X) → Contains xs x → p x ≡ true → Contains (filter p xs) x
+in_filter p [] x here passes = absurd (members.contains_none x here)
+in_filter {X} p (y ∷ xs) x here passes = ⊎_elim
+    (λ (same : x ≡ y). subst (λ (list : List X). Contains list x) (sym (cond-true (p y) (y ∷ filter p xs) (filter p xs) (ap p (sym same) ∙ passes))) (contains_here y (filter p xs) x same))
+    (λ (later : Contains xs x). by (p y) (in_filter p xs x later passes))
+    (contains_cases y xs x here)
+  where
+    by : (b : Bool) → Contains (filter p xs) x → Contains (cond b (y ∷ filter p xs) (filter p xs)) x
+    by true there = contains_there y (filter p xs) x there
+    by false there = there
+
+pub filter_in : {X : Type 0} (p : X → Bool) (xs : List X) (x : X) → Contains (filter p xs) x → Contains xs x × (p x ≡ true)
+filter_in p xs x h = members.filter_in p xs x h

@@ -85,4 +85,5 @@ kept_issued outcome.Ok e is = absurd (false≢true is)
 kept_issued (outcome.DeviceError status error) e is = absurd (false≢true is)
 kept_issued outcome.Aborted e is = absurd (false≢true is)
 kept_issued outcome.Unplugged e is = absurd (false≢true is)
+kept_issued outcome.Revoked e is = absurd (false≢true is)
 kept_issued outcome.PortDead e is = is

@@ -4,7 +4,7 @@ use Rattle.std.specs.List.{Contains}
 use Rattle.std.specs.Prelude.{if◌then◌else◌, min}
 use Rattle.std.proofs.Math.Nat.{min-eq_left, min-eq_right, min-le_left, min-le_right}
 use Rattle.identify.specs.declared.wanted.Wanted.{Wanted}
-use Rattle.std.proofs.lemmas.Bool.{cases_Bool, cases_eq, cases_lt, false≢true}
+use Rattle.std.proofs.lemmas.Bool.{and_parts, cases_Bool, cases_eq, cases_lt, false≢true}
 use Rattle.std.proofs.lemmas.List.Elements.{All-contains}
 use Rattle.ata_types.specs.declared.Port.{Port}
 use Rattle.ata_types.specs.declared.PortState.TheVariants.{Absent, Dead, Ready as ReadyState}
@@ -19,7 +19,7 @@ use Rattle.adapter.specs.declared.command.Operation.{Operation}
 use Rattle.block_machine.specs.Due.{IsDue, is_plain}
 use Rattle.block_machine.specs.Ports.{IsMode}
 use Rattle.block_machine.specs.State.{Machine, Pending, unanswered}
-use Rattle.block_machine.specs.Steps.{Issue, May, MayMove, NoneKept}
+use Rattle.block_machine.specs.Steps.{Issue, May, MayMove, NoneKept, HasGrant}
 use Rattle.block_machine.specs.declared.due.Mode.{Mode}
 use Rattle.block_machine.specs.declared.due.Unanswered.{Unanswered}
 use Rattle.agreement.specs.Driven.{AgreesWith}
@@ -35,11 +35,12 @@ use Rattle.std.proofs.lemmas.List.{get_or_past}
 use Rattle.slots.specs.Uses.{Uses as PortSlots, IsLowestFree, IsTaken, use_at}
 use Rattle.slots.specs.declared.Use.{Use as SlotUse}
 use Rattle.server_history.specs.Served.{is_used}
-use Rattle.server_history.specs.Server.{Server, IsKept, IsMachineOf, IsUsedAs, is_served, mode_at, mode_found, mode_in, no_slots, slots_at, state_of, usable_of, use_of, used_for}
+use Rattle.server_history.specs.Server.{Server, IsKept, IsMachineOf, IsUsedAs, is_served, mode_at, mode_found, mode_in, no_slots, slots_at, state_of, usable_of, use_of, used_for, IsMarked}
 use Rattle.server_history.specs.Below.{LawsBelow}
 use Rattle.server_history.proofs.state.DueRequests.{asked_alike, same_book}
 use Rattle.server_history.proofs.state.PairedLists.{at_left, at_right}
 use Rattle.server_history.proofs.state.FirstMembers.{nowhere}
+use Rattle.server_history.proofs.state.RevokedMarks.{tells_of, unmarked_has}
 
 -- ---- ready ports
 
@@ -279,7 +280,13 @@ issued_has s m port is k ready e here own issued = ⊎_elim
     record { slot = w.0; small = used_small s port.0 w.0 x.0 k ready x.1; used = x.0; used_is = x.1; id_is = x.2 })
     (is.knows.have port.0 e (inl (here, issued)) (ap (λ (p : Port). p.0) own))
 
--- ---- a request that is due finds a free slot
+-- ---- a request that is due has its grant, and finds a free slot
+
+pub due_has : (s : Server) (k : IsKept s) (m : Machine) → IsMachineOf s m → (e : Held) → Contains s.book e → (mode : Mode) → IsDue mode (asks_of s.book) (asks e.entry)
+    → (p : Pending) → IsEntry e p → HasGrant m p
+due_has s k m is e here mode due p entry =
+    let mark = All-contains (IsMarked s.grants) s.book e k.marked here in
+    unmarked_has m e p entry (tells_of m.rows s.grants e.entry is.rows mark.tells) (mark.waiting (not_true e.entry.issued (and_parts _ _ due.clear).0))
 
 module _ (laws : LawsBelow) (s : Server) (e : Held) (k : IsKept s) (here : Contains s.book e) (due : IsDue (mode_in s e.entry.port) (asks_of s.book) (asks e.entry)) where
   abbrev port : Port
@@ -304,6 +311,7 @@ module _ (laws : LawsBelow) (s : Server) (e : Held) (k : IsKept s) (here : Conta
         let R : Unanswered → Type 0 = λ r. IsDue mode (asks_of s.book) r in
         subst B (sym (same_book s.book k.machine.book k.stands.book)) (subst R (sym (asked_alike e p x.2)) due)),
     none_kept s k.machine p.request.port k.stands (not_dead s p.request.port.0 (ap (λ (q : Port). state_of (found_of s.ports q.0)) x.2.port ∙ ready)),
+    due_has s k k.machine k.stands e here mode due p x.2,
   )
 
   use_known : (slot : ℕ) → k.stands.uses p.request.port.0 slot ≡ use_of (used_for s.slots port.0 slot)

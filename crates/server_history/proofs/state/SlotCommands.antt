@@ -41,8 +41,8 @@ module _ (laws : LawsBelow) (s : Server) (k : IsKept s) (m : Machine) (is : IsMa
       x : (h : Held) × Contains s.book h × IsEntry h p
       x = at_right IsEntry s.book m.book is.book p here
 
-      a : IsAccepted s.grants s.table x.0
-      a = All-contains (IsAccepted s.grants s.table) s.book x.0 k.accepted x.1
+      a : IsAccepted s.table x.0
+      a = All-contains (IsAccepted s.table) s.book x.0 k.accepted x.1
 
       op : (x.0.entry.op ≡ Read) ⊎ (x.0.entry.op ≡ Write)
       op = subst (λ (o : Op). (o ≡ Read) ⊎ (o ≡ Write)) x.2.op transfers

@@ -46,6 +46,7 @@ use Rattle.server_history.proofs.recovery_turn.ReplacedPort.{IsBookLeft, StandsA
 use Rattle.server_history.proofs.state.PortSlots.{of_ready}
 use Rattle.server_history.proofs.recovery_turn.TurnStretches.{recovery_does}
 use Rattle.server_history.proofs.unready_turn.TriedPort.{TellsTried, evidence_tried}
+use Rattle.server_history.proofs.fates.RemainingBook.{was_itself}
 
 -- ---- a port that isn't ready
 
@@ -190,7 +191,7 @@ module _ (laws : LawsBelow) (s new : Server) (seen : Device) (port : Port) (stat
     owners = refl;
     accepted = k.accepted;
     ordered = k.ordered;
-    from = λ e here. record { was = e; there = here; id = refl; port = refl; op = refl };
+    from = was_itself s.book;
     ready = λ e here own. absurd (unready (ap (λ (q : ℕ). state_of (found_of s.ports q)) (sym own) ∙ of_ready s k e here));
   }
 

@@ -78,8 +78,7 @@ returns-in-GoesAgain-clause-sound c =
     (ap (fate_of c.args.failed.now c.args.prospect) r.2 ∙ sym c.fate.ensures ∙ c.in-GoesAgain.is) in
     subst (IsSound c.args.table.now) (sym c.requeue.ensures) (record {
       ordered = c.the_book_stays_in_order.ensures.requeued c.args.book.now c.args.id sound.ordered (r.0, r.1, ap (λ (e : Entry). e.id) r.2 ∙ r.3, its.0, its.1);
-      rows = sound.rows;
-      accepted = c.accepted_requests_stay.ensures.requeued sound.rows c.args.table.now c.args.book.now c.args.id sound.accepted;
+      accepted = c.accepted_requests_stay.ensures.requeued c.args.table.now c.args.book.now c.args.id sound.accepted;
     })
 
 pub returns-after-keeps_loan-clause-others : goal.returns-after-keeps_loan-clause-others
@@ -108,14 +107,12 @@ returns-after-keeps_loan-clause-sound c =
     elim c.if-keeps_loan.branch [
       | then-keeps_loan w ↦ subst (λ (table : Table). IsSound table c.answer-loan.new.self) (sym w.table-is) (subst (IsSound c.args.table.now) (sym rest) (record {
         ordered = ordered;
-        rows = sound.rows;
-        accepted = left_each c.args.id c.args.book.now left (IsAccepted sound.rows c.args.table.now) sound.accepted;
+        accepted = left_each c.args.id c.args.book.now left (IsAccepted c.args.table.now) sound.accepted;
       }))
       | else-keeps_loan w ↦ subst (λ (table : Table). IsSound table c.answer-loan.new.self) (sym w.table-is) (subst (IsSound w.give_back.new.self) (sym rest) (record {
         ordered = ordered;
-        rows = sound.rows;
-        accepted = subst (λ (id : RequestId). All (IsAccepted sound.rows w.give_back.new.self) (without id c.args.book.now)) c.answer-loan.ensures.id.0
-            (c.accepted_requests_stay.ensures.answered sound.rows c.args.table.now w.give_back.new.self c.args.book.now taken c.answer-loan.ensures.entry w.give_back.ensures sound.accepted);
+        accepted = subst (λ (id : RequestId). All (IsAccepted w.give_back.new.self) (without id c.args.book.now)) c.answer-loan.ensures.id.0
+            (c.accepted_requests_stay.ensures.answered c.args.table.now w.give_back.new.self c.args.book.now taken c.answer-loan.ensures.entry w.give_back.ensures sound.accepted);
       }))
     ]
 

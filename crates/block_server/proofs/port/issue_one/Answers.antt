@@ -24,7 +24,7 @@ issue_task-requires-clause-may g c =
     let slots = c.args.slots.now in
     let lowest = c.a_due_request_may_issue.ensures.lowest in
     let entry_is = sending.entry_is l.0 device book slots c.args.port c.args.mode l.1 c.args.id c.requires.due one c.request-entry.result c.request-entry.ensures in
-    sending.may_go l.0.grants l.0.table c.requires.due.0 l.1.kept.rows (sending.its l.0 device book slots c.args.port c.args.mode l.1 c.args.id c.requires.due) c.args.mode c.in-Some.slot.0
+    sending.may_go l.0.table c.requires.due.0 (sending.its l.0 device book slots c.args.port c.args.mode l.1 c.args.id c.requires.due) c.args.mode c.in-Some.slot.0
     (sending.may_issue l.0 device book slots c.args.port c.args.mode l.1 c.args.id c.requires.due lowest c.in-Some.slot.0 c.in-Some.ensures.lowest).2
     (not c.is_plain.result) (ap not c.is_plain.ensures ∙ ap (λ (x : Entry). not (is_plain c.args.mode x.op)) entry_is) c.request-entry.result entry_is
     c.frames.result.now (c.frames.ensures.frames ∙ sending.frames_are l.0 device book slots c.args.port c.args.mode l.1 c.args.id c.requires.due one c.loan.result.now.frames c.loan.ensures.held)

@@ -1,4 +1,4 @@
-use Rattle.request_queue.proofs.Lending.{frames_apart, still_accepted, all_lent, all_answered, all_issued, all_requeued, all_aged, all_stand}
+use Rattle.request_queue.proofs.Lending.{frames_apart, still_accepted, all_lent, all_answered, all_issued, all_requeued, all_aged, all_revoked, all_stand}
 use Rattle.request_queue.proofs.laws.accepted_requests_stay.Goals as goal
 
 pub returns-clause-apart : goal.returns-clause-apart
@@ -21,6 +21,9 @@ returns-clause-requeued c = all_requeued
 
 pub returns-clause-older : goal.returns-clause-older
 returns-clause-older c = all_aged
+
+pub returns-clause-revoked : goal.returns-clause-revoked
+returns-clause-revoked c = all_revoked
 
 pub returns-clause-stand : goal.returns-clause-stand
 returns-clause-stand c = all_stand

@@ -1,0 +1,44 @@
+-- The marks that tell whether requests have their grants: what they say of the machine's rows, and how they last.
+use Rattle.std.proofs.Common.{ℕ, ◌≡◌, ◌∙◌, false, true, refl, sym, subst, List}
+use Rattle.std.proofs.lemmas.Bool.{false≢true}
+use Rattle.ata_types.specs.declared.grant.GrantRow.{GrantRow}
+use Rattle.ata_types.specs.declared.request.Outcome.{Outcome}
+use Rattle.ata_types.specs.declared.request.Outcome.TheVariants as outcome
+use Rattle.block_machine.specs.State.{Machine, Pending}
+use Rattle.block_machine.specs.Steps.{HasGrant, IsTellable}
+use Rattle.request_queue.specs.Entries.{Held, issue}
+use Rattle.request_queue.specs.Machine.{IsEntry}
+use Rattle.request_queue.specs.declared.Entry.{Entry}
+use Rattle.server_history.specs.Server.{IsMarked, TellsGrant}
+
+-- ---- in the machine
+
+-- one that isn't marked has its grant there
+pub unmarked_has : (m : Machine) (e : Held) (p : Pending) → IsEntry e p → TellsGrant m.rows e.entry → e.entry.revoked ≡ false → HasGrant m p
+unmarked_has m e p entry tells plain = let has = tells.granted plain in (has.0, has.1, (has.2.0 ∙ sym entry.client, has.2.1 ∙ sym entry.grant))
+
+-- and one that is has none
+pub marked_none : (m : Machine) (e : Held) (p : Pending) → IsEntry e p → TellsGrant m.rows e.entry → e.entry.revoked ≡ true → HasGrant m p → ⊥
+marked_none m e p entry tells marked has = tells.revoked marked (has.0, has.1, (has.2.0 ∙ entry.client, has.2.1 ∙ entry.grant))
+
+-- so one may be told Revoked that is marked, and Aborted one that isn't
+pub tellable : (m : Machine) (e : Held) (p : Pending) (o : Outcome) → IsEntry e p → TellsGrant m.rows e.entry
+    → (o ≡ outcome.Revoked → e.entry.revoked ≡ true) → (o ≡ outcome.Aborted → e.entry.revoked ≡ false) → IsTellable m p o
+tellable m e p outcome.Revoked entry tells marked plain = marked_none m e p entry tells (marked refl)
+tellable m e p outcome.Aborted entry tells marked plain = unmarked_has m e p entry tells (plain refl)
+tellable m e p outcome.Ok entry tells marked plain = tt
+tellable m e p (outcome.DeviceError status error) entry tells marked plain = tt
+tellable m e p outcome.Unplugged entry tells marked plain = tt
+tellable m e p outcome.PortDead entry tells marked plain = tt
+
+-- the machine has the server's rows
+pub tells_of : (rows grants : List GrantRow) (r : Entry) → rows ≡ grants → TellsGrant grants r → TellsGrant rows r
+tells_of rows grants r same tells = subst (λ (list : List GrantRow). TellsGrant list r) (sym same) tells
+
+-- ---- as requests are issued, and get older
+
+pub issued_marked : (rows : List GrantRow) (e : Held) → IsMarked rows e → IsMarked rows (record e { entry = issue e.entry })
+issued_marked rows e m = record { tells = record { granted = m.tells.granted; revoked = m.tells.revoked }; waiting = λ waits. absurd (false≢true (sym waits)) }
+
+pub older_marked : (rows : List GrantRow) (e : Held) (age : ℕ) → IsMarked rows e → IsMarked rows (record e { entry = record (e.entry) { age = age } })
+older_marked rows e age m = record { tells = record { granted = m.tells.granted; revoked = m.tells.revoked }; waiting = m.waiting }
