@@ -1,4 +1,5 @@
 -- Two configurations with the values of one document meet the same rules.
+use Rattle.ata_types.specs.declared.limits.TheConstants.{CLIENTS, MOST_GRANTS, SLOTS}
 use Rattle.ata_types.specs.declared.memory.TheConstants.{FEWEST_FRAMES, MOST_FRAMES}
 use Rattle.std.proofs.Common.{◌≡◌, ◌∙◌, ◌≤◌, ℕ, List, Option, Some, None, String, Global, IfSome, All, AllPairs, codes, option_map, string_bytes, ap, refl, subst, sym}
 use Rattle.std.specs.List.{AllZip}
@@ -107,7 +108,7 @@ port-alike p q same h = record {
 grant-alike : (g h : GrantConfig) → SameGrant g h → IsGrant g → IsGrant h
 grant-alike g h same is = record {
   least = subst (λ n. 1 ≤ n) same.client is.least;
-  most = subst (λ n. n ≤ 8) same.client is.most;
+  most = subst (λ n. n ≤ CLIENTS) same.client is.most;
   number = subst (λ n. n ≤ 63) same.number is.number;
   port = subst (λ n. n ≤ 3) same.port is.port;
   some = subst (λ n. 1 ≤ n) same.count is.some;
@@ -124,9 +125,9 @@ meets-alike c d WrongTypes same h = tt
 meets-alike c d OutOfRange same h = record {
   numbers = record {
     frames = subst (λ n. (FEWEST_FRAMES ≤ n) × (n ≤ MOST_FRAMES)) same.frames h.numbers.frames;
-    slots = subst (λ n. (1 ≤ n) × (n ≤ 32)) same.slots h.numbers.slots;
-    depth = subst (λ n. (1 ≤ n) × (n ≤ 32)) same.depth h.numbers.depth;
-    few_grants = subst (λ n. n ≤ 64) (same-length SameGrant c.grant.items d.grant.items same.grants)
+    slots = subst (λ n. (1 ≤ n) × (n ≤ SLOTS)) same.slots h.numbers.slots;
+    depth = subst (λ n. (1 ≤ n) × (n ≤ SLOTS)) same.depth h.numbers.depth;
+    few_grants = subst (λ n. n ≤ MOST_GRANTS) (same-length SameGrant c.grant.items d.grant.items same.grants)
         h.numbers.few_grants;
   };
   trim = subst IsTrim same.trim h.trim;

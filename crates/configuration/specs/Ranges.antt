@@ -1,5 +1,6 @@
 -- The ranges of the numbers and texts in the lists of a configuration (this project's own).
 use Rattle.std.specs.Prelude.{◌≡◌, ◌≢◌, ◌==◌, ◌∷◌, if◌then◌else◌, Bool, ◌+◌, ◌^◌, ◌≤◌, ◌++◌, ℕ, List, [], All, IfSome, codes, length, string_bytes}
+use Rattle.ata_types.specs.declared.limits.TheConstants.{CLIENTS}
 use Rattle.ata_types.specs.declared.memory.TheConstants.{DRIVER_FRAMES}
 use Rattle.configuration.specs.declared.PortConfig.{PortConfig}
 use Rattle.configuration.specs.declared.ClientConfig.{ClientConfig}
@@ -18,7 +19,7 @@ pub record IsPort (p : PortConfig) : Type 0 where
 -- The client's frames begin behind the driver's and end within the memory's.
 pub record IsClient (memory_frames : ℕ) (c : ClientConfig) : Type 0 where
   pub least : 1 ≤ c.id
-  pub most : c.id ≤ 8
+  pub most : c.id ≤ CLIENTS
   pub first_frame : DRIVER_FRAMES ≤ c.first_frame
   pub some : 1 ≤ c.frames
   pub within : c.first_frame + c.frames ≤ memory_frames
@@ -40,7 +41,7 @@ pub record IsRights (text : List ℕ) : Type 0 where
 
 pub record IsGrant (g : GrantConfig) : Type 0 where
   pub least : 1 ≤ g.client
-  pub most : g.client ≤ 8
+  pub most : g.client ≤ CLIENTS
   pub number : g.number ≤ 63
   pub port : g.port ≤ 3
   pub some : 1 ≤ g.count

@@ -2,6 +2,7 @@
 -- isn't 1 to 8 is out of range, and not unknown. What is no TOML is as the crate `toml` has it (TOML 1.1): also bytes
 -- that aren't UTF-8, a key that stands twice, and a number that isn't within 64 bits with a sign.
 use Rattle.std.specs.Prelude.{◌≡◌, ◌≢◌, ◌⊎◌, ◌+◌, ◌<◌, ◌≤◌, ℕ, List, All, Any, AllPairs, codes, length, string_bytes}
+use Rattle.ata_types.specs.declared.limits.TheConstants.{MOST_GRANTS, SLOTS}
 use Rattle.ata_types.specs.declared.memory.TheConstants.{FEWEST_FRAMES, MOST_FRAMES}
 use Rattle.configuration.specs.declared.Config.{Config}
 use Rattle.configuration.specs.declared.PortConfig.{PortConfig}
@@ -13,9 +14,9 @@ use Rattle.configuration.specs.Ranges.{IsPort, IsClient, IsGrant}
 
 pub record HasNumbersInRange (c : Config) : Type 0 where
   pub frames : (FEWEST_FRAMES ≤ c.frames) × (c.frames ≤ MOST_FRAMES)
-  pub slots : (1 ≤ c.slots) × (c.slots ≤ 32)
-  pub depth : (1 ≤ c.depth) × (c.depth ≤ 32)
-  pub few_grants : length c.grant.items ≤ 64
+  pub slots : (1 ≤ c.slots) × (c.slots ≤ SLOTS)
+  pub depth : (1 ≤ c.depth) × (c.depth ≤ SLOTS)
+  pub few_grants : length c.grant.items ≤ MOST_GRANTS
 
 abbrev pub IsTrim : List ℕ → Type 0
 IsTrim text = (text ≡ codes "full") ⊎ ((text ≡ codes "weak") ⊎ (text ≡ codes "none"))

@@ -5,14 +5,13 @@ ghost use Rattle.configuration.specs.Ranges.{IsClient, IsGrant, IsPort, IsRights
 ghost use Rattle.configuration.specs.Rules.{AreApart, DifferInId, DifferInName, DifferInNumber, HasClient, HasPort};
 
 use super::{ClientConfig, Config, GrantConfig, Kind, PortConfig};
-use ata_types::{DRIVER_FRAMES, FEWEST_FRAMES, MOST_FRAMES, PORTS};
+use ata_types::{CLIENTS, DRIVER_FRAMES, FEWEST_FRAMES, MOST_FRAMES, MOST_GRANTS, PORTS, SLOTS};
 
 /// The most command slots that a port can have, and the greatest queue depth that a disk can have.
-const MOST_SLOTS: u64 = 32;
+const MOST_SLOTS: u64 = SLOTS as u64;
 
-const CLIENTS: u64 = 8;
-
-const MOST_GRANTS: usize = 64;
+/// The greatest number of a client.
+const LAST_CLIENT: u64 = CLIENTS as u64;
 
 /// One past the highest number that a grant may have.
 const GRANT_NUMBERS: u64 = 64;
@@ -67,7 +66,7 @@ impl ClientConfig {
     fn is_in_range(&self, memory_frames: u64) -> bool
         ensures { IsTrue result ↔ IsClient memory_frames self.now }
     {
-        (1..=CLIENTS).contains(&self.id)
+        (1..=LAST_CLIENT).contains(&self.id)
             && u64::from(DRIVER_FRAMES) <= self.first_frame
             && 1 <= self.frames
             && self.frames <= memory_frames
@@ -79,7 +78,7 @@ impl GrantConfig {
     fn is_in_range(&self) -> bool
         ensures { IsTrue result ↔ IsGrant self.now }
     {
-        (1..=CLIENTS).contains(&self.client)
+        (1..=LAST_CLIENT).contains(&self.client)
             && self.number < GRANT_NUMBERS
             && self.port < PORTS as u64
             && 1 <= self.count

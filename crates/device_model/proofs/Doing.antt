@@ -163,7 +163,7 @@ module _ {S : Type 0} (size : S → ℕ) (told : S → Option (ℕ → List ℕ)
       Meanwhile size p.0 old mid → ((AsksStore (asked.Finish p slot) (device_at size told old) → ⊥) → (which : Which) → disk_of mid p.0 which ≡ disk_of old p.0 which) →
       (did ≡ false → (which : Which) → disk_of mid p.0 which ≡ disk_of old p.0 which) → NoneFails failures old mid → asked_port s ≡ p.0 → IsLeftOut size told failures s mid new →
       ((device_at size told old).size ≤ 2 ^ 32 → NeedsAddresses s (device_at size told mid)) → Possible s (device_at size told mid) →
-      (LacksMemory s (device_at size told mid) mid.hardware (bay_of mid (asked_port s)) → ⊥) → (t : Taken) → ((device_at size told mid).port p.0).taken slot.0 ≡ Some t →
+      (LacksMemory s (device_at size told mid) mid.hardware → ⊥) → (t : Taken) → ((device_at size told mid).port p.0).taken slot.0 ≡ Some t →
       AnswersStep size told failures (asked.Finish p slot) did old new
   cut_short s p slot did old mid new may went stayed meanwhile same untouched none at step needs possible room t taken = by did went stayed untouched
     where

@@ -1,6 +1,6 @@
 -- A disk is put into a port, or isn't.
 use Rattle.std.proofs.Common.{ℕ, true, false, ◌≡◌, ◌<◌, ◌∙◌, ◌++◌, ◌∷◌, [], List, Option, Some, refl, sym, ap, subst, inl, inr, arith}
-use Rattle.std.specs.Prelude.{if◌then◌else◌, is_some, map, nat_eq, option_map, slice_set}
+use Rattle.std.specs.Prelude.{if◌then◌else◌, is_some, nat_eq, option_map, slice_set}
 use Rattle.adapter.specs.Asked.{DoesPlug}
 use Rattle.adapter.specs.Device.{Device, Disk}
 use Rattle.adapter.specs.Steps.{IsKnownBy, after}
@@ -11,13 +11,12 @@ use Rattle.adapter.specs.declared.tape.Entry.TheVariants as entry
 use Rattle.ata_types.specs.declared.Port.{Port}
 use Rattle.sector_store.specs.Stores.{AreSectors}
 use Rattle.sector_store.specs.declared.store.Failures.{Failures}
-use Rattle.device_model.specs.Disks.{bay_of, disk_in, disk_number, disk_over, identity}
+use Rattle.device_model.specs.Disks.{bay_of, disk_in, disk_number, disk_over, identity, plugged_as}
 use Rattle.device_model.specs.Does.{Did, IsLeftOut, LacksMemory, Possible}
 use Rattle.device_model.specs.Modelled.{device_at, media_of, outside_at, tells}
 use Rattle.device_model.specs.Tells.{bay_told, each_tells}
 use Rattle.device_model.specs.Whole.{Outside, device_of, outside_plugged}
 use Rattle.device_model.specs.declared.bay.Bay.{Bay}
-use Rattle.device_model.specs.declared.disks.Inserted.{Inserted}
 use Rattle.device_model.specs.declared.disks.ModelDisk.{ModelDisk}
 use Rattle.device_model.specs.declared.disks.Which.{Which}
 use Rattle.device_model.specs.declared.disks.Which.TheVariants.{Disk0, Disk1}
@@ -29,45 +28,37 @@ use Rattle.device_model.proofs.TwoDisks.{both_turned, has_disks, in_kept, number
 module _ {S : Type 0} (size : S → ℕ) (told : S → Option (ℕ → List ℕ)) (failures : S → Option Failures) (m new : Model S) (p : Port) (number : DiskNumber)
     (held : new.held ≡ m.held) (queue : new.queue ≡ m.queue) (accesses : new.accesses ≡ m.accesses) (a b : Bay S) (was : bay_of m p.0 ≡ Some a)
     (items : new.bays.items ≡ slice_set m.bays.items p.0 (Some b)) where
-  -- the list of disks has grown, or not, and no disk is put in
-  pub plug_left : (later : b.later.items ≡ a.later.items) → b ≡ record a { later = b.later } → ((o : Outside) → device_of new.hardware o ≡ device_of m.hardware o) →
-      Possible (asked.Plug p number) (device_at size told m) → LacksMemory (asked.Plug p number) (device_at size told m) m.hardware (Some a) →
+  -- the tape had no room, and no disk is put in
+  pub plug_left : b ≡ a → ((o : Outside) → device_of new.hardware o ≡ device_of m.hardware o) →
+      Possible (asked.Plug p number) (device_at size told m) → LacksMemory (asked.Plug p number) (device_at size told m) m.hardware →
       new.hardware.starved ≡ true → IsLeftOut size told failures (asked.Plug p number) m new
-  plug_left later rest same may lacks starved =
+  plug_left rest same may lacks starved =
       let kept : (w : Which) → disk_in b w ≡ disk_in a w = λ (w : Which). ap (λ (x : Bay S). disk_in x w) rest in
-      let Lacks : Option (Bay S) → Type 0 = LacksMemory (asked.Plug p number) (device_at size told m) m.hardware in
-      let missed : Lacks (bay_of m p.0) = subst Lacks (sym was) lacks in
-      let put : Inserted S → Disk = λ s. disk_over s.which (size s.store.value) (told s.store.value) in
-      let media : media_of size told (Some b) ≡ media_of size told (Some a) =
-      ap (λ (x : Bay S). media_of size told (Some x)) rest
-      ∙ ap (λ (l : List (Inserted S)). record {
-        disk = disk_over a.which (size a.disk.store) (told a.disk.store);
-        plugged = disk_over Disk0 (size a.first.value) (told a.first.value) ∷ map put l;
-      }) later in
       record {
-        device = ap (λ (o : Outside). device_of new.hardware o) (seated_behind m new p.0 a b was items size told media (ap (λ (x : Bay S). tells told (Some x)) rest))
+        device = ap (λ (o : Outside). device_of new.hardware o) (seated_behind m new p.0 a b was items size told (ap (λ (x : Bay S). media_of size told (Some x)) rest)
+            (ap (λ (x : Bay S). tells told (Some x)) rest))
             ∙ same (outside_at size told m);
         held = held;
         says = seated_same m new p.0 a b was items (option_map (λ (x : Bay S). x.says)) (ap (λ (x : Bay S). Some x.says) rest) p.0;
         which = seated_same m new p.0 a b was items (option_map (λ (x : Bay S). x.which)) (ap (λ (x : Bay S). Some x.which) rest) p.0;
         others = seated_others m new p.0 a b was items;
         disks = λ w. seated_same m new p.0 a b was items (option_map (λ (x : Bay S). disk_in x w)) (ap Some (kept w)) p.0;
-        why = λ _ _. (missed, starved);
+        why = λ _ _. (lacks, starved);
         keeps = seated_keeps m new p.0 a b was items size (λ w _. kept w) (λ w. ap (identity size) (kept w)) queue accesses;
         starved_on = λ _. starved;
-        starved_since = λ _. inr (may, missed);
+        starved_since = λ _. inr (may, lacks);
       }
 
   -- a disk is put in
   module _ (which : Which) (found : disk_number which ≡ number.0) (which_is : b.which ≡ which) (kept : (w : Which) → disk_in b w ≡ disk_in a w)
-      (later : (f : Which → S → Disk) → map (λ (s : Inserted S). f s.which s.store.value) b.later.items ≡ map (λ (s : Inserted S). f s.which s.store.value) a.later.items ++ f which b.disk.store ∷ [])
+      (later : (disk : Which → S → Disk) → plugged_as disk b.later ≡ plugged_as disk a.later ++ disk which b.disk.store ∷ [])
       (says : b.says ≡ a.says) (first : b.first ≡ a.first) where
     abbrev put_disk : Disk
     put_disk = disk_over b.which (size b.disk.store) (told b.disk.store)
 
     media : media_of size told (Some b) ≡ record { disk = put_disk; plugged = (media_of size told (bay_of m p.0)).plugged ++ put_disk ∷ [] }
     media =
-        let was_put : List Disk = map (λ (s : Inserted S). disk_over s.which (size s.store.value) (told s.store.value)) a.later.items in
+        let was_put : List Disk = plugged_as (λ w s. disk_over w (size s) (told s)) a.later in
         let more = later (λ w s. disk_over w (size s) (told s)) ∙ ap (λ (w : Which). was_put ++ disk_over w (size b.disk.store) (told b.disk.store) ∷ []) (sym which_is) in
         (λ i. record { disk = put_disk; plugged = disk_over Disk0 (size (first i).value) (told (first i).value) ∷ more i })
         ∙ ap (λ x. record { disk = put_disk; plugged = (media_of size told x).plugged ++ put_disk ∷ [] }) (sym was)

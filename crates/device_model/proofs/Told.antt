@@ -17,7 +17,7 @@ use Rattle.adapter.specs.declared.tape.Move.{Move}
 use Rattle.ata_types.specs.declared.Port.{Port}
 use Rattle.ata_types.specs.declared.Slot.{Slot}
 use Rattle.sector_store.specs.declared.store.Failures.{Failures}
-use Rattle.device_model.specs.Disks.{SaysOnly, bay_of, disk_in, says_of, which_of}
+use Rattle.device_model.specs.Disks.{SaysOnly, disk_in, says_of, which_of}
 use Rattle.device_model.specs.Does.{AnswersStep, EndsIt, IsLeftOut, MayBeFetched, StepKeeps, LacksMemory, Possible, asked_fault, asked_port, says_after, says_failed, which_after}
 use Rattle.device_model.specs.Finishing.{HasRoom, IsPassed}
 use Rattle.device_model.specs.Held.{held_after}
@@ -57,7 +57,7 @@ module _ {S : Type 0} (size : S → ℕ) (told : S → Option (ℕ → List ℕ)
 
   -- a step that notes one entry wasn't done
   passed_left : (s : DeviceStep) (possible : Type 0) → (Possible s (device_at size told m) → possible) → (possible → Possible s (device_at size told m)) →
-      ((HasRoom m.hardware 1 → ⊥) → LacksMemory s (device_at size told m) m.hardware (bay_of m (asked_port s))) → device_of h behind ≡ device_of m.hardware behind →
+      ((HasRoom m.hardware 1 → ⊥) → LacksMemory s (device_at size told m) m.hardware) → device_of h behind ≡ device_of m.hardware behind →
       IsPassed m.hardware h possible → IsLeftOut size told failures s m new
   passed_left s possible forth back lacks same (inl never) = record {
     device = same;
@@ -293,7 +293,7 @@ module _ {S : Type 0} (size : S → ℕ) (told : S → Option (ℕ → List ℕ)
   -- a step that notes one entry, which is no move, and changes nothing of the model but the device, was done, or wasn't
   noted_answers : (s : DeviceStep) (did : Bool) (possible : Type 0) (note : Entry) → ((x : Move) → note ≡ entry.Move x → ⊥) →
       (Possible s (device_at size told m) → possible) → (possible → Possible s (device_at size told m)) →
-      ((HasRoom m.hardware 1 → ⊥) → LacksMemory s (device_at size told m) m.hardware (bay_of m (asked_port s))) → says_of m (asked_port s) ≡ says_after s (device_at size told m) (says_of m (asked_port s)) →
+      ((HasRoom m.hardware 1 → ⊥) → LacksMemory s (device_at size told m) m.hardware) → says_of m (asked_port s) ≡ says_after s (device_at size told m) (says_of m (asked_port s)) →
       m.held ≡ held_after s m.held → which_of m (asked_port s) ≡ which_after s (which_of m (asked_port s)) → EndsIt s (device_of m.hardware behind) (device_of h behind) →
       (did ≡ true → possible × DoneOf (Sends s) s (device_of m.hardware behind) (device_of h behind) × (h.tape.items ≡ m.hardware.tape.items ++ note ∷ [])) →
       (did ≡ false → device_of h behind ≡ device_of m.hardware behind) → (did ≡ false → IsPassed m.hardware h possible) →

@@ -1,12 +1,13 @@
 -- The disks of a model: two for each port that has some, of which one is in at a time, and how they stand (this
 -- project's own).
-use Rattle.std.specs.Prelude.{ℕ, ◌≡◌, Bool, true, false, List, [], ◌∷◌, Option, None, Some, codes, if◌then◌else◌, option_map, slice_index_or, slice_set}
+use Rattle.std.specs.Prelude.{ℕ, ◌≡◌, Bool, true, false, List, [], ◌∷◌, ◌++◌, Option, None, Some, codes, if◌then◌else◌, option_map, slice_index_or, slice_set}
 use Rattle.adapter.specs.Device.{Disk}
 use Rattle.sector_store.specs.declared.store.Failures.{Failures}
 use Rattle.device_model.specs.declared.bay.Bay.{Bay}
 use Rattle.device_model.specs.declared.bay.Description.{Description}
 use Rattle.device_model.specs.declared.disks.Disks.{Disks}
 use Rattle.device_model.specs.declared.disks.ModelDisk.{ModelDisk}
+use Rattle.device_model.specs.declared.disks.Plugged.{Plugged, Nothing, After'}
 use Rattle.device_model.specs.declared.disks.PortDisks.{PortDisks}
 use Rattle.device_model.specs.declared.disks.Which.{Which}
 use Rattle.device_model.specs.declared.disks.Which.TheVariants.{Disk0, Disk1}
@@ -49,6 +50,11 @@ port_0_alone image blank =
 -- A port has the disk that is in, or was last, and the other one.
 abbrev pub disk_in : {S : Type 0} → Bay S → Which → ModelDisk S
 disk_in b which = if is_same which b.which then b.disk else b.other
+
+-- the disks that were put in one after another, each as it is made of which one it was and of its store then
+abbrev pub plugged_as : {S : Type 0} → (Which → S → Disk) → Plugged S → List Disk
+plugged_as disk Nothing = []
+plugged_as disk (After' shape before which store) = plugged_as disk before ++ disk which store.value ∷ []
 
 -- what is fixed of a disk: its serial number, and how many sectors it has
 pub record Identity : Type 0 where

@@ -1,7 +1,6 @@
 -- What a model makes of a step that it is told: when the step is possible, what it changes where it is done, and what
 -- stays where it is left (this project's own).
 use Rattle.std.specs.Prelude.{ℕ, Bool, true, false, ◌≡◌, ◌≢◌, ◌+◌, ◌^◌, ◌<◌, ◌≤◌, ◌⊎◌, List, [], ◌∷◌, ◌++◌, Option, None, Some, if◌then◌else◌, nat_eq, option_map}
-use Rattle.std.specs.Vec.{vec_len, vec_capacity}
 use Rattle.adapter.specs.Asked.{DoesClear, DoneOf, GoesOn, busy, fatal_bit}
 use Rattle.adapter.specs.Commands.{Meaning, is_queued, is_ranged, reads_memory}
 use Rattle.adapter.specs.Device.{Device, Taken}
@@ -26,7 +25,6 @@ use Rattle.device_model.specs.declared.disks.Which.{Which}
 use Rattle.device_model.specs.declared.disks.Which.TheVariants.{Disk0, Disk1}
 use Rattle.device_model.specs.declared.hardware.Hardware.{Hardware}
 use Rattle.device_model.specs.Whole.{HasDisks}
-use Rattle.device_model.specs.declared.bay.Bay.{Bay}
 use Rattle.device_model.specs.declared.bay.Description.{Description}
 use Rattle.device_model.specs.declared.model.Model.{Model}
 use Rattle.device_model.specs.declared.model.Outcome.{Outcome}
@@ -61,22 +59,23 @@ Possible (asked.Release p) d = p.0 < 4
 Possible (asked.Unplug p) d = (p.0 < 4) × Can (Unplug p.0) d
 Possible (asked.Plug p number) d = (p.0 < 4) × HasDisks d p.0 × (number.0 < 2) × ((d.port p.0).present ≡ false)
 
--- Without growing, the tape has no room for what the step notes there, or, for a Plug, the list of the disks that were
--- put into the port has none. A Finish notes each of its moves and clears, and the end; a Clear what it clears, and a
--- fault; and a Fetch a fault alone. The other steps note nothing.
-abbrev pub LacksMemory : {S : Type 0} → DeviceStep → Device → Hardware → Option (Bay S) → Type 0
-LacksMemory (asked.Fetch p s) d h bay = Can (FetchFault p.0 s.0 false 0) d × (HasRoom h 1 → ⊥)
-LacksMemory (asked.Move p s) d h bay = HasRoom h 1 → ⊥
-LacksMemory (asked.Clear p s most) d h bay = HasRoom h 2 → ⊥
-LacksMemory (asked.Done p s) d h bay = HasRoom h 1 → ⊥
-LacksMemory (asked.Finish p s) d h bay =
+-- Without growing, the tape has no room for what the step notes there. A Finish notes each of its moves and clears, and
+-- the end; a Fetch a fault alone. A Clear notes what it clears, and then a fault, where the store fails behind some
+-- sectors: it asks room for both before it clears any, so that no command is cleared in part without its fault. The
+-- other steps note nothing.
+abbrev pub LacksMemory : DeviceStep → Device → Hardware → Type 0
+LacksMemory (asked.Fetch p s) d h = Can (FetchFault p.0 s.0 false 0) d × (HasRoom h 1 → ⊥)
+LacksMemory (asked.Move p s) d h = HasRoom h 1 → ⊥
+LacksMemory (asked.Clear p s most) d h = HasRoom h 2 → ⊥
+LacksMemory (asked.Done p s) d h = HasRoom h 1 → ⊥
+LacksMemory (asked.Finish p s) d h =
     (left clears : ℕ) × MayFinish d p.0 s.0 left clears × (HasRoom h (left + clears + 1) → ⊥)
-LacksMemory (asked.Fault p s error) d h bay = HasRoom h 1 → ⊥
-LacksMemory (asked.FaultBusy p s error) d h bay = HasRoom h 1 → ⊥
-LacksMemory (asked.Fatal p error) d h bay = HasRoom h 1 → ⊥
-LacksMemory (asked.Unplug p) d h bay = HasRoom h 1 → ⊥
-LacksMemory (asked.Plug p number) d h (Some b) = HasRoom h 1 → vec_len b.later < vec_capacity b.later → ⊥
-LacksMemory step d h bay = ⊥
+LacksMemory (asked.Fault p s error) d h = HasRoom h 1 → ⊥
+LacksMemory (asked.FaultBusy p s error) d h = HasRoom h 1 → ⊥
+LacksMemory (asked.Fatal p error) d h = HasRoom h 1 → ⊥
+LacksMemory (asked.Unplug p) d h = HasRoom h 1 → ⊥
+LacksMemory (asked.Plug p number) d h = HasRoom h 1 → ⊥
+LacksMemory step d h = ⊥
 
 -- so many moves of sectors, or clears, are left of an operation
 abbrev pub AsksFor : Operation → (left clears : ℕ) → Type 0
@@ -304,12 +303,11 @@ pub record IsLeftOut {S : Type 0} (size : S → ℕ) (told : S → Option (ℕ �
   pub others : (port : ℕ) → port ≢ asked_port s → bay_of new port ≡ bay_of old port
   pub disks : (which : Which) → disk_of new (asked_port s) which ≡ disk_of old (asked_port s) which
   pub why : NeedsAddresses s (device_at size told old) → Possible s (device_at size told old) →
-      LacksMemory s (device_at size told old) old.hardware (bay_of old (asked_port s)) × (new.hardware.starved ≡ true)
+      LacksMemory s (device_at size told old) old.hardware × (new.hardware.starved ≡ true)
   pub keeps : StepKeeps size old new
   pub starved_on : old.hardware.starved ≡ true → new.hardware.starved ≡ true
   pub starved_since : new.hardware.starved ≡ true → (old.hardware.starved ≡ true)
-      ⊎ (Possible s (device_at size told old) × LacksMemory s (device_at size told old) old.hardware
-      (bay_of old (asked_port s)))
+      ⊎ (Possible s (device_at size told old) × LacksMemory s (device_at size told old) old.hardware)
 
 -- what a model makes of a step that it is told: it answers `true` where it was possible and is done, and `false` where
 -- it is left

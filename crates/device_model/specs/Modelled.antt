@@ -1,11 +1,11 @@
 -- What a model with its disks stands for.
-use Rattle.std.specs.Prelude.{ℕ, Bool, true, false, ◌≡◌, ◌+◌, ◌-◌, ◌*◌, ◌^◌, ◌<◌, ◌&&◌, List, [], ◌∷◌, Option, None, Some, if◌then◌else◌, count_ones, is_some, map, slice_index_or}
+use Rattle.std.specs.Prelude.{ℕ, Bool, true, false, ◌≡◌, ◌+◌, ◌-◌, ◌*◌, ◌^◌, ◌<◌, ◌&&◌, List, [], ◌∷◌, Option, None, Some, if◌then◌else◌, count_ones, is_some, slice_index_or}
 use Rattle.ata_types.specs.declared.memory.TheConstants.{FRAME_BYTES}
 use Rattle.adapter.specs.Device.{PortState, Device}
 use Rattle.adapter.specs.Device.Halt.{NotHalted}
 use Rattle.adapter.specs.FirstRead.{no_notes}
 use Rattle.adapter.specs.Idle.{IsIdle, IsSane}
-use Rattle.device_model.specs.Disks.{bay_of, disk_over, given_for}
+use Rattle.device_model.specs.Disks.{bay_of, disk_over, given_for, plugged_as}
 use Rattle.device_model.specs.Held.{none_held}
 use Rattle.device_model.specs.Paged.{no_lies}
 use Rattle.device_model.specs.View.{Media}
@@ -26,7 +26,7 @@ media_of size told (Some b) =
     record {
       disk = disk_over b.which (size b.disk.store) (told b.disk.store);
       plugged = disk_over Disk0 (size b.first.value) (told b.first.value)
-          ∷ map (λ s. disk_over s.which (size s.store.value) (told s.store.value)) b.later.items;
+          ∷ plugged_as (λ which store. disk_over which (size store) (told store)) b.later;
     }
 
 -- the stores of both disks of a port tell their sectors, if it has disks; and so do those of all ports

@@ -1,25 +1,23 @@
 // The disks of a port, as a model has them.
-ghost use Rattle.std.specs.Prelude.{◌≡◌, ◌<◌, ◌≤◌, ◌+◌, ◌++◌, ◌∷◌, [], ℕ, true, false, map, length, IfSome};
-ghost use Rattle.std.specs.Vec.{vec_len, vec_capacity};
+ghost use Rattle.std.specs.Prelude.{◌≡◌, ◌<◌, ◌≤◌, ◌+◌, ◌++◌, ◌∷◌, [], ℕ, true, false, length, IfSome};
 ghost use Rattle.adapter.specs.Commands.{is_ranged, reads_memory};
 ghost use Rattle.adapter.specs.Device.{Disk, IsSector};
 ghost use Rattle.adapter.specs.Steps.{disk_after, disk_cleared};
 ghost use Rattle.sector_store.specs.Stores.{FailsOn};
-ghost use Rattle.device_model.specs.Disks.{disk_in, disk_over, identity};
+ghost use Rattle.device_model.specs.Disks.{disk_in, disk_over, identity, plugged_as};
 ghost use Rattle.device_model.specs.Exchanged.{Exchanges, IsExchanged, piece_of};
 ghost use Rattle.device_model.specs.Paged.{IsItsLog, IsItsPage, IsTurned, lying, naming, no_lies, truthful};
 ghost use Rattle.device_model.specs.View.{operation_of};
 ghost use Rattle.device_model.specs.Whole.{Outside, device_of};
 
 use crate::clearing::Run;
-use crate::disks::{Inserted, ModelDisk, PortDisks, Which};
+use crate::disks::{ModelDisk, Plugged, PortDisks, Which};
 use crate::hardware::Hardware;
 use crate::port::Transfer;
 use crate::steps::NextMove;
 use adapter::DiskPage;
 use sector_store::SectorStore;
 use sector_store::pages::{Abilities, FailedCommand, log_page};
-use std::alloc::Global;
 use std::mem;
 use std::snapshot::Snapshot;
 
@@ -54,8 +52,8 @@ pub struct Bay<S> {
     pub says: Description,
     /// The disk that was in at first, as it was then, for proofs alone.
     pub first: Snapshot<S>,
-    /// Those that were put in after it, the first of them first, for proofs alone.
-    pub later: Vec<Inserted<S>>,
+    /// Those that were put in after it, for proofs alone.
+    pub later: Plugged<S>,
 }
 
 /// Turns these bits of a page.
@@ -91,13 +89,13 @@ fn clear_sectors<S: SectorStore>(disk: &mut S, which: Which, run: Run) -> u32
 
 impl<S: SectorStore> Bay<S> {
     /// A port with disks, of which the first one is in. They have these abilities, and tell no lies.
-    pub fn new(alloc: Global, disks: PortDisks<S>, abilities: Abilities) -> Bay<S>
+    pub fn new(disks: PortDisks<S>, abilities: Abilities) -> Bay<S>
         ensures which { result.which ≡ Which.Disk0 }
         ensures disk { result.disk ≡ disks.first }
         ensures other { result.other ≡ disks.spare }
         ensures says { result.says ≡ record { abilities = abilities; log = None; lies = no_lies; log_lies = no_lies } }
         ensures first { result.first.value ≡ disks.first.store }
-        ensures later { result.later.items ≡ [] }
+        ensures later { (disk : Which → S → Disk) → plugged_as disk result.later ≡ [] }
     {
         let first = Snapshot::of(&disks.first.store);
         Bay {
@@ -111,7 +109,7 @@ impl<S: SectorStore> Bay<S> {
                 log_lies: [0; PAGE_BYTES],
             },
             first,
-            later: Vec::new(alloc),
+            later: Plugged::Nothing,
         }
     }
 
@@ -271,28 +269,16 @@ impl<S: SectorStore> Bay<S> {
         }
     }
 
-    /// Finds memory to note one more disk that is put in; `false` says that there was none.
-    pub fn make_room(&mut self) -> bool
-        ensures room { result ≡ true → vec_len self.new.later < vec_capacity self.new.later }
-        ensures lacks { result ≡ false → vec_len self.old.later < vec_capacity self.old.later → ⊥ }
-        ensures items { self.new.later.items ≡ self.old.later.items }
-        ensures rest { self.new ≡ record self.old { later = self.new.later } }
-    {
-        self.later.reserve(1).is_ok()
-    }
-
     /// Puts a disk in, as it was when it was taken out.
     pub fn put_in(&mut self, which: Which)
-        requires { vec_len self.old.later < vec_capacity self.old.later }
         ensures which { self.new.which ≡ which }
         ensures disks { (w : Which) → disk_in self.new w ≡ disk_in self.old w }
-        ensures later { (f : Which → S → Disk) → map (λ s. f s.which s.store.value) self.new.later.items
-            ≡ map (λ s. f s.which s.store.value) self.old.later.items ++ f which self.new.disk.store ∷ [] }
+        ensures later { (disk : Which → S → Disk) → plugged_as disk self.new.later
+            ≡ plugged_as disk self.old.later ++ disk which self.new.disk.store ∷ [] }
         ensures rest { self.new ≡ record self.old
             { which = self.new.which; disk = self.new.disk; other = self.new.other; later = self.new.later } }
     {
         self.turn_to(which);
-        let store = Snapshot::of(&self.disk.store);
-        let _pushed = self.later.push(Inserted { which, store }).is_ok();
+        self.later.note(which, &self.disk.store);
     }
 }

@@ -1,8 +1,9 @@
 // The disks of a port.
-ghost use Rattle.std.specs.Prelude.{◌≡◌, ◌≤◌, ◌∷◌, [], IfSome, Some, None};
+ghost use Rattle.std.specs.Prelude.{◌≡◌, ◌≤◌, ◌++◌, ◌∷◌, [], IfSome, Some, None};
+ghost use Rattle.adapter.specs.Device.{Disk};
 ghost use Rattle.sector_store.specs.Pages.{IsPage};
 ghost use Rattle.sector_store.specs.Stores.{IsSector};
-ghost use Rattle.device_model.specs.Disks.{disk_number, port_0_alone};
+ghost use Rattle.device_model.specs.Disks.{disk_number, plugged_as, port_0_alone};
 
 use adapter::DiskNumber;
 use sector_store::SectorStore;
@@ -103,9 +104,28 @@ impl<S> Disks<S> {
     }
 }
 
-/// A disk as it was when it was put in, for proofs alone.
+/// The disks that were put into a port one after another, each as it was then, for proofs alone: it takes no memory.
 #[derive(Drop)]
-pub struct Inserted<S> {
-    pub which: Which,
-    pub store: Snapshot<S>,
+pub enum Plugged<S> {
+    Nothing,
+    After {
+        before: Snapshot<Plugged<S>>,
+        which: Which,
+        store: Snapshot<S>,
+    },
+}
+
+impl<S> Plugged<S> {
+    /// Notes one more.
+    pub fn note(&mut self, which: Which, store: &S)
+        ensures { (disk : Which → S → Disk) → plugged_as disk self.new
+            ≡ plugged_as disk self.old ++ disk which store.now ∷ [] }
+    {
+        let before = Snapshot::of(self);
+        *self = Plugged::After {
+            before,
+            which,
+            store: Snapshot::of(store),
+        };
+    }
 }

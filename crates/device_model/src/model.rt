@@ -28,7 +28,7 @@ use crate::config::{ModelConfig, NoMemory};
 use crate::disks::{Disks, PortDisks, Which};
 use crate::hardware::Hardware;
 use crate::port::PortModel;
-use crate::steps::{Begun, FoundPage};
+use crate::steps::{Begun, FoundPage, Growths};
 use adapter::{Adapter, DeviceStep, DiskNumber, DiskPage, Entry, FatalError, Stepped};
 use ata_types::{FEWEST_FRAMES, FRAME_BYTES, MOST_FRAMES, PORTS, Port, Slot};
 use hba_regs::Reg;
@@ -101,11 +101,7 @@ fn has_disks<S>(bays: &[Option<Bay<S>>], port: usize) -> bool
 }
 
 /// The bay for these disks, if some are given.
-fn bay_for<S: SectorStore>(
-    alloc: Global,
-    disks: Option<PortDisks<S>>,
-    config: ModelConfig,
-) -> Option<Bay<S>>
+fn bay_for<S: SectorStore>(disks: Option<PortDisks<S>>, config: ModelConfig) -> Option<Bay<S>>
     ensures bay { IsNewBay config disks result }
     ensures media { IsNewMedia S.size S.told disks (media_of S.size S.told result) }
     ensures tells { tells S.told result ≡ given_tell S.told disks }
@@ -116,7 +112,7 @@ fn bay_for<S: SectorStore>(
         trim: config.trim,
     };
     match disks {
-        Some(disks) => Some(Bay::new(alloc, disks, abilities)),
+        Some(disks) => Some(Bay::new(disks, abilities)),
         None => None,
     }
 }
@@ -144,10 +140,10 @@ fn bays_for<S: SectorStore>(
     ensures tells { IfOk result (λ bays. all_tell S.told bays.items ≡ all_given_tell S.told disks) }
 {
     let mut bays = Vec::with_capacity(alloc, PORTS)?;
-    seat(&mut bays, bay_for(alloc, disks.port0, config));
-    seat(&mut bays, bay_for(alloc, disks.port1, config));
-    seat(&mut bays, bay_for(alloc, disks.port2, config));
-    seat(&mut bays, bay_for(alloc, disks.port3, config));
+    seat(&mut bays, bay_for(disks.port0, config));
+    seat(&mut bays, bay_for(disks.port1, config));
+    seat(&mut bays, bay_for(disks.port2, config));
+    seat(&mut bays, bay_for(disks.port3, config));
     Ok(bays)
 }
 
@@ -337,10 +333,6 @@ impl<S: SectorStore> Model<S> {
         let Some(bay) = &mut self.bays[place] else {
             return false;
         };
-        if !bay.make_room() {
-            self.hardware.starved = true;
-            return false;
-        }
         if !self.hardware.plug(port.0, which.number()) {
             return false;
         }
@@ -372,7 +364,7 @@ impl<S: SectorStore> Model<S> {
             return Outcome::Left;
         }
         // A sector that was written can't be taken back, so the memory of its entry is found first.
-        let room = self.hardware.reserve(1);
+        let room = self.hardware.reserve(Growths { entries: 1 });
         let Some(next) = self.hardware.next_move(port.0, slot.0) else {
             return Outcome::Left;
         };
@@ -423,7 +415,7 @@ impl<S: SectorStore> Model<S> {
             return Outcome::Left;
         }
         // A sector that was cleared can't be taken back, so the memory of the entries is found first.
-        let room = self.hardware.reserve(2);
+        let room = self.hardware.reserve(Growths { entries: 2 });
         let Some(run) = self.hardware.run_to_clear(port.0, slot.0, most) else {
             return Outcome::Left;
         };

@@ -137,11 +137,30 @@ fn rest_of(command: &TakenCommand, block: &[u8], memory: &[u8]) -> Option<Rest>
     })
 }
 
-/// How many entries the tape has of it: one of each move and each clear, and one of the end.
-fn entries_of(rest: Rest) -> usize
-    ensures { result ≡ rest.left + rest.clears + 1 }
+/// How far what a step notes has to grow before it is done: the tape by so many entries.
+#[derive(Clone, Copy, Debug)]
+pub struct Growths {
+    pub entries: usize,
+}
+
+/// What a command needs to be done to its end: an entry of each move and each clear, and one of the end.
+fn growths_of(rest: Rest) -> Growths
+    ensures { result.entries ≡ rest.left + rest.clears + 1 }
 {
-    rest.left as usize + rest.clears as usize + 1
+    Growths {
+        entries: rest.left as usize + rest.clears as usize + 1,
+    }
+}
+
+/// Finds memory for these; `false` says that there was none.
+fn grow(tape: &mut Vec<Entry>, growths: Growths) -> bool
+    ensures items { tape.new.items ≡ tape.old.items }
+    ensures kept { vec_capacity tape.old ≤ vec_capacity tape.new }
+    ensures room { result ≡ true → vec_len tape.new + growths.entries ≤ vec_capacity tape.new }
+    ensures lacked { result ≡ false → vec_capacity tape.old < vec_len tape.old + growths.entries }
+    ensures lacks { result ≡ false → vec_capacity tape.new < vec_len tape.new + growths.entries }
+{
+    tape.reserve(growths.entries).is_ok()
 }
 
 /// Whether a command that sends a page can be done to its end: whether each of its pieces has a place in a memory of
@@ -507,7 +526,7 @@ impl Hardware {
             return None;
         }
         let rest = rest_of(&command, &[], &self.memory)?;
-        if self.tape.reserve(entries_of(rest)).is_err() {
+        if !grow(&mut self.tape, growths_of(rest)) {
             self.starved = true;
             return None;
         }
@@ -531,7 +550,7 @@ impl Hardware {
             return self.begin_said(port, slot);
         }
         let rest = self.rest_at(port, slot)?;
-        if self.tape.reserve(entries_of(rest)).is_err() {
+        if !grow(&mut self.tape, growths_of(rest)) {
             self.starved = true;
             return None;
         }
@@ -606,16 +625,16 @@ impl Hardware {
         true
     }
 
-    /// Finds memory for more entries of the tape; `false` says that there was none. That something was left out for
-    /// that is not told yet.
-    pub fn reserve(&mut self, entries: usize) -> bool
+    /// Finds memory for what a step notes; `false` says that there was none. That something was left out for that is
+    /// not told yet.
+    pub fn reserve(&mut self, growths: Growths) -> bool
         ensures same { (o : Outside) → device_of self.new o ≡ device_of self.old o }
-        ensures room { result ≡ true → HasRoom self.new entries }
+        ensures room { result ≡ true → HasRoom self.new growths.entries }
         ensures kept { (n : ℕ) → HasRoom self.old n → HasRoom self.new n }
-        ensures enough { HasRoom self.old entries → result ≡ true }
-        ensures lacks { result ≡ false → HasRoom self.new entries → ⊥ }
+        ensures enough { HasRoom self.old growths.entries → result ≡ true }
+        ensures lacks { result ≡ false → HasRoom self.new growths.entries → ⊥ }
         ensures starved { self.new.starved ≡ self.old.starved }
     {
-        self.tape.reserve(entries).is_ok()
+        grow(&mut self.tape, growths)
     }
 }

@@ -9,12 +9,10 @@ ghost use Rattle.device_model.specs.declared.port.TakenCommand.{TakenCommand};
 
 use crate::bits::with_bit_as;
 use crate::port::{TakenCommand, Transfer};
+use ata_types::SLOTS;
 use std::alloc::{AllocError, Global};
 use std::marker::Model;
 use std::snapshot::Snapshot;
-
-/// How many slots a command list has at the most (AHCI 1.3.1, 4.2.2).
-const SLOTS: usize = 32;
 
 /// The commands that a port has taken, each in its slot. Their memory is found once, as they are made.
 #[derive(Drop)]

@@ -1,6 +1,7 @@
 -- Which plans a server can serve, and which one a configuration stands for (this project's own).
 use Rattle.std.specs.Prelude.{ℕ, ◌≡◌, ◌≢◌, ◌+◌, ◌^◌, ◌≤◌, List, Some, All, AllPairs, length, map, slice_get}
 use Rattle.ata_types.specs.declared.grant.GrantRow.{GrantRow}
+use Rattle.ata_types.specs.declared.limits.TheConstants.{CLIENTS, MOST_GRANTS}
 use Rattle.ata_types.specs.declared.memory.TheConstants.{DRIVER_FRAMES, FEWEST_FRAMES, MOST_FRAMES}
 use Rattle.ata_types.specs.declared.request.ClientId.{ClientId}
 use Rattle.block_machine.specs.Rules.{DifferInName}
@@ -31,7 +32,7 @@ IsMemory frames = (FEWEST_FRAMES ≤ frames) × (frames ≤ MOST_FRAMES)
 
 -- the client is one of 1 to 8
 abbrev pub IsClient : ClientId → Type 0
-IsClient client = (1 ≤ client.0) × (client.0 ≤ 8)
+IsClient client = (1 ≤ client.0) × (client.0 ≤ CLIENTS)
 
 -- the run has a frame, and all its frames are clients' frames of the memory
 abbrev pub HasClientFrames : ℕ → Run → Type 0
@@ -57,7 +58,7 @@ pub record IsServedGrant (wanted : List Wanted) (row : GrantRow) : Type 0 where
 pub record IsPlan (p : PlanView) : Type 0 where
   pub memory : IsMemory p.frames
   pub runs : AreRuns p.frames p.owners
-  pub few : length p.grants ≤ 64
+  pub few : length p.grants ≤ MOST_GRANTS
   pub grants : All (IsServedGrant p.wanted) p.grants
   pub names : AllPairs DifferInName p.grants
 

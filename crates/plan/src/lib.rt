@@ -5,19 +5,18 @@
 #![tactic(auto)]
 
 ghost use Rattle.std.specs.Prelude.{◌≡◌, ◌≤◌, OnOk, IfOk, IfErr, All, AllPairs, length, map, option_map, string_bytes};
+ghost use Rattle.ata_types.specs.declared.limits.TheConstants.{CLIENTS, MOST_GRANTS};
 ghost use Rattle.configuration.specs.Ranges.{IsClient, IsGrant, IsPort, IsSerial};
 ghost use Rattle.configuration.specs.Rules.{DifferInNumber};
 ghost use Rattle.plan.specs.Parts.{run_of, rights_of, row_of, filled, disk_of, AreWantedOf, IsWantedIn};
 
 use arrayvec::ArrayVec;
-use ata_types::{ClientId, Frame, GrantRow, MOST_FRAMES, PORTS, Port, Rights, Sector};
+use ata_types::{
+    CLIENTS, ClientId, Frame, GrantRow, MOST_FRAMES, MOST_GRANTS, PORTS, Port, Rights, Sector,
+};
 use configuration::{ClientConfig, Config, GrantConfig, Kind, PortConfig};
 use identify::Wanted;
 use std::marker::Model;
-
-const CLIENTS: usize = 8;
-
-const MOST_GRANTS: usize = 64;
 
 /// The length of a serial number (ACS-3, 7.12.7.10).
 const SERIAL_LENGTH: usize = 20;
@@ -99,7 +98,7 @@ impl Plan {
 
 /// The frames that each client owns.
 fn runs_of(clients: &[ClientConfig]) -> ArrayVec<(ClientId, Frame, u16), CLIENTS>
-    requires few { length clients.now ≤ 8 }
+    requires few { length clients.now ≤ CLIENTS }
     requires clients { All (IsClient MOST_FRAMES) clients.now }
     ensures { result.items ≡ map run_of clients.now }
 {
@@ -123,7 +122,7 @@ fn run_of(client: &ClientConfig) -> (ClientId, Frame, u16)
 
 /// What each grant allows.
 fn rows_of(grants: &[GrantConfig]) -> ArrayVec<GrantRow, MOST_GRANTS>
-    requires few { length grants.now ≤ 64 }
+    requires few { length grants.now ≤ MOST_GRANTS }
     requires grants { All IsGrant grants.now }
     ensures { result.items ≡ map row_of grants.now }
 {

@@ -8,11 +8,8 @@ ghost use Rattle.std.specs.Prelude.{◌≡◌, ◌↔◌, ℕ, ◌<◌, ◌≤�
 ghost use Rattle.slots.specs.Uses.{IsEarliest, IsEarliestOf, IsTaken, IsLowestFree, use_at, with_use};
 ghost use Rattle.std.specs.Int.{bit_at};
 
-use ata_types::{RequestId, Slot};
+use ata_types::{RequestId, SLOTS, Slot};
 use std::marker::Model;
-
-/// Slots of a port's command list (AHCI 1.3.1, 3.3.1).
-pub const SLOTS: usize = 32;
 
 /// What a slot is used for: the command of this request.
 #[derive(Clone, Copy, Debug, Default, PartialEq, Eq)]

@@ -1,4 +1,4 @@
-use Rattle.std.proofs.Common.{rules, ℕ, ◌≡◌, ◌<◌, ◌≤◌, ◌+◌, ◌∙◌, List, false, inl, inr, refl, sym, ap, subst, arith, slice_index_or}
+use Rattle.std.proofs.Common.{ℕ, ◌≡◌, ◌<◌, ◌≤◌, ◌+◌, ◌∙◌, List, false, inl, inr, refl, sym, ap, subst, arith, slice_index_or}
 use Rattle.std.specs.Vec.{vec_len, vec_capacity}
 use Rattle.adapter.specs.declared.tape.Entry.{Entry}
 use Rattle.device_model.proofs.Absurd.{some-none, some_one, true-false}
@@ -31,16 +31,16 @@ returns-in_err-rest-clause-left c = λ _.
       refl,
     )
 
-pub returns-then-is_err-clause-left : goal.returns-then-is_err-clause-left
-returns-then-is_err-clause-left c = λ _.
+pub returns-then-not-grow-clause-left : goal.returns-then-not-grow-clause-left
+returns-then-not-grow-clause-left c = λ _.
     let h = c.args.self.now in
     let rest = c.in_ok-rest.rest in
     let found = c.in_ok-rest.ensures.found in
     let P : ℕ → Type 0 = λ q. HoldsAt (slice_index_or h.ports q blank) c.args.slot found.0 in
     let held = subst P (sym c.from-place.ensures) found.1 in
-    let over : vec_capacity h.tape < vec_len h.tape + c.entries_of.result = search rules in
-    let still : vec_capacity c.reserve.new.self < vec_len c.reserve.new.self + c.entries_of.result = search rules in
-    let entries = c.entries_of.ensures in
+    let over : vec_capacity h.tape < vec_len h.tape + c.growths_of.result.entries = c.grow.ensures.lacked c.if-not-grow.true in
+    let still : vec_capacity c.grow.new.tape < vec_len c.grow.new.tape + c.growths_of.result.entries = c.grow.ensures.lacks c.if-not-grow.true in
+    let entries = c.growths_of.ensures in
     inr (record {
       left = rest.left;
       clears = rest.clears;
@@ -52,7 +52,7 @@ returns-then-is_err-clause-left c = λ _.
           (ap (λ (x : Rest). x.left) one, ap (λ (x : Rest). x.clears) one);
       lacked = λ room. absurd (omega (arith, over, room, entries));
       lacks = λ room. absurd (omega (arith, still, room, entries));
-      same = λ o. ap (λ (items : List Entry). record (device_of h o) { tape = items }) c.reserve.ensures.items;
+      same = λ o. ap (λ (items : List Entry). record (device_of h o) { tape = items }) c.grow.ensures.items;
       told = refl;
     })
 
@@ -63,12 +63,12 @@ returns-clause-begun c =
     let found = c.in_ok-rest.ensures.found in
     let P : ℕ → Type 0 = λ q. HoldsAt (slice_index_or h.ports q blank) c.args.slot found.0 in
     let held = subst P (sym c.from-place.ensures) found.1 in
-    let new : Hardware = record h { tape = c.reserve.new.self } in
-    let room : vec_len c.reserve.new.self + c.entries_of.result ≤ vec_capacity c.reserve.new.self = search rules in
-    let entries = c.entries_of.ensures in
+    let new : Hardware = record h { tape = c.grow.new.tape } in
+    let room : vec_len c.grow.new.tape + c.growths_of.result.entries ≤ vec_capacity c.grow.new.tape = c.grow.ensures.room c.if-not-grow.false in
+    let entries = c.growths_of.ensures in
     let ready : (o : Outside) → MayFinish (device_of h o) c.args.port c.args.slot rest.left rest.clears =
     ready_to_go h c.from-place.result c.args.port c.args.slot found.0 c.from-place.ensures rest.left rest.clears found.2 held in
-    let same : (o : Outside) → device_of new o ≡ device_of h o = λ o. ap (λ (items : List Entry). record (device_of h o) { tape = items }) c.reserve.ensures.items in
+    let same : (o : Outside) → device_of new o ≡ device_of h o = λ o. ap (λ (items : List Entry). record (device_of h o) { tape = items }) c.grow.ensures.items in
     record {
       ready = ready;
       going = λ o.
@@ -79,6 +79,6 @@ returns-clause-begun c =
       room = omega (arith, room, entries);
       did = λ never. true-false never refl;
       same = λ _ o. same o;
-      tape = c.reserve.ensures.items;
+      tape = c.grow.ensures.items;
       starved = refl;
     }

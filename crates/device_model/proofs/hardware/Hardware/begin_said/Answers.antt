@@ -50,8 +50,8 @@ returns-in_err-rest-clause-left c = λ _.
       refl,
     )
 
-pub returns-then-is_err-clause-left : goal.returns-then-is_err-clause-left
-returns-then-is_err-clause-left c = λ _.
+pub returns-then-not-grow-clause-left : goal.returns-then-not-grow-clause-left
+returns-then-not-grow-clause-left c = λ _.
     let h = c.args.self.now in
     let rest = c.in_ok-rest.rest in
     let P : ℕ → Type 0 = λ q. HasUntaken (slice_index_or h.ports q blank) c.args.slot in
@@ -59,9 +59,9 @@ returns-then-is_err-clause-left c = λ _.
     let small : c.from-place.result < length c.args.self.now.ports = search rules in
     let said = c.read_into.ensures.found c.if-not-read_into.false in
     let says = rw (at_port c.args.self.now.ports c.from-place.result c.index-self-place.result small) at (rw c.deref.ensures.value at said.1) in
-    let over : vec_capacity h.tape < vec_len h.tape + c.entries_of.result = search rules in
-    let still : vec_capacity c.reserve.new.self < vec_len c.reserve.new.self + c.entries_of.result = search rules in
-    let entries = c.entries_of.ensures in
+    let over : vec_capacity h.tape < vec_len h.tape + c.growths_of.result.entries = c.grow.ensures.lacked c.if-not-grow.true in
+    let still : vec_capacity c.grow.new.tape < vec_len c.grow.new.tape + c.growths_of.result.entries = c.grow.ensures.lacks c.if-not-grow.true in
+    let entries = c.growths_of.ensures in
     inr (record {
       left = rest.left;
       clears = rest.clears;
@@ -73,7 +73,7 @@ returns-then-is_err-clause-left c = λ _.
           (ap (λ (x : Rest). x.left) one, ap (λ (x : Rest). x.clears) one);
       lacked = λ room. absurd (omega (arith, over, room, entries));
       lacks = λ room. absurd (omega (arith, still, room, entries));
-      same = λ o. ap (λ (items : List Entry). record (device_of h o) { tape = items }) c.reserve.ensures.items;
+      same = λ o. ap (λ (items : List Entry). record (device_of h o) { tape = items }) c.grow.ensures.items;
       told = refl;
     })
 
@@ -81,16 +81,16 @@ pub returns-clause-begun : goal.returns-clause-begun
 returns-clause-begun c =
     let h = c.args.self.now in
     let rest = c.in_ok-rest.rest in
-    let held : Hardware = record h { tape = c.reserve.new.self } in
+    let held : Hardware = record h { tape = c.grow.new.tape } in
     let P : ℕ → Type 0 = λ q. HasUntaken (slice_index_or h.ports q blank) c.args.slot in
     let may = subst P (sym c.from-place.ensures) c.requires.may in
     let small : c.from-place.result < length h.ports = search rules in
     let said = c.read_into.ensures.found c.if-not-read_into.false in
     let says = rw (at_port h.ports c.from-place.result c.index-self-place.result small) at (rw c.deref.ensures.value at said.1) in
     let alone = rw (at_port c.args.self.now.ports c.from-place.result c.index-self-place-2.result small) at (c.is_open_to.ensures.open c.if-not-is_open_to.false) in
-    let room : vec_len c.reserve.new.self + c.entries_of.result ≤ vec_capacity c.reserve.new.self = search rules in
-    let entries = c.entries_of.ensures in
-    let kept : (o : Outside) → device_of held o ≡ device_of h o = λ o. ap (λ (items : List Entry). record (device_of h o) { tape = items }) c.reserve.ensures.items in
+    let room : vec_len c.grow.new.tape + c.growths_of.result.entries ≤ vec_capacity c.grow.new.tape = c.grow.ensures.room c.if-not-grow.false in
+    let entries = c.growths_of.ensures in
+    let kept : (o : Outside) → device_of held o ≡ device_of h o = λ o. ap (λ (items : List Entry). record (device_of h o) { tape = items }) c.grow.ensures.items in
     let ready : (o : Outside) → MayFinish (device_of h o) c.args.port c.args.slot rest.left rest.clears =
     ready_to_take h c.from-place.result c.args.port c.args.slot c.read_into.new.command c.from-place.ensures rest.left rest.clears
     (rw c.deref-2.ensures.value at c.in_ok-rest.ensures.rest) said.0 may alone says in
@@ -109,7 +109,7 @@ returns-clause-begun c =
       room = omega (arith, room, entries);
       did = λ _ o. did o;
       same = λ never. true-false refl never;
-      tape = c.reserve.ensures.items;
+      tape = c.grow.ensures.items;
       starved = refl;
     }
 

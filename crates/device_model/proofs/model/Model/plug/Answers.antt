@@ -1,7 +1,6 @@
-use Rattle.std.proofs.Common.{rules, ℕ, Some, ◌<◌, ◌∙◌, length, refl, sym, ap, inl, inr, arith, ◌++◌, ◌∷◌, []}
-use Rattle.std.specs.Prelude.{map, slice_set}
+use Rattle.std.proofs.Common.{rules, ℕ, Some, ◌<◌, ◌∙◌, length, refl, sym, ap, inl, inr, arith}
+use Rattle.std.specs.Prelude.{slice_set}
 use Rattle.adapter.specs.Device.{Device}
-use Rattle.device_model.specs.Disks.{disk_in}
 use Rattle.device_model.specs.Modelled.{outside_at}
 use Rattle.device_model.specs.Whole.{Outside}
 use Rattle.device_model.specs.declared.bay.Bay.{Bay}
@@ -10,34 +9,12 @@ use Rattle.device_model.proofs.SlotLemmas.{at_port}
 use Rattle.device_model.proofs.TwoDisks.{has_disks, number_small, seat_is}
 use Rattle.device_model.proofs.model.Model.plug.Goals as goal
 
--- the list of disks had no memory for it
-pub returns-then-not-make_room : goal.returns-then-not-make_room
-returns-then-not-make_room g c =
-    let m = c.args.self.now in
-    let a = c.in-Some-index_mut.bay in
-    let b = c.make_room.new.self in
-    let p : ℕ = c.from-place.result in
-    let long : p < length m.hardware.ports = search rules in
-    let here = rw (at_port m.hardware.ports p c.index-self-place.result long) at c.if-self-place.false in
-    let free = rw c.from-place.ensures at here in
-    let small = c.if-place-ge-PORTS.false in
-    let at = c.from-place.ensures in
-    let few = number_small c.in-Some.which in
-    let was = seat_is m c.from-place.result c.args.port.0 c.index_mut.result.now a c.from-place.ensures
-    (let there = c.has_disks.ensures.there c.if-not-has_disks.false in let size = ap length c.as_slice.ensures.value in omega (arith, there, size))
-    c.index_mut.ensures.value c.in-Some-index_mut.is in
-    plug_left g.S.SectorStore.size g.S.SectorStore.told g.S.SectorStore.failures m _ c.args.port c.args.disk refl refl refl a b was
-    (ap (λ k. slice_set m.bays.items k (Some b)) c.from-place.ensures) c.make_room.ensures.items c.make_room.ensures.rest (λ _. refl)
-    (omega (arith, small, at), has_disks g.S.SectorStore.size g.S.SectorStore.told m c.args.port.0 a was, omega (arith, few, c.in-Some.ensures.found), free)
-    (λ _ room. c.make_room.ensures.lacks c.if-not-make_room.true room) refl
-
 -- the tape had no memory for it
 pub returns-then-not-plug : goal.returns-then-not-plug
 returns-then-not-plug g c =
     let m = c.args.self.now in
     let o : Outside = outside_at g.S.SectorStore.size g.S.SectorStore.told m in
     let a = c.in-Some-index_mut.bay in
-    let b = c.make_room.new.self in
     let p : ℕ = c.from-place.result in
     let long : p < length m.hardware.ports = search rules in
     let here = rw (at_port m.hardware.ports p c.index-self-place.result long) at c.if-self-place.false in
@@ -51,10 +28,10 @@ returns-then-not-plug g c =
     elim (c.plug.ensures.left c.if-not-plug.true o) [
       | inl never ↦ absurd (never.0 free)
       | inr missed ↦
-          plug_left g.S.SectorStore.size g.S.SectorStore.told g.S.SectorStore.failures m _ c.args.port c.args.disk refl refl refl a b was
-          (ap (λ k. slice_set m.bays.items k (Some b)) c.from-place.ensures) c.make_room.ensures.items c.make_room.ensures.rest (c.plug.ensures.refused c.if-not-plug.true)
+          plug_left g.S.SectorStore.size g.S.SectorStore.told g.S.SectorStore.failures m _ c.args.port c.args.disk refl refl refl a a was
+          (ap (λ k. slice_set m.bays.items k (Some a)) c.from-place.ensures) refl (c.plug.ensures.refused c.if-not-plug.true)
           (omega (arith, small, at), has_disks g.S.SectorStore.size g.S.SectorStore.told m c.args.port.0 a was, omega (arith, few, c.in-Some.ensures.found), free)
-          (λ room _. missed.1 room) missed.2
+          missed.1 missed.2
     ]
 
 pub returns : goal.returns
@@ -68,15 +45,14 @@ returns g c =
     let was = seat_is m c.from-place.result c.args.port.0 c.index_mut.result.now a c.from-place.ensures
     (let there = c.has_disks.ensures.there c.if-not-has_disks.false in let size = ap length c.as_slice.ensures.value in omega (arith, there, size))
     c.index_mut.ensures.value c.in-Some-index_mut.is in
-    let room = c.make_room.ensures.rest in
     let put = c.put_in.ensures.rest in
     let yes = c.if-not-plug.false in
     did_plug g.S.SectorStore.size g.S.SectorStore.told g.S.SectorStore.failures m _ c.args.port c.args.disk refl refl refl a b was
     (ap (λ k. slice_set m.bays.items k (Some b)) c.from-place.ensures) c.in-Some.which c.in-Some.ensures.found c.put_in.ensures.which
-    (λ w. c.put_in.ensures.disks w ∙ ap (λ (x : Bay g.row.S.Denot). disk_in x w) room)
-    (λ f. c.put_in.ensures.later f ∙ ap (λ l. map (λ s. f s.which s.store.value) l ++ f c.in-Some.which b.disk.store ∷ []) c.make_room.ensures.items)
-    (ap (λ (x : Bay g.row.S.Denot). x.says) put ∙ ap (λ (x : Bay g.row.S.Denot). x.says) room)
-    (ap (λ (x : Bay g.row.S.Denot). x.first) put ∙ ap (λ (x : Bay g.row.S.Denot). x.first) room)
+    c.put_in.ensures.disks
+    c.put_in.ensures.later
+    (ap (λ (x : Bay g.row.S.Denot). x.says) put)
+    (ap (λ (x : Bay g.row.S.Denot). x.first) put)
     (omega (arith, small, at))
     (λ d is. ap (λ (x : Device). (x.port c.args.port.0).present) is ∙ c.plug.ensures.free yes (outside_at g.S.SectorStore.size g.S.SectorStore.told m))
     g.met.S.SectorStore.tells_sectors (λ o disk name. c.plug.ensures.did yes o disk (name ∙ (sym c.in-Some.ensures.found ∙ sym c.number.ensures))) (c.plug.ensures.fed yes)
