@@ -182,12 +182,19 @@ def functions_in(path, text, types):
 TYPE = re.compile(r"^(?:pub(?:\([a-z ]+\))? )?(?:struct|enum) (\w+)", re.M)
 
 
+# A module that is there for tests alone.
+FOR_TESTS = re.compile(r"^#\[cfg\(test\)\]\n(?:pub )?mod (\w+);", re.M)
+
+
 def functions_of(folder):
     texts = {}
     for at, _, names in sorted(os.walk(f"{folder}/src")):
         for name in sorted(names):
-            if name.endswith(".rt") and "tests" not in f"{at}/{name[:-3]}".split("/"):
+            if name.endswith(".rt"):
                 texts[os.path.relpath(f"{at}/{name}", folder)] = read(f"{at}/{name}")
+    # (a check of the crate reads none of these)
+    left_out = {"tests", *(it for text in texts.values() for it in FOR_TESTS.findall(text))}
+    texts = {path: text for path, text in texts.items() if not left_out & {*module_of(path)}}
     types = {name: module_of(path) for path, text in texts.items() for name in TYPE.findall(text)}
     found = [it for path, text in texts.items() for it in functions_in(path, text, types)]
     link(found)

@@ -111,6 +111,9 @@ state_asks_none r event port is asks = let e : ◌≡◌ {A = Ask DeviceStep} (A
 service_asks_none : (r : Accepted) (event : Call DeviceStep) → event.ask ≡ AskService → AsksFor r event → ⊥
 service_asks_none r event is asks = let e : ◌≡◌ {A = Ask DeviceStep} AskService (AskSubmit r.asked) = sym is ∙ asks.0 in cc
 
+store_asks_none : (r : Accepted) (event : Call DeviceStep) (client : ClientId) (frame : Frame) (offset : ℕ) (bytes : List ℕ) → event.ask ≡ StoreAt client frame offset bytes → AsksFor r event → ⊥
+store_asks_none r event client frame offset bytes is asks = let e : ◌≡◌ {A = Ask DeviceStep} (StoreAt client frame offset bytes) (AskSubmit r.asked) = sym is ∙ asks.0 in cc
+
 submit_asks : (r : Accepted) (event : Call DeviceStep) (asked : Request) → event.ask ≡ AskSubmit asked → AsksFor r event → r.asked ≡ asked
 submit_asks r event asked is asks = let e : ◌≡◌ {A = Ask DeviceStep} (AskSubmit asked) (AskSubmit r.asked) = sym is ∙ asks.0 in cc
 
@@ -454,6 +457,14 @@ store_refused old event client frame offset bytes is says answered =
     let a = subst (λ (q : Ask DeviceStep). IsAnswered q (Stored (Some FrameLent)) old event.evidence event.steps (moment_after old event)) is said_so in
     subst (λ (xs : List Step). IsSome ((after old.machine xs).lent frame)) (sym a.1) a.0.0
 
+some_of : {X : Type 0} (o : Option X) → IsSome o → (x : X) × (o ≡ Some x)
+some_of None is = absurd (false≢true is)
+some_of (Some x) is = (x, refl)
+
+-- the id that a submit gave
+id_given : (r : Accepted) (event : Call DeviceStep) (id : RequestId) → event.said ≡ Submitted (Ok id) → AsksFor r event → r.id ≡ id
+id_given r event id says asks = let e : Submitted (Ok r.id) ≡ Submitted (Ok id) = sym asks.1 ∙ says in cc
+
 -- a store that is told to be done
 store_done : (old : Moment) (event : Call DeviceStep) (client : ClientId) (frame : Frame) (offset : ℕ) (bytes : List ℕ) → event.ask ≡ StoreAt client frame offset bytes → event.said ≡ Stored None
     → IsAnswered event.ask event.said old event.evidence event.steps (moment_after old event) → old.machine.lent frame ≡ None
@@ -495,6 +506,16 @@ shows_a_release device old new request client frame bytes last_bytes id replies 
     let there : Contains (replies_of d.0.event.said) reply = subst (λ (s : machine.Said). Contains (replies_of s) reply) (sym d.2) (told_alone replies reply only) in
     let told = laws.asked r.first.moment (events_of before) d.0.event reply run.0.0.0 there in
     let answered : Contains d.0.event.steps (Answer told.0 outcome.PortDead) = subst (λ (o : Outcome). Contains d.0.event.steps (Answer told.0 o)) dead told.1 in
+    let given_then : (x : Accepted) → WasAsked x (events_of before) → x.id ≡ id = λ x asked.
+    ⊎_elim (λ now. id_given x c.0.event id c.2 now)
+    (λ more. ⊎_elim (λ now. absurd (device_asks_none x b.0.event _ b.1 now))
+    (λ rest. ⊎_elim (λ now. absurd (device_asks_none x a.0.event _ a.1 now)) (λ no. absurd no) rest) more) asked in
+    let legal = laws.legal r.first.moment (events_of past) run.0.0 in
+    let loan = some_of _ (store_refused (moment_of r.first.moment (events_of (d.0 ∷ before))) e.0.event client frame 0 bytes e.1 e.2 run.0.0.1.answered) in
+    let holder = laws.lent r.first.moment.machine (steps_of (events_of past)) frame loan.0 legal.0 legal.1 (ap (λ (m : Machine). m.lent frame) (sym legal.2) ∙ loan.1) in
+    let holds : holder.0.id ≡ id = ⊎_elim (λ x. absurd (store_asks_none holder.0 e.0.event client frame 0 bytes e.1 x))
+    (λ past. ⊎_elim (λ x. absurd (service_asks_none holder.0 d.0.event d.1 x)) (given_then holder.0) past)
+    (laws.accepted r.first.moment (events_of past) holder.0 run.0.0 holder.1) in
     let released = reset_releases (moment_of r.first.moment (events_of past)) f.0.event f.1 (f.2 ∙ ap (λ (xs : List Reply). WasReset (Some xs)) silent) run.0.1.answered in
     record {
       first = r.first;
@@ -509,7 +530,7 @@ shows_a_release device old new request client frame bytes last_bytes id replies 
           (λ asked. ⊎_elim (λ x. absurd (device_asks_none told.0.request b.0.event _ b.1 x))
           (λ asked. ⊎_elim (λ x. absurd (device_asks_none told.0.request a.0.event _ a.1 x)) (λ no. absurd no) asked) asked) told.4;
       told = Contains-append_right e.0.event.steps _ _ (Contains-append_left d.0.event.steps _ _ answered);
-      lent = store_refused (moment_of r.first.moment (events_of (d.0 ∷ before))) e.0.event client frame 0 bytes e.1 e.2 run.0.0.1.answered;
+      lent = loan.1 ∙ ap Some (sym holder.2 ∙ holds ∙ sym (given_then told.0.request told.4));
       resets = f.1;
       releases = released.0;
       silent = released.1;

@@ -1,5 +1,5 @@
 -- Histories of the server that are shown to exist, by calls of it that are made (this project's own).
-use Rattle.std.specs.Prelude.{◌≡◌, ◌⊎◌, ◌≤◌, true, None, List, [], ◌∷◌, ◌++◌, count_by, cond, Contains, IsSome, ◌+◌, map, Ok as Done, Err}
+use Rattle.std.specs.Prelude.{◌≡◌, ◌⊎◌, ◌≤◌, true, None, List, [], ◌∷◌, ◌++◌, count_by, cond, Contains, Some, ◌+◌, map, Ok as Done, Err}
 use Rattle.ata_types.specs.declared.Port.{Port}
 use Rattle.ata_types.specs.declared.PortState.TheVariants.{Absent, Ready, Dead}
 use Rattle.ata_types.specs.declared.request.Frame.{Frame}
@@ -13,9 +13,10 @@ use Rattle.ata_types.specs.declared.request.Outcome.TheVariants.{Ok, PortDead}
 use Rattle.adapter.specs.Device.{Device}
 use Rattle.adapter.specs.declared.access.DeviceStep.{DeviceStep}
 use Rattle.block_machine.specs.Events.{Event as Call, Moment, Reset, Service, EveryReadHolds, IsLawful, IsRun, IsStillStuck, answers_of, issues_it, moment_of, replies_of, steps_of}
+use Rattle.block_machine.specs.Confined.{HasFrame, WasAccepted}
 use Rattle.block_machine.specs.Histories.{Happening, Instant, events_of, now}
 use Rattle.block_machine.specs.Left.{IsLegal, IsStart, after}
-use Rattle.block_machine.specs.State.{Machine, Pending}
+use Rattle.block_machine.specs.State.{Accepted, Machine, Pending}
 use Rattle.block_machine.specs.Steps.{Step, Answer, Release}
 use Rattle.driver_history.specs.Claims.{HeedsFailure}
 use Rattle.driver_history.specs.Evidence.{ShowsFailure}
@@ -65,8 +66,8 @@ pub record ServesReadAnew (old new : Server) (asked : Request) : Type 0 where
   pub again : 1 ≤ count_by (waits_again serves.read.request.id) (steps_of (events_of serves.past))
 
 -- A history leads from the new server to the other one, in which what was asked for is answered PortDead, and this
--- frame stays lent. Then a reset ends that answers nothing, but releases what is lent to answered requests; and after
--- it the frame is lent to none.
+-- frame stays lent to it. Then a reset ends that answers nothing, but releases what is lent to answered requests; and
+-- after it the frame is lent to none.
 pub record ReleasesFrame (old new : Server) (asked : Request) (frame : Frame) : Type 0 where
   pub first : Instant Device
   pub begun : Leads first [] old
@@ -78,7 +79,7 @@ pub record ReleasesFrame (old new : Server) (asked : Request) (frame : Frame) : 
   pub dead : Pending
   pub its : dead.request.asked ≡ asked
   pub told : Contains (steps_of (events_of past)) (Answer dead PortDead)
-  pub lent : IsSome ((now first past).moment.machine.lent frame)
+  pub lent : (now first past).moment.machine.lent frame ≡ Some dead.request.id
   pub resets : reset.event.ask ≡ Reset
   pub releases : Contains reset.event.steps Release
   pub silent : answers_of reset.event.steps ≡ []
@@ -111,6 +112,11 @@ pub record RunLaws : Type 0 where
   pub legal : (first : Moment) (run : List (Call DeviceStep)) → IsRun first run
       → IsStart first.machine × IsLegal first.machine (steps_of run)
       × ((moment_of first run).machine ≡ after first.machine (steps_of run))
+  pub lent : (start : Machine) (history : List Step) (frame : Frame) (id : RequestId) → IsStart start
+      → IsLegal start history → (after start history).lent frame ≡ Some id
+      → (r : Accepted) × WasAccepted start history r × (r.id ≡ id) × HasFrame r frame
+  pub accepted : (first : Moment) (run : List (Call DeviceStep)) (r : Accepted) → IsRun first run
+      → WasAccepted first.machine (steps_of run) r → WasAsked r run
   pub asked : (first : Moment) (past : List (Call DeviceStep)) (event : Call DeviceStep) (reply : Reply)
       → IsRun first (event ∷ past) → Contains (replies_of event.said) reply → (e : Pending)
       × Contains event.steps (Answer e reply.outcome) × (e.request.id ≡ reply.id)

@@ -13,12 +13,12 @@ use arrayvec::ArrayVec;
 use ata_types::{
     ClientId, Frame, MemFault, Op, Outcome, Port, PortState, Request, RequestId, Slot,
 };
-use block_machine::laws::runs_are_legal;
+use block_machine::laws::{lent_was_accepted, runs_are_legal};
 use block_server::{Event, Said, Sayings, Server};
 use driver_history::troubles::shown_faults_are_heeded;
 use machine_runs::laws::{
-    a_lone_request_is_issued, answers_are_lawful, issues_are_counted, ok_was_served,
-    replied_was_asked, unanswered_came_from, unanswered_where_ready,
+    a_lone_request_is_issued, accepted_was_asked, answers_are_lawful, issues_are_counted,
+    ok_was_served, replied_was_asked, unanswered_came_from, unanswered_where_ready,
 };
 use std::alloc::Global;
 
@@ -27,6 +27,8 @@ fn laws_of_runs()
     ensures { RunLaws }
 {
     runs_are_legal::<DeviceStep>();
+    lent_was_accepted();
+    accepted_was_asked::<DeviceStep>();
     replied_was_asked::<DeviceStep>();
     answers_are_lawful::<DeviceStep>();
     unanswered_came_from::<DeviceStep>();

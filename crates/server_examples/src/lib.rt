@@ -1,12 +1,14 @@
 //! Tests of the server, its boots and the play of scripts, where no script shows it.
 //!
 //! Which accesses are made, when waits end, what lying disks are found to be, and what comes of an
-//! output that fails. `histories` has functions by which histories of the server are proved to
-//! exist in which it answers. There is no other code here.
+//! output or a disk that fails. `histories` has functions by which histories of the server are
+//! proved to exist in which it answers. There is no other code here.
 #![tactic(auto)]
 
 #[cfg(test)]
 mod boots;
+#[cfg(test)]
+mod failing_stores;
 pub mod histories;
 #[cfg(test)]
 mod lists;

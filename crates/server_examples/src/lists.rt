@@ -10,14 +10,20 @@ use sector_store::{MemStore, SectorStore};
 use std::alloc::Global;
 use std::test::Fail;
 
-/// A server over a disk in memory of which every byte of sector k is k modulo 256.
-fn server_of_numbers(alloc: Global) -> Result<Server<Model<MemStore>>, Fail> {
-    let config = config(alloc, QUEUED)?;
+/// A disk in memory of which every byte of sector k is k modulo 256.
+pub fn image_of_numbers(alloc: Global) -> Result<MemStore, Fail> {
     let mut image = MemStore::new(alloc, 356)?;
     for sector in 0..356_u16 {
         let bytes = [sector.to_le_bytes()[0]; 512];
         let _done = image.write(u64::from(sector), &bytes);
     }
+    Ok(image)
+}
+
+/// A server over such a disk.
+fn server_of_numbers(alloc: Global) -> Result<Server<Model<MemStore>>, Fail> {
+    let config = config(alloc, QUEUED)?;
+    let image = image_of_numbers(alloc)?;
     let model = new_model(alloc, &config, image, MemStore::new(alloc, 0)?)?;
     match Server::new(alloc, &config, model) {
         Ok(server) => Ok(server),

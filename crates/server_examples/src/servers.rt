@@ -52,7 +52,7 @@ const PLAIN: &str = text_with!("slots = 1\nncq = false\ndepth = 1\n");
 pub const QUEUED: &str = text_with!("slots = 32\nncq = true\ndepth = 32\n");
 
 /// Neither adapter nor disk queues commands.
-const UNQUEUED: &str = text_with!("slots = 32\nncq = false\ndepth = 32\n");
+pub const UNQUEUED: &str = text_with!("slots = 32\nncq = false\ndepth = 32\n");
 
 /// The values of the text.
 pub fn config(alloc: Global, text: &str) -> Result<Config, Fail>
