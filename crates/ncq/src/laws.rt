@@ -32,7 +32,7 @@ use agreement::laws::{
 };
 use agreement::readying::{readied_is_issued, readied_stays};
 use agreement::stretches::other_ports_are_left;
-use block_machine::laws::issue_was_accepted;
+use block_machine::laws::issues_keep_the_rules;
 
 /// No call touches a register of another port, nor another port's bit of IS: so what is said of such accesses (`IsOf`)
 /// is so of each.
@@ -113,5 +113,5 @@ pub fn a_transfer_may_be_issued()
     a_prepared_read_agrees();
     saying_is_one();
     a_first_read_exists();
-    issue_was_accepted();
+    issues_keep_the_rules();
 }
