@@ -4,7 +4,7 @@ use Rattle.std.specs.Prelude.{if◌then◌else◌, is_some, nat_le, replicate}
 use Rattle.std.proofs.lemmas.List.Elements.{All-replicate}
 use Rattle.ata_types.specs.declared.memory.TheConstants.{HEADER_BYTES, RECEIVED_BYTES}
 use Rattle.adapter.specs.Memory.{patched}
-use Rattle.adapter.specs.Device.{Taken, Device}
+use Rattle.adapter.specs.Device.{Taken, PortState, Device}
 use Rattle.adapter.specs.Steps.{MayScribble, Steps}
 use Rattle.adapter.specs.Steps.Step.{Fetch, FetchFault, Move, Clear, Done, Fault, Fatal, Unplug, Plug, Scribble}
 use Rattle.adapter.specs.declared.command.Operation.{Operation}
@@ -12,7 +12,8 @@ use Rattle.adapter.specs.declared.command.Operation.TheVariants.{Identify}
 use Rattle.adapter.specs.declared.access.DeviceStep.{DeviceStep}
 use Rattle.adapter.specs.declared.access.DeviceStep.TheVariants as asked
 use Rattle.adapter.proofs.Runs.{Steps-refl, Steps-one, Steps-trans}
-use Rattle.adapter.specs.Asked.{DoesClear, DoesOne, DoesSome, Fails, FailsAfter, FailsOf, GoesOn, MayPost, Asked, DoneOf, DoesScribble, busy, counts_filled, fatal_bit, filled}
+use Rattle.adapter.proofs.Scribbling.{area_filled, one_filled, scribbled_is_one}
+use Rattle.adapter.specs.Asked.{DoesClear, DoesOne, DoesSome, Fails, FailsAfter, FailsOf, GoesOn, MayPost, Asked, DoneOf, DoesScribble, IsScribbled, busy, fatal_bit, filled}
 
 module _ (Posts : (port flag : ℕ) → Operation → Device → Device → Type 0) where
   pub goes_one : (port slot : ℕ) (old new : Device) → DoesOne Posts port slot old new → GoesOn Posts port slot old new
@@ -84,20 +85,31 @@ count_steps slot port byte d before fre small (Some t) e so_far =
     Steps-trans so_far (fill_steps port slot at 4 byte (record d { memory = before }) (nat_le (at + 4) d.size)
     (record { fre = fre; place = inr (t, e, refl, refl); are_bytes = bytes_of 4 byte small }))
 
--- those of the slots, one after another
-counts_steps : (slots port byte : ℕ) (d : Device) (memory : ℕ → ℕ) → (d.port port).fre ≡ true → byte < 256 →
-    Steps (record d { memory = memory }) (record d { memory = counts_filled slots d.size byte (d.port port) memory })
-counts_steps zero port byte d memory fre small = Steps-refl _
-counts_steps (suc slot) port byte d memory fre small =
-    count_steps slot port byte d (counts_filled slot d.size byte (d.port port) memory) fre small ((d.port port).taken slot) refl (counts_steps slot port byte d memory fre small)
+-- the received FIS area, and then PRDBC of the slots, one after another
+scribbles : (slots port byte : ℕ) (d : Device) → (d.port port).fre ≡ true → byte < 256 →
+    (memory : ℕ → ℕ) × IsScribbled slots d.size byte (d.port port) d.memory memory × Steps d (record d { memory = memory })
+scribbles zero port byte d fre small =
+    let at : ℕ = (d.port port).bases.fb in (
+      filled d.size at RECEIVED_BYTES byte d.memory,
+      area_filled d.size byte (d.port port) d.memory,
+      fill_steps port 0 at RECEIVED_BYTES byte d (nat_le (at + RECEIVED_BYTES) d.size)
+          (record { fre = fre; place = inl (omega arith, omega arith); are_bytes = bytes_of RECEIVED_BYTES byte small }),
+    )
+scribbles (suc slot) port byte d fre small =
+    let p : PortState = d.port port in
+    let before = scribbles slot port byte d fre small in
+    let memory : ℕ → ℕ = if is_some (p.taken slot) then filled d.size (p.bases.clb + HEADER_BYTES * slot + 4) 4 byte before.0 else before.0 in
+    let next : slot + 1 ≡ suc slot = omega arith in
+    let P : ℕ → Type 0 = λ n. IsScribbled n d.size byte p d.memory memory in
+    (memory, subst P next (one_filled d.size byte p slot d.memory before.0 memory before.1 refl), count_steps slot port byte d before.0 fre small (p.taken slot) refl before.2)
 
 scribble_steps : (port byte : ℕ) (old new : Device) → DoesScribble port byte old new → Steps old new
 scribble_steps port byte old new did =
-    let at : ℕ = (old.port port).bases.fb in
-    let place = fill_steps port 0 at RECEIVED_BYTES byte old (nat_le (at + RECEIVED_BYTES) old.size)
-    (record { fre = did.receives; place = inl (omega arith, omega arith); are_bytes = bytes_of RECEIVED_BYTES byte did.is_byte }) in
-    let P : Device → Type 0 = λ d. Steps old d in
-    subst P (sym did.effect) (Steps-trans place (counts_steps 32 port byte old (filled old.size at RECEIVED_BYTES byte old.memory) did.receives did.is_byte))
+    let way = scribbles 32 port byte old did.receives did.is_byte in
+    let same : way.0 ≡ did.memory = scribbled_is_one old.size byte (old.port port) 32 old.memory way.0 did.memory way.1 did.scribbled in
+    let P : (ℕ → ℕ) → Type 0 = λ memory. Steps old (record old { memory = memory }) in
+    let Q : Device → Type 0 = λ d. Steps old d in
+    subst Q (sym did.effect) (subst P same way.2)
 
 done_steps : (s : DeviceStep) (old new : Device) → DoneOf MayPost s old new → Steps old new
 done_steps (asked.Fetch p slot) old new did = one_steps p.0 slot.0 old new (inl did)
@@ -115,6 +127,7 @@ done_steps (asked.Hold p) old new did = let P : Device → Type 0 = λ d. Steps 
 done_steps (asked.Release p) old new did = let P : Device → Type 0 = λ d. Steps old d in subst P (sym did) (Steps-refl old)
 done_steps (asked.Unplug p) old new did = Steps-one (Unplug p.0) old new did.can did.effect
 done_steps (asked.Plug p number) old new did = Steps-one (Plug p.0 did.disk) old new did.can did.effect
+done_steps (asked.LosePlug p) old new did = Steps-one (Plug p.0 did.disk) old new did.can did.effect
 
 failed_steps : (s : DeviceStep) (old new : Device) → FailsOf MayPost s old new → Steps old new
 failed_steps (asked.Fetch p slot) old new f =
@@ -134,6 +147,7 @@ failed_steps (asked.Hold p) old new f = absurd f
 failed_steps (asked.Release p) old new f = absurd f
 failed_steps (asked.Unplug p) old new f = absurd f
 failed_steps (asked.Plug p number) old new f = absurd f
+failed_steps (asked.LosePlug p) old new f = absurd f
 
 pub asked_steps : (s : DeviceStep) (old new : Device) → Asked s old new → Steps old new
 asked_steps s old new (inl did) = done_steps s old new did

@@ -7,6 +7,7 @@ pub mod Guards
 pub mod KeptLemmas
 pub mod MemoryLemmas
 pub mod Runs
+pub mod Scribbling
 pub mod SaysLemmas
 pub mod Going
 pub mod OneCommand

@@ -139,22 +139,30 @@ abbrev pub filled : (size at count byte : ℕ) → (ℕ → ℕ) → ℕ → ℕ
 filled size at count byte memory =
     if nat_le (at + count) size then patched memory at (replicate count byte) else memory
 
--- PRDBC of each of the first slots, so many, whose command is taken (AHCI 1.3.1, 4.2.2)
-abbrev pub counts_filled : (slots size byte : ℕ) → PortState → (ℕ → ℕ) → ℕ → ℕ
-counts_filled zero size byte p memory = memory
-counts_filled (suc slot) size byte p memory =
-    let before = counts_filled slot size byte p memory in
-    if is_some (p.taken slot) then filled size (p.bases.clb + HEADER_BYTES * slot + 4) 4 byte before else before
+-- the place is one of these bytes, which all lie in the memory
+abbrev pub IsOneOf : (size at count place : ℕ) → Type 0
+IsOneOf size at count place = (at + count ≤ size) × (at ≤ place) × (place < at + count)
+
+-- a place of the port's received FIS area, or of PRDBC of a slot whose command is taken, of the first slots, so many
+-- (AHCI 1.3.1, 4.2.1 and 4.2.2)
+abbrev pub IsScribblePlace : (slots size : ℕ) → PortState → ℕ → Type 0
+IsScribblePlace slots size p place = IsOneOf size p.bases.fb RECEIVED_BYTES place
+    ⊎ ((slot : ℕ) × (slot < slots) × (is_some (p.taken slot) ≡ true)
+    × IsOneOf size (p.bases.clb + HEADER_BYTES * slot + 4) 4 place)
+
+-- each of these places has this byte, and each other one has what it had
+pub record IsScribbled (slots size byte : ℕ) (p : PortState) (old new : ℕ → ℕ) : Type 0 where
+  pub filled : (place : ℕ) → IsScribblePlace slots size p place → new place ≡ byte
+  pub others : (place : ℕ) → (IsScribblePlace slots size p place → ⊥) → new place ≡ old place
 
 -- while the port receives FISes, its received FIS area was filled with this byte, and PRDBC of each slot whose command
 -- is taken
 pub record DoesScribble (port byte : ℕ) (old new : Device) : Type 0 where
   pub receives : (old.port port).fre ≡ true
   pub is_byte : byte < 256
-  pub effect : new ≡ record old {
-    memory = counts_filled 32 old.size byte (old.port port)
-        (filled old.size (old.port port).bases.fb RECEIVED_BYTES byte old.memory);
-  }
+  pub memory : ℕ → ℕ
+  pub scribbled : IsScribbled 32 old.size byte (old.port port) old.memory memory
+  pub effect : new ≡ record old { memory = memory }
 
 -- the disk was taken out
 pub record DoesUnplug (port : ℕ) (old new : Device) : Type 0 where
@@ -186,6 +194,7 @@ DoneOf Posts (asked.Hold p) old new = new ≡ old
 DoneOf Posts (asked.Release p) old new = new ≡ old
 DoneOf Posts (asked.Unplug p) old new = DoesUnplug p.0 old new
 DoneOf Posts (asked.Plug p number) old new = DoesPlug p.0 number.0 old new
+DoneOf Posts (asked.LosePlug p) old new = DoesPlug p.0 (old.port p.0).disk.name old new
 
 -- Or the command failed in its place: as it was taken, as its next piece was to be moved, or after some of what was
 -- asked, or none.

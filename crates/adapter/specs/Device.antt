@@ -65,6 +65,12 @@ pub record Notes : Type 0 where
   pub command_count : ℕ
   pub acknowledged : Bool
 
+-- What of the disk is lasting: what it held when it last ended a flush, or else when it was first in, where it tells;
+-- and how long the tape was then.
+pub record Lasting : Type 0 where
+  pub sectors : Option (ℕ → List ℕ)
+  pub since : ℕ
+
 -- A port (AHCI 1.3.1, 3.3 and 5.3).
 pub record PortState : Type 0 where
   -- as the driver writes them
@@ -89,6 +95,7 @@ pub record PortState : Type 0 where
   -- first (a disk's identity is its place there; the first was in at the start)
   pub disk : Disk
   pub plugged : List Disk
+  pub lasting : Lasting
   pub present : Bool
   -- its first FIS has come since it was plugged in
   pub fresh : Bool

@@ -1,16 +1,16 @@
 -- What the device may do by itself between two accesses, step by step: when each step is possible, and what it changes.
 -- The choices that the device makes stand in the step.
-use Rattle.std.specs.Prelude.{ℕ, Bool, true, false, ◌≡◌, ◌+◌, ◌*◌, ◌^◌, ◌<◌, ◌≤◌, ◌⊎◌, ◌&&◌, ◌||◌, List, [], ◌∷◌, ◌++◌, length, None, Some, IfSome, option_map, if◌then◌else◌, slice_index, bit_and, bit_or, take, drop, replicate, nat_le, nat_lt, nat_eq, All}
+use Rattle.std.specs.Prelude.{ℕ, Bool, true, false, ◌≡◌, ◌+◌, ◌*◌, ◌^◌, ◌<◌, ◌≤◌, ◌⊎◌, ◌&&◌, ◌||◌, List, [], ◌∷◌, ◌++◌, length, Option, None, Some, IfSome, option_map, if◌then◌else◌, slice_index, bit_and, bit_or, take, drop, replicate, nat_le, nat_lt, nat_eq, ◌==◌, All, Contains}
 use Rattle.std.specs.declared.snapshot.Snapshot.{Snapshot}
 use Rattle.ata_types.specs.declared.memory.TheConstants.{HEADER_BYTES, RECEIVED_BYTES}
 use Rattle.adapter.specs.Memory.{patched, bytes_at, changed}
 use Rattle.adapter.specs.Commands.{Meaning, is_queued, is_ranged, reads_memory, direction_of}
-use Rattle.adapter.specs.Device.{Disk, IsTold, IsDisk, IsSector, Taken, Halt, PortState, Device}
+use Rattle.adapter.specs.Device.{Disk, IsTold, IsDisk, IsSector, Taken, Halt, Lasting, PortState, Device}
 use Rattle.adapter.specs.Device.Halt.{NotHalted, HaltedPlain, HaltedQueued, LogOnly}
 use Rattle.adapter.specs.Says.{Says}
 use Rattle.adapter.specs.Trim.{trim_sectors, consecutive}
 use Rattle.adapter.specs.declared.command.Operation.{Operation}
-use Rattle.adapter.specs.declared.command.Operation.TheVariants.{Identify, Read, Write, ReadQueued, WriteQueued, Trim, ReadLog}
+use Rattle.adapter.specs.declared.command.Operation.TheVariants.{Identify, Read, Write, ReadQueued, WriteQueued, Trim, Flush, ReadLog}
 use Rattle.adapter.specs.declared.tape.Move as tape_move
 use Rattle.adapter.specs.declared.tape.Entry.{Entry}
 use Rattle.adapter.specs.declared.tape.Entry.TheVariants as entry
@@ -205,6 +205,14 @@ pub record MayBeDone (d : Device) (port slot flag : ℕ) (t : Taken) : Type 0 wh
   -- DHRS, PSS or SDBS
   pub shown : (flag ≡ 0) ⊎ (flag ≡ 1) ⊎ (flag ≡ 3)
 
+-- from the end of a flush on what the disk then holds is lasting (ACS-3, FLUSH CACHE EXT)
+abbrev pub lasting_after : Operation → Lasting → Disk → ℕ → Lasting
+lasting_after Flush lasting disk here = record { sectors = disk.sectors; since = here }
+lasting_after _ lasting disk here = lasting
+
+abbrev pub with_flush : PortState → Operation → ℕ → PortState
+with_flush p operation here = record p { lasting = lasting_after operation p.lasting p.disk here }
+
 abbrev pub with_done : PortState → ℕ → ℕ → Operation → PortState
 with_done p slot flag operation =
     record p {
@@ -285,9 +293,33 @@ pub record MayScribble (p : PortState) (slot at : ℕ) (bytes : List ℕ) : Type
 
 -- ---- Plug
 
--- a disk with the name of the one that was in last has as many sectors as that had: the name says which disk it is
-abbrev pub IsKnownBy : Disk → Disk → Type 0
-IsKnownBy last disk = disk.name ≡ last.name → disk.size ≡ last.size
+-- the bytes that the entry puts into the port's sector k, if any: a write's move, or a clear
+abbrev pub put_into : (port k : ℕ) → Entry → Option (List ℕ)
+put_into port k (entry.Move move) =
+    if (move.port.0 == port && move.sector == k) && (is_ranged move.operation && reads_memory move.operation)
+    then Some move.bytes.value else None
+put_into port k (entry.Clear clear) =
+    if clear.port.0 == port && (nat_le clear.first k && nat_lt k (clear.first + clear.count))
+    then Some (replicate 512 0) else None
+put_into port k _ = None
+
+-- A disk of the port of which this is lasting held these bytes in its sector k when it last ended a flush, or else when
+-- it was first in; or they were put there since.
+abbrev pub WereHeld : List Entry → Lasting → (port k : ℕ) → List ℕ → Type 0
+WereHeld tape lasting port k bytes = (option_map (λ sectors. sectors k) lasting.sectors ≡ Some bytes)
+    ⊎ ((entry : Entry) × Contains (drop lasting.since tape) entry × (put_into port k entry ≡ Some bytes))
+
+-- A disk with the name of the one that was in last is that one. It has as many sectors, and each that both tell is as
+-- it was at some moment since a flush was last ended: what its cache held may be lost (FLUSH CACHE EXT, ACS-3).
+pub record IsThatDisk (d : Device) (port : ℕ) (disk : Disk) : Type 0 where
+  pub size : disk.size ≡ (d.port port).disk.size
+  pub holds : (last told : ℕ → List ℕ) → (d.port port).disk.sectors ≡ Some last → disk.sectors ≡ Some told
+      → (k : ℕ) → k < disk.size → (told k ≡ last k) ⊎ WereHeld d.tape (d.port port).lasting port k (told k)
+
+-- what is lasting stays so where that disk comes back; of another one it is what it comes with
+abbrev pub lasting_plugged : Lasting → (last disk : Disk) → ℕ → Lasting
+lasting_plugged lasting last disk here =
+    if nat_eq disk.name last.name then lasting else record { sectors = disk.sectors; since = here }
 
 -- ---- all steps: when each is possible
 
@@ -304,7 +336,7 @@ Can (FrFall port) d = ((d.port port).fre ≡ false) × ((d.port port).cr ≡ fal
 Can (LinkUp port sig n) d = MayLinkUp (d.port port) sig
 Can (Unplug port) d = (d.port port).present ≡ true
 Can (Plug port disk) d = ((d.port port).present ≡ false) × IsDisk disk × (d.telling ≡ true → IsTold disk)
-    × IsKnownBy (d.port port).disk disk
+    × (disk.name ≡ (d.port port).disk.name → IsThatDisk d port disk)
 Can ResetEnds d = d.hr ≡ true
 Can (Scribble port slot at bytes) d = MayScribble (d.port port) slot at bytes
 
@@ -361,7 +393,9 @@ after (Move port slot t bytes) d =
 after (Clear port slot t first count) d =
     recorded d port (with_clear (d.port port) slot t first count) (clear_entry port slot first count)
 after (Done port slot flag t) d =
-    recorded d port (with_done (d.port port) slot flag t.meaning.operation) (done_entry port slot t.meaning.operation)
+    recorded d port
+    (with_flush (with_done (d.port port) slot flag t.meaning.operation) t.meaning.operation (length d.tape))
+    (done_entry port slot t.meaning.operation)
 after (Fault port slot error kept_bits t) d =
     recorded d port (with_fault (d.port port) (is_queued t.meaning.operation) error kept_bits)
     (fault_entry port slot error kept_bits)
@@ -379,6 +413,7 @@ after (Plug port disk) d =
     (record (d.port port) {
       disk = disk;
       plugged = (d.port port).plugged ++ disk ∷ [];
+      lasting = lasting_plugged (d.port port).lasting (d.port port).disk disk (length d.tape);
       ssts_det = 3;
       present = true;
       fresh = false;

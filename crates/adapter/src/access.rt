@@ -102,6 +102,9 @@ pub enum DeviceStep {
     Unplug(Port),
     /// Get this disk: it is put in.
     Plug(Port, DiskNumber),
+    /// Get the disk that was last in: it is put in again, and may have lost what its cache held: what was written since
+    /// it last ended a flush (FLUSH CACHE EXT, ACS-3).
+    LosePlug(Port),
 }
 
 /// An adapter whose device does what it is told, if that is possible then.

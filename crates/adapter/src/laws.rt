@@ -1,13 +1,13 @@
 // Laws of the definitions, for the crates above: the clause is the theorem. Nothing that runs calls these functions.
-ghost use Rattle.std.specs.Prelude.{◌≡◌, ◌+◌, ◌≤◌, ◌++◌, ℕ, Bool, true, false, List};
+ghost use Rattle.std.specs.Prelude.{◌≡◌, ◌+◌, ◌*◌, ◌≤◌, ◌++◌, ℕ, Bool, true, false, List, if◌then◌else◌, is_some};
 ghost use Rattle.ata_types.specs.declared.Port.{Port};
-ghost use Rattle.ata_types.specs.declared.memory.TheConstants.{FRAME_BYTES, RECEIVED_BYTES};
+ghost use Rattle.ata_types.specs.declared.memory.TheConstants.{FRAME_BYTES, HEADER_BYTES, RECEIVED_BYTES};
 ghost use Rattle.hba_regs.specs.declared.reg.PortReg.{PortReg};
 ghost use Rattle.hba_regs.specs.declared.reg.Reg.{Reg};
 ghost use Rattle.hba_regs.specs.declared.reg.Reg.TheVariants.{Px};
 ghost use Rattle.adapter.specs.declared.access.DeviceStep.{DeviceStep};
 ghost use Rattle.adapter.specs.Access.{Access, Does, DoesAll, IsDriven, Reads, Writes};
-ghost use Rattle.adapter.specs.Asked.{Asked};
+ghost use Rattle.adapter.specs.Asked.{Asked, IsScribbled, filled};
 ghost use Rattle.adapter.specs.Commands.{Meaning};
 ghost use Rattle.adapter.specs.Device.{Device, PortState};
 ghost use Rattle.adapter.specs.FirstRead.{first_read, sector_of};
@@ -30,6 +30,17 @@ pub fn steps_compose()
 /// What a device was told to do is some of its steps.
 pub fn what_is_asked_is_steps()
     ensures { (s : DeviceStep) (old new : Device) → Asked s old new → Steps old new }
+{}
+
+/// A scribble fills the received FIS area, and then PRDBC of one slot after another whose command is taken.
+pub fn a_scribble_goes_on()
+    ensures area { (size byte : ℕ) (p : PortState) (old : ℕ → ℕ)
+        → IsScribbled 0 size byte p old (filled size p.bases.fb RECEIVED_BYTES byte old) }
+    ensures count { (slot size byte : ℕ) (p : PortState) (old before new : ℕ → ℕ)
+        → IsScribbled slot size byte p old before
+        → new ≡ (if is_some (p.taken slot) then filled size (p.bases.clb + HEADER_BYTES * slot + 4) 4 byte before
+        else before)
+        → IsScribbled (slot + 1) size byte p old new }
 {}
 
 /// What no step of the device changes, no list of steps changes.

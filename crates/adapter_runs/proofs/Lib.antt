@@ -7,3 +7,4 @@ pub mod Resetting
 pub mod Trimming
 pub mod Stopping
 pub mod Senseless
+pub mod Losing

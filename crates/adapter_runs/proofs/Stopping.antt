@@ -1,5 +1,6 @@
 -- What comes where no command was issued: the port meets a fatal error, loses its disk, gets it again, is written to, and is stopped.
-use Rattle.std.proofs.Common.{ℕ, ◌≡◌, ◌≢◌, true, List, [], ◌∷◌, inl, inr, arith, refl, ◌∙◌}
+use Rattle.std.proofs.Common.{ℕ, ◌≡◌, ◌≢◌, true, List, [], ◌∷◌, inl, inr, arith, refl, sym, ap, ◌∙◌}
+use Rattle.std.proofs.lemmas.Option.{same_Some}
 use Rattle.hba_regs.specs.declared.reg.Reg.TheVariants.{Px}
 use Rattle.hba_regs.specs.declared.reg.PortReg.TheVariants.{Cmd}
 use Rattle.adapter.specs.Access.Access.{Writing}
@@ -69,7 +70,7 @@ unplugged_safe = unused_safe unplugged (λ k. refl) (λ k. refl)
 
 pub may_plug : Can (Plug 0 first_disk) unplugged
 unfolding changed
-may_plug = (refl, disk_is, λ _. (sector_of, refl), λ _. refl)
+may_plug = (refl, disk_is, λ _. (sector_of, refl), λ _. record { size = refl; holds = λ last told is_last is_told k lt. inl (ap (λ (f : ℕ → List ℕ). f k) (sym (same_Some sector_of told is_told) ∙ same_Some sector_of last is_last)) })
 
 -- ---- it is stopped
 

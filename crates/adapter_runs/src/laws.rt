@@ -1,8 +1,8 @@
 // Laws on runs: the clause is the theorem. Nothing that runs calls these functions.
-ghost use Rattle.std.specs.Prelude.{◌≢◌, Bool, ℕ};
-ghost use Rattle.adapter.specs.Device.{Device};
+ghost use Rattle.std.specs.Prelude.{◌≡◌, ◌≢◌, ◌⊎◌, ◌<◌, Bool, false, List, Some, ℕ};
+ghost use Rattle.adapter.specs.Device.{Device, IsSector};
 ghost use Rattle.adapter.specs.Steps.{Can};
-ghost use Rattle.adapter.specs.Steps.Step.{FetchFault as SenselessFetch};
+ghost use Rattle.adapter.specs.Steps.Step.{FetchFault as SenselessFetch, Plug};
 ghost use Rattle.adapter_runs.specs.Runs.{Comes, ComesSafely, HasFailed, IsBeingReset, IsSafe, Kind, SecondEndsFirst};
 ghost use Rattle.adapter_runs.specs.Runs.Kind.{FetchFault};
 
@@ -42,4 +42,14 @@ pub fn a_command_fails_beside_another()
 /// A reset of the adapter may be pending while two of its ports are in use.
 pub fn two_used_ports_are_reset()
     ensures { IsBeingReset }
+{}
+
+/// A disk that was taken out may come back with each sector as it was when it last ended a flush, or else when it was
+/// first in, or as it was when it went: its cache may be lost, or a part of it (FLUSH CACHE EXT, ACS-3).
+pub fn a_cache_may_be_lost()
+    ensures { (d : Device) (port : ℕ) (last lasting told : ℕ → List ℕ) → (d.port port).present ≡ false
+        → (d.port port).disk.sectors ≡ Some last → (d.port port).lasting.sectors ≡ Some lasting
+        → ((k : ℕ) → (told k ≡ last k) ⊎ (told k ≡ lasting k))
+        → ((k : ℕ) → k < (d.port port).disk.size → IsSector (told k))
+        → Can (Plug port (record (d.port port).disk { sectors = Some told })) d }
 {}

@@ -1,4 +1,5 @@
 -- The state relation of device and machine: what the relation of a slot speaks of, and what leaves it.
+pub mod LastingSectors
 pub mod ReachedMachine
 pub mod TouchesAndEnds
 pub mod SlotRelation

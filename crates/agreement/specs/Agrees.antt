@@ -5,8 +5,10 @@ use Rattle.ata_types.specs.declared.memory.TheConstants.{DRIVER_FRAMES, FRAME_BY
 use Rattle.ata_types.specs.declared.request.Frame.{Frame}
 use Rattle.ata_types.specs.declared.request.RequestId.{RequestId}
 use Rattle.adapter.specs.Device.{Disk, PortState, Device}
+use Rattle.adapter.specs.Steps.{WereHeld}
+use Rattle.adapter.specs.declared.tape.Entry.{Entry}
 use Rattle.block_machine.specs.State.{Pending, Machine}
-use Rattle.block_machine.specs.Steps.{MayMove}
+use Rattle.block_machine.specs.Steps.{MayMove, HasHeld}
 use Rattle.agreement.specs.Places.{received_of}
 use Rattle.agreement.specs.Slots.{Serves, Uses, IsServed}
 
@@ -31,6 +33,11 @@ pub record SameSectors (m : Machine) (disk : Disk) (port : ℕ) : Type 0 where
   pub tells : disk.sectors ≡ Some told
   pub same : (k b : ℕ) → k < disk.size → b < 512 → slice_index (told k) b ≡ m.disks (port_at port) k b
 
+-- what a sector of the port's disk may come back with, the machine's disk holds there or has held
+abbrev pub HasLasting : Machine → List Entry → PortState → ℕ → Type 0
+HasLasting m tape p port = (k : ℕ) → k < p.disk.size → (bytes : List ℕ) → WereHeld tape p.lasting port k bytes
+    → HasHeld m (port_at port) k (slice_index bytes)
+
 -- each client frame holds what the machine's does
 abbrev pub SameMemory : Machine → (ℕ → ℕ) → Type 0
 SameMemory m memory = (frame : Frame) (b : ℕ) → DRIVER_FRAMES ≤ frame.0 → b < FRAME_BYTES
@@ -42,7 +49,8 @@ AreApart uses = (port slot other_port other_slot : ℕ) (id : RequestId) → use
     → uses other_port other_slot ≡ Serves id → (port ≡ other_port) × (slot ≡ other_slot)
 
 -- Device and machine agree: each slot is as its use says, each received FIS area that is in use is where it belongs,
--- disks are the same, and client frames hold the same bytes; so do the sectors of an adapter whose disks tell them.
+-- disks are the same, and client frames hold the same bytes; so do the sectors of an adapter whose disks tell them, and
+-- what those may come back with, the machine knows.
 pub record Agrees (uses : Uses) (m : Machine) (d : Device) : Type 0 where
   pub slot : (port slot : ℕ) → IsServed m d.memory d.tape (d.port port) port slot (uses port slot)
   pub apart : AreApart uses
@@ -50,6 +58,7 @@ pub record Agrees (uses : Uses) (m : Machine) (d : Device) : Type 0 where
   pub disk : (port : ℕ) → IsDiskOf m (d.port port) port
   pub memory : SameMemory m d.memory
   pub sectors : d.telling ≡ true → (port : ℕ) → SameSectors m (d.port port).disk port
+  pub lasting : d.telling ≡ true → (port : ℕ) → HasLasting m d.tape (d.port port) port
 
 -- ---- what stands beside it, by port
 

@@ -1,6 +1,7 @@
 pub mod Places
 pub mod Slots
 pub mod Agrees
+pub mod Returning
 pub mod Tape
 pub mod Follows
 pub mod Driver

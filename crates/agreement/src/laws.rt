@@ -30,7 +30,8 @@ ghost use Rattle.block_machine.specs.Refusals.{IsOpen};
 ghost use Rattle.block_machine.specs.State.{Accepted, Pending, Machine, unanswered};
 ghost use Rattle.block_machine.specs.Steps.{Step, Accept, Issue, Age, Again, Answer, Release, Store, Load, May, NoneKept, older, after_step, stays, MayMove};
 ghost use Rattle.block_machine.specs.declared.due.Mode.{Mode};
-ghost use Rattle.agreement.specs.Agrees.{Agrees, IsDiskOf, SameMemory, SameSectors, HaveSlots, AreApart};
+ghost use Rattle.agreement.specs.Agrees.{Agrees, IsDiskOf, SameMemory, SameSectors, HaveSlots, AreApart, port_at};
+ghost use Rattle.agreement.specs.Returning.{may_return};
 ghost use Rattle.agreement.specs.Driver.{MayStore, LeavesUses, LeavesFree, Known, Knows, IsBacked, ByDevice, Goes, IsPrepared, IsOwnPrepared, EndsWith, HasNoSlot, Forgets, ForgetsKept, serving, parking, freeing, idle, IsWrittenBack, MissesTable, MissesScratch};
 ghost use Rattle.agreement.specs.Follows.{Follows};
 ghost use Rattle.agreement.specs.Links.{IsPlugging};
@@ -424,11 +425,13 @@ pub fn own_issuing_is_permitted()
 {}
 
 /// A device that is taken over idle agrees with a machine that has nothing in it, where both have the same disks and
-/// client frames.
+/// client frames, and the machine has put aside what these disks may come back with.
 pub fn an_idle_device_agrees()
     ensures { (m : Machine) (d : Device) → IsStart m → IsIdle d → ((port : ℕ) → IsDiskOf m (d.port port) port)
         → SameMemory m d.memory
-        → (d.telling ≡ true → (port : ℕ) → SameSectors m (d.port port).disk port) → Knows m (idle d) }
+        → (d.telling ≡ true → (port : ℕ) → SameSectors m (d.port port).disk port)
+        → (d.telling ≡ true → (port k : ℕ)
+        → m.aside (port_at port) k ≡ may_return d.tape (d.port port).lasting port k) → Knows m (idle d) }
 {}
 
 /// There is an adapter whose first read is prepared, and a machine that is reached and agrees with it: the write of

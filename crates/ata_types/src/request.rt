@@ -58,7 +58,8 @@ pub enum Outcome {
     Unplugged,
     /// Its port can't be stopped, or the adapter can't be reset.
     PortDead,
-    /// Its grant was revoked before it was done.
+    /// Its grant was revoked, and it wasn't issued then, or would have been issued again. As with `Aborted` and
+    /// `Unplugged`, of one that was issued before some sectors may be done.
     Revoked,
 }
 

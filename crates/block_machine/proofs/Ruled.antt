@@ -10,7 +10,7 @@ use Rattle.block_machine.specs.Rules.{Breaks, HasRow, IsNamed}
 use Rattle.block_machine.specs.State.{Accepted, Pending, Machine}
 use Rattle.block_machine.specs.Steps.{Step, Issue, May, IsNew}
 use Rattle.block_machine.specs.Left.{after, IsLegal, IsStart}
-use Rattle.block_machine.specs.Confined.{IsGranted, IsOfGrant, KeepsRules, WasAccepted}
+use Rattle.block_machine.specs.Confined.{IsGranted, IsNotOnFrames, KeepsRules, WasAccepted}
 use Rattle.block_machine.proofs.Accepts.{living_accepted, was_new}
 use Rattle.block_machine.proofs.Configured.{rows_shrink, was_granted}
 use Rattle.block_machine.proofs.RuleLemmas.{one_row}
@@ -21,7 +21,7 @@ module _ (start m : Machine) (r : Accepted) (s : IsStart start) (granted : IsGra
   its_row : (row : GrantRow) → IsNamed m.rows r.asked row → row ≡ granted.row
   its_row row named = one_row start.rows s.rows r.asked.client r.asked.grant row granted.row (shrunk row named.0) named.1 granted.named.0 granted.named.1
 
-  pub unbroken : HasRow r.asked.client r.asked.grant m.rows → (rule : Rule) → IsOfGrant rule → Breaks m.rows m.owner m.lent r.asked rule → ⊥
+  pub unbroken : HasRow r.asked.client r.asked.grant m.rows → (rule : Rule) → IsNotOnFrames rule → Breaks m.rows m.owner m.lent r.asked rule → ⊥
   unbroken has NoGrant is breaks = breaks has.0 (has.1, has.2)
   unbroken has NoRight is (row, named, denied) = denied (subst (λ (x : GrantRow). Allows x.rights r.asked.op) (sym (its_row row named)) granted.right)
   unbroken has BadCount is breaks = new.1.unbroken BadCount breaks

@@ -56,6 +56,7 @@ empty = record {
   disk_ids = λ p. 0;
   sizes = λ p. 200;
   disks = λ p k b. 0;
+  aside = λ p k. [];
   book = [];
   kept = [];
   lent = λ f. None;

@@ -33,14 +33,14 @@ abbrev pub WasAccepted : Machine → List Step → Accepted → Type 0
 WasAccepted start [] r = ⊥
 WasAccepted start (step ∷ past) r = (IsAccept step r × IsNew (after start past) r) ⊎ WasAccepted start past r
 
--- the rule is on the grant, or on how many sectors and frames there are: all are but those on the frames themselves
-abbrev pub IsOfGrant : Rule → Type 0
-IsOfGrant (Frames fault) = ⊥
-IsOfGrant _ = Unit {0}
+-- the rule isn't on the frames themselves, but on the grant, or on how many sectors and frames there are
+abbrev pub IsNotOnFrames : Rule → Type 0
+IsNotOnFrames (Frames fault) = ⊥
+IsNotOnFrames _ = Unit {0}
 
 -- A request that is issued breaks none of these rules, by the rows as they are then; and its frames are lent to it.
 pub record KeepsRules (m : Machine) (r : Accepted) : Type 0 where
-  pub unbroken : (rule : Rule) → IsOfGrant rule → Breaks m.rows m.owner m.lent r.asked rule → ⊥
+  pub unbroken : (rule : Rule) → IsNotOnFrames rule → Breaks m.rows m.owner m.lent r.asked rule → ⊥
   pub lent : (i : ℕ) → i < length r.asked.frames.items → m.lent (frame_at r.asked.frames.items i) ≡ Some r.id
 
 -- the operation moves bytes between disk and frames

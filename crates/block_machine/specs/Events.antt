@@ -35,7 +35,7 @@ pub data Ask (D : Type 0) : Type 0 where
   StoreAt : ClientId → Frame → ℕ → List ℕ → Ask D
   LoadAt : ClientId → Frame → ℕ → ℕ → Ask D
   Service Tick Reset : Ask D
-  -- a client's grant of this number is taken back
+  -- a client's grant of this number is revoked
   RevokeOf : ClientId → ℕ → Ask D
   State : Port → Ask D
   -- the device is told to do this step of its own
@@ -86,8 +86,8 @@ GivesUp outcome.Revoked = Unit {0}
 GivesUp _ = ⊥
 
 -- The step is one that the server makes in a call that asks this. Requests are issued, or wait again, on ports that are
--- ready at its end, and are issued in the mode that the port has then. A tick tells no fault, and a reset tells neither
--- faults nor that something was done.
+-- ready at its end, and are issued in the mode that the port has then. A tick tells no fault, a reset tells neither
+-- faults nor that something was done, and a revocation answers Revoked alone.
 abbrev pub IsServers : {D : Type 0} → Ask D → Ports → Step → Type 0
 IsServers (Submit r) ports (Accept new) = new.asked ≡ r
 IsServers (Submit r) ports (Issue mode e) = (ports.state e.request.port ≡ Ready) × (ports.mode e.request.port ≡ mode)
@@ -202,11 +202,11 @@ IsReadyAgain old evidence ports port = (ports.state port ≡ Ready) × Contains 
 
 -- What stands behind each outcome. An Ok, a fault and an abort are of a request that was issued when the call began;
 -- Unplugged is of one on a port that was lost. Of an Ok each sector was touched since the last issue, and it was ended.
--- A fault is told of a request that is issued. An abort comes after four issues, where the request would go again; so
--- does Revoked, unless the request isn't issued. An issued request's frames are given back only where it ended or its
--- port stopped: else they may still be written. And PortDead leaves the port dead. (So it was when the call began, or
--- it got stuck in the call: that follows from what the calls make of ports, by law `dead_ports_were_stuck`. That a
--- request is told Revoked only once its grant was taken back, `IsTellable` says.)
+-- A fault is told of a request that is issued. An abort comes after four issues, where the request would go again; and
+-- Revoked is told of a request that isn't issued, or where it would go again. An issued request's frames are given back
+-- only where it ended or its port stopped: else they may still be written. And PortDead leaves the port dead. (So it
+-- was when the call began, or it got stuck in the call: that follows from what the calls make of ports, by law
+-- `dead_ports_were_stuck`. That a request is told Revoked only once its grant was revoked, `IsTellable` says.)
 abbrev pub IsLawful : Moment → Evidence → Ports → Pending → Outcome → Type 0
 IsLawful old evidence ports e outcome.Ok = WasIssued old.machine e.request.id × (e.issued ≡ true) × AllTouched e
     × (e.ended ≡ true)

@@ -11,7 +11,7 @@ use Rattle.ata_types.specs.declared.memory.TheConstants.{DRIVER_FRAMES, MOST_FRA
 use Rattle.block_machine.specs.Rules.{DifferInName}
 use Rattle.block_machine.specs.Due.{is_writer}
 use Rattle.block_machine.specs.State.{Block, Disk, Memory, Accepted, Machine, block_of, sector_of, written_by}
-use Rattle.block_machine.specs.Steps.{Step, Accept, Issue, Touch, End, Replace, May, after_step}
+use Rattle.block_machine.specs.Steps.{Step, Accept, Issue, Touch, End, Replace, May, HasHeld, after_step}
 
 -- the machine after a history of steps
 abbrev pub after : Machine → List Step → Machine
@@ -143,11 +143,13 @@ pub record HoldsLeft (start : Machine) (history : List Step) (memory : Memory) (
   pub rest : (i b : ℕ) → read.asked.count ≤ i → i < 8 * length read.asked.frames.items → b < 512
       → block_of memory read.asked.frames.items i b ≡ read.held i b
 
--- The bytes that a read moved are those of its disk. (A disk over a store that doesn't tell what it holds may move
--- any.)
+-- The bytes that a read moved are those of its disk. A disk that comes back has in each sector what it held there at
+-- some moment since a flush was last ended on it, or else since it was first in: what its cache held may be lost (FLUSH
+-- CACHE EXT, ACS-3). (A disk over a store that doesn't tell what it holds may move any bytes, and come back with any.)
 abbrev pub IsTold : Machine → Step → Type 0
 IsTold old (Touch e i block) = e.request.asked.op ≡ Read
     → (b : ℕ) → b < 512 → block b ≡ old.disks e.request.port (sector_of e.request i) b
+IsTold old (Replace port id size disk) = id ≡ old.disk_ids port → (k : ℕ) → k < size → HasHeld old port k (disk k)
 IsTold old _ = Unit {0}
 
 -- so it is with each step of the history

@@ -34,12 +34,12 @@ abbrev pub HasRow : ClientId → ℕ → List GrantRow → Type 0
 HasRow client number rows = (row : GrantRow) × Contains rows row × Names client number row
 
 -- the row is the one of this client under this number, as a test
-abbrev pub is_under : ClientId → ℕ → GrantRow → Bool
-is_under client number row = row.client.0 == client.0 && row.number == number
+abbrev pub has_name : ClientId → ℕ → GrantRow → Bool
+has_name client number row = row.client.0 == client.0 && row.number == number
 
 -- the rows but for the one of this client under this number
 abbrev pub without_row : ClientId → ℕ → List GrantRow → List GrantRow
-without_row client number rows = filter (λ row. not (is_under client number row)) rows
+without_row client number rows = filter (λ row. not (has_name client number row)) rows
 
 -- the operation may have so many sectors
 abbrev pub IsCount : Op → ℕ → Type 0

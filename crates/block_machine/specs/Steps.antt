@@ -12,7 +12,7 @@ use Rattle.ata_types.specs.declared.grant.GrantRow.{GrantRow}
 use Rattle.block_machine.specs.declared.due.Mode.{Mode}
 use Rattle.block_machine.specs.Rules.{IsNamed, BreaksNone, HasRow, without_row}
 use Rattle.block_machine.specs.Refusals.{IsOpen}
-use Rattle.block_machine.specs.Due.{IsDue, is_writer}
+use Rattle.block_machine.specs.Due.{IsDue, is_flush, is_writer}
 use Rattle.block_machine.specs.State.{Block, Disk, Memory, Accepted, Pending, Machine, block_of, frame_at, sector_of, unanswered, is_reader, written_by}
 
 -- A step. A pending request in it is the one that the step finds.
@@ -30,7 +30,7 @@ pub data Step : Type 0 where
   -- an issued request waits again, in its old place
   Again : Pending → Step
   Answer : Pending → Outcome → Step
-  -- a client's grant is taken back: its row under this number goes
+  -- a client's grant is revoked: its row under this number goes
   Revoke : ClientId → ℕ → Step
   -- the frames of the kept requests are given back
   Release : Step
@@ -105,6 +105,11 @@ abbrev pub disks_after : Accepted → ℕ → (Port → Disk) → Port → Disk
 disks_after r i disks =
     if is_writer r.asked.op then put_sector r.port (sector_of r i) (written_by r.asked.op r.held i) disks else disks
 
+-- and what it overwrites is put aside, the newest first: a disk may lose what its cache holds
+abbrev pub put_aside : Accepted → ℕ → (Port → Disk) → (Port → ℕ → List Block) → Port → ℕ → List Block
+put_aside r i disks aside p k =
+    if is_writer r.asked.op && (p.0 == r.port.0 && k == sector_of r i) then disks p k ∷ aside p k else aside p k
+
 -- and in memory: for a read, the bytes that were moved
 abbrev pub memory_after : Accepted → ℕ → Block → Memory → Memory
 memory_after r i block memory =
@@ -127,12 +132,17 @@ after_step m (Issue mode e) = record m { book = map (at e.request.id issue) m.bo
 after_step m (Touch e i block) =
     record m {
       disks = disks_after e.request i m.disks;
+      aside = put_aside e.request i m.disks m.aside;
       memory = memory_after e.request i block m.memory;
       book = map (at e.request.id (touch i)) m.book;
       kept = map (at e.request.id (touch i)) m.kept;
     }
 after_step m (End e) =
-    record m { book = map (at e.request.id mark_ended) m.book; kept = map (at e.request.id mark_ended) m.kept }
+    record m {
+      aside = λ p k. if e.request.port.0 == p.0 && is_flush e.request.asked.op then [] else m.aside p k;
+      book = map (at e.request.id mark_ended) m.book;
+      kept = map (at e.request.id mark_ended) m.kept;
+    }
 after_step m (Age ready) = record m { book = map (older ready) m.book }
 after_step m (Again e) = record m { book = map (at e.request.id requeued) m.book }
 after_step m (Answer e outcome) =
@@ -150,6 +160,8 @@ after_step m (Replace port id size disk) =
       disk_ids = λ p. if p.0 == port.0 then id else m.disk_ids p;
       sizes = λ p. if p.0 == port.0 then size else m.sizes p;
       disks = λ p. if p.0 == port.0 then disk else m.disks p;
+      aside = λ p k.
+          if p.0 == port.0 then (if id == m.disk_ids p then m.disks p k ∷ m.aside p k else []) else m.aside p k;
     }
 after_step m (Store client frame offset bytes) =
     record m { memory = put_bytes frame offset (length bytes) (slice_index bytes) m.memory }
@@ -185,11 +197,11 @@ pub record IsNew (m : Machine) (r : Accepted) : Type 0 where
 abbrev pub NoneKept : Machine → Port → Type 0
 NoneKept m port = (e : Pending) → Contains m.kept e → e.request.port ≢ port
 
--- the grant under which the request was accepted wasn't taken back
+-- the grant under which the request was accepted wasn't revoked
 abbrev pub HasGrant : Machine → Pending → Type 0
 HasGrant m e = HasRow e.request.asked.client e.request.asked.grant m.rows
 
--- What the grant must be for an outcome: a request is told Revoked once its grant was taken back, and is aborted only
+-- What the grant must be for an outcome: a request is told Revoked only once its grant was revoked, and is aborted only
 -- where it wasn't.
 abbrev pub IsTellable : Machine → Pending → Outcome → Type 0
 IsTellable m e Revoked = HasGrant m e → ⊥
@@ -199,6 +211,16 @@ IsTellable m e _ = Unit {0}
 -- the bytes that are moved for a write are its own; a read's may be any, and a trim's and a flush's mean nothing
 abbrev pub MovesOwn : Accepted → ℕ → Block → Type 0
 MovesOwn r i block = r.asked.op ≡ Write → (b : ℕ) → b < 512 → block b ≡ r.held i b
+
+-- the bytes of a sector are the same
+abbrev pub SameBytes : Block → Block → Type 0
+SameBytes one other = (b : ℕ) → b < 512 → one b ≡ other b
+
+-- the port's disk holds this block in its sector k, or held it since a flush was last ended on it, or else since it was
+-- first in
+abbrev pub HasHeld : Machine → Port → ℕ → Block → Type 0
+HasHeld m port k block =
+    SameBytes block (m.disks port k) ⊎ ((old : Block) × Contains (m.aside port k) old × SameBytes block old)
 
 -- The step may come. A request is issued, or waits again, only while its grant is there. (That an answer is lawful is
 -- judged at the end of its call too, where what stands behind it is known.)

@@ -19,7 +19,7 @@ use Rattle.driver_history.proofs.Lasting.{KeepsWell}
 use Rattle.driver_history.proofs.Leaving.{left_well}
 use Rattle.driver_history.proofs.Resting.{belongs_of}
 
--- calls that are neither a service, nor a tick, nor a reset leave each port what it is, and answer nobody but where a grant is taken back
+-- calls that are neither a service, nor a tick, nor a reset leave each port what it is, and answer nobody but where a grant is revoked
 same_port : (ask : Ask DeviceStep) (said : Said) (old : Moment) (evidence : Evidence) (steps : List Step) (new : Moment) (port : Port) → IsAnswered ask said old evidence steps new
     → ask ≢ Service → ask ≢ Tick → ask ≢ Reset → SamePort old.ports new.ports port
 same_port (Submit r) (Submitted (Ok id)) old evidence steps new port a one two three = a.2 port

@@ -1,14 +1,15 @@
--- What the reads of a history hold.
+-- What the reads of a history hold, and what its disks have that come back.
 use Rattle.std.proofs.Common.{◌≡◌, true, List, [], ◌∷◌, refl, ap, ◌∙◌, subst}
 use Rattle.adapter.specs.Device.{Device}
 use Rattle.adapter.specs.declared.access.DeviceStep.{DeviceStep}
 use Rattle.agreement.proofs.steps.FollowedSteps.{told_append}
-use Rattle.block_machine.specs.Events.{Moment, IsRun, EveryReadHolds, steps_of}
+use Rattle.block_machine.specs.Events.{Event, Moment, IsRun, EveryReadHolds, steps_of}
 use Rattle.block_machine.specs.Histories.{Instant, Happening, IsHistory, now, events_of}
 use Rattle.block_machine.specs.Left.{after, AllTold}
 use Rattle.block_machine.specs.State.{Machine}
 use Rattle.block_machine.proofs.EventLemmas.{moment_is}
 use Rattle.block_machine.proofs.HistoryLemmas.{history_is_run, history_reads, now_is}
+use Rattle.durability.specs.Durable.{EveryPlugFinds}
 use Rattle.identify.specs.declared.wanted.Wanted.{Wanted}
 use Rattle.driver_history.specs.Histories.{Begins, Ties}
 
@@ -31,3 +32,8 @@ module _ (wanted : List Wanted) where
 
   pub every_read_holds : (first : Instant Device) (past : List (Happening Device DeviceStep)) → IsHistory (Begins wanted) (Ties wanted) first past → first.device.telling ≡ true → EveryReadHolds first.moment (events_of past)
   every_read_holds first past h tells = history_reads (Begins wanted) (Ties wanted) first past h (all_told first past h tells)
+
+  -- what is said of the runs of disks that tell
+  pub every_plug_finds : ((first : Moment) (run : List (Event DeviceStep)) → IsRun first run → AllTold first.machine (steps_of run) → EveryPlugFinds first.machine (steps_of run))
+      → (first : Instant Device) (past : List (Happening Device DeviceStep)) → IsHistory (Begins wanted) (Ties wanted) first past → first.device.telling ≡ true → EveryPlugFinds first.moment.machine (steps_of (events_of past))
+  every_plug_finds finds first past h tells = finds first.moment (events_of past) (history_runs first past h) (all_told first past h tells)

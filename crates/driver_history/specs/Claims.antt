@@ -21,7 +21,7 @@ use Rattle.driver_history.specs.Evidence.{IsEndedReset, IsFaultTold, IsLost, Sta
 use Rattle.driver_history.specs.Histories.{CameBy, FindsIn, Issues, TellsPlainFaults}
 use Rattle.driver_history.specs.Trace.{LeavesEngine}
 
--- what a call may tell where nothing goes wrong: Ok; or Revoked, where it takes a grant back
+-- what a call may tell where nothing goes wrong: Ok; or Revoked, where it revokes a grant
 abbrev pub IsCalmlyTold : Ask DeviceStep → Outcome → Type 0
 IsCalmlyTold (RevokeOf client number) o = o ≡ outcome.Revoked
 IsCalmlyTold ask o = o ≡ outcome.Ok

@@ -63,17 +63,18 @@ IsOnAndTells d = IsOn d × (d.ie ≡ true)
 
 -- What was done in a call. A device step is the device's own, with no access. A client's bytes are stored, or loaded,
 -- by one access. For a request that is accepted requests of its port are issued, if any; so they are for a grant that
--- is taken back. A service, a tick and a reset make accesses: what the driver stores and loads in them lies in its own
--- frames, and of ports' registers they use those of served ports alone, a service of those that aren't dead, and a tick
--- of those that are hung. Neither a service nor a tick writes GHC. A reset that ends leaves the adapter on; of one that
--- doesn't, no more is seen than that (how often HR was read is the server's own contract). Each other call makes none,
--- a refused one among them.
+-- is revoked, if its port is ready, and else there is no access. A service, a tick and a reset make accesses: what the
+-- driver stores and loads in them lies in its own frames, and of ports' registers they use those of served ports
+-- alone, a service of those that aren't dead, and a tick of those that are hung. Neither a service nor a tick writes
+-- GHC. A reset that ends leaves the adapter on; of one that doesn't, no more is seen than that (how often HR was read
+-- is the server's own contract). Each other call makes none, a refused one among them.
 abbrev pub CameBy : Moment → Ask DeviceStep → Said → List Access → Device → Device → Type 0
 CameBy now (Told step) (Stepped true) accesses old new = (accesses ≡ []) × Asked step old new
 CameBy now (Submit r) (Submitted (Ok id)) accesses old new =
     DoesAll accesses old new × ((row : GrantRow) × IsNamed now.machine.rows r row × All (IssuesOn row.port) accesses)
 CameBy now (RevokeOf client number) (WasRevoked (Some replies)) accesses old new = DoesAll accesses old new
-    × ((row : GrantRow) × Contains now.machine.rows row × Names client number row × All (IssuesOn row.port) accesses)
+    × ((row : GrantRow) × Contains now.machine.rows row × Names client number row × All (IssuesOn row.port) accesses
+    × (now.ports.state row.port ≢ Ready → accesses ≡ []))
 CameBy now (StoreAt client frame offset bytes) (Stored None) accesses old new =
     DoesAll accesses old new × (accesses ≡ Storing (FRAME_BYTES * frame.0 + offset) bytes ∷ [])
 CameBy now (LoadAt client frame offset count) (Loaded (Ok bytes)) accesses old new =

@@ -22,6 +22,7 @@ ghost use Rattle.block_machine.specs.Ports.{AreFit, Evidence, Ports, SameDisk, S
 ghost use Rattle.block_machine.specs.State.{Pending};
 ghost use Rattle.block_machine.specs.Steps.{Answer};
 ghost use Rattle.identify.specs.declared.wanted.Wanted.{Wanted};
+ghost use Rattle.durability.specs.Durable.{EveryPlugFinds};
 ghost use Rattle.driver_history.specs.Claims.{AnswerRests, GoesWellFor, IsHealthyFor, IsSpared};
 ghost use Rattle.driver_history.specs.Evidence.{HasErrors, HasFatalErrors, IsEvidencedOf, IsGone, ShowsChange, StaysHealthy};
 ghost use Rattle.error_recovery.specs.Evidence.{BringsLog, HasFailed};
@@ -31,9 +32,11 @@ ghost use Rattle.driver_history.specs.Moves.{KeepsMoves};
 ghost use Rattle.driver_history.specs.Parts.{HasTurnIn, NamesAlike, all_of};
 
 use super::lawful::laws_hold;
+use adapter::DeviceStep;
 use agreement::facts::{frames_are_still, healthy_stays};
 use agreement::laws::disks_are_told;
 use block_machine::laws::rows_shrink_and_owners_stay;
+use durability::laws::every_plug_finds;
 use port_boot::laws::a_port_runs_on;
 
 /// The calls of a history are a run of the block machine. So its laws on runs hold of them: each request that is issued
@@ -56,6 +59,16 @@ pub fn reads_hold()
     ensures { (wanted : List Wanted) (first : Instant Device) (past : List (Happening Device DeviceStep))
         → IsHistory wanted first past → first.device.telling ≡ true → EveryReadHolds first.moment (events_of past) }
 {}
+
+/// Where the adapter's disks tell their sectors, each disk that comes back in a history has the writes that were
+/// flushed, or later ones.
+pub fn plugs_find()
+    ensures { (wanted : List Wanted) (first : Instant Device) (past : List (Happening Device DeviceStep))
+        → IsHistory wanted first past → first.device.telling ≡ true
+        → EveryPlugFinds first.moment.machine (steps_of (events_of past)) }
+{
+    every_plug_finds::<DeviceStep>();
+}
 
 /// Each move of a client's data, of any call of a history, is of a sector of its own request's, at its place in a frame
 /// that is lent to that request then, in the direction of its operation; the request was accepted, when it broke no
@@ -178,7 +191,7 @@ pub fn ticks_end_issues()
 {}
 
 /// Composition on healthy ports: each call of a history that is healthy for a port goes well for it, whatever was
-/// before. The port is left alone, with ST one, and each answer is Ok, or Revoked where a grant is taken back; a
+/// before. The port is left alone, with ST one, and each answer is Ok, or Revoked where a grant is revoked; a
 /// service answers exactly the issued requests whose bits are clear in the masks that it read; and a call issues
 /// exactly what is due.
 pub fn healthy_calls_go_well()

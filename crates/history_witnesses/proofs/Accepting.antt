@@ -122,6 +122,7 @@ has_one rows age = record {
   book = refl;
   unkept = refl;
   unpaged = no_page;
+  still = refl;
   op = refl;
   first = refl;
   kind = refl;

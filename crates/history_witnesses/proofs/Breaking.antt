@@ -46,7 +46,7 @@ linked = record acknowledged { notes = note Ssts 3 acknowledged }
 
 -- the masks are read then
 abbrev pub outset : Outset
-outset = record { gained = entry.Fatal (port_at 0) ∷ []; flags = linked.is; broken = true; notes = linked.notes }
+outset = record { gained = entry.Fatal (port_at 0) ∷ []; still = refl; flags = linked.is; broken = true; notes = linked.notes }
 
 -- the fatal error comes
 pub can_break : Can (Fatal 0 27) submitted

@@ -81,7 +81,7 @@ not_on on = absurd (true≢false on.no_reset)
 -- nothing that the machine agrees with changes by a reset that is pending
 still_knows : (m : Machine) → Knows m (at first_slots submitted) → Knows m (at first_slots pending)
 still_knows m k = record {
-  agrees = record { slot = k.agrees.slot; apart = k.agrees.apart; received = k.agrees.received; disk = k.agrees.disk; memory = k.agrees.memory; sectors = k.agrees.sectors };
+  agrees = record { slot = k.agrees.slot; apart = k.agrees.apart; received = k.agrees.received; disk = k.agrees.disk; memory = k.agrees.memory; sectors = k.agrees.sectors; lasting = k.agrees.lasting };
   have = k.have;
 }
 
@@ -255,6 +255,7 @@ knows_kept =
         disk = λ n. let d = k.agrees.disk n in record { present = d.present; id = d.id; size = d.size };
         memory = k.agrees.memory;
         sectors = λ telling n. let d = k.agrees.sectors telling n in record { told = d.told; tells = d.tells; same = d.same };
+        lasting = k.agrees.lasting;
       };
       have = λ n e may at_port. inr (⊎_elim
           (λ here. absurd (nowhere e here.0))

@@ -38,7 +38,7 @@ use Rattle.history_witnesses.proofs.Submitting.{issued, submitted}
 
 -- the port was as when the read was issued
 abbrev outset : Outset
-outset = record { gained = []; flags = issued.is; broken = issued.broken; notes = issued.notes }
+outset = record { gained = []; still = refl; flags = issued.is; broken = issued.broken; notes = issued.notes }
 
 abbrev booted : Device
 booted = rebooted.booted outset

@@ -6,6 +6,7 @@ mod Command
 mod Submitting
 mod Losing
 mod Memory
+mod Still
 mod Ready
 mod Issuing
 mod Serving

@@ -77,7 +77,7 @@ one_in (suc (suc n)) = cond-false (suc (suc n) == 1) false false (ne_eqb (suc (s
 knows_lost : Knows served (at no_slots lost)
 unfolding changed
 knows_lost = agreeing served no_slots tape_lost memory_done found gone
-    (record { own_first = refl; own_second = refl; disks = (refl, refl); present = one_in; ids = refl; sizes = refl; bytes = refl })
+    (record { own_first = refl; own_second = refl; disks = (refl, refl); present = one_in; ids = refl; sizes = refl; bytes = refl; lasting = (refl, refl); still = refl })
     lost_free free_apart moved_in_place (λ n e may at_port. ⊎_elim (λ z. absurd (nowhere e z.0)) (λ z. absurd (nowhere e z)) may)
 
 -- what the tape gains in the service

@@ -88,7 +88,7 @@ present (suc (suc n)) = refl
 
 knows : Knows issuing (at first_slots (dev broken))
 knows = agreeing issuing first_slots tape_broken read_memory broken second
-    (record { own_first = refl; own_second = refl; disks = (refl, refl); present = present; ids = refl; sizes = refl; bytes = refl })
+    (record { own_first = refl; own_second = refl; disks = (refl, refl); present = present; ids = refl; sizes = refl; bytes = refl; lasting = (refl, refl); still = refl })
     slots holds_submitted.knows.agrees.apart (λ f b from small. past_driver f b from) holds_submitted.knows.have
 
 kind_of : (e : Pending) → e ≡ waiting → IsOfKind plain (dev broken) 0 0 e

@@ -197,7 +197,7 @@ free (suc (suc n)) k = record { issued = refl; free = refl; unarmed = refl }
 
 unplug_knows : Knows without (at no_slots unplugged)
 unplug_knows = agreeing without no_slots tape_gone read_memory gone (unfit 1)
-    (record { own_first = refl; own_second = refl; disks = (refl, refl); present = present; ids = refl; sizes = refl; bytes = refl })
+    (record { own_first = refl; own_second = refl; disks = (refl, refl); present = present; ids = refl; sizes = refl; bytes = refl; lasting = (refl, refl); still = refl })
     free free_apart (λ f b from small. past_driver f b from) (λ n e may at_port. ⊎_elim (λ z. absurd (nowhere e z.0)) (λ z. absurd (nowhere e z)) may)
   where
     present : (n : ℕ) → without.present (port_at n) ≡ (having (gone ∷ unfit 1 ∷ []) n).present
@@ -404,7 +404,7 @@ free_then (suc (suc n)) k = record { issued = refl; free = refl; unarmed = refl 
 
 service_knows : Knows without (at no_slots looked_over)
 service_knows = agreeing without no_slots tape_gone read_memory absent passed
-    (record { own_first = refl; own_second = refl; disks = (refl, refl); present = present; ids = refl; sizes = refl; bytes = refl })
+    (record { own_first = refl; own_second = refl; disks = (refl, refl); present = present; ids = refl; sizes = refl; bytes = refl; lasting = (refl, refl); still = refl })
     free_then free_apart (λ f b from small. past_driver f b from) (λ n e may at_port. ⊎_elim (λ z. absurd (nowhere e z.0)) (λ z. absurd (nowhere e z)) may)
   where
     present : (n : ℕ) → without.present (port_at n) ≡ (having (absent ∷ passed ∷ []) n).present

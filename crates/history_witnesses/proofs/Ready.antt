@@ -11,7 +11,7 @@ use Rattle.adapter.specs.FirstRead.{first_disk, sector_of}
 use Rattle.adapter.specs.declared.command.Operation.TheVariants.{Identify}
 use Rattle.adapter.specs.declared.tape.Entry.{Entry}
 use Rattle.agreement.specs.Acts.{InSlots, at}
-use Rattle.agreement.specs.Agrees.{AreApart, HaveSlots, IsReceiving, SameMemory, SameSectors, port_at}
+use Rattle.agreement.specs.Agrees.{AreApart, HaveSlots, IsReceiving, SameMemory, SameSectors, HasLasting, port_at}
 use Rattle.agreement.specs.Driver.{Knows}
 use Rattle.agreement.specs.Slots.{Free, Serves, IsFree, IsMove, IsServed as IsServedAs}
 use Rattle.block_machine.specs.Histories.{Instant}
@@ -27,6 +27,7 @@ use Rattle.host_boot.specs.Taken.{IsServed, wanted_of}
 use Rattle.identify.specs.declared.wanted.Wanted.TheVariants.{Any, Nothing}
 use Rattle.port_control.specs.Ports.{programmed}
 use Rattle.history_witnesses.specs.Scene.{device_with, having, page_entry, queueing_cap, running_port, showing}
+use Rattle.history_witnesses.proofs.Still.{all_still, first_lasting, still_bytes}
 use Rattle.history_witnesses.proofs.Holding.{fit_disk, no_slots, requests_none, runs_on, unfailing, unlost, unserved_at}
 use Rattle.history_witnesses.proofs.Command.{zeros}
 use Rattle.history_witnesses.proofs.Memory.{tells}
@@ -52,7 +53,7 @@ starts =
 -- ---- device and machine agree
 
 -- Two ports that run with disks, or did, in their own places; the machine has their disks, and no others.
-pub record AreDisks (m : Machine) (p q : PortState) : Type 0 where
+pub record AreDisks (m : Machine) (tape : List Entry) (p q : PortState) : Type 0 where
   pub own_first : p.bases ≡ programmed 0
   pub own_second : q.bases ≡ programmed 1
   pub disks : (p.disk ≡ first_disk) × (q.disk ≡ first_disk)
@@ -60,8 +61,11 @@ pub record AreDisks (m : Machine) (p q : PortState) : Type 0 where
   pub ids : m.disk_ids ≡ start.disk_ids
   pub sizes : m.sizes ≡ start.sizes
   pub bytes : m.disks ≡ start.disks
+  -- nothing was put on them
+  pub lasting : (p.lasting ≡ first_lasting) × (q.lasting ≡ first_lasting)
+  pub still : all_still tape ≡ true
 
-module _ (m : Machine) (s : InSlots) (tape : List Entry) (memory : ℕ → ℕ) (p q : PortState) (are : AreDisks m p q) where
+module _ (m : Machine) (s : InSlots) (tape : List Entry) (memory : ℕ → ℕ) (p q : PortState) (are : AreDisks m tape p q) where
   received : (n : ℕ) → (having (p ∷ q ∷ []) n).fre ≡ true → IsReceiving (having (p ∷ q ∷ []) n) n
   received zero f = record { below = omega arith; area = ap (λ (b : Bases). b.fb) are.own_first }
   received (suc zero) f = record { below = omega arith; area = ap (λ (b : Bases). b.fb) are.own_second }
@@ -82,6 +86,11 @@ module _ (m : Machine) (s : InSlots) (tape : List Entry) (memory : ℕ → ℕ) 
   sectors_of (suc zero) = record { told = sector_of; tells = ap (λ (d : Disk). d.sectors) are.disks.1; same = λ k b kl bl. tells k b bl }
   sectors_of (suc (suc n)) = record { told = λ k. []; tells = refl; same = λ k b kl bl. absurd (omega (arith, kl)) }
 
+  lasts : (n : ℕ) → HasLasting m tape (having (p ∷ q ∷ []) n) n
+  lasts zero k inside bytes w = inl (λ b bl. still_bytes tape (p.lasting) 0 k bytes are.lasting.0 are.still w b bl ∙ sym (ap (λ (f : Port → ℕ → ℕ → ℕ). f (port_at 0) k b) are.bytes))
+  lasts (suc zero) k inside bytes w = inl (λ b bl. still_bytes tape (q.lasting) 1 k bytes are.lasting.1 are.still w b bl ∙ sym (ap (λ (f : Port → ℕ → ℕ → ℕ). f (port_at 1) k b) are.bytes))
+  lasts (suc (suc n)) k inside bytes w = absurd (omega (arith, inside))
+
   pub agreeing : ((n k : ℕ) → IsServedAs m memory tape (having (p ∷ q ∷ []) n) n k (s.uses n k)) → AreApart s.uses → SameMemory m memory → ((n : ℕ) → HaveSlots s.uses m n (s.parked n))
       → Knows m (at s (device_with tape memory (p ∷ q ∷ [])))
   agreeing slots apart same have = record {
@@ -96,6 +105,7 @@ module _ (m : Machine) (s : InSlots) (tape : List Entry) (memory : ℕ → ℕ) 
       };
       memory = same;
       sectors = λ _ n. let d = sectors_of n in record { told = d.told; tells = d.tells; same = λ k b kl bl. d.same k b kl bl ∙ sym (ap (λ (f : Port → ℕ → ℕ → ℕ). f (port_at n) k b) are.bytes) };
+      lasting = λ _ n. lasts n;
     };
     have = have;
   }
@@ -215,6 +225,7 @@ module _ (disk : Kind) (s : InSlots) (m : Machine) (more : List Entry) (memory :
     pub disks : (m.present ≡ start.present) × (m.disk_ids ≡ start.disk_ids) × (m.sizes ≡ start.sizes) × (m.disks ≡ start.disks)
     pub unkept : m.kept ≡ []
     pub unpaged : (port : ℕ) → All (λ e. IsMove port Identify e → ⊥) more
+    pub still : all_still more ≡ true
     pub first_alone : (e : Pending) → Contains m.book e → e.request.port.0 ≡ 0
     pub slots : (k : ℕ) → IsServedAs m memory (sent disk.page ++ more) p 0 k (s.uses 0 k)
     pub others : (n k : ℕ) → s.uses (suc n) k ≡ Free
@@ -229,7 +240,7 @@ module _ (disk : Kind) (s : InSlots) (m : Machine) (more : List Entry) (memory :
     was : {A : Type 0} (part : PortState → A) → part (but_commands p) ≡ part (but_commands (running_port 0))
     was part = ap part a.stands.same
 
-    are_disks : AreDisks m p second
+    are_disks : AreDisks m (sent disk.page ++ more) p second
     are_disks = record {
       own_first = was (λ q. q.bases);
       own_second = refl;
@@ -238,6 +249,8 @@ module _ (disk : Kind) (s : InSlots) (m : Machine) (more : List Entry) (memory :
       ids = a.disks.1;
       sizes = a.disks.2;
       bytes = a.disks.3;
+      lasting = (was (λ q. q.lasting), refl);
+      still = a.still;
     }
       where
         present : (n : ℕ) → start.present (port_at n) ≡ (having (p ∷ second ∷ []) n).present
@@ -295,12 +308,13 @@ free_apart q k q' k' id u v = absurd (let z : Free ≡ Serves id = u in cc)
 
 -- no request is in the book, and none in a slot
 pub agrees_none : (disk : Kind) (m : Machine) (more : List Entry) (memory : ℕ → ℕ) (p : PortState) → Stands p → (m.present ≡ start.present) × (m.disk_ids ≡ start.disk_ids) × (m.sizes ≡ start.sizes) × (m.disks ≡ start.disks)
-    → m.book ≡ [] → m.kept ≡ [] → ((port : ℕ) → All (λ e. IsMove port Identify e → ⊥) more) → ((k : ℕ) → IsFree p k) → SameMemory m memory → Agreeing disk no_slots m more memory p
-agrees_none disk m more memory p stands disks none unkept unpaged free frames = record {
+    → m.book ≡ [] → m.kept ≡ [] → ((port : ℕ) → All (λ e. IsMove port Identify e → ⊥) more) → all_still more ≡ true → ((k : ℕ) → IsFree p k) → SameMemory m memory → Agreeing disk no_slots m more memory p
+agrees_none disk m more memory p stands disks none unkept unpaged still free frames = record {
   stands = stands;
   disks = disks;
   unkept = unkept;
   unpaged = unpaged;
+  still = still;
   first_alone = λ e here. absurd (empty_book e here);
   slots = free;
   others = λ n k. refl;
@@ -316,7 +330,7 @@ agrees_none disk m more memory p stands disks none unkept unpaged free frames = 
 
 holds_first : (disk : Kind) → HoldsWith (Any ∷ Any ∷ []) no_slots (instant_with disk no_slots start [] zeros (running_port 0))
 holds_first disk = holds disk no_slots start [] zeros (running_port 0)
-    (agrees_none disk start [] zeros (running_port 0) (record { same = refl; quiet = λ place from. refl }) (refl, refl, refl, refl) refl refl no_page
+    (agrees_none disk start [] zeros (running_port 0) (record { same = refl; quiet = λ place from. refl }) (refl, refl, refl, refl) refl refl no_page refl
     (λ k. record { issued = refl; free = refl; unarmed = refl }) (λ f b from small. refl))
 
 pub begins : (disk : Kind) → Begins (Any ∷ Any ∷ []) (instant_with disk no_slots start [] zeros (running_port 0))

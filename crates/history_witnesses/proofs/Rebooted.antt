@@ -126,7 +126,7 @@ module _ (c : Outset) where
 
   knows : Knows answered (at no_slots booted)
   knows = agreeing answered no_slots (tape c) read_memory (unfit c) second
-      (record { own_first = refl; own_second = refl; disks = (refl, refl); present = present; ids = refl; sizes = refl; bytes = refl })
+      (record { own_first = refl; own_second = refl; disks = (refl, refl); present = present; ids = refl; sizes = refl; bytes = refl; lasting = (refl, refl); still = c.still })
       free free_apart (λ f b from small. past_driver f b from) (λ n e may at_port. ⊎_elim (λ z. absurd (nowhere e z.0)) (λ z. absurd (nowhere e z)) may)
 
   -- its signature was read, and is no ATA disk's

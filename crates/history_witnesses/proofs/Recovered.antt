@@ -77,7 +77,7 @@ present (suc (suc n)) = refl
 
 knows : Knows answered (at no_slots recovered)
 knows = agreeing answered no_slots tape_failed read_memory started second
-    (record { own_first = refl; own_second = refl; disks = (refl, refl); present = present; ids = refl; sizes = refl; bytes = refl })
+    (record { own_first = refl; own_second = refl; disks = (refl, refl); present = present; ids = refl; sizes = refl; bytes = refl; lasting = (refl, refl); still = refl })
     free free_apart (λ f b from small. past_driver f b from) (λ n e may at_port. ⊎_elim (λ z. absurd (nowhere e z.0)) (λ z. absurd (nowhere e z)) may)
 
 -- no page came after those of the two ports

@@ -164,6 +164,7 @@ has_left = record {
   book = refl;
   unkept = refl;
   unpaged = unpaged 1 101 41;
+  still = refl;
   op = refl;
   first = refl;
   kind = refl;
@@ -226,7 +227,7 @@ found_two = record {
 none_left : Agreeing queueing_disks no_slots (found_on.answered discovery_one) (ends 1 101 41 ++ ends 0 100 40) (found_on.memory_then discovery_one) found_again
 none_left = agrees_none queueing_disks (found_on.answered discovery_one) (ends 1 101 41 ++ ends 0 100 40) (found_on.memory_then discovery_one) found_again
     again_stands (refl, refl, refl, refl) refl refl
-    (λ port. All-append (λ e. IsMove port operation.Identify e → ⊥) (ends 1 101 41) (ends 0 100 40) (unpaged 1 101 41 port) (unpaged 0 100 40 port))
+    (λ port. All-append (λ e. IsMove port operation.Identify e → ⊥) (ends 1 101 41) (ends 0 100 40) (unpaged 1 101 41 port) (unpaged 0 100 40 port)) refl
     (λ slot. record { issued = found_waits slot; free = again_free slot; unarmed = none_active slot })
     (moved_alike swapped_memory (found_on.answered discovery_two).memory 40 100 swapped_frames)
 

@@ -316,7 +316,7 @@ free (suc (suc n)) k = record { issued = refl; free = refl; unarmed = refl }
 
 knows : Knows answered (at no_slots rebooted)
 knows = agreeing answered no_slots pages read_memory (unfit 0) (unfit 1)
-    (record { own_first = refl; own_second = refl; disks = (refl, refl); present = present; ids = refl; sizes = refl; bytes = refl })
+    (record { own_first = refl; own_second = refl; disks = (refl, refl); present = present; ids = refl; sizes = refl; bytes = refl; lasting = (refl, refl); still = refl })
     free free_apart (λ f b from small. past_driver f b from) (λ n e may at_port. ⊎_elim (λ z. absurd (nowhere e z.0)) (λ z. absurd (nowhere e z)) may)
   where
     present : (n : ℕ) → answered.present (port_at n) ≡ (having (unfit 0 ∷ unfit 1 ∷ []) n).present

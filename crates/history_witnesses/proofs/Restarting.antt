@@ -1,5 +1,5 @@
 -- A port with an issued read is given up, and booted anew, which finds no ATA disk. This is the way of the device.
-use Rattle.std.proofs.Common.{ℕ, ◌≡◌, ◌++◌, Bool, false, List, [], ◌∷◌, length, inl, inr, refl, arith}
+use Rattle.std.proofs.Common.{ℕ, ◌≡◌, ◌++◌, Bool, false, true, List, [], ◌∷◌, length, inl, inr, refl, arith}
 use Rattle.std.proofs.lemmas.Bool.{false≢true, true≢false}
 use Rattle.hba_regs.specs.declared.reg.Reg.TheVariants.{Px}
 use Rattle.hba_regs.specs.declared.reg.PortReg.{PortReg}
@@ -17,6 +17,7 @@ use Rattle.history_witnesses.specs.Restart.{placing, resetting, restarting, stop
 use Rattle.history_witnesses.specs.Scene.{device_with, having}
 use Rattle.history_witnesses.proofs.Command.{read_memory}
 use Rattle.history_witnesses.proofs.Devices.{but_first, fall, falls_reads, may_stop, no_bit, put_device, reads, same_beside, writes}
+use Rattle.history_witnesses.proofs.Still.{all_still}
 use Rattle.history_witnesses.proofs.Submitting.{issued, pages, second}
 
 -- ---- accesses of port 0
@@ -52,6 +53,7 @@ up p = with_link p 0xeb140101 false
 -- whether a fatal error has stopped it, and what was noted of it.
 pub record Outset : Type 0 where
   pub gained : List Entry
+  pub still : all_still gained ≡ true
   pub flags : ℕ → Bool
   pub broken : Bool
   pub notes : Notes

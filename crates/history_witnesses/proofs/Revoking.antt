@@ -1,4 +1,4 @@
--- The read is issued, and its grant is taken back.
+-- The read is issued, and its grant is revoked.
 use Rattle.std.proofs.Common.{◌≡◌, ℕ, List, [], ◌∷◌, Some, inr, ⊎_elim, refl, sym, ap, ◌∙◌, arith, append-nil}
 use Rattle.std.proofs.lemmas.Bool.{true≢false}
 use Rattle.std.proofs.lemmas.List.Elements.{All-nil}
@@ -90,7 +90,7 @@ part n = record {
 unfoldable ties : Ties (Any ∷ Any ∷ []) (issued_at 0) revoke
 ties = record {
   accesses = [];
-  came = (refl, (row 0, (0, omega arith, refl), (refl, refl), All-nil (IssuesOn (port_at 0))));
+  came = (refl, (row 0, (0, omega arith, refl), (refl, refl), All-nil (IssuesOn (port_at 0)), λ ready. refl));
   backed = record {
     telling = refl;
     gained = [];

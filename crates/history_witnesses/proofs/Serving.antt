@@ -25,6 +25,7 @@ use Rattle.history_witnesses.proofs.Holding.{first_slots, requests_first, serves
 use Rattle.history_witnesses.proofs.Issuing.{accepted_as}
 use Rattle.history_witnesses.proofs.Members.{only}
 use Rattle.history_witnesses.proofs.Pages.{Kind}
+use Rattle.history_witnesses.proofs.Still.{all_still}
 use Rattle.history_witnesses.proofs.Ready.{Agreeing, Stands, frame, instant_with, served_with, start}
 use Rattle.history_witnesses.proofs.Submitting.{sent}
 
@@ -88,6 +89,7 @@ module _ (disk : Kind) (m : Machine) (more : List Entry) (memory : ℕ → ℕ) 
     pub book : m.book ≡ aged age (outstanding_as first_id k n held) ∷ []
     pub unkept : m.kept ≡ []
     pub unpaged : (port : ℕ) → All (λ e. IsMove port Identify e → ⊥) more
+    pub still : all_still more ≡ true
     pub op : op_of c.operation ≡ Some Read
     pub first : c.first ≡ k
     pub kind : is_queued c.operation ≡ not (is_plain (mode_of queueing_cap disk.info) Read)
@@ -118,6 +120,7 @@ module _ (disk : Kind) (m : Machine) (more : List Entry) (memory : ℕ → ℕ) 
       disks = has.disks;
       unkept = has.unkept;
       unpaged = has.unpaged;
+      still = has.still;
       first_alone = λ e here. ap (λ (x : Pending). x.request.port.0) (the_one e here);
       slots = slots;
       others = λ q slot. refl;

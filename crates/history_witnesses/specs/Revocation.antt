@@ -1,4 +1,4 @@
--- A history in which a grant is taken back while a read of it is issued (this project's own).
+-- A history in which a grant is revoked while a read of it is issued (this project's own).
 use Rattle.std.specs.Prelude.{◌≡◌, true, [], ◌∷◌, Ok, Some}
 use Rattle.ata_types.specs.declared.Port.{Port}
 use Rattle.ata_types.specs.declared.request.Request.{Request}
@@ -12,7 +12,7 @@ use Rattle.block_machine.specs.Steps.{HasGrant}
 use Rattle.identify.specs.declared.wanted.Wanted.TheVariants.{Any}
 use Rattle.driver_history.specs.Histories.{IsHistory, TiesPort}
 
--- A read is accepted and issued, and then its grant is taken back. Since no request of it waits, none is answered, and
+-- A read is accepted and issued, and then its grant is revoked. Since no request of it waits, none is answered, and
 -- no access is made. The read goes on: it is issued still, though its grant is gone. Each port's part in both calls is
 -- done.
 pub record RevocationIsAHistory : Type 0 where

@@ -51,7 +51,7 @@ pub fn a_hung_port_is_a_history()
     ensures { HungPortIsAHistory }
 {}
 
-/// There is a history in which a grant is taken back while a read of it is issued, which goes on: all that is asked of
+/// There is a history in which a grant is revoked while a read of it is issued, which goes on: all that is asked of
 /// its calls is met.
 pub fn a_revocation_is_a_history()
     ensures { RevocationIsAHistory }

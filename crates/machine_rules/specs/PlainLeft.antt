@@ -45,6 +45,7 @@ start_filled fill = record {
   disk_ids = λ p. 0;
   sizes = λ p. 0;
   disks = λ p k b. byte_of fill k;
+  aside = λ p k. [];
   book = [];
   kept = [];
   lent = λ f. None;

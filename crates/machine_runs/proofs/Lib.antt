@@ -8,7 +8,6 @@ mod Issuing
 mod NoneDue
 mod Granted
 mod Unwritten
-mod Lasting
 mod Scene
 mod WorkedRun
 mod WaitingRun

@@ -1,4 +1,4 @@
--- A run in which a grant is taken back while a write of it runs and a read of it waits.
+-- A run in which a grant is revoked while a write of it runs and a read of it waits.
 use Rattle.std.proofs.Common.{◌≡◌, false, List, [], ◌∷◌, Some, inl, inr, ⊎_elim, refl, sym, ap, ◌∙◌, subst, arith, Contains}
 use Rattle.std.proofs.lemmas.Bool.{false≢true}
 use Rattle.ata_types.specs.declared.PortState.TheVariants.{Ready}

@@ -1,6 +1,6 @@
 -- A run in which a write is flushed and a later one isn't, and a read finds the one or the other after its disk was out.
-use Rattle.std.proofs.Common.{Bool, false, cond, ◌==◌, ◌≡◌, ◌⊎◌, ℕ, ◌+◌, ◌-◌, ◌<◌, ◌&&◌, true, List, [], ◌∷◌, ◌++◌, slice_index, None, Ok, inl, inr, ⊎_elim, refl, sym, ap, ◌∙◌, subst, arith, le-leb, lt-ltb}
-use Rattle.std.proofs.lemmas.Bool.{and_from, cond-true, false≢true}
+use Rattle.std.proofs.Common.{Bool, false, cond, ◌==◌, ◌≡◌, ◌⊎◌, ℕ, ◌+◌, ◌-◌, ◌<◌, ◌&&◌, true, List, [], ◌∷◌, ◌++◌, slice_index, None, Ok, inl, inr, ⊎_elim, refl, sym, ap, ◌∙◌, subst, arith, le-leb, lt-ltb, eqb-true}
+use Rattle.std.proofs.lemmas.Bool.{and_from, cond-true, false≢true, cond-false}
 use Rattle.std.specs.List.{Contains}
 use Rattle.std.specs.Prelude.{nat_le, nat_lt}
 use Rattle.ata_types.specs.declared.Port.{Port}
@@ -10,9 +10,8 @@ use Rattle.ata_types.specs.declared.request.Outcome.TheVariants as outcome
 use Rattle.block_machine.specs.Due.{is_flush}
 use Rattle.block_machine.specs.Ports.{Evidence}
 use Rattle.block_machine.specs.State.{Block, Disk, Accepted, block_of, is_reader, unanswered}
-use Rattle.block_machine.specs.Steps.{Step, Accept, Issue, Touch, End, Answer, Unplug, Replace, Store, Load, newly_accepted, issue, touch, mark_ended}
+use Rattle.block_machine.specs.Steps.{Step, Accept, Issue, Touch, End, Answer, Unplug, Replace, Store, Load, newly_accepted, issue, touch, mark_ended, HasHeld, SameBytes}
 use Rattle.block_machine.specs.Events.{Submit, StoreAt, LoadAt, Service, Device, Submitted, Stored, Loaded, Served, Stepped, Event, Happens, IsRun, ServesReady, moment_of, situation_of, steps_of, ShowsDisk}
-use Rattle.machine_runs.specs.Durable.{SameBytes, HeldSince}
 use Rattle.machine_runs.specs.Worked.{FindsTheFlushed, MayComeBack, ReadsOneOf}
 use Rattle.block_machine.proofs.Members.{contains_none, contains_here, contains_there, contains_cases}
 use Rattle.block_machine.proofs.Setting.{client, port, frame, request, empty, empty_starts, acceptable, granted}
@@ -385,26 +384,12 @@ runs10 : IsRun first run10
 runs10 = (((((((((((empty_starts, ports_fit Ready refl), happens1), happens2), happens3), happens4), happens5), happens6), happens7), happens8), happens9), happens10)
 
 -- What the sector held since the flush was ended: the bytes of the one write or of the other.
-since_flush : (block : Block) → HeldSince empty port 100 block (steps_of run10) → SameBytes block (write.held 0) ⊎ SameBytes block (later.held 0)
+since_flush : (block : Block) → HasHeld (moment_of first run10).machine port 100 block → SameBytes block (write.held 0) ⊎ SameBytes block (later.held 0)
 since_flush block (inl p) = inr p
-since_flush block (inr (_, h)) = of8 h
-  where
-    of5 : HeldSince empty port 100 block (Answer (mark_ended (issue (newly_accepted flush))) outcome.Ok ∷ End (issue (newly_accepted flush)) ∷ steps_of run4) → SameBytes block (write.held 0)
-    of5 (inl p) = p
-    of5 (inr (_, inl p)) = p
-    of5 (inr (_, inr (last, _))) = absurd (false≢true (sym last))
-
-    of7 : HeldSince empty port 100 block (steps_of run7) → SameBytes block (write.held 0)
-    of7 (inl p) = p
-    of7 (inr (_, inl p)) = p
-    of7 (inr (_, inr (_, inl p))) = p
-    of7 (inr (_, inr (_, inr (_, h)))) = of5 h
-
-    of8 : HeldSince empty port 100 block (steps_of run8) → SameBytes block (write.held 0) ⊎ SameBytes block (later.held 0)
-    of8 (inl p) = inr p
-    of8 (inr (_, inl p)) = inr p
-    of8 (inr (_, inr (_, inl p))) = inr p
-    of8 (inr (_, inr (_, inr (_, h)))) = inl (of7 h)
+since_flush block (inr (old, here, same)) = ⊎_elim
+    (λ (p : old ≡ flushed_disk 100). inl (λ b lt. same b lt ∙ ap (λ (x : Block). x b) p))
+    (λ none. absurd (contains_none old none))
+    (contains_cases (flushed_disk 100) [] old here)
 
 finds : (disk : Disk) → MayComeBack first run10 port disk → ReadsOneOf first run10 disk write later
 finds disk back = record {
@@ -412,8 +397,7 @@ finds disk back = record {
   service = event12;
   late = event15 disk ∷ event14 disk ∷ event13 disk ∷ [];
   runs = (((((runs10, happens11 disk), happens12 disk), happens13 disk), happens14 disk), happens15 disk);
-  told = ((((((((((((((((((((((((tt, tt), tt), tt), λ e. absurd (false≢true (ap is_reader e))), tt), tt), tt), tt), tt), tt), tt), tt), tt), λ e. absurd (false≢true (ap is_reader e))), tt), tt), tt), tt), tt), tt), λ _ b lt. refl), tt), tt), tt);
-  volatile = ((((((((((((((((((((((((tt, tt), tt), tt), tt), tt), tt), tt), tt), tt), tt), tt), tt), tt), tt), tt), tt), tt), back), tt), tt), tt), tt), tt), tt);
+  told = ((((((((((((((((((((((((tt, tt), tt), tt), λ e. absurd (false≢true (ap is_reader e))), tt), tt), tt), tt), tt), tt), tt), tt), tt), λ e. absurd (false≢true (ap is_reader e))), tt), tt), tt), back), tt), tt), λ _ b lt. refl), tt), tt), tt);
   comes = refl;
   serves = refl;
   boots = refl;
@@ -457,9 +441,14 @@ finds_the_flushed = record {
   notices = refl;
   finds = finds;
   kept = ((moment_of first run8).machine.disks port, (λ _ k lt. inl (λ b lb. refl)), λ b lb. refl);
-  lost = (flushed_disk, (λ _ k lt. inr (refl, inr (refl, inr (refl, inr (refl, inr (refl, inr (refl, inr (refl, inr (refl, inl (λ b lb. refl)))))))))), λ b lb. refl);
+  lost = (flushed_disk, (λ _ k lt. lost k (k == 100) refl), λ b lb. refl);
 }
   where
+    -- the sector that was written since is put aside, and any other is as it was
+    lost : (k : ℕ) (b : Bool) → (k == 100) ≡ b → HasHeld (moment_of first run10).machine port k (flushed_disk k)
+    lost k true at = inr (flushed_disk k, subst (λ (n : ℕ). Contains ((moment_of first run10).machine.aside port n) (flushed_disk n)) (sym (eqb-true k 100 at)) (contains_here (flushed_disk 100) [] (flushed_disk 100) refl), λ b lb. refl)
+    lost k false away = inl (λ b lb. sym (ap (λ (x : Block). x b) (cond-false (k == 100) (later.held 0) (flushed_disk k) away)))
+
     differ : ◌≡◌ {A = ℕ} 91 90 → ⊥
     differ e = omega (arith, e)
 

@@ -1,4 +1,3 @@
-pub mod Durable
 pub mod Told
 pub mod Worked
 pub mod Revoked

@@ -1,4 +1,4 @@
--- A run in which a grant is taken back.
+-- A run in which a grant is revoked.
 use Rattle.std.specs.Prelude.{◌≡◌, ℕ, true, false, List, [], ◌∷◌, Contains, Some}
 use Rattle.ata_types.specs.declared.request.ClientId.{ClientId}
 use Rattle.ata_types.specs.declared.request.Outcome.TheVariants.{Ok, Revoked}
@@ -8,14 +8,14 @@ use Rattle.block_machine.specs.Left.{AllTold}
 use Rattle.block_machine.specs.Events.{Moment, Event, RevokeOf, Service, WasRevoked, IsUnder, IsRun, reply_of, steps_of, moment_of}
 
 -- In a run of calls two requests of one grant are unanswered at once: one is issued, and the other waits for it. Then
--- the client's grant is taken back: the one that waits is answered Revoked, and the row is gone. The issued one stays,
+-- the client's grant is revoked: the one that waits is answered Revoked, and the row is gone. The issued one stays,
 -- and the service that finds it ended answers it Ok, though its row isn't there.
 pub record IsTakenBack : Type 0 where
   pub first : Moment
   pub run : List (Event (Unit {0}))
   pub runs : IsRun first run
   pub told : AllTold first.machine (steps_of run)
-  -- the run's events: these before the grant is taken back, and one after it
+  -- the run's events: these before the grant is revoked, and one after it
   pub early : List (Event (Unit {0}))
   pub call : Event (Unit {0})
   pub service : Event (Unit {0})

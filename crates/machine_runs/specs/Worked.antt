@@ -8,9 +8,9 @@ use Rattle.ata_types.specs.declared.request.Outcome.TheVariants.{Ok, DeviceError
 use Rattle.block_machine.specs.declared.due.Mode.{Mode}
 use Rattle.block_machine.specs.State.{Disk, Memory, Accepted, Pending, Machine, block_of, sector_of, unanswered}
 use Rattle.block_machine.specs.Due.{IsDue, conflict}
-use Rattle.block_machine.specs.Steps.{Step, Issue, Again, Answer, Unplug, Replace, May, AllTouched}
-use Rattle.block_machine.specs.Left.{after, IsStart, AllTold, HoldsLeft}
-use Rattle.machine_runs.specs.Durable.{SameBytes, ComesBack, IsVolatile, IsFlushed}
+use Rattle.block_machine.specs.Steps.{Step, Issue, Again, Answer, Unplug, Replace, May, AllTouched, SameBytes}
+use Rattle.block_machine.specs.Left.{after, IsStart, AllTold, HoldsLeft, IsTold}
+use Rattle.durability.specs.Durable.{IsFlushed}
 use Rattle.block_machine.specs.Events.{Moment, Event, Service, Tick, Reset, Device, Served, WasReset, IsRun, accepts_of, reply_of, steps_of, moment_of}
 
 -- the disk that was last in at the port is put in again after this run, with these bytes
@@ -20,7 +20,7 @@ same_again first run port disk = Replace port ((moment_of first run).machine.dis
 
 -- with a volatile cache it may come back so
 abbrev pub MayComeBack : Moment → List (Event (Unit {0})) → Port → Disk → Type 0
-MayComeBack first run port disk = ComesBack first.machine (steps_of run) (same_again first run port disk)
+MayComeBack first run port disk = IsTold (moment_of first run).machine (same_again first run port disk)
 
 -- The run goes on: the disk is put in again with these bytes, a service boots the port, and a read of the first sector
 -- of the two writes is answered Ok. Its frame then has the bytes of the one, or those of the other.
@@ -31,7 +31,6 @@ pub record ReadsOneOf (first : Moment) (run : List (Event (Unit {0}))) (disk : D
   pub late : List (Event (Unit {0}))
   pub runs : IsRun first (late ++ service ∷ plug ∷ run)
   pub told : AllTold first.machine (steps_of (late ++ service ∷ plug ∷ run))
-  pub volatile : IsVolatile first.machine (steps_of (late ++ service ∷ plug ∷ run))
   pub comes : plug.steps ≡ same_again first run one.port disk ∷ []
   pub serves : service.ask ≡ Service
   pub boots : (moment_of first (service ∷ plug ∷ run)).ports.state one.port ≡ Ready
@@ -159,7 +158,6 @@ pub record MeetsTrouble : Type 0 where
   pub last : Event (Unit {0})
   pub runs : IsRun first (last ∷ fourth ∷ third ∷ service ∷ asked)
   pub told : AllTold first.machine (steps_of (last ∷ fourth ∷ third ∷ service ∷ asked))
-  pub volatile : IsVolatile first.machine (steps_of (last ∷ fourth ∷ third ∷ service ∷ asked))
   pub lost : Pending
   pub failed : Pending
   pub again : Pending

@@ -17,7 +17,6 @@ ghost use Rattle.block_machine.specs.State.{Block, Accepted, Pending, Machine, s
 ghost use Rattle.block_machine.specs.Steps.{Step, Answer, HasGrant, after_step, IsLiving, MayMove};
 ghost use Rattle.block_machine.specs.Left.{IsStart, IsLegal, HasTouched, HasTouchedSince, HasEndedSince, IsLeft, after, bytes_when_plugged, disk_read};
 ghost use Rattle.block_machine.specs.Confined.{GrantsNoWrites, WasAccepted, MayChangeByte, MayChangeSector};
-ghost use Rattle.machine_runs.specs.Durable.{IsVolatile, EveryPlugFinds};
 ghost use Rattle.block_machine.specs.Events.{Moment, Event, AllIssued, Happens, EveryReadHolds, IsLawful, IsRun, IsStillStuck, accepts_it, answers_it, issues_it, gives_id, replies_of, all_replies, WasGiven, moment_of, steps_of};
 ghost use Rattle.machine_runs.specs.Told.{AsksFor, CameFrom, IsAnsweredOk, WasAsked, waits_again};
 ghost use Rattle.machine_runs.specs.Revoked.{IsTakenBack};
@@ -49,16 +48,6 @@ pub fn left_stays()
         → IsStart start → IsLegal start (step ∷ history) → HasTouched read sector disk history
         → ((e : Pending) → IsLiving (after start history) e → e.request.id ≢ read.id)
         → IsLeft start history read sector block → IsLeft start (step ∷ history) read sector block }
-{}
-
-/// Over every run of calls on disks with volatile caches that keep what was flushed: where a write was answered Ok
-/// before a flush of its port was accepted, the flush was answered Ok, and no disk was taken out between, the same disk
-/// has the write's bytes or later ones each time that it comes back. That the disks are such is a premise: a machine's
-/// disk of the same name may come back with any bytes.
-pub fn every_plug_finds<D>()
-    ensures { (first : Moment) (run : List (Event D)) → IsRun first run
-        → IsVolatile first.machine (steps_of run)
-        → EveryPlugFinds first.machine (steps_of run) }
 {}
 
 /// A run exists in which ticks, a reset that is stuck, and one that ends do what they have to.
@@ -283,7 +272,7 @@ pub fn what_waits_has_its_grant<D>()
         → HasGrant (moment_of first run).machine e }
 {}
 
-/// A run exists in which a grant is taken back while a request of it is issued and another waits: this one is answered
+/// A run exists in which a grant is revoked while a request of it is issued and another waits: this one is answered
 /// Revoked, and that one Ok.
 pub fn a_revoking_run_exists()
     ensures { IsTakenBack }

@@ -13,7 +13,7 @@ use Rattle.ata_types.specs.declared.request.ClientId.{ClientId}
 use Rattle.ata_types.specs.declared.request.RequestId.{RequestId}
 use Rattle.block_machine.specs.declared.due.Unanswered.{Unanswered}
 use Rattle.block_machine.specs.Due as machine
-use Rattle.request_queue.specs.Entries.{Held, asks, asks_of, has_id, at, without, issue, requeued, older, revoked_under, unanswered_of, IsEarlier, IsInOrder, HasFewIssues, IsFresh}
+use Rattle.request_queue.specs.Entries.{Held, asks, asks_of, has_id, at, without, issue, requeued, older, marked_under, unanswered_of, IsEarlier, IsInOrder, HasFewIssues, IsFresh}
 use Rattle.request_queue.specs.declared.Entry.{Entry}
 use Rattle.request_queue.proofs.Members.{count_cons, count_append, count_map, contains_here, contains_there, contains_cases}
 
@@ -237,7 +237,7 @@ pub older_spares : (ports : Port → Bool) (r : Entry) → Spares r (older ports
 older_spares ports r = either_way (Spares r) (r.issued && ports r.port) (record r { age = min (suc r.age) 3 }) r
     (record { asked = refl; client = refl; issues = refl }) (record { asked = refl; client = refl; issues = refl })
 
-pub revoked_spares : (client : ClientId) (grant : ℕ) (r : Entry) → Spares r (revoked_under client grant r)
+pub revoked_spares : (client : ClientId) (grant : ℕ) (r : Entry) → Spares r (marked_under client grant r)
 revoked_spares client grant r = either_way (Spares r) (r.client.0 == client.0 && r.grant == grant) (record r { revoked = true }) r
     (record { asked = refl; client = refl; issues = refl }) (record { asked = refl; client = refl; issues = refl })
 

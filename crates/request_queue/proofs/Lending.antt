@@ -10,7 +10,7 @@ use Rattle.ata_types.specs.declared.request.ClientId.{ClientId}
 use Rattle.ata_types.specs.declared.request.Frame.{Frame}
 use Rattle.ata_types.specs.declared.request.RequestId.{RequestId}
 use Rattle.dma_frames.specs.Table.{Table, lent_to, LendsOnly}
-use Rattle.request_queue.specs.Entries.{Held, IsAccepted, Stands, has_id, at, without, issue, requeued, older, aged, revoked_under, revoked_all}
+use Rattle.request_queue.specs.Entries.{Held, IsAccepted, Stands, has_id, at, without, issue, requeued, older, aged, marked_under, all_marked_under}
 use Rattle.request_queue.specs.declared.Entry.{Entry}
 use Rattle.request_queue.proofs.Members.{map_in}
 use Rattle.request_queue.proofs.Changing.{either_way, without_in}
@@ -99,8 +99,8 @@ all_aged table es ports all = all_changed table es (λ (e : Held). record e { en
     (λ e a. either_way (λ (r : Entry). IsAccepted table (record e { entry = r })) (e.entry.issued && ports e.entry.port) (record (e.entry) { age = min (suc e.entry.age) 3 }) e.entry
     (further table e e.entry.issued e.entry.issues (min (suc e.entry.age) 3) e.entry.revoked a) a) all
 
-pub all_revoked : (table : Table) (es : List Held) (client : ClientId) (grant : ℕ) → All (IsAccepted table) es → All (IsAccepted table) (revoked_all client grant es)
-all_revoked table es client grant all = all_changed table es (λ (e : Held). record e { entry = revoked_under client grant e.entry })
+pub all_revoked : (table : Table) (es : List Held) (client : ClientId) (grant : ℕ) → All (IsAccepted table) es → All (IsAccepted table) (all_marked_under client grant es)
+all_revoked table es client grant all = all_changed table es (λ (e : Held). record e { entry = marked_under client grant e.entry })
     (λ e a. either_way (λ (r : Entry). IsAccepted table (record e { entry = r })) (e.entry.client.0 == client.0 && e.entry.grant == grant) (record (e.entry) { revoked = true }) e.entry
     (further table e e.entry.issued e.entry.issues e.entry.age true a) a) all
 

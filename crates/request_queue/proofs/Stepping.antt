@@ -11,7 +11,7 @@ use Rattle.block_machine.specs.Due.{IsDue, due_of}
 use Rattle.block_machine.specs.State.{unanswered, waiting}
 use Rattle.block_machine.specs.State as machine
 use Rattle.block_machine.specs.Steps as steps
-use Rattle.request_queue.specs.Entries.{Held, asks, asks_of, has_id, at, without, issue, requeued, older, aged, revoked_under, revoked_all, unanswered_of, due_ids}
+use Rattle.request_queue.specs.Entries.{Held, asks, asks_of, has_id, at, without, issue, requeued, older, aged, marked_under, all_marked_under, unanswered_of, due_ids}
 use Rattle.request_queue.specs.Machine.{IsEntry, IsBook}
 use Rattle.request_queue.specs.declared.Entry.{Entry}
 use Rattle.request_queue.proofs.Members.{contains_none, contains_here, contains_there, contains_cases, count_cons, map_in, into_map}
@@ -123,7 +123,7 @@ at_right id g step e p s = go (p.request.id.0 == id.0) refl
     go true here = subst (λ (y : machine.Pending). IsEntry e y) (sym (cond-true (p.request.id.0 == id.0) (g p) p here)) (step e p s)
     go false here = subst (λ (y : machine.Pending). IsEntry e y) (sym (cond-false (p.request.id.0 == id.0) (g p) p here)) s
 
-one_revoked : (client : ClientId) (grant : ℕ) (e : Held) (p : machine.Pending) → IsEntry e p → IsEntry (record e { entry = revoked_under client grant e.entry }) p
+one_revoked : (client : ClientId) (grant : ℕ) (e : Held) (p : machine.Pending) → IsEntry e p → IsEntry (record e { entry = marked_under client grant e.entry }) p
 one_revoked client grant e p s = either_way (λ (r : Entry). IsEntry (record e { entry = r }) p) (e.entry.client.0 == client.0 && e.entry.grant == grant) (record (e.entry) { revoked = true }) e.entry
     (record { id = s.id; client = s.client; grant = s.grant; port = s.port; op = s.op; range = s.range; frames = s.frames; issued = s.issued; issues = s.issues; age = s.age }) s
 
@@ -159,8 +159,8 @@ is_answered es ps id is = zip_filter IsEntry (λ e. not (has_id id e)) (λ p. no
 pub is_older : (es : List Held) (ps : List machine.Pending) (ports : Port → Bool) → IsBook es ps → IsBook (aged ports es) (map (steps.older ports) ps)
 is_older es ps ports is = zip_both IsEntry (λ (e : Held). record e { entry = older ports e.entry }) (steps.older ports) (one_older ports) es ps is
 
-pub is_revoked : (es : List Held) (ps : List machine.Pending) (client : ClientId) (grant : ℕ) → IsBook es ps → IsBook (revoked_all client grant es) ps
-is_revoked es ps client grant is = zip_left IsEntry (λ (e : Held). record e { entry = revoked_under client grant e.entry }) (one_revoked client grant) es ps is
+pub is_revoked : (es : List Held) (ps : List machine.Pending) (client : ClientId) (grant : ℕ) → IsBook es ps → IsBook (all_marked_under client grant es) ps
+is_revoked es ps client grant is = zip_left IsEntry (λ (e : Held). record e { entry = marked_under client grant e.entry }) (one_revoked client grant) es ps is
 
 pub is_touched : (es : List Held) (ps : List machine.Pending) (id : RequestId) (i : ℕ) → IsBook es ps → IsBook es (map (steps.at id (steps.touch i)) ps)
 is_touched es ps id i is = zip_right IsEntry (steps.at id (steps.touch i)) (at_right id (steps.touch i) (one_touched i)) es ps is

@@ -7,7 +7,7 @@ use Rattle.ata_types.specs.declared.request.RequestId.{RequestId}
 use Rattle.block_machine.specs.declared.due.Mode.{Mode}
 use Rattle.block_machine.specs.declared.due.Unanswered.{Unanswered}
 use Rattle.block_machine.specs.Due.{IsDue, with_issued, with_waiting, with_none, AreDueInTurn}
-use Rattle.request_queue.specs.Entries.{Held, asks, asks_of, has_id, at, without, issue, requeued, older, aged, revoked_under, revoked_all, IsWaiting}
+use Rattle.request_queue.specs.Entries.{Held, asks, asks_of, has_id, at, without, issue, requeued, older, aged, marked_under, all_marked_under, IsWaiting}
 use Rattle.request_queue.specs.declared.Entry.{Entry}
 use Rattle.request_queue.proofs.Members.{map_in}
 use Rattle.request_queue.proofs.Changing.{all_asked, older_spares, revoked_spares}
@@ -57,8 +57,8 @@ after_answer (e ∷ es) id = go (not (has_id id e)) (after_answer es id)
 pub after_tick : (es : List Held) (ports : Port → Bool) → asks_of (aged ports es) ≡ asks_of es
 after_tick es ports = all_asked (older ports) (older_spares ports) es
 
-pub after_revoke : (es : List Held) (client : ClientId) (grant : ℕ) → asks_of (revoked_all client grant es) ≡ asks_of es
-after_revoke es client grant = all_asked (revoked_under client grant) (revoked_spares client grant) es
+pub after_revoke : (es : List Held) (client : ClientId) (grant : ℕ) → asks_of (all_marked_under client grant es) ≡ asks_of es
+after_revoke es client grant = all_asked (marked_under client grant) (revoked_spares client grant) es
 
 -- ---- a walk that issues
 

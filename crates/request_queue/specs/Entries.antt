@@ -65,12 +65,13 @@ abbrev pub aged : (Port → Bool) → List Held → List Held
 aged ports entries = map (λ (e : Held). record e { entry = older ports e.entry }) entries
 
 -- the request is marked, if it was accepted under this grant of the client: the grant is revoked
-abbrev pub revoked_under : ClientId → ℕ → Entry → Entry
-revoked_under client grant r = if r.client.0 == client.0 && r.grant == grant then record r { revoked = true } else r
+abbrev pub marked_under : ClientId → ℕ → Entry → Entry
+marked_under client grant r = if r.client.0 == client.0 && r.grant == grant then record r { revoked = true } else r
 
 -- each request marked that was accepted under this grant of the client
-abbrev pub revoked_all : ClientId → ℕ → List Held → List Held
-revoked_all client grant entries = map (λ (e : Held). record e { entry = revoked_under client grant e.entry }) entries
+abbrev pub all_marked_under : ClientId → ℕ → List Held → List Held
+all_marked_under client grant entries =
+    map (λ (e : Held). record e { entry = marked_under client grant e.entry }) entries
 
 -- the ids of the requests that pass, in order of acceptance
 abbrev pub ids_where : (Entry → Bool) → List Held → List RequestId

@@ -15,8 +15,8 @@ use Rattle.request_queue.specs.declared.fate.Prospect.TheVariants.{SameDisk, Dis
 
 -- ---- the rule
 
--- one that didn't fail goes again on the disk that it had, unless its grant was revoked, or it was issued four times;
--- else it is told what its port is
+-- One that didn't fail goes again on the disk that it had, if it is issued, unless its grant was revoked, or it was
+-- issued four times; if it isn't, it waits. Else it is told what its port is.
 abbrev pub fate_on : Prospect → Entry → Fate
 fate_on SameDisk e =
     if e.issued then (if e.revoked then Ends Revoked else (if e.issues == 4 then Ends Aborted else GoesAgain))

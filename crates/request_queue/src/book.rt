@@ -1,7 +1,7 @@
 // The book.
 ghost use Rattle.std.specs.Prelude.{◌≡◌, ◌↔◌, ◌<◌, ◌≤◌, ◌++◌, ◌∷◌, [], length, map, All, AllPairs, Contains, IfOk, IsTrue, Some, slice_get};
 ghost use Rattle.request_queue.specs.Entries.{due_ids};
-ghost use Rattle.request_queue.specs.Entries.{Held, GivesBack, IsEarlier, IsFresh, IsInOrder, IsUnanswered, IsWaiting, MayGoAgain, Stands, IsOverdue, IsOverdueOn, aged, asks_of, at, ids_where, is_among, is_of, issue, older, requeued, revoked_all, revoked_under, unanswered_of, waits_under, without};
+ghost use Rattle.request_queue.specs.Entries.{Held, GivesBack, IsEarlier, IsFresh, IsInOrder, IsUnanswered, IsWaiting, MayGoAgain, Stands, IsOverdue, IsOverdueOn, aged, asks_of, at, ids_where, is_among, is_of, issue, older, requeued, all_marked_under, marked_under, unanswered_of, waits_under, without};
 
 use crate::Entry;
 use crate::due::due;
@@ -207,7 +207,7 @@ impl Book {
 
     /// Notes that a client's grant was revoked: the requests that were accepted under it are marked.
     pub fn revoke(&mut self, client: ClientId, grant: u8)
-        ensures { self.new ≡ revoked_all client grant self.old }
+        ensures { self.new ≡ all_marked_under client grant self.old }
     {
         mark(&mut self.store, client, grant);
     }
@@ -329,7 +329,7 @@ fn age(store: &mut Store, ports: &[bool])
 
 /// Marks the requests that were accepted under this grant of the client.
 fn mark(store: &mut Store, client: ClientId, grant: u8)
-    ensures { store.new ≡ revoked_all client grant store.old }
+    ensures { store.new ≡ all_marked_under client grant store.old }
 {
     for place in 0..store.len() {
         let request = store.request(place);
@@ -339,7 +339,7 @@ fn mark(store: &mut Store, client: ClientId, grant: u8)
 
 /// The request, marked if it was accepted under this grant of the client.
 fn revoked(request: Entry, client: ClientId, grant: u8) -> Entry
-    ensures { result ≡ revoked_under client grant request }
+    ensures { result ≡ marked_under client grant request }
 {
     if request.client.0 == client.0 && request.grant == grant {
         Entry {

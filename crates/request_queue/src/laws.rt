@@ -12,7 +12,7 @@ ghost use Rattle.block_machine.specs.Steps as steps;
 ghost use Rattle.block_machine.specs.declared.due.Mode.{Mode};
 ghost use Rattle.block_machine.specs.declared.due.Unanswered.{Unanswered};
 ghost use Rattle.dma_frames.specs.Table.{Table, LendsOnly, lent_to};
-ghost use Rattle.request_queue.specs.Entries.{Held, IsAccepted, IsEarlier, IsFresh, IsInOrder, IsUnanswered, IsWaiting, MayGoAgain, Stands, aged, asks_of, at, due_ids, held_of, issue, requeued, revoked_all, unanswered_of, without};
+ghost use Rattle.request_queue.specs.Entries.{Held, IsAccepted, IsEarlier, IsFresh, IsInOrder, IsUnanswered, IsWaiting, MayGoAgain, Stands, aged, asks_of, at, due_ids, held_of, issue, requeued, all_marked_under, unanswered_of, without};
 ghost use Rattle.request_queue.specs.Machine.{IsBook, IsEntry};
 ghost use Rattle.request_queue.specs.declared.Entry.{Entry};
 
@@ -50,7 +50,7 @@ pub fn steps_change_the_book()
     ensures age { (entries : List Held) (m : Machine) (ports : Port → Bool) → IsBook entries m.book
         → IsBook (aged ports entries) (steps.after_step m (steps.Age ports)).book }
     ensures revoke { (entries : List Held) (m : Machine) (client : ClientId) (grant : ℕ) → IsBook entries m.book
-        → IsBook (revoked_all client grant entries) (steps.after_step m (steps.Revoke client grant)).book }
+        → IsBook (all_marked_under client grant entries) (steps.after_step m (steps.Revoke client grant)).book }
     ensures touch { (entries : List Held) (m : Machine) (p : machine.Pending) (i : ℕ) (block : machine.Block)
         → IsBook entries m.book → IsBook entries (steps.after_step m (steps.Touch p i block)).book }
     ensures end { (entries : List Held) (m : Machine) (p : machine.Pending) → IsBook entries m.book
@@ -76,7 +76,7 @@ pub fn operations_change_what_is_due()
         → asks_of (without id entries) ≡ with_none id (asks_of entries) }
     ensures tick { (entries : List Held) (ports : Port → Bool) → asks_of (aged ports entries) ≡ asks_of entries }
     ensures revoked { (entries : List Held) (client : ClientId) (grant : ℕ)
-        → asks_of (revoked_all client grant entries) ≡ asks_of entries }
+        → asks_of (all_marked_under client grant entries) ≡ asks_of entries }
 {}
 
 /// The due requests of a port may be issued one after the other: each of them waits when its turn comes; and then none
@@ -133,7 +133,7 @@ pub fn the_book_stays_in_order()
         → IsInOrder (map (at id requeued) entries) }
     ensures older { (entries : List Held) (ports : Port → Bool) → IsInOrder entries → IsInOrder (aged ports entries) }
     ensures revoked { (entries : List Held) (client : ClientId) (grant : ℕ) → IsInOrder entries
-        → IsInOrder (revoked_all client grant entries) }
+        → IsInOrder (all_marked_under client grant entries) }
     ensures answered { (entries : List Held) (id : RequestId) → IsInOrder entries → IsInOrder (without id entries) }
     ensures all { (entries : List Held) → IsInOrder entries → length entries ≤ MOST_UNANSWERED }
     ensures asks { (entries : List Held) → IsInOrder entries → machine_in_order (asks_of entries) }
@@ -160,7 +160,7 @@ pub fn accepted_requests_stay()
     ensures older { (table : Table) (entries : List Held) (ports : Port → Bool)
         → All (IsAccepted table) entries → All (IsAccepted table) (aged ports entries) }
     ensures revoked { (table : Table) (entries : List Held) (client : ClientId) (grant : ℕ)
-        → All (IsAccepted table) entries → All (IsAccepted table) (revoked_all client grant entries) }
+        → All (IsAccepted table) entries → All (IsAccepted table) (all_marked_under client grant entries) }
     ensures stand { (table : Table) (entries : List Held) → All (IsAccepted table) entries
         → All (Stands table) entries }
 {}

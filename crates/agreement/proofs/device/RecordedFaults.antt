@@ -5,7 +5,7 @@ use Rattle.std.proofs.lemmas.Nat.{and_le_r}
 use Rattle.std.proofs.lemmas.List.{drop-append-le, length-append}
 use Rattle.std.proofs.lemmas.List.Elements.{All-nil, All-push}
 use Rattle.std.proofs.lemmas.Bool.{both_ways, false≢true}
-use Rattle.adapter.specs.Device.{Bases, Disk, Halt, PortState, Device}
+use Rattle.adapter.specs.Device.{Bases, Disk, Lasting, Halt, PortState, Device}
 use Rattle.adapter.specs.Device.Halt.{NotHalted, HaltedPlain, HaltedQueued, LogOnly}
 use Rattle.adapter.specs.Memory.{changed}
 use Rattle.adapter.specs.Rules.{InUse}
@@ -58,7 +58,7 @@ pub record SameRecord (p new : PortState) : Type 0 where
   pub used : (slot : ℕ) → InUse p slot → InUse new slot
 
 -- where the command list and the received FIS area are, which disk is in, PxIE, and the bits of SACT, SSTS and SERR, don't matter to it
-pub same_with : (p : PortState) (bases : Bases) (fre fr : Bool) (ie ssts_det : ℕ) (serr_n serr_x : Bool) (sact : ℕ → Bool) (disk : Disk) (plugged : List Disk) (present fresh : Bool) →
+pub same_with : (p : PortState) (bases : Bases) (fre fr : Bool) (ie ssts_det : ℕ) (serr_n serr_x : Bool) (sact : ℕ → Bool) (disk : Disk) (plugged : List Disk) (lasting : Lasting) (present fresh : Bool) →
     SameRecord p (record p {
       bases = bases;
       fre = fre;
@@ -70,10 +70,11 @@ pub same_with : (p : PortState) (bases : Bases) (fre fr : Bool) (ie ssts_det : �
       sact = sact;
       disk = disk;
       plugged = plugged;
+      lasting = lasting;
       present = present;
       fresh = fresh;
     })
-same_with p bases fre fr ie ssts_det serr_n serr_x sact disk plugged present fresh =
+same_with p bases fre fr ie ssts_det serr_n serr_x sact disk plugged lasting present fresh =
     record { st = refl; set_at = refl; linked = refl; flag = λ f. f; halt = refl; tfd = refl; used = λ slot u. u }
 
 shows_on : (entries : List Entry) (p new : PortState) (port : ℕ) → SameRecord p new → ShowsFault entries p port → ShowsFault entries new port
@@ -231,14 +232,14 @@ module _ (port : ℕ) (d : Device) (h : IsRecorded d.tape (d.port port) port) wh
       (record { st = refl; set_at = refl; linked = refl; flag = other_flag (d.port p) place (fatal_flag place can.1); halt = refl; tfd = refl; used = λ slot u. u }) x))
   step_recorded (Fall p) can = silent p _ (λ e x. stopped_recorded d.tape _ port can.0)
   step_recorded (FrFall p) can = silent p _ (λ e x. recorded_on d.tape (d.port p) _ port
-      (same_with (d.port p) _ _ _ _ _ _ _ _ _ _ _ _) x)
+      (same_with (d.port p) _ _ _ _ _ _ _ _ _ _ _ _ _) x)
   step_recorded (LinkUp p sig n) can = silent p _ (λ e x st. absurd (both_ways _ (x st).linked can.due))
   step_recorded (Unplug p) can = entered p _ _ (λ f. absurd f)
       (λ e x. recorded_more d.tape _ _ port (λ f. f) (recorded_on d.tape (d.port p) _ port
-      (same_with (d.port p) _ _ _ _ _ _ _ _ _ _ _ _) x))
+      (same_with (d.port p) _ _ _ _ _ _ _ _ _ _ _ _ _) x))
   step_recorded (Plug p disk) can = entered p _ _ (λ f. absurd f)
       (λ e x. recorded_more d.tape _ _ port (λ f. f) (recorded_on d.tape (d.port p) _ port
-      (same_with (d.port p) _ _ _ _ _ _ _ _ _ _ _ _) x))
+      (same_with (d.port p) _ _ _ _ _ _ _ _ _ _ _ _ _) x))
   step_recorded ResetEnds can = stopped_recorded d.tape _ port refl
   step_recorded (Scribble p slot at bytes) can = h
 

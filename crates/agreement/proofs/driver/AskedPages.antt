@@ -180,7 +180,7 @@ module _ (uses : Uses) (m : Machine) (d : Device) (a : Agrees uses m d) (port : 
           (cases_eq slot 0)
       by (Done p slot flag z) can = ⊎_elim
           (λ (f : slot ≡ 0). at_port (λ x. x.taken 0 ≡ Some t) IsSpent d p port _ is
-          (λ e x. inl (subst (λ (s : ℕ). IsOver (steps.with_done (d.port p) s flag z.meaning.operation) 0) (sym f) (record {
+          (λ e x. inl (subst (λ (s : ℕ). IsOver (steps.with_flush (steps.with_done (d.port p) s flag z.meaning.operation) z.meaning.operation (length d.tape)) 0) (sym f) (record {
             issued = own_clear (is_queued z.meaning.operation) (d.port p).ci 0 (subst (λ (y : Taken). is_queued y.meaning.operation ≡ false) (at_slot p slot z e f can.works.taken) plain);
             free = changed_same (d.port p).taken 0 None;
           })))

@@ -63,6 +63,7 @@ stored_on uses m d reached a client frame offset bytes opens =
       disk = λ q. record { present = (a.disk q).present; id = (a.disk q).id; size = (a.disk q).size };
       memory = λ f b from small. memory_put m d.memory (4096 * frame.0 + offset) frame offset bytes refl x.1 a.memory f b from small;
       sectors = λ t q. let s = a.sectors t q in record { told = s.told; tells = s.tells; same = s.same };
+      lasting = a.lasting;
     }
 
 pub client_stores : (k : Known) (m : Machine) (client : ClientId) (frame : Frame) (offset : ℕ) (bytes : List ℕ) (new : Device) → IsReached m → Knows m k → May m (Store client frame offset bytes) →
@@ -112,7 +113,7 @@ client_loads k m client frame offset bytes new r knows may call =
       );
       backed = backed_then k.device new new m f.steps (Load client frame offset bytes ∷ []) first (own_backed new (left.after m f.steps) (Load client frame offset bytes) (λ z. z));
       knows = record {
-        agrees = let a = f.agrees in record { slot = a.slot; apart = a.apart; received = a.received; disk = a.disk; memory = a.memory; sectors = a.sectors };
+        agrees = let a = f.agrees in record { slot = a.slot; apart = a.apart; received = a.received; disk = a.disk; memory = a.memory; sectors = a.sectors; lasting = a.lasting };
         have = λ q. follows_have k.uses m k.device new f q (k.parked q) (knows.have q);
       };
     }

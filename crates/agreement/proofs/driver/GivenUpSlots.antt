@@ -115,6 +115,7 @@ module _ (k : Known) (port : ℕ) where
       disk = a.disk;
       memory = a.memory;
       sectors = a.sectors;
+      lasting = a.lasting;
     }
 
     pub all_given_up : Knows m k → Knows m (parking_all k port)

@@ -24,6 +24,7 @@ use Rattle.block_machine.proofs.Standing.{standing}
 use Rattle.agreement.specs.Slots.{Use, Free, Own, Serves, Uses, put, Progress, Stage, IsOver, IsServed, Armed, IsArmed}
 use Rattle.agreement.specs.Agrees.{Agrees, port_at}
 use Rattle.agreement.specs.Driver.{Known, Knows, HasNoSlot, Forgets, ForgetsKept, parking, freeing}
+use Rattle.agreement.proofs.relation.LastingSectors.{gains_none, keeps_same, lasting_on}
 use Rattle.agreement.proofs.relation.OneSlot.{sectors_on, changed_at}
 use Rattle.agreement.proofs.device.ClearSactBits.{over_unarmed}
 use Rattle.agreement.proofs.driver.PutSlot.{SameWorld, put_agrees, put_cases, put_have, serves_same}
@@ -91,13 +92,14 @@ agrees_on uses m m' d a world goes = record {
   };
   memory = λ f b from small. a.memory f b from small ∙ ap (λ (g : Memory). g f b) (sym world.memory);
   sectors = λ t q. sectors_on m m' (d.port q).disk q (λ k b lb. ap (λ (g : Port → Disk). g (port_at q) k b) world.disks) (a.sectors t q);
+  lasting = λ t q. lasting_on m m' d.tape d.tape (d.port q) (d.port q) q refl refl (keeps_same m m' q world.disks world.aside) (gains_none d.tape m' q) (a.lasting t q);
 }
 
 -- ---- accept
 
 pub accept_knows : (k : Known) (m : Machine) (r : Accepted) → Knows m k → Knows (after_step m (Accept r)) k
 accept_knows k m r x = record {
-  agrees = agrees_on k.uses m (after_step m (Accept r)) k.device x.agrees (record { present = refl; ids = refl; sizes = refl; disks = refl; memory = refl })
+  agrees = agrees_on k.uses m (after_step m (Accept r)) k.device x.agrees (record { present = refl; ids = refl; sizes = refl; disks = refl; aside = refl; memory = refl })
       (λ q s id u e is may. goes_on_same m (after_step m (Accept r)) e (⊎_elim
       (λ (z : Contains m.book e × (e.issued ≡ true)). inl (Contains-append_left m.book (newly_accepted r ∷ []) e z.0, z.1))
       (λ (z : Contains m.kept e). inr z) may));
@@ -124,7 +126,7 @@ older_is ready e = by (e.issued && ready e.request.port) refl
 
 pub tick_knows : (k : Known) (m : Machine) (ready : Port → Bool) → Knows m k → Knows (after_step m (Age ready)) k
 tick_knows k m ready x = record {
-  agrees = agrees_on k.uses m (after_step m (Age ready)) k.device x.agrees (record { present = refl; ids = refl; sizes = refl; disks = refl; memory = refl })
+  agrees = agrees_on k.uses m (after_step m (Age ready)) k.device x.agrees (record { present = refl; ids = refl; sizes = refl; disks = refl; aside = refl; memory = refl })
       (λ q s id u e is may. goes e may);
   have = λ q y may at_port. ⊎_elim
       (λ (z : Contains (map (older ready) m.book) y × (y.issued ≡ true)).
@@ -182,7 +184,7 @@ leaves_knows k m m' id later x none forgets l = record {
 
 answer_leaves : (m : Machine) (e : Pending) (outcome : Outcome) → Sound m → Contains m.book e → stays e outcome ≡ false → Leaves m (after_step m (Answer e outcome)) e.request.id
 answer_leaves m e outcome s here gives = record {
-  world = record { present = refl; ids = refl; sizes = refl; disks = refl; memory = refl };
+  world = record { present = refl; ids = refl; sizes = refl; disks = refl; aside = refl; memory = refl };
   moves = λ y ne r. ⊎_elim
       (λ (z : Contains m.book y × (y.issued ≡ true)). inl (without_into e.request.id m.book y ne z.0, z.1))
       (λ (z : Contains m.kept y). inr (subst (λ (es : List Pending). Contains es y) (sym kept) z)) r;
@@ -198,7 +200,7 @@ answer_leaves m e outcome s here gives = record {
 
 again_leaves : (m : Machine) (e : Pending) → Sound m → Contains m.book e → Leaves m (after_step m (Again e)) e.request.id
 again_leaves m e s here = record {
-  world = record { present = refl; ids = refl; sizes = refl; disks = refl; memory = refl };
+  world = record { present = refl; ids = refl; sizes = refl; disks = refl; aside = refl; memory = refl };
   moves = λ y ne r. ⊎_elim
       (λ (z : Contains m.book y × (y.issued ≡ true)). inl (into_other requeued e.request.id m.book y ne z.0, z.1))
       (λ (z : Contains m.kept y). inr z) r;
@@ -227,7 +229,7 @@ again_knows k m e later r x here none forgets =
 -- an answer that keeps the frames: the request stays in its slot
 pub keeping_knows : (k : Known) (m : Machine) (e : Pending) (outcome : Outcome) → IsReached m → Knows m k → Contains m.book e → stays e outcome ≡ true → Knows (after_step m (Answer e outcome)) k
 keeping_knows k m e outcome r x here stay = record {
-  agrees = agrees_on k.uses m (after_step m (Answer e outcome)) k.device x.agrees (record { present = refl; ids = refl; sizes = refl; disks = refl; memory = refl })
+  agrees = agrees_on k.uses m (after_step m (Answer e outcome)) k.device x.agrees (record { present = refl; ids = refl; sizes = refl; disks = refl; aside = refl; memory = refl })
       (λ q s id u y is may. goes_on_same m (after_step m (Answer e outcome)) y (goes y may));
   have = λ q y may at_port. x.have q y (⊎_elim
       (λ (z : Contains (without e.request.id m.book) y × (y.issued ≡ true)). inl ((without_in e.request.id m.book y z.0).0, z.1))
@@ -265,7 +267,7 @@ pub release_knows : (k : Known) (m : Machine) (later : ℕ → List RequestId) �
     ForgetsKept m k.parked later →
     Knows (after_step m Release) (record k { parked = later })
 release_knows k m later r x none forgets = record {
-  agrees = agrees_on k.uses m (after_step m Release) k.device x.agrees (record { present = refl; ids = refl; sizes = refl; disks = refl; memory = refl })
+  agrees = agrees_on k.uses m (after_step m Release) k.device x.agrees (record { present = refl; ids = refl; sizes = refl; disks = refl; aside = refl; memory = refl })
       (λ q s id u e is may. goes_on_same m (after_step m Release) e (⊎_elim
       (λ (z : Contains m.book e × (e.issued ≡ true)). inl z)
       (λ (z : Contains m.kept e). absurd (none e z q s (u ∙ ap Serves (sym is)))) may));
@@ -283,7 +285,7 @@ release_knows k m later r x none forgets = record {
 module _ (k : Known) (m : Machine) (x : Knows m k) (port slot : ℕ) (over : IsOver (k.device.port port) slot) where
   free_agrees : (k.uses port slot ≡ Armed → ⊥) → Agrees (put k.uses port slot Free) m k.device
   free_agrees unarmed = put_agrees k.uses m m k.device x.agrees k.device.port port slot Free (record {
-    world = record { present = refl; ids = refl; sizes = refl; disks = refl; memory = refl };
+    world = record { present = refl; ids = refl; sizes = refl; disks = refl; aside = refl; memory = refl };
     moves = λ q s id u ne e is r. r;
     others = λ q s ne. SameSlot-refl (k.device.port q) s;
     here = record { issued = over.issued; free = over.free; unarmed = over_unarmed k.uses m k.device port slot x.agrees unarmed over };
@@ -322,7 +324,7 @@ module _ (k : Known) (m : Machine) (x : Knows m k) (port slot : ℕ) (over : IsO
 pub disarm_knows : (k : Known) (m : Machine) → Knows m k → (port slot : ℕ) → (k.device.port port).st ≡ false → k.uses port slot ≡ Armed → Knows m (freeing k port slot)
 disarm_knows k m x port slot st u = record {
   agrees = put_agrees k.uses m m k.device x.agrees k.device.port port slot Free (record {
-    world = record { present = refl; ids = refl; sizes = refl; disks = refl; memory = refl };
+    world = record { present = refl; ids = refl; sizes = refl; disks = refl; aside = refl; memory = refl };
     moves = λ q s id u ne e is r. r;
     others = λ q s ne. SameSlot-refl (k.device.port q) s;
     here = (let h : IsArmed (k.device.port port) slot = subst (λ (w : Use). IsServed m k.device.memory k.device.tape (k.device.port port) port slot w) u (x.agrees.slot port slot) in record { issued = h.issued; free = h.free; unarmed = h.armed ∙ st });

@@ -8,7 +8,7 @@ use Rattle.ata_types.specs.declared.request.RequestId.{RequestId}
 use Rattle.hba_regs.specs.Bits.{bit}
 use Rattle.adapter.specs.Commands.{is_queued}
 use Rattle.adapter.specs.Device as device
-use Rattle.adapter.specs.Device.{PortState, Device}
+use Rattle.adapter.specs.Device.{Lasting, PortState, Device}
 use Rattle.adapter.specs.Memory.{changed}
 use Rattle.adapter.specs.Steps.{with_port}
 use Rattle.adapter.specs.declared.command.Operation.{Operation}
@@ -24,6 +24,7 @@ use Rattle.agreement.specs.Slots.{Use, Free, Own, Serves, Uses, put, ServesReque
 use Rattle.agreement.specs.Agrees.{Agrees, port_at, SameSectors, HaveSlots}
 use Rattle.agreement.specs.Driver.{IsPrepared, IsOwnPrepared}
 use Rattle.agreement.proofs.relation.SlotRelation.{SameSlot, SameSlot-refl, served_on, placed_on, GainsNone-refl}
+use Rattle.agreement.proofs.relation.LastingSectors.{disk_of, gains_none, keeps_same, lasting_on}
 use Rattle.agreement.proofs.relation.OneSlot.{changed_at, sectors_on}
 use Rattle.agreement.proofs.relation.TouchesAndEnds.{into_other}
 use Rattle.agreement.proofs.relation.OtherSlots.{true_false}
@@ -66,6 +67,7 @@ pub record SameWorld (m m' : Machine) : Type 0 where
   pub ids : m'.disk_ids ≡ m.disk_ids
   pub sizes : m'.sizes ≡ m.sizes
   pub disks : m'.disks ≡ m.disks
+  pub aside : m'.aside ≡ m.aside
   pub memory : m'.memory ≡ m.memory
 
 -- What has to be shown where one slot is put to another use.
@@ -78,7 +80,7 @@ pub record Puts (uses : Uses) (m m' : Machine) (d : Device) (ports : ℕ → Por
   pub fre : (q : ℕ) → (ports q).fre ≡ (d.port q).fre
   pub received_at : (q : ℕ) → (ports q).bases.fb ≡ (d.port q).bases.fb
   pub present : (q : ℕ) → (ports q).present ≡ (d.port q).present
-  pub disk : (q : ℕ) → (ports q).disk ≡ (d.port q).disk
+  pub disk : (q : ℕ) → disk_of (ports q) ≡ disk_of (d.port q)
 
 module _ (uses : Uses) (m m' : Machine) (d : Device) (a : Agrees uses m d) (ports : ℕ → PortState) (port slot : ℕ) (u : Use) (x : Puts uses m m' d ports port slot u) where
   apart_now : (p s p' s' : ℕ) (id : RequestId) → put uses port slot u p s ≡ Serves id → put uses port slot u p' s' ≡ Serves id → (p ≡ p') × (s ≡ s')
@@ -110,12 +112,14 @@ module _ (uses : Uses) (m m' : Machine) (d : Device) (a : Agrees uses m d) (port
     received = λ q f. let r = a.received q (sym (x.fre q) ∙ f) in record { below = r.below; area = x.received_at q ∙ r.area };
     disk = λ q. record {
       present = ap (λ (f : Port → Bool). f (port_at q)) x.world.present ∙ (a.disk q).present ∙ sym (x.present q);
-      id = ap (λ (f : Port → ℕ). f (port_at q)) x.world.ids ∙ (a.disk q).id ∙ ap (λ (y : device.Disk). y.name) (sym (x.disk q));
-      size = ap (λ (f : Port → ℕ). f (port_at q)) x.world.sizes ∙ (a.disk q).size ∙ ap (λ (y : device.Disk). y.size) (sym (x.disk q));
+      id = ap (λ (f : Port → ℕ). f (port_at q)) x.world.ids ∙ (a.disk q).id ∙ ap (λ (y : device.Disk × Lasting). y.0.name) (sym (x.disk q));
+      size = ap (λ (f : Port → ℕ). f (port_at q)) x.world.sizes ∙ (a.disk q).size ∙ ap (λ (y : device.Disk × Lasting). y.0.size) (sym (x.disk q));
     };
     memory = λ f b from small. a.memory f b from small ∙ ap (λ (g : Memory). g f b) (sym x.world.memory);
-    sectors = λ t q. subst (λ (y : device.Disk). SameSectors m' y q) (sym (x.disk q))
+    sectors = λ t q. subst (λ (y : device.Disk × Lasting). SameSectors m' y.0 q) (sym (x.disk q))
         (sectors_on m m' (d.port q).disk q (λ k b lb. ap (λ (g : Port → Disk). g (port_at q) k b) x.world.disks) (a.sectors t q));
+    lasting = λ t q. lasting_on m m' d.tape d.tape (d.port q) (ports q) q (ap (λ (y : device.Disk × Lasting). y.1) (x.disk q)) (ap (λ (y : device.Disk × Lasting). y.0.size) (x.disk q))
+        (keeps_same m m' q x.world.disks x.world.aside) (gains_none d.tape m' q) (a.lasting t q);
   }
 
 -- ---- a command is issued
@@ -180,7 +184,7 @@ module _ (uses : Uses) (m : Machine) (d : Device) (a : Agrees uses m d) (port sl
 
   pub arming_agrees : Agrees (put uses port slot Armed) m (with_port d port (armed_port (d.port port) v))
   arming_agrees = put_agrees uses m m d a (changed d.port port (armed_port (d.port port) v)) port slot Armed (record {
-    world = record { present = refl; ids = refl; sizes = refl; disks = refl; memory = refl };
+    world = record { present = refl; ids = refl; sizes = refl; disks = refl; aside = refl; memory = refl };
     moves = λ q k id u ne y is r. r;
     others = others_armed;
     here = subst (λ (p : PortState). IsServed m d.memory d.tape p port slot Armed) (sym (changed_same d.port port (armed_port (d.port port) v))) armed_here;
@@ -188,7 +192,7 @@ module _ (uses : Uses) (m : Machine) (d : Device) (a : Agrees uses m d) (port sl
     fre = at_armed (λ p. p.fre) refl;
     received_at = at_armed (λ p. p.bases.fb) refl;
     present = at_armed (λ p. p.present) refl;
-    disk = at_armed (λ p. p.disk) refl;
+    disk = at_armed disk_of refl;
   })
 
 -- no slot serves a request that waits
@@ -247,7 +251,7 @@ module _ (uses : Uses) (m : Machine) (d : Device) (reached : IsReached m) (a : A
 
   puts : Puts uses m (after_step m (Issue mode e)) d (changed d.port port (issued_port (d.port port) v)) port slot (Serves e.request.id)
   puts = record {
-    world = record { present = refl; ids = refl; sizes = refl; disks = refl; memory = refl };
+    world = record { present = refl; ids = refl; sizes = refl; disks = refl; aside = refl; memory = refl };
     moves = λ q k id u ne y is r.
         let other : y.request.id ≢ e.request.id = λ same. not_served q k (u ∙ ap Serves (sym is ∙ same)) in
         ⊎_elim
@@ -259,7 +263,7 @@ module _ (uses : Uses) (m : Machine) (d : Device) (reached : IsReached m) (a : A
     fre = at_ports d port slot v x.alone (λ p. p.fre) refl;
     received_at = at_ports d port slot v x.alone (λ p. p.bases.fb) refl;
     present = at_ports d port slot v x.alone (λ p. p.present) refl;
-    disk = at_ports d port slot v x.alone (λ p. p.disk) refl;
+    disk = at_ports d port slot v x.alone disk_of refl;
   }
 
   pub issue_agrees : Agrees (put uses port slot (Serves e.request.id)) (after_step m (Issue mode e)) (with_port d port (issued_port (d.port port) v))
@@ -312,7 +316,7 @@ module _ (uses : Uses) (m : Machine) (d : Device) (a : Agrees uses m d) (port : 
 
   pub own_agrees : Agrees (put uses port 0 (Own o)) m (with_port d port (issued_port (d.port port) v))
   own_agrees = put_agrees uses m m d a (changed d.port port (issued_port (d.port port) v)) port 0 (Own o) (record {
-    world = record { present = refl; ids = refl; sizes = refl; disks = refl; memory = refl };
+    world = record { present = refl; ids = refl; sizes = refl; disks = refl; aside = refl; memory = refl };
     moves = λ q k id u ne y is r. r;
     others = others_issued d port 0 v x.alone;
     here = subst (λ (p : PortState). IsServed m d.memory d.tape p port 0 (Own o)) (sym (changed_same d.port port (issued_port (d.port port) v))) own_here;
@@ -320,7 +324,7 @@ module _ (uses : Uses) (m : Machine) (d : Device) (a : Agrees uses m d) (port : 
     fre = at_ports d port 0 v x.alone (λ p. p.fre) refl;
     received_at = at_ports d port 0 v x.alone (λ p. p.bases.fb) refl;
     present = at_ports d port 0 v x.alone (λ p. p.present) refl;
-    disk = at_ports d port 0 v x.alone (λ p. p.disk) refl;
+    disk = at_ports d port 0 v x.alone disk_of refl;
   })
 
 -- requests keep their slots where a free or over one that serves none of them is put to another use

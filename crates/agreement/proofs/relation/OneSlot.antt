@@ -11,7 +11,7 @@ use Rattle.adapter.proofs.MemoryLemmas.{patched_apart}
 use Rattle.block_machine.specs.State.{Pending, Machine}
 use Rattle.block_machine.specs.Steps.{MayMove}
 use Rattle.agreement.specs.Slots.{Serves, Uses, IsServed}
-use Rattle.agreement.specs.Agrees.{Agrees, port_at, IsDiskOf, SameSectors, SameMemory, IsReceiving, AreApart}
+use Rattle.agreement.specs.Agrees.{Agrees, port_at, IsDiskOf, SameSectors, HasLasting, SameMemory, IsReceiving, AreApart}
 use Rattle.agreement.proofs.relation.SlotRelation.{SameSlot, SameFixed, slots_after}
 use Rattle.agreement.proofs.relation.TouchesAndEnds.{Goes}
 
@@ -41,6 +41,8 @@ pub record Acts (Except : ℕ → Type 0) (uses : Uses) (m m' : Machine) (d : De
   pub size : new.disk.size ≡ (d.port port).disk.size
   pub sectors : d.telling ≡ true → SameSectors m' new.disk port
   pub other_sectors : d.telling ≡ true → (q : ℕ) → q ≢ port → SameSectors m' (d.port q).disk q
+  pub lasting : d.telling ≡ true → HasLasting m' later new port
+  pub other_lasting : d.telling ≡ true → (q : ℕ) → q ≢ port → HasLasting m' later (d.port q) q
   pub memory : SameMemory m' memory'
 
 pub acted : (Except : ℕ → Type 0) (uses : Uses) (m m' : Machine) (d : Device) (a : Agrees uses m d) (memory' : ℕ → ℕ) (later : List Entry) (port slot : ℕ) (new : PortState) →
@@ -63,6 +65,7 @@ acted Except uses m m' d a memory' later port slot new x = record {
       });
   memory = x.memory;
   sectors = λ t. changed_at d.port port new (λ q p. SameSectors m' p.disk q) (x.sectors t) (x.other_sectors t);
+  lasting = λ t. changed_at d.port port new (λ q p. HasLasting m' later p q) (x.lasting t) (x.other_lasting t);
 }
 
 -- another slot's request is another

@@ -1,24 +1,26 @@
 -- Steps that no slot's request takes part in.
 use Rattle.ata_types.specs.declared.memory.TheConstants.{DRIVER_BYTES}
-use Rattle.std.proofs.Common.{ℕ, zero, suc, ◌≡◌, ◌⊎◌, ◌≤◌, ◌+◌, ◌*◌, ◌++◌, ◌==◌, Bool, true, false, not, ◌&&◌, List, [], ◌∷◌, length, slice_index, Option, Some, None, refl, sym, ◌∙◌, ap, subst, arith, inl, inr, ⊎_elim, append-nil, eq-eqb, ne_eqb}
+use Rattle.std.proofs.Common.{ℕ, zero, suc, ◌≡◌, ◌⊎◌, ◌<◌, ◌≤◌, ◌+◌, ◌*◌, ◌++◌, ◌==◌, Bool, true, false, not, ◌&&◌, List, [], ◌∷◌, length, slice_index, Option, Some, None, refl, sym, ◌∙◌, ap, subst, arith, inl, inr, ⊎_elim, append-nil, eq-eqb, ne_eqb}
 use Rattle.std.specs.Prelude.{All}
 use Rattle.std.proofs.lemmas.Bool.{cond-true, cond-false}
 use Rattle.adapter.specs.Memory.{patched, changed}
 use Rattle.adapter.specs.Commands.{is_queued}
 use Rattle.adapter.specs.Device as device
-use Rattle.adapter.specs.Device.{IsTold, Taken, PortState, Device}
-use Rattle.adapter.specs.Steps.{after, MayScribble, with_reset, IsKnownBy}
+use Rattle.adapter.specs.Device.{IsTold, Lasting, Taken, PortState, Device}
+use Rattle.adapter.specs.Steps.{after, MayScribble, with_reset, IsThatDisk, WereHeld, lasting_plugged}
 use Rattle.adapter.specs.Steps.Step.{Fault, Fatal, Fall, FrFall, LinkUp, Unplug, Plug, ResetEnds, Scribble}
 use Rattle.adapter.specs.declared.command.Operation.{Operation}
 use Rattle.adapter.specs.declared.tape.Entry.{Entry}
+use Rattle.adapter.specs.declared.tape.Entry.TheVariants as entry
 use Rattle.block_machine.specs.State.{Disk, Machine}
 use Rattle.block_machine.specs.Steps as machine
-use Rattle.block_machine.specs.Steps.{after_step}
+use Rattle.block_machine.specs.Steps.{HasHeld, after_step}
 use Rattle.agreement.specs.Slots.{Use, Free, Own, Serves, Uses, Stage, IsMove, OwnWaits, OwnTaken, OwnOver, IsOver, IsPlaced, IsServed, Armed}
-use Rattle.agreement.specs.Agrees.{Agrees, port_at, IsDiskOf, SameSectors, IsReceiving}
+use Rattle.agreement.specs.Agrees.{Agrees, port_at, IsDiskOf, SameSectors, HasLasting, IsReceiving}
 use Rattle.agreement.specs.Tape.{PutsIn}
 use Rattle.agreement.specs.Follows.{Follows}
 use Rattle.agreement.proofs.relation.SlotRelation.{SameSlot, SameSlot-refl, GainsNone, SameFixed, SameFixed-refl, NoPort, slot_on, slots_quiet, placed_on}
+use Rattle.agreement.proofs.relation.LastingSectors.{Gains, disk_of, gains_none, gains_quiet, lasting_on, lasting_put_in, lasting_put_elsewhere}
 use Rattle.agreement.proofs.relation.OneSlot.{changed_at, sectors_on, memory_low}
 use Rattle.agreement.proofs.relation.WrittenBytes.{MayChange, fixed_stays}
 
@@ -62,12 +64,12 @@ pub record QuietPort (p new : PortState) : Type 0 where
   pub fre : new.fre ≡ p.fre
   pub received_at : new.bases.fb ≡ p.bases.fb
   pub present : new.present ≡ p.present
-  pub disk : new.disk ≡ p.disk
+  pub disk : disk_of new ≡ disk_of p
 
 module _ (uses : Uses) (m : Machine) (d : Device) (a : Agrees uses m d) where
-  pub quiet_port : (port : ℕ) (new : PortState) (later : List Entry) → SameFixed NoPort uses d.memory d.memory d.tape later → QuietPort (d.port port) new →
+  pub quiet_port : (port : ℕ) (new : PortState) (later : List Entry) → SameFixed NoPort uses d.memory d.memory d.tape later → ((q : ℕ) → Gains d.tape later m q) → QuietPort (d.port port) new →
       Agrees uses m (record d { port = changed d.port port new; tape = later })
-  quiet_port port new later fixed q = record {
+  quiet_port port new later fixed gains q = record {
     slot = slots_quiet uses m m d a d.memory later fixed port new q.slots (λ id e _ r. r);
     apart = a.apart;
     received = changed_at d.port port new (λ k p. p.fre ≡ true → IsReceiving p k)
@@ -75,12 +77,15 @@ module _ (uses : Uses) (m : Machine) (d : Device) (a : Agrees uses m d) where
     disk = changed_at d.port port new (λ k p. IsDiskOf m p k)
         (record {
           present = (a.disk port).present ∙ sym q.present;
-          id = (a.disk port).id ∙ ap (λ (x : device.Disk). x.name) (sym q.disk);
-          size = (a.disk port).size ∙ ap (λ (x : device.Disk). x.size) (sym q.disk);
+          id = (a.disk port).id ∙ ap (λ (x : device.Disk × Lasting). x.0.name) (sym q.disk);
+          size = (a.disk port).size ∙ ap (λ (x : device.Disk × Lasting). x.0.size) (sym q.disk);
         })
         (λ k _. a.disk k);
     memory = a.memory;
-    sectors = λ t. changed_at d.port port new (λ k p. SameSectors m p.disk k) (subst (λ (x : device.Disk). SameSectors m x port) (sym q.disk) (a.sectors t port)) (λ k _. a.sectors t k);
+    sectors = λ t. changed_at d.port port new (λ k p. SameSectors m p.disk k) (subst (λ (x : device.Disk × Lasting). SameSectors m x.0 port) (sym q.disk) (a.sectors t port)) (λ k _. a.sectors t k);
+    lasting = λ t. changed_at d.port port new (λ k p. HasLasting m later p k)
+        (lasting_on m m d.tape later (d.port port) new port (ap (λ (x : device.Disk × Lasting). x.1) q.disk) (ap (λ (x : device.Disk × Lasting). x.0.size) q.disk) (λ _ _ h. h) (gains port) (a.lasting t port))
+        (λ k _. lasting_on m m d.tape later (d.port k) (d.port k) k refl refl (λ _ _ h. h) (gains k) (a.lasting t k));
   }
 
   -- no entry
@@ -107,7 +112,7 @@ module _ (uses : Uses) (m : Machine) (d : Device) (a : Agrees uses m d) where
     tape = refl;
     tells = ([], [], refl, refl, refl);
     plugged = plugged_kept d port _ [] refl (λ _. refl);
-    agrees = quiet_port port _ _ (fixed_more uses d.memory d.tape _ (λ q o u x. x))
+    agrees = quiet_port port _ _ (fixed_more uses d.memory d.tape _ (λ q o u x. x)) (λ q. gains_quiet d.tape _ m q (λ _ _. refl))
         (record { slots = λ k. record { issued = refl; sact = refl; taken = refl; st = refl; cr = refl; since = refl; list = refl }; fre = refl; received_at = refl; present = refl; disk = refl });
   }
 
@@ -121,18 +126,18 @@ module _ (uses : Uses) (m : Machine) (d : Device) (a : Agrees uses m d) where
     tape = refl;
     tells = ([], [], refl, refl, refl);
     plugged = plugged_kept d port _ [] refl (λ _. refl);
-    agrees = quiet_port port _ _ (fixed_more uses d.memory d.tape _ (λ q o u x. x))
+    agrees = quiet_port port _ _ (fixed_more uses d.memory d.tape _ (λ q o u x. x)) (λ q. gains_quiet d.tape _ m q (λ _ _. refl))
         (record { slots = λ k. record { issued = refl; sact = refl; taken = refl; st = refl; cr = refl; since = refl; list = refl }; fre = refl; received_at = refl; present = refl; disk = refl });
   }
 
   pub fr_fall_follows : (port : ℕ) → Follows uses m d (after (FrFall port) d)
   fr_fall_follows port =
-      silent _ refl refl (same_plugged d port _ refl) (quiet_port port _ d.tape (SameFixed-refl uses d.memory d.tape)
+      silent _ refl refl (same_plugged d port _ refl) (quiet_port port _ d.tape (SameFixed-refl uses d.memory d.tape) (gains_none d.tape m)
       (record { slots = λ k. record { issued = refl; sact = refl; taken = refl; st = refl; cr = refl; since = refl; list = refl }; fre = refl; received_at = refl; present = refl; disk = refl }))
 
   pub link_up_follows : (port sig : ℕ) (n : Bool) → Follows uses m d (after (LinkUp port sig n) d)
   link_up_follows port sig n =
-      silent _ refl refl (same_plugged d port _ refl) (quiet_port port _ d.tape (SameFixed-refl uses d.memory d.tape)
+      silent _ refl refl (same_plugged d port _ refl) (quiet_port port _ d.tape (SameFixed-refl uses d.memory d.tape) (gains_none d.tape m)
       (record { slots = λ k. record { issued = refl; sact = refl; taken = refl; st = refl; cr = refl; since = refl; list = refl }; fre = refl; received_at = refl; present = refl; disk = refl }))
 
   -- ---- bytes outside everything
@@ -170,6 +175,7 @@ module _ (uses : Uses) (m : Machine) (d : Device) (a : Agrees uses m d) where
         disk = a.disk;
         memory = memory_low m d.memory at bytes may.1 a.memory;
         sectors = a.sectors;
+        lasting = a.lasting;
       })
 
   -- ---- the engine stops
@@ -229,6 +235,7 @@ module _ (uses : Uses) (m : Machine) (d : Device) (a : Agrees uses m d) where
     disk = changed_at d.port port _ (λ k p. IsDiskOf m p k) (let x = a.disk port in record { present = x.present; id = x.id; size = x.size }) (λ k _. a.disk k);
     memory = a.memory;
     sectors = λ t. changed_at d.port port _ (λ k p. SameSectors m p.disk k) (a.sectors t port) (λ k _. a.sectors t k);
+    lasting = λ t. changed_at d.port port _ (λ k p. HasLasting m d.tape p k) (a.lasting t port) (λ k _. a.lasting t k);
   })
 
   reset_slot : (port k : ℕ) (u : Use) → IsServed m d.memory d.tape (d.port port) port k u → IsServed m d.memory d.tape (with_reset (d.port port)) port k u
@@ -276,6 +283,7 @@ module _ (uses : Uses) (m : Machine) (d : Device) (a : Agrees uses m d) where
     disk = λ q. let x = a.disk q in record { present = x.present; id = x.id; size = x.size };
     memory = a.memory;
     sectors = λ t q. a.sectors t q;
+    lasting = λ t q. a.lasting t q;
   })
 
   -- ---- disks come and go
@@ -309,6 +317,9 @@ module _ (uses : Uses) (m : Machine) (d : Device) (a : Agrees uses m d) where
               });
           memory = a.memory;
           sectors = λ t. changed_at d.port port _ (λ k p. SameSectors m' p.disk k) (sectors_on m m' (d.port port).disk port (λ k b lb. refl) (a.sectors t port)) (λ k _. sectors_on m m' (d.port k).disk k (λ s b lb. refl) (a.sectors t k));
+          lasting = λ t. changed_at d.port port _ (λ k p. HasLasting m' (d.tape ++ entry.Unplug (port_at port) ∷ []) p k)
+              (lasting_on m m' d.tape _ (d.port port) (d.port port) port refl refl (λ _ _ h. h) (gains_quiet d.tape _ m' port (λ _ _. refl)) (a.lasting t port))
+              (λ k _. lasting_on m m' d.tape _ (d.port k) (d.port k) k refl refl (λ _ _ h. h) (gains_quiet d.tape _ m' k (λ _ _. refl)) (a.lasting t k));
         };
       }
 
@@ -317,17 +328,31 @@ module _ (uses : Uses) (m : Machine) (d : Device) (a : Agrees uses m d) where
   content_of (Some told) k b = slice_index (told k) b
   content_of None k b = 0
 
-  pub plug_follows : (port : ℕ) (disk : device.Disk) → (d.port port).present ≡ false → (d.telling ≡ true → IsTold disk) → IsKnownBy (d.port port).disk disk → Follows uses m d (after (Plug port disk) d)
+  pub plug_follows : (port : ℕ) (disk : device.Disk) → (d.port port).present ≡ false → (d.telling ≡ true → IsTold disk) → (disk.name ≡ (d.port port).disk.name → IsThatDisk d port disk) → Follows uses m d (after (Plug port disk) d)
   unfolding content_of
   plug_follows port disk gone tells known =
       let content : Disk = content_of disk.sectors in
-      let step : machine.Step = machine.Replace (port_at port) disk.name disk.size content in
       let m' : Machine = after_step m (machine.Replace (port_at port) disk.name disk.size content) in
+      let come_in : (d.telling ≡ true → SameSectors m' disk port) = (λ t. record {
+        told = (tells t).0;
+        tells = (tells t).1;
+        same = λ k b kl bl.
+            ap (λ (o : Option (ℕ → List ℕ)). content_of o k b) (sym (tells t).1)
+            ∙ ap (λ (f : Disk). f k b) (sym (cond-true (port == port) content (m.disks (port_at port)) (eq-eqb port port refl)));
+      }) in
+      let comes_back : (d.telling ≡ true → IsThatDisk d port disk → (k : ℕ) → k < disk.size → HasHeld m (port_at port) k (content k)) = (λ t that k inside.
+      let s = a.sectors t port in
+      let told = tells t in
+      subst (λ (o : Option (ℕ → List ℕ)). HasHeld m (port_at port) k (content_of o k)) (sym told.1)
+      (⊎_elim
+      (λ (now : told.0 k ≡ s.told k). inl (λ b lb. ap (λ (l : List ℕ). slice_index l b) now ∙ s.same k b (subst (λ (n : ℕ). k < n) that.size inside) lb))
+      (λ (was : WereHeld d.tape (d.port port).lasting port k (told.0 k)). a.lasting t port k (subst (λ (n : ℕ). k < n) that.size inside) (told.0 k) was)
+      (that.holds s.told told.0 s.tells told.1 k inside))) in
       record {
         steps = machine.Replace (port_at port) disk.name disk.size content ∷ [];
-        may = (tt, ((a.disk port).present ∙ gone, λ same. known (same ∙ (a.disk port).id) ∙ sym (a.disk port).size));
+        may = (tt, ((a.disk port).present ∙ gone, λ same. (known (same ∙ (a.disk port).id)).size ∙ sym (a.disk port).size));
         telling = refl;
-        told = λ _. (tt, tt);
+        told = λ t. (tt, λ same. comes_back t (known (same ∙ (a.disk port).id)));
         gained = _;
         tape = refl;
         tells = (machine.Replace (port_at port) disk.name disk.size content ∷ [], [], record { size = disk.size; content = content; step = refl }, refl, refl);
@@ -350,14 +375,10 @@ module _ (uses : Uses) (m : Machine) (d : Device) (a : Agrees uses m d) where
                 size = cond-false (k == port) disk.size (m.sizes (port_at k)) (ne_eqb k port ne) ∙ (a.disk k).size;
               });
           memory = a.memory;
-          sectors = λ t. changed_at d.port port _ (λ k p. SameSectors m' p.disk k)
-              (record {
-                told = (tells t).0;
-                tells = (tells t).1;
-                same = λ k b kl bl.
-                    ap (λ (o : Option (ℕ → List ℕ)). content_of o k b) (sym (tells t).1)
-                    ∙ ap (λ (f : Disk). f k b) (sym (cond-true (port == port) content (m.disks (port_at port)) (eq-eqb port port refl)));
-              })
+          sectors = λ t. changed_at d.port port _ (λ k p. SameSectors m' p.disk k) (come_in t)
               (λ k ne. sectors_on m m' (d.port k).disk k (λ s b lb. ap (λ (f : Disk). f s b) (cond-false (k == port) content (m.disks (port_at k)) (ne_eqb k port ne))) (a.sectors t k));
+          lasting = λ t. changed_at d.port port _ (λ k p. HasLasting m' (d.tape ++ entry.Plug (port_at port) disk.name ∷ []) p k)
+              (lasting_put_in m port disk content d.tape _ (λ _ _. refl) (d.port port) (record (d.port port) { disk = disk; lasting = lasting_plugged (d.port port).lasting (d.port port).disk disk (length d.tape) }) (a.disk port).id refl refl (λ same. (known same).size) (come_in t) (a.lasting t port))
+              (λ k ne. lasting_put_elsewhere m port disk content d.tape _ (λ _ _. refl) (d.port k) k ne (a.lasting t k));
         };
       }

@@ -16,6 +16,7 @@ use Rattle.agreement.specs.Driver.{MayStore}
 use Rattle.agreement.specs.Follows.{Follows}
 use Rattle.agreement.proofs.relation.SlotRelation.{SameSlot-refl, SameFixed-refl, NoPort, slot_on}
 use Rattle.agreement.proofs.relation.OneSlot.{memory_low}
+use Rattle.agreement.proofs.relation.LastingSectors.{gains_none}
 use Rattle.agreement.proofs.relation.OtherSlots.{quiet_port, same_plugged}
 use Rattle.agreement.proofs.relation.WrittenBytes.{stored_fixed, stored_low}
 use Rattle.agreement.proofs.steps.FollowedSteps.{steps_follow}
@@ -54,7 +55,7 @@ note_times px.Ci v p = (refl, refl)
 
 noted_agrees : (uses : Uses) (m : Machine) (r : Reg) (v : ℕ) (d : Device) → Agrees uses m d → Agrees uses m (noted r v d)
 noted_agrees uses m (Px port r) v d a =
-    quiet_port uses m d a port.0 _ d.tape (SameFixed-refl uses d.memory d.tape)
+    quiet_port uses m d a port.0 _ d.tape (SameFixed-refl uses d.memory d.tape) (gains_none d.tape m)
     (record { slots = λ k. record { issued = refl; sact = refl; taken = refl; st = refl; cr = refl; since = (note_times r v (d.port port.0)).0; list = refl }; fre = refl; received_at = refl; present = refl; disk = refl })
 noted_agrees uses m Cap v d a = a
 noted_agrees uses m Ghc v d a = a
@@ -112,6 +113,7 @@ stored_agrees uses m d at bytes a may = record {
   disk = a.disk;
   memory = memory_low m d.memory at bytes (stored_low uses at (length bytes) may) a.memory;
   sectors = a.sectors;
+  lasting = a.lasting;
 }
 
 pub store_follows : (uses : Uses) (m : Machine) (at : ℕ) (bytes : List ℕ) (old new : Device) → IsReached m → Agrees uses m old → MayStore uses at (length bytes) → Stores at bytes old new → Follows uses m old new

@@ -29,6 +29,7 @@ use Rattle.agreement.specs.Tape.{PutsIn, touched_by, touches}
 use Rattle.agreement.specs.Follows.{Follows}
 use Rattle.agreement.proofs.relation.SlotRelation.{NoPort, placed_on}
 use Rattle.agreement.proofs.relation.TouchesAndEnds.{Goes, Goes-refl, Goes-trans, touch_goes, touch_moves}
+use Rattle.agreement.proofs.relation.LastingSectors.{gains_clear, lasting_on, lasting_swept}
 use Rattle.agreement.proofs.relation.OneSlot.{acted, sectors_on, others_move}
 use Rattle.agreement.proofs.relation.OtherSlots.{some_none, fixed_more, plugged_kept}
 use Rattle.agreement.proofs.steps.MovedSector.{TakenAs, taken_as, means_taken, upto_more, some_same}
@@ -231,6 +232,12 @@ module _ (uses : Uses) (m : Machine) (d : Device) (a : Agrees uses m d) (port sl
     abbrev swept_machine : Machine
     swept_machine = left.after m (touches h.pending t.cleared count)
 
+    zeroed : (k b : ℕ) → first ≤ k → k < first + count → b < 512 → slice_index (replicate 512 0) b ≡ swept_machine.disks (port_at port) k b
+    zeroed k b low high bl =
+        get_or-replicate 512 b 0 0 bl
+        ∙ sym (done.zeros k b (let c = starts.0 in omega (arith, c, low)) (let c = starts.0 in omega (arith, c, high)))
+        ∙ ap (λ (p : Port). swept_machine.disks p k b) here_port
+
     cleared : SameSectors m (d.port port).disk port → SameSectors swept_machine (disk_cleared (d.port port).disk first count) port
     cleared s = record {
       told = λ k. if nat_le first k && nat_lt k (first + count) then replicate 512 0 else s.told k;
@@ -245,9 +252,7 @@ module _ (uses : Uses) (m : Machine) (d : Device) (a : Agrees uses m d) (port sl
             let low : first ≤ k = leb-true first k q.0 in
             let high : k < first + count = ltb-true k (first + count) q.1 in
             ap (λ (l : List ℕ). slice_index l b) (cond-true (nat_le first k && nat_lt k (first + count)) (replicate 512 0) (s.told k) e)
-            ∙ get_or-replicate 512 b 0 0 bl
-            ∙ sym (done.zeros k b (let c = starts.0 in omega (arith, c, low)) (let c = starts.0 in omega (arith, c, high)))
-            ∙ ap (λ (p : Port). swept_machine.disks p k b) here_port
+            ∙ zeroed k b low high bl
         by k b kl bl false e =
             ap (λ (l : List ℕ). slice_index l b) (cond-false (nat_le first k && nat_lt k (first + count)) (replicate 512 0) (s.told k) e)
             ∙ s.same k b kl bl
@@ -310,6 +315,8 @@ module _ (uses : Uses) (m : Machine) (d : Device) (a : Agrees uses m d) (port sl
         size = refl;
         sectors = λ t'. cleared (a.sectors t' port);
         other_sectors = λ t' q ne. sectors_on m swept_machine (d.port q).disk q (λ k b lb. done.others (port_at q) k b (λ e _ _. ne (e ∙ h.port_is))) (a.sectors t' q);
+        lasting = λ t'. lasting_on m swept_machine d.tape _ (d.port port) (d.port port) port refl refl (lasting_swept m h.pending t.cleared count port) (gains_clear d.tape swept_machine port slot first count port zeroed) (a.lasting t' port);
+        other_lasting = λ t' q ne. lasting_on m swept_machine d.tape _ (d.port q) (d.port q) q refl refl (lasting_swept m h.pending t.cleared count q) (gains_clear d.tape swept_machine port slot first count q zeroed) (a.lasting t' q);
         memory = λ f b from small. a.memory f b from small ∙ ap (λ (g : Memory). g f b) (sym done.memory);
       });
     }

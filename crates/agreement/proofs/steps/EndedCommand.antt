@@ -7,7 +7,7 @@ use Rattle.ata_types.specs.declared.request.RequestId.{RequestId}
 use Rattle.adapter.specs.Commands.{Meaning, is_queued}
 use Rattle.adapter.specs.Memory.{bytes_at, changed}
 use Rattle.adapter.specs.Device.{Taken, Device}
-use Rattle.adapter.specs.Steps.{after, MayBeDone, IsFinished, with_done, done_entry}
+use Rattle.adapter.specs.Steps.{after, MayBeDone, IsFinished, with_done, with_flush, done_entry}
 use Rattle.adapter.specs.Steps.Step.{Done}
 use Rattle.adapter.specs.declared.command.Operation.{Operation}
 use Rattle.adapter.specs.declared.command.Operation.TheVariants as operation
@@ -25,6 +25,7 @@ use Rattle.agreement.specs.Tape.{TellsDone}
 use Rattle.agreement.specs.Follows.{Follows}
 use Rattle.agreement.proofs.relation.SlotRelation.{SameSlot, NoPort, placed_on, brought_on, known_on}
 use Rattle.agreement.proofs.relation.TouchesAndEnds.{Goes, Goes-refl, end_goes, end_moves}
+use Rattle.agreement.proofs.relation.LastingSectors.{gains_quiet, lasting_ended, lasting_ended_elsewhere, lasting_on, lasting_read}
 use Rattle.agreement.proofs.relation.OneSlot.{acted, sectors_on, others_move}
 use Rattle.agreement.proofs.relation.OtherSlots.{some_none, fixed_more, gains_one, plugged_kept}
 use Rattle.agreement.proofs.steps.TakenCommand.{own_plain}
@@ -90,7 +91,7 @@ all_touched Trim memory port e t fin is places flush p =
         (λ (y : (t.moved ≡ 1) × MeansRange t.block e.request). y.1) p.1
 
 module _ (uses : Uses) (m : Machine) (d : Device) (a : Agrees uses m d) (reached : IsReached m) (port slot flag : ℕ) (t : Taken) (can : MayBeDone d port slot flag t) where
-  others_same : (k : ℕ) → k ≢ slot → SameSlot (d.port port) (with_done (d.port port) slot flag t.meaning.operation) k
+  others_same : (k : ℕ) → k ≢ slot → SameSlot (d.port port) (with_flush (with_done (d.port port) slot flag t.meaning.operation) t.meaning.operation (length d.tape)) k
   others_same k ne = record {
     issued = issued_other (is_queued t.meaning.operation) (d.port port).ci slot k ne;
     sact = sact_other (is_queued t.meaning.operation) (d.port port).sact slot k ne;
@@ -118,14 +119,14 @@ module _ (uses : Uses) (m : Machine) (d : Device) (a : Agrees uses m d) (reached
       refl,
     );
     plugged = plugged_kept d port _ (machine.End h.pending ∷ []) refl (λ _. refl);
-    agrees = acted NoPort uses m (after_step m (machine.End h.pending)) d a d.memory (d.tape ++ done_entry port slot t.meaning.operation ∷ []) port slot (with_done (d.port port) slot flag t.meaning.operation) (record {
+    agrees = acted NoPort uses m (after_step m (machine.End h.pending)) d a d.memory (d.tape ++ done_entry port slot t.meaning.operation ∷ []) port slot (with_flush (with_done (d.port port) slot flag t.meaning.operation) t.meaning.operation (length d.tape)) (record {
       id = h.pending.request.id;
       goes = end_goes m h.pending;
       moves = others_move uses m (after_step m (machine.End h.pending)) d a port slot id u (subst (λ (n : RequestId). Goes m (after_step m (machine.End h.pending)) n) h.id_is (end_goes m h.pending));
       only = λ q z. absurd z;
       fixed = fixed_more uses d.memory d.tape (done_entry port slot t.meaning.operation) (λ q o v z. z);
       others = others_same;
-      here = subst (λ (v : Use). IsServed (after_step m (machine.End h.pending)) d.memory (d.tape ++ done_entry port slot t.meaning.operation ∷ []) (with_done (d.port port) slot flag t.meaning.operation) port slot v) (sym u)
+      here = subst (λ (v : Use). IsServed (after_step m (machine.End h.pending)) d.memory (d.tape ++ done_entry port slot t.meaning.operation ∷ []) (with_flush (with_done (d.port port) slot flag t.meaning.operation) t.meaning.operation (length d.tape)) port slot v) (sym u)
           (record {
             pending = mark_ended h.pending;
             moves = end_moves m h.pending h.moves;
@@ -151,6 +152,8 @@ module _ (uses : Uses) (m : Machine) (d : Device) (a : Agrees uses m d) (reached
       size = refl;
       sectors = λ t'. sectors_on m (after_step m (machine.End h.pending)) (d.port port).disk port (λ k b lb. refl) (a.sectors t' port);
       other_sectors = λ t' q ne. sectors_on m (after_step m (machine.End h.pending)) (d.port q).disk q (λ k b lb. refl) (a.sectors t' q);
+      lasting = λ t'. lasting_ended m h.pending d.tape (done_entry port slot t.meaning.operation) (λ _ _. refl) (with_done (d.port port) slot flag t.meaning.operation) port t.meaning.operation means.op (a.sectors t' port) (a.lasting t' port);
+      other_lasting = λ t' q ne. lasting_ended_elsewhere m h.pending d.tape (done_entry port slot t.meaning.operation) (λ _ _. refl) (d.port q) port q h.port_is ne (a.lasting t' q);
       memory = a.memory;
     });
   }
@@ -174,14 +177,14 @@ module _ (uses : Uses) (m : Machine) (d : Device) (a : Agrees uses m d) (reached
     tape = refl;
     tells = ([], [], subst (λ (w : Option Op). TellsDone w m (record { port = record { 0 = port }; slot = record { 0 = slot }; operation = t.meaning.operation }) []) (sym own) refl, refl, refl);
     plugged = plugged_kept d port _ [] refl (λ _. refl);
-    agrees = acted NoPort uses m m d a d.memory (d.tape ++ done_entry port slot t.meaning.operation ∷ []) port slot (with_done (d.port port) slot flag t.meaning.operation) (record {
+    agrees = acted NoPort uses m m d a d.memory (d.tape ++ done_entry port slot t.meaning.operation ∷ []) port slot (with_flush (with_done (d.port port) slot flag t.meaning.operation) t.meaning.operation (length d.tape)) (record {
       id = record { 0 = 0 };
       goes = Goes-refl m (record { 0 = 0 });
       moves = λ port' slot' id' v ne y is r. r;
       only = λ q z. absurd z;
       fixed = fixed_more uses d.memory d.tape (done_entry port slot t.meaning.operation) (λ q o v z. z);
       others = others_same;
-      here = subst (λ (v : Use). IsServed m d.memory (d.tape ++ done_entry port slot t.meaning.operation ∷ []) (with_done (d.port port) slot flag t.meaning.operation) port slot v) (sym u)
+      here = subst (λ (v : Use). IsServed m d.memory (d.tape ++ done_entry port slot t.meaning.operation ∷ []) (with_flush (with_done (d.port port) slot flag t.meaning.operation) t.meaning.operation (length d.tape)) port slot v) (sym u)
           (record {
             own = h.own;
             head = h.head;
@@ -203,6 +206,8 @@ module _ (uses : Uses) (m : Machine) (d : Device) (a : Agrees uses m d) (reached
       size = refl;
       sectors = λ t'. a.sectors t' port;
       other_sectors = λ t' q ne. a.sectors t' q;
+      lasting = λ t'. lasting_read m d.tape (done_entry port slot t.meaning.operation) (with_done (d.port port) slot flag t.meaning.operation) port t.meaning.operation (λ _ _. refl) own (a.lasting t' port);
+      other_lasting = λ t' q ne. lasting_on m m d.tape _ (d.port q) (d.port q) q refl refl (λ _ _ held. held) (gains_quiet d.tape (done_entry port slot t.meaning.operation) m q (λ _ _. refl)) (a.lasting t' q);
       memory = a.memory;
     });
   }

@@ -33,9 +33,10 @@ use Rattle.agreement.specs.Follows.{Follows}
 use Rattle.agreement.proofs.relation.SlotRelation.{SameSlot, SameFixed, SameTable, NoPort, told_on, placed_on}
 use Rattle.agreement.proofs.relation.TouchesAndEnds.{Goes, Goes-refl, touch_goes, touch_moves}
 use Rattle.agreement.proofs.relation.WrittenBytes.{fixed_stays}
+use Rattle.agreement.proofs.relation.LastingSectors.{gains_quiet, gains_write, lasting_on, lasting_touched, quiet_move}
 use Rattle.agreement.proofs.relation.OneSlot.{acted, sectors_on, others_move}
 use Rattle.agreement.proofs.relation.OtherSlots.{some_none, gains_one, fixed_more, plugged_kept}
-use Rattle.agreement.proofs.steps.WrittenSector.{memory_put, put_elsewhere, sector_written}
+use Rattle.agreement.proofs.steps.WrittenSector.{memory_put, put_elsewhere, put_there, sector_written}
 use Rattle.agreement.proofs.relation.ReachedMachine.{client_frame}
 use Rattle.agreement.proofs.steps.TakenCommand.{none_op}
 
@@ -253,6 +254,8 @@ module _ (uses : Uses) (m : Machine) (d : Device) (a : Agrees uses m d) (reached
           size = refl;
           sectors = λ t'. sectors_on m (after_step m (Touch h.pending t.moved (slice_index bytes))) (d.port port).disk port (λ k b lb. disks_same (port_at port) k b) (a.sectors t' port);
           other_sectors = λ t' q ne. sectors_on m (after_step m (Touch h.pending t.moved (slice_index bytes))) (d.port q).disk q (λ k b lb. disks_same (port_at q) k b) (a.sectors t' q);
+          lasting = λ t'. lasting_on m (after_step m (Touch h.pending t.moved (slice_index bytes))) d.tape later (d.port port) (d.port port) port refl refl (lasting_touched m h.pending t.moved (slice_index bytes) port) (gains_quiet d.tape (entry.Move (move_of port slot t bytes)) (after_step m (Touch h.pending t.moved (slice_index bytes))) port (quiet_move port slot t bytes (no_write o))) (a.lasting t' port);
+          other_lasting = λ t' q ne. lasting_on m (after_step m (Touch h.pending t.moved (slice_index bytes))) d.tape later (d.port q) (d.port q) q refl refl (lasting_touched m h.pending t.moved (slice_index bytes) q) (gains_quiet d.tape (entry.Move (move_of port slot t bytes)) (after_step m (Touch h.pending t.moved (slice_index bytes))) q (quiet_move port slot t bytes (no_write o))) (a.lasting t' q);
           memory = λ f b from small.
               memory_put m d.memory (next_place t) (frame_at h.pending.request.asked.frames.items (t.moved / 8)) (512 * (t.moved % 8)) bytes
               (place Read reads tt refl sector inside) (omega (arith, size)) a.memory f b from small
@@ -263,6 +266,9 @@ module _ (uses : Uses) (m : Machine) (d : Device) (a : Agrees uses m d) (reached
         where
           read_is_no_write : {A : Type 0} → Read ≡ Write → A
           read_is_no_write z = absurd cc
+
+          no_write : {w : Option Op} → w ≡ Some Read → w ≡ Some Write → ⊥
+          no_write r w = let z : Some Read ≡ Some Write = sym r ∙ w in cc
 
     -- ---- a write
 
@@ -325,12 +331,22 @@ module _ (uses : Uses) (m : Machine) (d : Device) (a : Agrees uses m d) (reached
               (sector_written m (after_step m (Touch h.pending t.moved (slice_index bytes))) (d.port port).disk port (sector_of h.pending.request t.moved) bytes (h.pending.request.held t.moved) (λ k b. now (port_at port) k b) holds (a.sectors t' port));
           other_sectors = λ t' q ne. sectors_on m (after_step m (Touch h.pending t.moved (slice_index bytes))) (d.port q).disk q
               (λ k b lb. now (port_at q) k b ∙ ap (λ (f : Block). f b) (put_elsewhere (port_at port) (sector_of h.pending.request t.moved) (h.pending.request.held t.moved) m.disks (port_at q) k (λ z _. ne z))) (a.sectors t' q);
+          lasting = λ t'. lasting_on m (after_step m (Touch h.pending t.moved (slice_index bytes))) d.tape _ (d.port port) (d.port port) port refl refl (lasting_touched m h.pending t.moved (slice_index bytes) port) (gains_write d.tape (after_step m (Touch h.pending t.moved (slice_index bytes))) port slot t bytes port written) (a.lasting t' port);
+          other_lasting = λ t' q ne. lasting_on m (after_step m (Touch h.pending t.moved (slice_index bytes))) d.tape _ (d.port q) (d.port q) q refl refl (lasting_touched m h.pending t.moved (slice_index bytes) q) (gains_write d.tape (after_step m (Touch h.pending t.moved (slice_index bytes))) port slot t bytes q written) (a.lasting t' q);
           memory = λ f b from small. a.memory f b from small ∙ ap (λ (g : state.Memory). g f b) (sym memory_kept);
         });
       }
         where
           write_is_no_read : {A : Type 0} → Write ≡ Read → A
           write_is_no_read z = absurd cc
+
+          -- the machine's disk holds what was moved
+          written : (b : ℕ) → b < 512 → slice_index bytes b ≡ (after_step m (Touch h.pending t.moved (slice_index bytes))).disks (port_at port) (next_sector t) b
+          written b lb =
+              holds b lb
+              ∙ ap (λ (f : Block). f b) (sym (put_there (port_at port) (sector_of h.pending.request t.moved) (h.pending.request.held t.moved) m.disks))
+              ∙ sym (now (port_at port) (sector_of h.pending.request t.moved) b)
+              ∙ ap (λ (k : ℕ). (after_step m (Touch h.pending t.moved (slice_index bytes))).disks (port_at port) k b) (sym sector)
 
     -- ---- a trim's block
 
@@ -384,6 +400,11 @@ module _ (uses : Uses) (m : Machine) (d : Device) (a : Agrees uses m d) (reached
           size = refl;
           sectors = λ t'. a.sectors t' port;
           other_sectors = λ t' q ne. a.sectors t' q;
+          lasting = λ t'. lasting_on m m d.tape _ (d.port port) (d.port port) port refl refl (λ _ _ held. held) (gains_quiet d.tape _ m port (quiet_move port slot t bytes (no_write o))) (a.lasting t' port);
+          other_lasting = λ t' q ne. lasting_on m m d.tape _ (d.port q) (d.port q) q refl refl (λ _ _ held. held) (gains_quiet d.tape _ m q (quiet_move port slot t bytes (no_write o))) (a.lasting t' q);
           memory = a.memory;
         });
       }
+        where
+          no_write : {w : Option Op} → w ≡ Some Trim → w ≡ Some Write → ⊥
+          no_write r w = let z : Some Trim ≡ Some Write = sym r ∙ w in cc

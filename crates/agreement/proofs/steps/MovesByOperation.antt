@@ -1,7 +1,7 @@
 -- Every move, by its operation.
 use Rattle.std.proofs.Common.{ℕ, ◌++◌, ◌≡◌, ◌⊎◌, ◌<◌, ◌+◌, List, [], ◌∷◌, length, slice_index, Option, Some, None, refl, sym, ◌∙◌, ap, subst, arith, inl, inr}
 use Rattle.ata_types.specs.declared.request.Op.{Op}
-use Rattle.ata_types.specs.declared.request.Op.TheVariants.{Flush}
+use Rattle.ata_types.specs.declared.request.Op.TheVariants.{Write, Flush}
 use Rattle.ata_types.specs.declared.request.RequestId.{RequestId}
 use Rattle.adapter.specs.Commands.{Meaning}
 use Rattle.adapter.specs.Memory.{patched, bytes_at, changed}
@@ -24,6 +24,7 @@ use Rattle.agreement.specs.Follows.{Follows}
 use Rattle.agreement.proofs.relation.SlotRelation.{known_on, SameFixed, told_on, placed_on}
 use Rattle.agreement.proofs.relation.TouchesAndEnds.{Goes-refl}
 use Rattle.agreement.proofs.relation.WrittenBytes.{fixed_stays}
+use Rattle.agreement.proofs.relation.LastingSectors.{IsQuiet, gains_quiet, lasting_on, quiet_move}
 use Rattle.agreement.proofs.relation.OneSlot.{acted, memory_low}
 use Rattle.agreement.proofs.relation.OtherSlots.{some_none, gains_one, plugged_kept}
 use Rattle.agreement.proofs.steps.TakenCommand.{none_op}
@@ -113,6 +114,12 @@ module _ (uses : Uses) (m : Machine) (d : Device) (a : Agrees uses m d) (port sl
           ∙ patched_bytes d.memory (next_place t) bytes;
     }
 
+    no_write : {w : Option Op} → w ≡ None → w ≡ Some Write → ⊥
+    no_write r w = let z : None ≡ Some Write = sym r ∙ w in cc
+
+    quiet : IsQuiet (entry.Move (move_of port slot t bytes))
+    quiet = quiet_move port slot t bytes (no_write (ap op_of operation_is ∙ h.own))
+
     used : uses port slot ≡ Free → ⊥
     used f = let z : Own o ≡ Free = sym u ∙ f in cc
 
@@ -165,6 +172,8 @@ module _ (uses : Uses) (m : Machine) (d : Device) (a : Agrees uses m d) (port sl
         size = refl;
         sectors = λ t'. a.sectors t' port;
         other_sectors = λ t' q ne. a.sectors t' q;
+        lasting = λ t'. lasting_on m m d.tape _ (d.port port) (d.port port) port refl refl (λ _ _ held. held) (gains_quiet d.tape _ m port quiet) (a.lasting t' port);
+        other_lasting = λ t' q ne. lasting_on m m d.tape _ (d.port q) (d.port q) q refl refl (λ _ _ held. held) (gains_quiet d.tape _ m q quiet) (a.lasting t' q);
         memory = memory_low m d.memory (next_place t) bytes (let below = h.placed.port_below in let p = place in omega (arith, p, size, below)) a.memory;
       });
     }

@@ -10,7 +10,7 @@ use Rattle.hba_regs.specs.declared.reg.PortReg.TheVariants as px
 use Rattle.adapter.specs.Access.{Writes, written, port_written, with_st, with_fre, unacknowledged}
 use Rattle.adapter.specs.Commands.{is_queued}
 use Rattle.adapter.specs.Device as device
-use Rattle.adapter.specs.Device.{PortState, Device}
+use Rattle.adapter.specs.Device.{Lasting, PortState, Device}
 use Rattle.adapter.specs.Kept.{Keeps}
 use Rattle.adapter.specs.Rules.{MayWrite, Stays}
 use Rattle.adapter.specs.Steps.{Steps, with_port, restarted}
@@ -21,10 +21,11 @@ use Rattle.block_machine.specs.Left as left
 use Rattle.block_machine.specs.Histories.{IsReached}
 use Rattle.agreement.specs.Places.{list_of, received_of}
 use Rattle.agreement.specs.Slots.{Use, Free, Own, Serves, Uses, Stage, OwnWaits, OwnTaken, OwnOver, IsServed, Armed, IsFree}
-use Rattle.agreement.specs.Agrees.{Agrees, IsDiskOf, SameSectors, IsReceiving}
+use Rattle.agreement.specs.Agrees.{Agrees, IsDiskOf, SameSectors, HasLasting, IsReceiving}
 use Rattle.agreement.specs.Driver.{AllFree, IsCommand, LeavesUses}
 use Rattle.agreement.specs.Follows.{Follows}
 use Rattle.agreement.proofs.relation.SlotRelation.{SameSlot, SameSlot-refl, served_on, own_free, serves_free, GainsNone-refl, placed_on}
+use Rattle.agreement.proofs.relation.LastingSectors.{disk_of, lasting_same}
 use Rattle.agreement.proofs.relation.OneSlot.{changed_at}
 use Rattle.agreement.proofs.relation.OtherSlots.{true_false, same_plugged}
 use Rattle.agreement.proofs.steps.AdapterCalls.{effect_on}
@@ -32,7 +33,7 @@ use Rattle.agreement.proofs.steps.FollowedSteps.{steps_follow}
 
 -- one port is another now, with the same disk
 pub port_agrees : (uses : Uses) (m : Machine) (d : Device) → Agrees uses m d → (port : ℕ) (new : PortState) → ((k : ℕ) → IsServed m d.memory d.tape new port k (uses port k)) →
-    (new.fre ≡ true → IsReceiving new port) → new.present ≡ (d.port port).present → new.disk ≡ (d.port port).disk → Agrees uses m (with_port d port new)
+    (new.fre ≡ true → IsReceiving new port) → new.present ≡ (d.port port).present → disk_of new ≡ disk_of (d.port port) → Agrees uses m (with_port d port new)
 port_agrees uses m d a port new slots receives present disk = record {
   slot = λ q k. changed_at d.port port new (λ x p. IsServed m d.memory d.tape p x k (uses x k)) (slots k) (λ x _. a.slot x k) q;
   apart = a.apart;
@@ -40,12 +41,13 @@ port_agrees uses m d a port new slots receives present disk = record {
   disk = changed_at d.port port new (λ k p. IsDiskOf m p k)
       (record {
         present = (a.disk port).present ∙ sym present;
-        id = (a.disk port).id ∙ ap (λ (x : device.Disk). x.name) (sym disk);
-        size = (a.disk port).size ∙ ap (λ (x : device.Disk). x.size) (sym disk);
+        id = (a.disk port).id ∙ ap (λ (x : device.Disk × Lasting). x.0.name) (sym disk);
+        size = (a.disk port).size ∙ ap (λ (x : device.Disk × Lasting). x.0.size) (sym disk);
       })
       (λ k _. a.disk k);
   memory = a.memory;
-  sectors = λ t. changed_at d.port port new (λ k p. SameSectors m p.disk k) (subst (λ (x : device.Disk). SameSectors m x port) (sym disk) (a.sectors t port)) (λ k _. a.sectors t k);
+  sectors = λ t. changed_at d.port port new (λ k p. SameSectors m p.disk k) (subst (λ (x : device.Disk × Lasting). SameSectors m x.0 port) (sym disk) (a.sectors t port)) (λ k _. a.sectors t k);
+  lasting = λ t. changed_at d.port port new (λ k p. HasLasting m d.tape p k) (lasting_same m d.tape (d.port port) new port disk (a.lasting t port)) (λ k _. a.lasting t k);
 }
 
 -- a slot that looks the same, in a memory that is the same
@@ -63,7 +65,7 @@ module _ (uses : Uses) (m : Machine) (d : Device) (a : Agrees uses m d) (port : 
 
   -- a port that looks the same
   pub alike : (new : PortState) → ((k : ℕ) → SameSlot (d.port port) new k) → new.fre ≡ (d.port port).fre → new.bases.fb ≡ (d.port port).bases.fb →
-      new.present ≡ (d.port port).present → new.disk ≡ (d.port port).disk → Agrees uses m (with_port d port new)
+      new.present ≡ (d.port port).present → disk_of new ≡ disk_of (d.port port) → Agrees uses m (with_port d port new)
   alike new same fre fb present disk =
       port_agrees uses m d a port new (λ k. slot_stays m d (d.port port) new port k (uses port k) (same k) (a.slot port k)) (received_on new fre fb) present disk
 
@@ -246,18 +248,19 @@ module _ (uses : Uses) (m : Machine) (d : Device) (a : Agrees uses m d) (port : 
 module _ (uses : Uses) (m : Machine) (d : Device) (a : Agrees uses m d) where
   -- the ports look the same
   all_alike : (new : ℕ → PortState) → ((q k : ℕ) → SameSlot (d.port q) (new q) k) → ((q : ℕ) → (new q).fre ≡ (d.port q).fre) → ((q : ℕ) → (new q).bases ≡ (d.port q).bases) →
-      ((q : ℕ) → (new q).present ≡ (d.port q).present) → ((q : ℕ) → (new q).disk ≡ (d.port q).disk) → Agrees uses m (record d { port = new })
+      ((q : ℕ) → (new q).present ≡ (d.port q).present) → ((q : ℕ) → disk_of (new q) ≡ disk_of (d.port q)) → Agrees uses m (record d { port = new })
   all_alike new same fre bases present disk = record {
     slot = λ q k. slot_stays m d (d.port q) (new q) q k (uses q k) (same q k) (a.slot q k);
     apart = a.apart;
     received = λ q f. let r = a.received q (sym (fre q) ∙ f) in record { below = r.below; area = ap (λ (b : device.Bases). b.fb) (bases q) ∙ r.area };
     disk = λ q. record {
       present = (a.disk q).present ∙ sym (present q);
-      id = (a.disk q).id ∙ ap (λ (x : device.Disk). x.name) (sym (disk q));
-      size = (a.disk q).size ∙ ap (λ (x : device.Disk). x.size) (sym (disk q));
+      id = (a.disk q).id ∙ ap (λ (x : device.Disk × Lasting). x.0.name) (sym (disk q));
+      size = (a.disk q).size ∙ ap (λ (x : device.Disk × Lasting). x.0.size) (sym (disk q));
     };
     memory = a.memory;
-    sectors = λ t q. subst (λ (x : device.Disk). SameSectors m x q) (sym (disk q)) (a.sectors t q);
+    sectors = λ t q. subst (λ (x : device.Disk × Lasting). SameSectors m x.0 q) (sym (disk q)) (a.sectors t q);
+    lasting = λ t q. lasting_same m d.tape (d.port q) (new q) q (disk q) (a.lasting t q);
   }
 
   told_on : (v : ℕ) → Agrees uses m (written Is v d)
@@ -280,7 +283,7 @@ module _ (uses : Uses) (m : Machine) (d : Device) (a : Agrees uses m d) where
       present q true = refl
       present q false = refl
 
-      disk : (q : ℕ) (b : Bool) → (if b then unacknowledged (d.port q) else d.port q).disk ≡ (d.port q).disk
+      disk : (q : ℕ) (b : Bool) → disk_of (if b then unacknowledged (d.port q) else d.port q) ≡ disk_of (d.port q)
       disk q true = refl
       disk q false = refl
 
@@ -290,7 +293,7 @@ module _ (uses : Uses) (m : Machine) (d : Device) (a : Agrees uses m d) where
       -- PxFB is written with FRE clear
       off : (s : PortReg) → s ≡ px.Fb → MayWrite (Px port s) v d → (d.port port.0).fre ≡ true → ⊥
       off s is may on = let y = subst (λ (t : PortReg). MayWrite (Px port t) v d) is may in true_false on y.2.1
-  written_agrees Ghc v may x = record { slot = a.slot; apart = a.apart; received = a.received; disk = a.disk; memory = a.memory; sectors = a.sectors }
+  written_agrees Ghc v may x = record { slot = a.slot; apart = a.apart; received = a.received; disk = a.disk; memory = a.memory; sectors = a.sectors; lasting = a.lasting }
   written_agrees Is v may x = told_on v
   written_agrees Cap v may x = a
   written_agrees Pi v may x = a

@@ -171,6 +171,8 @@ module _ (uses : Uses) (m : Machine) (d : Device) (a : Agrees uses m d) (port sl
         size = refl;
         sectors = λ t. a.sectors t port;
         other_sectors = λ t q ne. a.sectors t q;
+        lasting = λ t. a.lasting t port;
+        other_lasting = λ t q ne. a.lasting t q;
         memory = a.memory;
       });
     }

@@ -1,10 +1,10 @@
 -- The first read, as device and as machine.
-use Rattle.std.proofs.Common.{ℕ, ◌≡◌, ◌<◌, ◌+◌, ◌*◌, ◌^◌, ◌==◌, ◌≢◌, Bool, true, false, cond, List, [], ◌∷◌, length, slice_index, refl, sym, ◌∙◌, ap, subst, arith, inl, ⊎_elim, ne_eqb}
+use Rattle.std.proofs.Common.{ℕ, ◌≡◌, ◌<◌, ◌+◌, ◌*◌, ◌^◌, ◌==◌, ◌≢◌, Bool, true, false, cond, List, [], ◌∷◌, length, slice_index, Some, refl, sym, ◌∙◌, ap, subst, arith, inl, inr, ⊎_elim, ne_eqb}
 use Rattle.std.proofs.lemmas.Bool.{cond-false}
 use Rattle.std.proofs.lemmas.Nat.Bits.{bit_at-pow_other}
 use Rattle.std.proofs.lemmas.List.{get_or-replicate}
 use Rattle.std.proofs.lemmas.List.Elements.{All-contains, All-nil}
-use Rattle.std.proofs.lemmas.Option.{none-some}
+use Rattle.std.proofs.lemmas.Option.{none-some, same_Some}
 use Rattle.hba_regs.specs.Bits.{bit}
 use Rattle.hba_regs.specs.declared.reg.Reg.TheVariants.{Px}
 use Rattle.hba_regs.specs.declared.reg.PortReg.TheVariants.{Ci}
@@ -16,7 +16,7 @@ use Rattle.adapter.specs.FirstRead.{first_memory, first_read, quiet_port, readin
 use Rattle.adapter.specs.Memory.{bytes_at, changed, patched}
 use Rattle.adapter.specs.ReadDone.{read_of}
 use Rattle.adapter.specs.Says.{Says, cut}
-use Rattle.adapter.specs.Steps.{Can}
+use Rattle.adapter.specs.Steps.{Can, WereHeld}
 use Rattle.adapter.specs.Steps.Step.{Fetch}
 use Rattle.adapter.proofs.Changed.{fun_ext, changed_same, changed_other}
 use Rattle.adapter.proofs.FirstRead.{first_says}
@@ -26,11 +26,11 @@ use Rattle.block_machine.specs.declared.due.Mode.{Mode}
 use Rattle.block_machine.specs.Histories.{IsReached}
 use Rattle.block_machine.specs.Left.{IsStart}
 use Rattle.block_machine.specs.State.{Accepted, Pending, Machine}
-use Rattle.block_machine.specs.Steps.{Accept, Issue, May, IsNew, MayMove, after_step, newly_accepted, issue}
+use Rattle.block_machine.specs.Steps.{Accept, Issue, May, IsNew, MayMove, HasHeld, after_step, newly_accepted, issue}
 use Rattle.block_machine.proofs.HistoryLemmas.{reached_more}
 use Rattle.block_machine.proofs.Setting.{empty, filled_starts}
 use Rattle.agreement.specs.Slots.{Free, Serves, Told, IsFree}
-use Rattle.agreement.specs.Agrees.{Agrees, port_at, IsDiskOf, SameSectors, IsReceiving}
+use Rattle.agreement.specs.Agrees.{Agrees, port_at, IsDiskOf, SameSectors, HasLasting, IsReceiving}
 use Rattle.agreement.specs.Driver.{Knows, IsPrepared, idle}
 use Rattle.agreement.specs.Witness.{first_uses, first_known, ready_port, ready_with, prepared_read, PreparedIsKnown, FirstIsKnown}
 use Rattle.agreement.proofs.relation.OneSlot.{changed_at}
@@ -112,6 +112,11 @@ pub tells : (k b : ℕ) → b < 512 → slice_index (sector_of k) b ≡ k
 unfolding sector_of
 tells k b bl = get_or-replicate 512 b k 0 bl
 
+-- nothing is on the tape: the disk may come back as it was first in
+lasts : (memory : ℕ → ℕ) (k : ℕ) (bytes : List ℕ) → WereHeld [] (record { sectors = Some sector_of; since = 0 }) 0 k bytes → HasHeld (start_with memory) (port_at 0) k (slice_index bytes)
+lasts memory k bytes (inl is) = inl (λ b bl. ap (λ (l : List ℕ). slice_index l b) (sym (same_Some (sector_of k) bytes is)) ∙ tells k b bl)
+lasts memory k bytes (inr (entry, here, is)) = let lt = here.1 in absurd (omega (arith, lt))
+
 -- a device with no command in a slot agrees with a machine to begin with
 pub ready_knows : (memory : ℕ → ℕ) → Knows (start_with memory) (idle (ready_with memory))
 ready_knows memory = record {
@@ -125,6 +130,7 @@ ready_knows memory = record {
     sectors = λ _. changed_at (λ _. quiet_port) 0 ready_port (λ n p. SameSectors (start_with memory) p.disk n)
         (record { told = sector_of; tells = refl; same = λ k b kl bl. tells k b bl })
         (λ n ne. record { told = λ k. []; tells = refl; same = λ k b kl bl. absurd (omega (arith, kl)) });
+    lasting = λ _. changed_at (λ _. quiet_port) 0 ready_port (λ n p. HasLasting (start_with memory) [] p n) (λ k inside bytes w. lasts memory k bytes w) (λ n ne k inside bytes w. absurd (omega (arith, inside)));
   };
   have = λ q e may at_port. ⊎_elim (λ z. absurd (All-contains (λ _. ⊥) [] e (All-nil (λ _. ⊥)) z.0)) (λ z. absurd (All-contains (λ _. ⊥) [] e (All-nil (λ _. ⊥)) z)) may;
 }

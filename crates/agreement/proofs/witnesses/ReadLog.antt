@@ -29,6 +29,7 @@ use Rattle.agreement.specs.Witness.{ready_with}
 use Rattle.agreement.proofs.relation.OneSlot.{changed_at}
 use Rattle.agreement.proofs.driver.PermittedAccesses.{own_is_permitted}
 use Rattle.agreement.proofs.driver.PutSlot.{put_other, own_agrees}
+use Rattle.agreement.proofs.relation.LastingSectors.{gains_none}
 use Rattle.agreement.proofs.relation.OtherSlots.{quiet_port}
 use Rattle.agreement.proofs.relation.SlotRelation.{SameFixed-refl}
 use Rattle.agreement.proofs.witnesses.SpeltSlot.{page_told, zeros_from}
@@ -61,7 +62,7 @@ ready = ready_knows log_memory
 halt_agrees : Agrees (idle logging).uses machine logging
 unfolding changed
 halt_agrees =
-    quiet_port (idle (ready_with log_memory)).uses machine (ready_with log_memory) ready.agrees 0 log_port [] (SameFixed-refl (idle (ready_with log_memory)).uses log_memory [])
+    quiet_port (idle (ready_with log_memory)).uses machine (ready_with log_memory) ready.agrees 0 log_port [] (SameFixed-refl (idle (ready_with log_memory)).uses log_memory []) (gains_none [] machine)
     (record { slots = λ k. record { issued = refl; sact = refl; taken = refl; st = refl; cr = refl; since = refl; list = refl }; fre = refl; received_at = refl; present = refl; disk = refl })
 
 knows : Knows machine (idle logging)

@@ -1,4 +1,4 @@
-use Rattle.request_queue.specs.Entries.{older, revoked_under}
+use Rattle.request_queue.specs.Entries.{older, marked_under}
 use Rattle.request_queue.proofs.Changing.{longer_in_order, issued_in_order, waiting_in_order, all_in_order, older_spares, revoked_spares, fewer_in_order, asks_in_order}
 use Rattle.request_queue.proofs.Counts.{all_fit}
 use Rattle.request_queue.proofs.laws.the_book_stays_in_order.Goals as goal
@@ -16,7 +16,7 @@ pub returns-clause-older : goal.returns-clause-older
 returns-clause-older c entries ports order = all_in_order (older ports) (older_spares ports) entries order
 
 pub returns-clause-revoked : goal.returns-clause-revoked
-returns-clause-revoked c entries client grant order = all_in_order (revoked_under client grant) (revoked_spares client grant) entries order
+returns-clause-revoked c entries client grant order = all_in_order (marked_under client grant) (revoked_spares client grant) entries order
 
 pub returns-clause-answered : goal.returns-clause-answered
 returns-clause-answered c entries id order = fewer_in_order id entries order

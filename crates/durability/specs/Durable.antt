@@ -3,39 +3,10 @@ use Rattle.std.specs.Prelude.{◌≡◌, ◌⊎◌, ℕ, ◌-◌, ◌<◌, ◌�
 use Rattle.ata_types.specs.declared.Port.{Port}
 use Rattle.ata_types.specs.declared.request.Op.TheVariants.{Write, Flush}
 use Rattle.ata_types.specs.declared.request.Outcome.TheVariants.{Ok}
-use Rattle.block_machine.specs.Due.{is_flush, is_writer}
+use Rattle.block_machine.specs.Due.{is_writer}
 use Rattle.block_machine.specs.State.{Block, Disk, Accepted, Machine, sector_of, written_by}
-use Rattle.block_machine.specs.Steps.{Step, Answer, End, Unplug, Replace}
+use Rattle.block_machine.specs.Steps.{Step, Answer, Unplug, Replace, SameBytes}
 use Rattle.block_machine.specs.Left.{after, IsAccept, HasTouched}
-
--- the bytes of a sector are the same
-abbrev pub SameBytes : Block → Block → Type 0
-SameBytes one other = (b : ℕ) → b < 512 → one b ≡ other b
-
--- From this step on the bytes of the port's disk last: a flush of it is ended, or another disk is put in.
-abbrev pub starts_lasting : Machine → Port → Step → Bool
-starts_lasting old port (End e) = e.request.port.0 == port.0 && is_flush e.request.asked.op
-starts_lasting old port (Replace p id size disk) = p.0 == port.0 && not (id == old.disk_ids port)
-starts_lasting old port _ = false
-
--- Sector k of the port's disk held this block at some moment since a flush was last ended on that disk, or since the
--- disk was first in.
-abbrev pub HeldSince : Machine → Port → ℕ → Block → List Step → Type 0
-HeldSince start port k block [] = SameBytes block (start.disks port k)
-HeldSince start port k block (step ∷ past) =
-    SameBytes block ((after start (step ∷ past)).disks port k)
-    ⊎ ((starts_lasting (after start past) port step ≡ false) × HeldSince start port k block past)
-
--- the same disk comes back with each sector as it was at some such moment
-abbrev pub ComesBack : Machine → List Step → Step → Type 0
-ComesBack start past (Replace port id size disk) =
-    id ≡ (after start past).disk_ids port → (k : ℕ) → k < size → HeldSince start port k (disk k) past
-ComesBack start past _ = Unit {0}
-
--- The disks of the history have volatile caches, and keep what was flushed: each disk that comes back does so.
-abbrev pub IsVolatile : Machine → List Step → Type 0
-IsVolatile start [] = Unit {0}
-IsVolatile start (step ∷ past) = IsVolatile start past × ComesBack start past step
 
 -- the step answers the request Ok
 abbrev pub IsOk : Step → Accepted → Type 0

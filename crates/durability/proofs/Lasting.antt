@@ -8,9 +8,9 @@ use Rattle.ata_types.specs.declared.request.Op.TheVariants.{Flush}
 use Rattle.ata_types.specs.declared.request.Outcome.TheVariants.{Ok, DeviceError}
 use Rattle.block_machine.specs.State.{Block, Disk, Accepted, Pending, Machine, sector_of, written_by}
 use Rattle.block_machine.specs.Due.{is_flush, is_writer}
-use Rattle.block_machine.specs.Steps.{Step, Accept, Issue, Touch, End, Age, Again, Answer, Release, Revoke, Unplug, Replace, Store, Load, May, MayMove, after_step, at, issue, touch, mark_ended, requeued, older, newly_accepted, put_sector}
+use Rattle.block_machine.specs.Steps.{Step, Accept, Issue, Touch, End, Age, Again, Answer, Release, Revoke, Unplug, Replace, Store, Load, May, MayMove, after_step, at, issue, touch, mark_ended, requeued, older, newly_accepted, put_sector, SameBytes, HasHeld}
 use Rattle.block_machine.specs.Left.{after, IsLegal, IsStart, IsAccept, IsTouch, HasTouched, plug_count}
-use Rattle.machine_runs.specs.Durable.{SameBytes, starts_lasting, HeldSince, ComesBack, IsVolatile, IsOk, takes_out, brings_other, WriteAccepted, WriteAnswered, FlushAccepted, FlushAnswered, IsSince, FindsFlushed, EveryPlugFinds}
+use Rattle.durability.specs.Durable.{IsOk, takes_out, brings_other, WriteAccepted, WriteAnswered, FlushAccepted, FlushAnswered, IsSince, FindsFlushed, EveryPlugFinds}
 use Rattle.block_machine.proofs.Members.{map_in, at_cases, without_in, append_in}
 use Rattle.block_machine.proofs.Sound.{Sound}
 use Rattle.block_machine.proofs.Keeps.{older_keeps, older_touched, same_port}
@@ -19,6 +19,31 @@ use Rattle.block_machine.proofs.Runs.{traced}
 use Rattle.block_machine.specs.Events.{Moment, Event, IsRun, steps_of}
 use Rattle.block_machine.proofs.EventLemmas.{IsWhole, AllWhole, run_starts, run_legal, run_whole}
 use Rattle.block_machine.specs.Histories.{now}
+
+-- From this step on the bytes of the port's disk last: a flush of it is ended, or another disk is put in.
+abbrev pub starts_lasting : Machine → Port → Step → Bool
+starts_lasting old port (End e) = e.request.port.0 == port.0 && is_flush e.request.asked.op
+starts_lasting old port (Replace p id size disk) = p.0 == port.0 && not (id == old.disk_ids port)
+starts_lasting old port _ = false
+
+-- Sector k of the port's disk held this block at some moment since a flush was last ended on that disk, or since the
+-- disk was first in. What it held before the start, the start says.
+abbrev pub HeldSince : Machine → Port → ℕ → Block → List Step → Type 0
+HeldSince start port k block [] = HasHeld start port k block
+HeldSince start port k block (step ∷ past) =
+    SameBytes block ((after start (step ∷ past)).disks port k)
+    ⊎ ((starts_lasting (after start past) port step ≡ false) × HeldSince start port k block past)
+
+-- the same disk comes back with each sector as it was at some such moment
+abbrev pub ComesBack : Machine → List Step → Step → Type 0
+ComesBack start past (Replace port id size disk) =
+    id ≡ (after start past).disk_ids port → (k : ℕ) → k < size → HeldSince start port k (disk k) past
+ComesBack start past _ = Unit {0}
+
+-- The disks of the history have volatile caches, and keep what was flushed: each disk that comes back does so.
+abbrev pub IsVolatile : Machine → List Step → Type 0
+IsVolatile start [] = Unit {0}
+IsVolatile start (step ∷ past) = IsVolatile start past × ComesBack start past step
 
 -- the step puts a disk in at the port
 abbrev IsReplace : Step → Port → ℕ → ℕ → Disk → Type 0
@@ -341,8 +366,8 @@ record Lasts (start : Machine) (h : List Step) (w : Accepted) (k : ℕ) : Type 0
   touched : HasTouched w k disk h
   since : (block : Block) → HeldSince start w.port k block h → IsSince w k h block
 
-held_now : (start : Machine) (port : Port) (k : ℕ) (h : List Step) → HeldSince start port k ((after start h).disks port k) h
-held_now start port k [] = λ b lt. refl
+pub held_now : (start : Machine) (port : Port) (k : ℕ) (h : List Step) → HeldSince start port k ((after start h).disks port k) h
+held_now start port k [] = inl (λ b lt. refl)
 held_now start port k (step ∷ past) = inl (λ b lt. refl)
 
 same_disk : (start : Machine) (past : List Step) (step : Step) (port : Port) (k id size : ℕ) (disk : Disk) → May (after start past) step → ComesBack start past step → brings_other (after start past) port step ≡ false

@@ -1,0 +1,2 @@
+mod Lasting
+mod Volatile
