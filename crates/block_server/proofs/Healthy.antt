@@ -23,6 +23,7 @@ use Rattle.block_machine.specs.Histories.{Happening, Instant, events_of, now}
 use Rattle.block_machine.specs.Ports.{AreFit, Evidence, Ports}
 use Rattle.block_machine.specs.State.{Pending}
 use Rattle.block_machine.specs.Steps.{AllTouched, Answer, Step}
+use Rattle.durability.specs.Durable.{EveryPlugFinds}
 use Rattle.driver_history.specs.Claims.{AnswerRests, GoesWellFor, IsCalmlyTold, IsHealthyFor}
 use Rattle.driver_history.specs.Evidence.{StaysHealthy}
 use Rattle.driver_history.specs.Histories.{IsHistory}
@@ -64,6 +65,8 @@ pub record HistoryLaws : Type 0 where
       → IsRun first.moment (events_of past)
   pub reads : (wanted : List Wanted) (first : Instant Device) (past : List (Happening Device DeviceStep)) → IsHistory wanted first past
       → first.device.telling ≡ true → EveryReadHolds first.moment (events_of past)
+  pub lasts : (wanted : List Wanted) (first : Instant Device) (past : List (Happening Device DeviceStep)) → IsHistory wanted first past
+      → first.device.telling ≡ true → EveryPlugFinds first.moment.machine (steps_of (events_of past))
 
 -- What is known of ports that were found ready as an adapter was taken over.
 abbrev pub ReadyRunWell : Type 0
@@ -230,6 +233,7 @@ module _ (laws : HistoryLaws) where
         to = seen_at device s first past leads;
         run = laws.run s.wanted first past leads.history;
         reads = laws.reads s.wanted first past leads.history;
+        lasts = laws.lasts s.wanted first past leads.history;
         begins = holds_between s.wanted (now first past) (holds_now s.wanted first past leads.history);
         confined = tt;
       };
@@ -270,6 +274,7 @@ module _ (laws : HistoryLaws) where
             to = seen_at device new first (h ∷ past) here;
             run = laws.run new.wanted first (h ∷ past) history;
             reads = laws.reads new.wanted first (h ∷ past) history;
+            lasts = laws.lasts new.wanted first (h ∷ past) history;
             begins = holds_between old.wanted (now first past) (holds_now old.wanted first past leads.history);
             confined = all_confined new.wanted first past (h ∷ []) history;
           };
@@ -306,6 +311,7 @@ module _ (laws : HistoryLaws) where
             to = subst (λ (l : Calls). IsSeenAt (visible_of device new) (now first l)) whole b.clients.to;
             run = subst (λ (l : Calls). IsRun first.moment (events_of l)) whole b.clients.run;
             reads = subst (λ (l : Calls). first.device.telling ≡ true → EveryReadHolds first.moment (events_of l)) whole b.clients.reads;
+            lasts = subst (λ (l : Calls). first.device.telling ≡ true → EveryPlugFinds first.moment.machine (steps_of (events_of l))) whole b.clients.lasts;
             begins = a.clients.begins;
             confined = all_confined new.wanted first past (two ++ one) leads.history;
           };

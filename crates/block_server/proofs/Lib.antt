@@ -18,3 +18,4 @@ pub mod Reviving
 pub mod Mending
 pub mod Lent
 pub mod Restoring
+pub mod Revoking

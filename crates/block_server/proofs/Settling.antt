@@ -5,7 +5,6 @@ use Rattle.ata_types.specs.declared.request.Outcome.{Outcome}
 use Rattle.ata_types.specs.declared.request.Outcome.TheVariants.{Aborted, DeviceError, Ok, PortDead, Revoked, Unplugged}
 use Rattle.std.proofs.lemmas.List.{length-map, length_push}
 use Rattle.std.proofs.lemmas.List.Kept.{AllPairs-filter}
-use Rattle.ata_types.specs.declared.Port.{Port}
 use Rattle.std.proofs.lemmas.List.Sums.{sum_by-cons}
 use Rattle.std.proofs.lemmas.List.Elements.{All-contains, All-contains_itself, All-filter, All-weaker, Contains-append_right}
 use Rattle.std.specs.Prelude.{◌↔◌, if◌then◌else◌, count_by}
@@ -16,7 +15,7 @@ use Rattle.ata_types.specs.declared.request.RequestId.{RequestId}
 use Rattle.ata_types.specs.declared.limits.TheConstants.{MOST_UNANSWERED}
 use Rattle.std.specs.List.{All, AllPairs, Contains}
 use Rattle.block_server.proofs.Finishing as finishing
-use Rattle.request_queue.specs.Entries.{HasFewIssues, Held, IsEarlier, IsInOrder, at, ids_where, is_of, requeued, without}
+use Rattle.request_queue.specs.Entries.{HasFewIssues, Held, IsAccepted, IsEarlier, IsInOrder, at, ids_where, requeued, without}
 use Rattle.request_queue.specs.Fates.{EndsLoan, Holdings, MeetFates, MeetsFate, fate_of, fate_on, keeps_loan, reply_to}
 use Rattle.request_queue.specs.declared.Entry.{Entry}
 use Rattle.request_queue.specs.declared.fate.Fate.{Fate}
@@ -113,14 +112,23 @@ module _ (request : Held) (outcome : Outcome) (book later : List Held) (old new 
         (same, subst (λ frames. LendsOnly old new frames None) frames_are lends),
   )
 
+-- and what is left is sound, once its frames were given back
+pub sound_back : (id : RequestId) (book later : List Held) (taken : Held) (old new : Table) → ((old new : Table) (entries : List Held) (e : Held) → Contains entries e → LendsOnly old new e.frames None
+    → All (IsAccepted old) entries → All (IsAccepted new) (without e.entry.id entries)) → IsInOrder (without id book) → All (IsAccepted old) book → Contains book taken → taken.entry.id ≡ id → LendsOnly old new taken.frames None → later ≡ without id book
+    → IsSound new later
+sound_back id book later taken old new still ordered accepted here its lends rest = subst (IsSound new) (sym rest) (record {
+  ordered = ordered;
+  accepted = subst (λ (i : RequestId). All (IsAccepted new) (without i book)) its (still old new book taken here lends accepted);
+})
+
 -- ---- one after another
 
--- the port's requests are the book's, in its order
-pub of_book : (port : Port) (book : List Held) (e : Held) → Contains (filter (λ (x : Held). is_of port x.entry) book) e → Contains book e
-of_book port book e here = All-contains (Contains book) (filter (λ (x : Held). is_of port x.entry) book) e (All-filter (λ (x : Held). is_of port x.entry) (Contains book) book (All-contains_itself book)) here
+-- the requests that pass are the book's, in its order
+pub of_book : (passes : Entry → Bool) (book : List Held) (e : Held) → Contains (filter (λ (x : Held). passes x.entry) book) e → Contains book e
+of_book passes book e here = All-contains (Contains book) (filter (λ (x : Held). passes x.entry) book) e (All-filter (λ (x : Held). passes x.entry) (Contains book) book (All-contains_itself book)) here
 
-pub port_ordered : (port : Port) (book : List Held) → IsInOrder book → AllPairs IsEarlier (filter (λ (x : Held). is_of port x.entry) book)
-port_ordered port book order = AllPairs-filter IsEarlier (λ (x : Held). is_of port x.entry) book order.ordered
+pub passing_ordered : (passes : Entry → Bool) (book : List Held) → IsInOrder book → AllPairs IsEarlier (filter (λ (x : Held). passes x.entry) book)
+passing_ordered passes book order = AllPairs-filter IsEarlier (λ (x : Held). passes x.entry) book order.ordered
 
 -- the one at a place is next
 pub next_of : (all : List Held) (place : ℕ) → place < length all → (r : Held) × (drop place all ≡ r ∷ drop (place + 1) all) × ((d : RequestId) → get_or (map (λ (e : Held). e.entry.id) all) place d ≡ r.entry.id)
@@ -132,44 +140,42 @@ next_of (x ∷ all) (suc place) low =
     (n.0, subst (λ (k : ℕ). drop place all ≡ n.0 ∷ drop k (x ∷ all)) more n.1, n.2)
 
 -- so many have an id
-pub as_many : (port : Port) (book : List Held) (ids : List RequestId) (place n : ℕ) → ids ≡ ids_where (is_of port) book → n ≡ length ids → place < n → place < length (filter (λ (e : Held). is_of port e.entry) book)
-as_many port book ids place n are value low =
-    let m = ap length are ∙ length-map (filter (λ (e : Held). is_of port e.entry) book) (λ (e : Held). e.entry.id) in omega (arith, value, low, m)
+pub as_many : (passes : Entry → Bool) (book : List Held) (ids : List RequestId) (place n : ℕ) → ids ≡ ids_where passes book → n ≡ length ids → place < n → place < length (filter (λ (e : Held). passes e.entry) book)
+as_many passes book ids place n are value low =
+    let m = ap length are ∙ length-map (filter (λ (e : Held). passes e.entry) book) (λ (e : Held). e.entry.id) in omega (arith, value, low, m)
 
-pub no_more : (port : Port) (book : List Held) (ids : List RequestId) (place n : ℕ) → ids ≡ ids_where (is_of port) book → n ≡ length ids → n ≤ place → length (filter (λ (e : Held). is_of port e.entry) book) ≤ place
-no_more port book ids place n are value most =
-    let m = ap length are ∙ length-map (filter (λ (e : Held). is_of port e.entry) book) (λ (e : Held). e.entry.id) in omega (arith, value, most, m)
+pub no_more : (passes : Entry → Bool) (book : List Held) (ids : List RequestId) (place n : ℕ) → ids ≡ ids_where passes book → n ≡ length ids → n ≤ place → length (filter (λ (e : Held). passes e.entry) book) ≤ place
+no_more passes book ids place n are value most =
+    let m = ap length are ∙ length-map (filter (λ (e : Held). passes e.entry) book) (λ (e : Held). e.entry.id) in omega (arith, value, most, m)
 
 -- and there is a place for the next one's loan, if it is issued
 pub next_place : (request : Held) (rest : List Held) (kept : List Lending) → HavePlaces (request ∷ rest) kept → HasPlaces request kept
 next_place request rest kept places issued = let c = issued_cons request rest ∙ ap (λ (b : Bool). cond b 1 0 + count_by (λ (e : Held). e.entry.issued) rest) issued in omega (arith, places, c)
 
--- These are left of the port's requests; and what they come to yet, the whole comes to.
+-- These are left of the requests; and what they come to yet, the whole comes to.
 pub record SoFar (fate : Entry → Fate) (all : List Held) (start : Holdings) (before : List Reply) (left : List Held) (now : Holdings) (replies : List Reply) : Type 0 where
   pub here : (e : Held) → Contains left e → Contains now.book e
   pub ordered : AllPairs IsEarlier left
   pub rest : (later : List Reply) (end : Holdings) → MeetFates fate left later now end → (its : List Reply) × (replies ++ later ≡ before ++ its) × MeetFates fate all its start end
-  pub places : HavePlaces left now.kept
   pub sound : IsSound now.table now.book
   pub room : length replies + length now.book ≤ MOST_UNANSWERED
 
 module _ (fate : Entry → Fate) (all : List Held) (start : Holdings) (before : List Reply) where
-  pub begins : ((e : Held) → Contains all e → Contains start.book e) → AllPairs IsEarlier all → HavePlaces all start.kept → IsSound start.table start.book → length before + length start.book ≤ MOST_UNANSWERED
+  pub begins : ((e : Held) → Contains all e → Contains start.book e) → AllPairs IsEarlier all → IsSound start.table start.book → length before + length start.book ≤ MOST_UNANSWERED
       → SoFar fate all start before all start before
-  begins here ordered places sound room = record { here = here; ordered = ordered; rest = λ later end meet. (later, refl, meet); places = places; sound = sound; room = room }
+  begins here ordered sound room = record { here = here; ordered = ordered; rest = λ later end meet. (later, refl, meet); sound = sound; room = room }
 
   -- the next one met its fate
   pub goes_on : (request : Held) (left : List Held) (now new : Holdings) (replies more its : List Reply) → SoFar fate all start before (request ∷ left) now replies
       → more ≡ replies ++ its → MeetsFate request (fate request.entry) its now new → ((e : Held) → Contains now.book e → e.entry.id ≢ request.entry.id → Contains new.book e)
-      → HavePlaces left new.kept → IsSound new.table new.book → length more + length new.book ≤ MOST_UNANSWERED → SoFar fate all start before left new more
-  goes_on request left now new replies more its f same meets others places sound room = record {
+      → IsSound new.table new.book → length more + length new.book ≤ MOST_UNANSWERED → SoFar fate all start before left new more
+  goes_on request left now new replies more its f same meets others sound room = record {
     here = λ e there. others e (f.here e (Contains-append_right (request ∷ []) left e there))
         (λ is. let lt = All-contains (IsEarlier request) left e earlier there in let id = ap (λ (i : RequestId). i.0) is in omega (arith, lt, id));
     ordered = λ i j d lt below. f.ordered (suc i) (suc j) d (omega (arith, lt)) (omega (arith, below));
     rest = λ later end meet.
         let whole = f.rest (its ++ later) end (new, its, later, refl, meets, meet) in
         (whole.0, ap (λ (x : List Reply). x ++ later) same ∙ append_assoc replies its later ∙ whole.1, whole.2);
-    places = places;
     sound = sound;
     room = room;
   }

@@ -4,6 +4,7 @@ use Rattle.std.specs.Prelude.{Ok, Err}
 use Rattle.std.specs.declared.result.Result.{Result}
 use Rattle.ata_types.specs.declared.Port.{Port}
 use Rattle.ata_types.specs.declared.refusal.Refusal.{Refusal}
+use Rattle.ata_types.specs.declared.request.ClientId.{ClientId}
 use Rattle.ata_types.specs.declared.request.Reply.{Reply}
 use Rattle.ata_types.specs.declared.request.Request.{Request}
 use Rattle.ata_types.specs.declared.request.RequestId.{RequestId}
@@ -19,7 +20,9 @@ use Rattle.server_history.specs.Server.{Server}
 use Rattle.server_history.specs.Turns.{ServesPort, TakeTurns, TicksPort, TriesUnready, a_tick_older}
 use Rattle.block_server.specs.Calls.{ServicesBy, Services, Submits, TicksBy, TicksServer}
 use Rattle.block_server.specs.Resetting.{DoesReset}
+use Rattle.block_server.specs.Revoking.{Revokes, RevokesBy}
 use Rattle.block_server.specs.View.{ServerView, server_of}
+use Rattle.block_server.specs.declared.types.NoRow.{NoRow}
 
 -- both want the same disks
 abbrev SameWanted : Server → Server → Type 0
@@ -84,3 +87,11 @@ module _ {A : Type 0} (device : A → Device) (old new : ServerView A) where
       ∙ settles 0 resets.0.taken.ports replies resets.0.taken resets.0.settled resets.0.settles
       ∙ ap (λ (s : Server). s.wanted) resets.0.takes.server
   reset_wants replies (Err why) stuck = ap (λ (s : Server). s.wanted) stuck.1.server
+
+  pub revoke_wants : (client : ClientId) (number : ℕ) (replies : List Reply) (result : Result (Unit {0}) NoRow) → Revokes device old new client number replies result → new.wanted ≡ old.wanted
+  revoke_wants client number replies (Ok done) revokes = by old.stuck revokes.0
+    where
+      by : (stuck : Bool) → RevokesBy stuck device client number replies old new → new.wanted ≡ old.wanted
+      by false on = issues_each on.revokes.revokes.row.port _ on.revokes.mid (server_of device new) on.revokes.issues ∙ ap (λ (s : Server). s.wanted) on.revokes.revokes.server
+      by true off = ap (λ (s : Server). s.wanted) off.0.server
+  revoke_wants client number replies (Err none) refused = ap (λ (s : ServerView A). s.wanted) refused.2

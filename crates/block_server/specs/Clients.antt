@@ -13,6 +13,7 @@ use Rattle.adapter.specs.declared.access.DeviceStep.{DeviceStep}
 use Rattle.agreement.specs.Agrees.{IsDiskOf, SameMemory, SameSectors}
 use Rattle.block_machine.specs.Events.{Ask, Said, EveryReadHolds, IsRun, steps_of}
 use Rattle.block_machine.specs.Histories.{Happening, Instant, events_of, now}
+use Rattle.durability.specs.Durable.{EveryPlugFinds}
 use Rattle.driver_history.specs.Holds.{NoneWaits, ShowsDiskInfo}
 use Rattle.driver_history.specs.Moves.{KeepsMoves}
 use Rattle.host_boot.specs.Taken.{IsServed, wanted_of}
@@ -91,9 +92,9 @@ pub record IsConfinedCall (wanted : List Wanted) (first : Instant Device) (past 
 
 -- What is promised to clients of calls that asked that and said this, after a history from where the server was made.
 -- With them the history is a run of the block machine, which leads to the server as it is seen after them; in it each
--- read that was answered Ok has what was left, where the adapter's disks tell their sectors. And in each of the calls
--- moves and clears keep to their places, and before and after it there holds what holds between calls; the disks that
--- are wanted stay so.
+-- read that was answered Ok has what was left, and each disk that comes back has the writes that were flushed, or later
+-- ones, where the adapter's disks tell their sectors. And in each of the calls moves and clears keep to their places,
+-- and before and after it there holds what holds between calls; the disks that are wanted stay so.
 pub record ServesClients (first : Instant Device) (past added : List (Happening Device DeviceStep)) (old new : Visible)
     (asked : List (Ask DeviceStep)) (said : List Said) : Type 0 where
   pub calls : AreCalls added asked said
@@ -102,5 +103,6 @@ pub record ServesClients (first : Instant Device) (past added : List (Happening 
   pub to : IsSeenAt new (now first (added ++ past))
   pub run : IsRun first.moment (events_of (added ++ past))
   pub reads : first.device.telling ≡ true → EveryReadHolds first.moment (events_of (added ++ past))
+  pub lasts : first.device.telling ≡ true → EveryPlugFinds first.moment.machine (steps_of (events_of (added ++ past)))
   pub begins : HoldsBetween old.wanted (now first past)
   pub confined : EachAfter (IsConfinedCall new.wanted first) past added

@@ -10,3 +10,4 @@ pub mod Promise
 pub mod Fates
 pub mod Recovery
 pub mod Resetting
+pub mod Revoking

@@ -26,7 +26,7 @@ use Rattle.block_server.specs.View.{ServerView, server_of, visible_of}
 use Rattle.block_server.specs.declared.types.Event.{Event}
 use Rattle.block_server.specs.declared.types.Said.{Said}
 
--- What is told where nothing goes wrong. A call that takes a grant back tells Revoked, of requests that aren't issued
+-- What is told where nothing goes wrong. A call that revokes a grant tells Revoked, of requests that aren't issued
 -- (which ones: `AnswersRevoke`). Each other one tells Ok, of a request that was issued when the call began, of which
 -- each sector was moved or cleared since its last issue, and which was ended.
 abbrev pub IsToldWell : Ask DeviceStep → Machine → Pending → Outcome → Type 0
@@ -35,9 +35,9 @@ IsToldWell ask old e told = (told ≡ outcome.Ok) × WasIssued old e.request.id 
     × (e.ended ≡ true)
 
 -- What a call is to the clients of a port that is ready and stays healthy, with no register in it. The port is what it
--- was, with the same disk. What is answered there is told so; a service answers each request that had ended when it
--- began. And of the port's unanswered requests a submit, a service and a revocation issue exactly those that are due
--- once all else is done.
+-- was, with the same disk. What is answered there is told as where nothing goes wrong (`IsToldWell`); a service answers
+-- each request that had ended when it began. And of the port's unanswered requests a submit, a service and a
+-- revocation issue exactly those that are due once all else is done.
 pub record ServesClientsOf (port : Port) (old : Moment) (call : Call DeviceStep) : Type 0 where
   pub same : SamePort old.ports call.ports port
   pub answers : (e : Pending) (told : Outcome) → Contains call.steps (Answer e told) → e.request.port ≡ port

@@ -1,11 +1,11 @@
 -- The calls of a list, as the machine's (this project's own).
 use Rattle.std.specs.Prelude.{min, Some, None, Ok, Err}
 use Rattle.adapter.specs.declared.access.DeviceStep.{DeviceStep}
-use Rattle.block_machine.specs.Events.{Ask, Submit as AskSubmit, StoreAt, LoadAt, Service as AskService, Tick as AskTick, Reset as AskReset, State as AskState, Device as AskDevice, Submitted, Loaded, Served, WasReset, Shown, Stepped}
+use Rattle.block_machine.specs.Events.{Ask, Submit as AskSubmit, StoreAt, LoadAt, Service as AskService, Tick as AskTick, Reset as AskReset, RevokeOf, State as AskState, Device as AskDevice, Submitted, Loaded, Served, WasReset, WasRevoked, Shown, Stepped}
 use Rattle.block_machine.specs.Events as machine
 use Rattle.server_history.specs.Histories.{store_said}
 use Rattle.block_server.specs.declared.types.Event.{Event}
-use Rattle.block_server.specs.declared.types.Event.TheVariants.{Submit, ClientStore, ClientLoad, Service, Tick, Reset, State, Device as Step}
+use Rattle.block_server.specs.declared.types.Event.TheVariants.{Submit, ClientStore, ClientLoad, Service, Tick, Reset, Revoke, State, Device as Step}
 use Rattle.block_server.specs.declared.types.Said.{Said}
 use Rattle.block_server.specs.declared.types.Said.TheVariants as said
 
@@ -17,6 +17,7 @@ ask_of (ClientLoad client frame offset count) = LoadAt client frame offset (min 
 ask_of Service = AskService
 ask_of Tick = AskTick
 ask_of Reset = AskReset
+ask_of (Revoke client number) = RevokeOf client number
 ask_of (State port) = AskState port
 ask_of (Step step) = AskDevice step
 
@@ -29,5 +30,7 @@ said_of (said.Loaded (Err fault)) = Loaded (Err fault)
 said_of (said.Served replies) = Served replies.items
 said_of (said.WasReset (Ok replies)) = WasReset (Some replies.items)
 said_of (said.WasReset (Err why)) = WasReset None
+said_of (said.WasRevoked (Ok replies)) = WasRevoked (Some replies.items)
+said_of (said.WasRevoked (Err none)) = WasRevoked None
 said_of (said.State state) = Shown state
 said_of (said.Stepped done) = Stepped done

@@ -7,7 +7,7 @@ use Rattle.block_server.specs.declared.types.Said.TheVariants as said
 use Rattle.block_server.specs.declared.types.Told.{Told}
 use Rattle.block_server.specs.declared.types.Told.TheVariants as told
 
--- what a call said, where what a service, a tick or a reset answered stands in a list aside
+-- what a call said, where what a service, a tick, a reset or a revocation answered stands in a list aside
 abbrev pub with_replies : Told → List Reply → Said
 with_replies (told.Submitted result) replies = said.Submitted result
 with_replies (told.Stored result) replies = said.Stored result
@@ -15,6 +15,8 @@ with_replies (told.Loaded result) replies = said.Loaded result
 with_replies told.Served replies = said.Served (record { items = replies })
 with_replies (told.WasReset (Ok done)) replies = said.WasReset (Ok (record { items = replies }))
 with_replies (told.WasReset (Err why)) replies = said.WasReset (Err why)
+with_replies (told.WasRevoked (Ok done)) replies = said.WasRevoked (Ok (record { items = replies }))
+with_replies (told.WasRevoked (Err none)) replies = said.WasRevoked (Err none)
 with_replies (told.State state) replies = said.State state
 with_replies (told.Stepped done) replies = said.Stepped done
 

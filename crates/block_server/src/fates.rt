@@ -1,12 +1,15 @@
-// What becomes of the unanswered requests of a port that was stopped, or is dead.
+// What becomes of the unanswered requests of a port that was stopped, or is dead, and of those that wait under a grant
+// that is revoked.
 ghost use Rattle.std.specs.Prelude.{ℕ, ◌≡◌, ◌≢◌, ◌≤◌, ◌+◌, ◌++◌, ◌∷◌, Contains, List, filter, length};
 ghost use Rattle.ata_types.specs.declared.request.Reply.{Reply};
 ghost use Rattle.block_server.specs.Fates.{HasPlaces, HavePlaces, IsSound, holding};
-ghost use Rattle.request_queue.specs.Entries.{Held, is_of};
+ghost use Rattle.dma_frames.specs.Loan.{Lending};
+ghost use Rattle.request_queue.specs.Entries.{Held, IsUnanswered, is_of};
 ghost use Rattle.request_queue.specs.Fates.{MeetFates, MeetsFate, fate_of};
+ghost use Rattle.server_history.specs.Revoked.{ends_revoked, waiting_under};
 
 use super::kept::KeptLoans;
-use ata_types::{MOST_UNANSWERED, Port, Replies, Reply, RequestId};
+use ata_types::{ClientId, MOST_UNANSWERED, Outcome, Port, Replies, Reply, RequestId};
 use dma_frames::FrameTable;
 use request_queue::laws::{
     accepted_requests_stay, an_id_is_one_request, operations_change_one_request,
@@ -59,6 +62,55 @@ fn settle_one(
                 outcome,
             });
         }
+    }
+}
+
+/// Answers a request that waits under a grant that is revoked: it is told so, and its frames are given back.
+fn answer_revoked(book: &mut Book, table: &mut FrameTable, id: RequestId, replies: &mut Replies)
+    requires sound { IsSound table.old book.old }
+    requires here { IsUnanswered id book.old }
+    requires room { length replies.old.items + length book.old ≤ MOST_UNANSWERED }
+    ensures meets { (request : Held) (kept : List Lending) → Contains book.old request → request.entry.id ≡ id
+        → (its : List Reply) × (replies.new.items ≡ replies.old.items ++ its)
+        × MeetsFate request (ends_revoked request.entry) its (holding book.old table.old kept)
+        (holding book.new table.new kept) }
+    ensures others { (e : Held) → Contains book.old e → e.entry.id ≢ id → Contains book.new e }
+    ensures sound { IsSound table.new book.new }
+    ensures room { length replies.new.items + length book.new ≤ MOST_UNANSWERED }
+{
+    an_id_is_one_request();
+    accepted_requests_stay();
+    operations_change_one_request();
+    the_book_stays_in_order();
+    let (entry, lent) = book.answer(id);
+    table.give_back(lent);
+    replies.push(Reply {
+        id,
+        client: entry.client,
+        outcome: Outcome::Revoked,
+    });
+}
+
+/// Answers the requests that wait under a client's grant, which is revoked, in order of acceptance: each is told so,
+/// and its frames are given back. The replies come after those that there are. A function of its own, since its
+/// caller's frame would have room for their ids else.
+#[inline(never)]
+pub(crate) fn answer_waiting(
+    book: &mut Book,
+    table: &mut FrameTable,
+    client: ClientId,
+    number: u8,
+    replies: &mut Replies,
+)
+    requires sound { IsSound table.old book.old }
+    requires room { length replies.old.items + length book.old ≤ MOST_UNANSWERED }
+    ensures { (kept : List Lending) → (its : List Reply) × (replies.new.items ≡ replies.old.items ++ its)
+        × MeetFates ends_revoked (waiting_under client number book.old) its (holding book.old table.old kept)
+        (holding book.new table.new kept) }
+{
+    let waiting = book.waiting_of(client, number);
+    for place in 0..waiting.len() {
+        answer_revoked(book, table, waiting[place], replies);
     }
 }
 

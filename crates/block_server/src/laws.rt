@@ -18,16 +18,17 @@ ghost use Rattle.block_server.specs.declared.types.Said.{Said};
 use adapter::Stepped;
 use driver_history::laws::{
     answers_rest, healthy_calls_go_well, histories_are_runs, moves_keep_to_their_places,
-    reads_hold, seen_are_answered,
+    plugs_find, reads_hold, seen_are_answered,
 };
 use host_boot::laws::what_was_taken_over_may_be_served;
 
 /// Calls that add an event each to every history that leads to the server before them keep their promise: none at all,
 /// one, and calls after others. With them the history is a run of the block machine, in which each read that was
-/// answered Ok has what was left, and moves and clears keep to their places; of the device each call does its part on
-/// each port, ready or not; and on a port that is ready and runs well, while it tells of no fault and no fatal error,
-/// and no disk of it goes or comes, each call issues exactly what is due, each service answers what has ended, with Ok,
-/// and nothing else, and the port stays as it is, unless a tick restarts it.
+/// answered Ok has what was left, each disk that comes back has what was flushed, and moves and clears keep to their
+/// places; of the device each call does its part on each port, ready or not; and on a port that is ready and runs well,
+/// while it tells of no fault and no fatal error, and no disk of it goes or comes, each call issues exactly what is
+/// due, each service answers what has ended, with Ok, and nothing else, and the port stays as it is, unless a tick
+/// restarts it.
 pub fn runs_keep_their_promise<A: Stepped>()
     ensures none { (s : ServerView A) → Simulates A.device s s [] [] }
     ensures one { (old new : ServerView A) (event : Event) (one : Said)
@@ -43,6 +44,7 @@ pub fn runs_keep_their_promise<A: Stepped>()
     moves_keep_to_their_places();
     histories_are_runs();
     reads_hold();
+    plugs_find();
 }
 
 /// A port that is ready when its server is made runs well then, where nothing went wrong on it since the adapter was

@@ -1,14 +1,15 @@
 //! The server: it holds clients' grants and frames, and drives the disks for them.
 //!
-//! `run` has the theorem, `server` the calls, and `modes` how ports take commands. `port` issues
-//! what is due, `answering` answers what is done, `recovery` mends a port in trouble, `trying`
-//! tries one that isn't ready, `fates` has requests meet their fates, `kept` keeps loans of dead
-//! ports, and `resetting` has what a reset makes of all ports. Functions outside of `server` work
-//! on parts that are lent to them. Between the parts of a call the invariant of `Server` doesn't
-//! hold: `IsKept` of `server_history` does. A function that is a law is called for its clause, and
-//! does nothing. A caller must not expect that a request is ever answered, nor that a port which is
-//! told as ready still has its disk. A `Server` can't be dropped, since it holds loans: `close`
-//! ends it, and what was issued may still move then.
+//! `run` has the theorem, `server` the calls (`server::revoking` that by which a grant is revoked),
+//! and `modes` how ports take commands. `port` issues what is due, `answering` answers what is
+//! done, `recovery` mends a port in trouble, `trying` tries one that isn't ready, `fates` has
+//! requests meet their fates, `kept` keeps loans of dead ports, and `resetting` has what a reset
+//! makes of all ports. Functions outside of `server` work on parts that are lent to them. Between
+//! the parts of a call the invariant of `Server` doesn't hold: `IsKept` of `server_history` does. A
+//! function that is a law is called for its clause, and does nothing. A caller must not expect that
+//! a request is ever answered, nor that a port which is told as ready still has its disk. A
+//! `Server` can't be dropped, since it holds loans: `close` ends it, and what was issued may still
+//! move then.
 #![tactic(auto)]
 
 mod answering;
@@ -29,4 +30,4 @@ mod types;
 pub use host_boot::AdapterStuck;
 pub use sayings::Sayings;
 pub use server::Server;
-pub use types::{Event, RunStopped, Said, ServerError, Told};
+pub use types::{Event, NoRow, RunStopped, Said, ServerError, Told};

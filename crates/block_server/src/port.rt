@@ -117,6 +117,7 @@ pub(crate) fn issue_where_ready<A: Adapter>(
     ensures issues { (s : Server) → LendsFound s (A.device adapter.old) book.old slots.old port mode found.now
         → IssuesAll port s (with_part s (A.device adapter.new) book.new slots.new port) }
     ensures as_many { length book.new ≡ length book.old }
+    ensures none { due_of mode port (asks_of book.old) ≡ [] → adapter.new ≡ adapter.old }
 {
     a_mended_port_goes_on();
     if let Found::Ready(_) = found {

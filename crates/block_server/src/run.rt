@@ -46,8 +46,8 @@ impl<A: Stepped> Server<A> {
     ghost use Rattle.block_server.specs.View.{server_of};
     ghost use Rattle.server_history.specs.Histories.{AddsEvent};
 
-    /// Makes the call. What a service, a tick, or a reset that ends answered is all that `replies` has then; of what it
-    /// has after another call nothing is told.
+    /// Makes the call. What a service, a tick, a reset that ends, or a revocation of a grant that is there answered is
+    /// all that `replies` has then; of what it has after another call nothing is told.
     fn answer(&mut self, event: &Event, replies: &mut Replies) -> Told
         ensures adds { AddsEvent (server_of A.device self.old) (server_of A.device self.new) (ask_of event.now)
             (said_of (with_replies result replies.new.items)) }
@@ -76,6 +76,9 @@ impl<A: Stepped> Server<A> {
                 Told::Served
             }
             Event::Reset => Told::WasReset(self.reset_into(replies)),
+            Event::Revoke { client, number } => {
+                Told::WasRevoked(self.revoke_into(*client, *number, replies))
+            }
             Event::State(port) => Told::State(self.state(*port)),
             Event::Device(step) => Told::Stepped(self.device(step)),
         }

@@ -8,7 +8,7 @@ use ata_types::{Replies, Reply};
 use std::alloc::{AllocError, Global};
 use std::mem;
 
-/// What a call said, with what a service, a tick or a reset answered.
+/// What a call said, with what a service, a tick, a reset or a revocation answered.
 fn said_with(told: Told, replies: Replies) -> Said
     ensures { result ≡ with_replies told replies.items }
 {
@@ -19,6 +19,8 @@ fn said_with(told: Told, replies: Replies) -> Said
         Told::Served => Said::Served(replies),
         Told::WasReset(Ok(())) => Said::WasReset(Ok(replies)),
         Told::WasReset(Err(stuck)) => Said::WasReset(Err(stuck)),
+        Told::WasRevoked(Ok(())) => Said::WasRevoked(Ok(replies)),
+        Told::WasRevoked(Err(none)) => Said::WasRevoked(Err(none)),
         Told::State(state) => Said::State(state),
         Told::Stepped(done) => Said::Stepped(done),
     }
@@ -31,7 +33,8 @@ fn said_with(told: Told, replies: Replies) -> Said
 pub struct Sayings {
     earlier: Vec<Said>,
     pub(crate) last: Option<Told>,
-    /// Where `last` is of a service, a tick or a reset that ended, what it answered.
+    /// Where `last` is of a service, a tick, a reset that ended, or a revocation of a grant that was there, what it
+    /// answered.
     pub(crate) replies: Replies,
 }
 
@@ -82,8 +85,8 @@ impl Sayings {
         self.last.as_ref()
     }
 
-    /// What the last call answered, where that is a service, a tick or a reset that ended; of another call nothing is
-    /// told.
+    /// What the last call answered, where that is a service, a tick, a reset that ended, or a revocation of a grant
+    /// that was there; of another call nothing is told.
     pub fn replies(&self) -> &[Reply]
         ensures { result.now ≡ self.now.replies.items }
     {

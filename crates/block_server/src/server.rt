@@ -1,6 +1,8 @@
 // The server.
 ghost use Rattle.std.specs.Prelude.{[], ◌≡◌, ◌≢◌, false, ◌<◌, ◌≤◌, ◌+◌, ◌↔◌, ◌*◌, ◌++◌, List, ℕ, IsTrue, IfOk, IfErr, OnOk, MatchOption, Ok, length, map, option_map, slice_index_or, true};
 
+mod revoking;
+
 use crate::ServerError;
 use crate::answering::answer_done;
 use crate::fates::settle;
@@ -331,8 +333,9 @@ impl<A: Adapter> Server<A> {
     /// Mends a ready port in trouble. What is done is answered. Where a command had failed, it is found out which one,
     /// and the port is had to run again, by a boot where that is needed; where its link or the host's bus had, or a
     /// request is hung, it is booted anew; where its disk was lost, if a device shows. The request whose command failed
-    /// is told so. The others wait again where their disk is there still, and are `Aborted` after the fourth issue;
-    /// where it isn't they are `Unplugged`, and where the port is dead `PortDead`. Then what is due is issued.
+    /// is told so. The others wait again where their disk is there still, but are `Revoked` where their grant was, and
+    /// `Aborted` after the fourth issue; where it isn't they are `Unplugged`, and where the port is dead `PortDead`.
+    /// Then what is due is issued.
     fn mend_port(&mut self, port: Port, was: DiskInfo, trouble: Trouble, replies: &mut Replies)
         requires on { self.old.stuck ≡ false }
         requires ready { found_of self.old.ports port.0 ≡ Found.Ready was }
@@ -457,11 +460,11 @@ impl<A: Adapter> Server<A> {
     /// | unfit or foreign | PxIS and PxSSTS are read. Where PCS or PRCS is set, or DET isn't 3, it is booted. |
     /// | that is dead | It is left alone. After a reset that got stuck its requests are told `PortDead`. |
     ///
-    /// After a recovery or a boot the requests that had been issued go again, or are `Aborted` after the fourth issue;
-    /// where the disk isn't the same, or the port isn't ready, they and those that wait are `Unplugged`; and where the
-    /// engine doesn't stop all are `PortDead`, and frames of those that had been issued stay lent until a reset ends.
-    /// A recovery waits for the disk at most so often as its parts tell, and meanwhile for all ports. The replies stand
-    /// port by port, each port's in order of acceptance.
+    /// After a recovery or a boot the requests that had been issued go again, or are `Revoked` where their grant was,
+    /// and else `Aborted` after the fourth issue; where the disk isn't the same, or the port isn't ready, they and
+    /// those that wait are `Unplugged`; and where the engine doesn't stop all are `PortDead`, and frames of those that
+    /// had been issued stay lent until a reset ends. A recovery waits for the disk at most so often as its parts tell,
+    /// and meanwhile for all ports. The replies stand port by port, each port's in order of acceptance.
     pub fn service(&mut self) -> Replies
         ensures services { Services A.device self.old self.new result.items }
         ensures adds { AddsEvent (server_of A.device self.old) (server_of A.device self.new) Service

@@ -14,6 +14,10 @@ pub enum ServerError {
     NoMemory,
 }
 
+/// The client has no grant of this number.
+#[derive(Clone, Copy, Debug, PartialEq, Eq)]
+pub struct NoRow;
+
 /// A call of the server, for `run`.
 #[derive(Debug, Drop)]
 pub enum Event {
@@ -35,6 +39,11 @@ pub enum Event {
     Service,
     Tick,
     Reset,
+    Revoke {
+        client: ClientId,
+        /// The client's own of the grant.
+        number: u8,
+    },
     State(Port),
     Device(DeviceStep),
 }
@@ -49,11 +58,13 @@ pub enum Said {
     Served(Replies),
     /// What a reset answered, if it ended.
     WasReset(Result<Replies, AdapterStuck>),
+    /// What a revocation answered, if the grant was there.
+    WasRevoked(Result<Replies, NoRow>),
     State(PortState),
     Stepped(bool),
 }
 
-/// What a call answered, where the replies of a service, a tick or a reset stand in a list aside.
+/// What a call answered, where the replies of a service, a tick, a reset or a revocation stand in a list aside.
 #[derive(Debug, Drop)]
 pub enum Told {
     Submitted(Result<RequestId, Refusal>),
@@ -63,6 +74,8 @@ pub enum Told {
     Served,
     /// So it has of a reset that ended.
     WasReset(Result<(), AdapterStuck>),
+    /// And of a revocation of a grant that was there.
+    WasRevoked(Result<(), NoRow>),
     State(PortState),
     Stepped(bool),
 }

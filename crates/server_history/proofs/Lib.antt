@@ -9,3 +9,4 @@ pub mod unready_turn
 pub mod whole_call
 pub mod failed_reset
 pub mod reset_call
+pub mod revoke_call

@@ -1,6 +1,8 @@
 -- What laws of the crates below say of steps one after another, and of slots and the requests in them.
 use Rattle.std.specs.Prelude.{ℕ, Bool, true, false, ◌≡◌, ◌≢◌, ◌<◌, List, ◌++◌, All, Contains, length}
 use Rattle.ata_types.specs.declared.Port.{Port}
+use Rattle.ata_types.specs.declared.grant.GrantRow.{GrantRow}
+use Rattle.ata_types.specs.declared.request.Frame.{Frame}
 use Rattle.ata_types.specs.declared.request.Outcome.{Outcome}
 use Rattle.ata_types.specs.declared.request.RequestId.{RequestId}
 use Rattle.adapter.specs.Device.{Device}
@@ -26,13 +28,13 @@ use Rattle.agreement.specs.GivingUp.{parking_all, served_ids}
 use Rattle.agreement.specs.Slots.{Armed, Free, IsOver, Own, Serves, Use, Uses, put}
 use Rattle.block_machine.specs.Due.{is_plain}
 use Rattle.block_machine.specs.State.{Accepted, Machine, Pending}
-use Rattle.block_machine.specs.Steps.{Step, Accept, Age, Again, Issue, Answer, IsLiving, May, MayMove, after_step, stays}
+use Rattle.block_machine.specs.Steps.{Step, Accept, Age, Again, Issue, Answer, IsLiving, IsNew, May, MayMove, after_step, stays}
 use Rattle.block_machine.specs.declared.due.Mode.{Mode}
 use Rattle.agreement.specs.Facts.{EndedIn, IsClear, ShowsFault}
 use Rattle.dma_frames.specs.Table.{Table}
 use Rattle.request_queue.specs.Entries.{Held, IsAccepted, IsInOrder, aged, asks_of}
 use Rattle.request_queue.specs.Machine.{IsBook}
-use Rattle.block_machine.specs.Confined.{WasAccepted, WithinLimits}
+use Rattle.block_machine.specs.Confined.{IsGranted, WasAccepted, WithinLimits}
 use Rattle.block_machine.specs.Left.{IsLegal, IsStart, after}
 use Rattle.block_machine.specs.Histories.{Instant, IsReached, Happening, now}
 use Rattle.block_machine.specs.Events.{AllDevices, AllMay}
@@ -143,6 +145,10 @@ pub record LivingLaws : Type 0 where
       → WithinLimits (after start history)
   pub lived : (start : Machine) (history : List Step) (e : Pending) → IsStart start → IsLegal start history
       → IsLiving (after start history) e → WasAccepted start history e.request
+  pub granted : (m : Machine) (r : Accepted) → IsNew m r → IsGranted m.rows r
+  pub shrunk : (start : Machine) (history : List Step)
+      → ((row : GrantRow) → Contains (after start history).rows row → Contains start.rows row)
+      × ((frame : Frame) → (after start history).owner frame ≡ start.owner frame)
   pub one : (start : Machine) (history : List Step) (one other : Accepted) → WasAccepted start history one
       → WasAccepted start history other → one.id ≡ other.id → one ≡ other
   pub answered : (m : Machine) (a b : Pending) → IsReached m → Contains m.book a → Contains m.kept b

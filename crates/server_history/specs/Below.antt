@@ -30,7 +30,7 @@ use Rattle.block_machine.specs.Due.{AreDueInTurn, IsDue, IsInOrder as machine_in
 use Rattle.agreement.specs.Errors.{NoneComes}
 use Rattle.block_machine.specs.State.{Machine, Pending}
 use Rattle.block_machine.specs.Refusals.{IsOpen}
-use Rattle.block_machine.specs.Steps.{Step, Accept, Again, Issue, Answer, Load, May, Store, after_step, newly_accepted}
+use Rattle.block_machine.specs.Steps.{Step, Accept, Again, Issue, Answer, Load, May, Revoke, Store, after_step, newly_accepted}
 use Rattle.block_machine.specs.State as machine
 use Rattle.block_machine.specs.Steps as steps
 use Rattle.ata_types.specs.declared.request.ClientId.{ClientId}
@@ -50,7 +50,7 @@ use Rattle.ncq.specs.Masks.{ReadsDone, IsFinding}
 use Rattle.ncq.specs.Tasks.{IsIssuing, IsTaskOf, IssuesTask, MayServe, with_serving}
 use Rattle.ncq.specs.declared.Task.{Task}
 use Rattle.port_look.specs.Laws.{Laws}
-use Rattle.request_queue.specs.Entries.{Held, IsAccepted, IsEarlier, IsFresh, IsInOrder, IsWaiting, MayGoAgain, asks_of, at, issue, requeued as requeued_entry, unanswered_of, without}
+use Rattle.request_queue.specs.Entries.{Held, IsAccepted, IsEarlier, IsFresh, IsInOrder, IsWaiting, MayGoAgain, all_marked_under, asks_of, at, issue, requeued as requeued_entry, unanswered_of, without}
 use Rattle.request_queue.specs.declared.Entry.{Entry}
 use Rattle.request_queue.specs.Machine.{IsBook, IsEntry}
 use Rattle.server_history.specs.After.{RecoveryLaws, TroubleLaws}
@@ -70,6 +70,8 @@ pub record LawsBelow : Type 0 where
       → IsBook (map (at p.request.id requeued_entry) entries) (after_step m (Again p)).book
   pub answers : (entries : List Held) (m : Machine) (p : Pending) (outcome : Outcome) → IsBook entries m.book
       → IsBook (without p.request.id entries) (after_step m (Answer p outcome)).book
+  pub revokes : (entries : List Held) (m : Machine) (client : ClientId) (grant : ℕ) → IsBook entries m.book
+      → IsBook (all_marked_under client grant entries) (after_step m (Revoke client grant)).book
   pub counts : (entries : List Held) (book : List Pending) (client : ClientId) → IsBook entries book
       → steps.unanswered_of book client ≡ unanswered_of entries client.0
   -- its order
@@ -83,6 +85,8 @@ pub record LawsBelow : Type 0 where
   pub requeued : (entries : List Held) (id : RequestId) → IsInOrder entries → MayGoAgain id entries
       → IsInOrder (map (at id requeued_entry) entries)
   pub fewer : (entries : List Held) (id : RequestId) → IsInOrder entries → IsInOrder (without id entries)
+  pub marked : (entries : List Held) (client : ClientId) (grant : ℕ) → IsInOrder entries
+      → IsInOrder (all_marked_under client grant entries)
   pub others : (entries : List Held) (id : RequestId) (change : Entry → Entry) (e : Held) → Contains entries e
       → e.entry.id ≢ id → Contains (map (at id change) entries) e
   pub left : (entries : List Held) (id : RequestId) (e : Held) → Contains (without id entries) e
@@ -99,6 +103,8 @@ pub record LawsBelow : Type 0 where
       → All (IsAccepted table) (map (at id issue) entries)
   pub still_requeued : (table : Table) (entries : List Held) (id : RequestId) → All (IsAccepted table) entries
       → All (IsAccepted table) (map (at id requeued_entry) entries)
+  pub still_marked : (table : Table) (entries : List Held) (client : ClientId) (grant : ℕ)
+      → All (IsAccepted table) entries → All (IsAccepted table) (all_marked_under client grant entries)
   -- what becomes of slots, and of the requests in them
   pub slots : SlotLaws
   -- requests that get older
@@ -204,6 +210,9 @@ pub record LawsBelow : Type 0 where
   -- a request that waits again
   pub asks_requeued : (entries : List Held) (id : RequestId) → asks_of (map (at id requeued_entry) entries)
       ≡ with_waiting id (asks_of entries)
+  -- requests that are marked
+  pub asks_marked : (entries : List Held) (client : ClientId) (grant : ℕ)
+      → asks_of (all_marked_under client grant entries) ≡ asks_of entries
   -- a disk that comes, or goes
   pub out_on : (port : Port) (access : Access) (old new : Device) → NoneComes port.0 old new → Does access old new
       → (old.port port.0).present ≡ false → (new.port port.0).present ≡ false

@@ -19,7 +19,7 @@ use Rattle.request_queue.specs.Fates.{Holdings, keeps_loan}
 use Rattle.request_queue.specs.Machine.{IsBook, IsEntry}
 use Rattle.request_queue.specs.declared.Entry.{Entry}
 use Rattle.request_queue.specs.declared.fate.Fate.{Fate}
-use Rattle.request_queue.specs.declared.fate.Fate.TheVariants.{Ends, GoesAgain}
+use Rattle.request_queue.specs.declared.fate.Fate.TheVariants.{Ends, GoesAgain, Waits}
 use Rattle.server_history.specs.Server.{AreOfTwo, TellsGrant}
 
 -- the step is the server's: a request of the port waits again, or is answered
@@ -33,10 +33,6 @@ abbrev pub keeps_fate : Fate → Entry → Bool
 keeps_fate (Ends outcome) e = keeps_loan outcome e
 keeps_fate _ e = false
 
--- none does
-abbrev pub KeepsNone : (Entry → Fate) → Type 0
-KeepsNone fate = (e : Entry) → keeps_fate (fate e) e ≡ false
-
 -- the loan of a request that the machine keeps
 abbrev pub loan_of : Pending → Lending
 loan_of e = record { frames = e.request.asked.frames.items; request = e.request.id }
@@ -47,8 +43,7 @@ loans_of [] = []
 loans_of (e ∷ rest) = loans_of rest ++ loan_of e ∷ []
 
 -- The machine has the book and the loans. These are requests of the port in the book, each with a mark that tells
--- whether the machine has its grant; no slot serves one of them whose loan isn't kept; and where none is, what is
--- parked of the port are issued ones among them.
+-- whether the machine has its grant; and no slot serves one of them whose loan isn't kept.
 pub record MayMeet (port : Port) (fate : Entry → Fate) (requests : List Held) (now : Holdings) (k : Known)
     (m : Machine) : Type 0 where
   pub reached : IsReached m
@@ -62,12 +57,14 @@ pub record MayMeet (port : Port) (fate : Entry → Fate) (requests : List Held) 
   pub earlier : AllPairs IsEarlier requests
   pub unserved : (e : Held) → Contains requests e → keeps_fate (fate e.entry) e.entry ≡ false
       → HasNoSlot k.uses e.entry.id
-  pub parked : KeepsNone fate → (id : RequestId) → Contains (k.parked port.0) id → (e : Held) × Contains requests e
-      × (e.entry.id ≡ id) × (e.entry.issued ≡ true)
+
+-- the request is decided on, and its loan isn't kept
+abbrev pub IsLetGo : (Entry → Fate) → Held → Type 0
+IsLetGo fate e = (fate e.entry ≢ Waits) × (keeps_fate (fate e.entry) e.entry ≡ false)
 
 -- They meet their fates by steps that decide on requests of the port, after which the machine has the book and the
 -- loans that are left. Those whose loans are kept are kept in the machine beside those that were, and each has one more
--- loan; where none is, none of the port is parked.
+-- loan. What is parked of the port was before, and is none of those that were let go.
 pub record MeetsInMachine (port : Port) (fate : Entry → Fate) (requests : List Held) (replies : List Reply)
     (old new : Holdings) (k : Known) (m : Machine) : Type 0 where
   pub steps : List Step
@@ -77,7 +74,8 @@ pub record MeetsInMachine (port : Port) (fate : Entry → Fate) (requests : List
   pub backed : (d : Device) → IsBacked d d m steps
   pub knows : Knows (after m steps) (record k { parked = parked })
   pub others : (q : ℕ) → q ≢ port.0 → parked q ≡ k.parked q
-  pub none : KeepsNone fate → parked port.0 ≡ []
+  pub still : (id : RequestId) → Contains (parked port.0) id → Contains (k.parked port.0) id
+      × ((e : Held) → Contains requests e → IsLetGo fate e → e.entry.id ≢ id)
   pub book : IsBook new.book (after m steps).book
   pub lent : (frame : Frame) → (after m steps).lent frame ≡ lent_to new.table frame
   pub held : List Pending

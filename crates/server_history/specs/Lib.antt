@@ -13,3 +13,4 @@ pub mod Calls
 pub mod Below
 pub mod Fates
 pub mod Ended
+pub mod Revoked

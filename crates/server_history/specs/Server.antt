@@ -1,5 +1,5 @@
 -- What a server of several ports holds, and the block machine that stands for it (this project's own).
-use Rattle.std.specs.Prelude.{ℕ, Bool, true, false, not, ◌≡◌, ◌≢◌, ◌+◌, ◌*◌, ◌<◌, ◌≤◌, List, [], Option, Some, None, All, AllPairs, Contains, length, slice_index_or, slice_set}
+use Rattle.std.specs.Prelude.{ℕ, Bool, true, false, not, ◌≡◌, ◌≢◌, ◌↔◌, ◌+◌, ◌*◌, ◌<◌, ◌≤◌, List, [], Option, Some, None, All, AllPairs, Contains, length, slice_index_or, slice_set}
 use Rattle.ata_types.specs.declared.Port.{Port}
 use Rattle.ata_types.specs.declared.PortState.{PortState}
 use Rattle.ata_types.specs.declared.PortState.TheVariants.{Absent, Ready as ReadyState, Dead}
@@ -254,13 +254,12 @@ pub record HasCommand (queued : Bool) (d : Device) (port slot : ℕ) : Type 0 wh
 abbrev pub StandsAlone : List PortSlots → ℕ → ℕ → Type 0
 StandsAlone slots port slot = (slot ≡ 0) × ((other : ℕ) → other ≢ 0 → used_for slots port other ≡ None)
 
--- a request's mark tells whether its grant is there still, or was revoked
-pub record TellsGrant (rows : List GrantRow) (r : Entry) : Type 0 where
-  pub granted : r.revoked ≡ false → HasRow r.client r.grant rows
-  pub revoked : r.revoked ≡ true → HasRow r.client r.grant rows → ⊥
+-- a request has no mark just while its grant is there
+abbrev pub TellsGrant : List GrantRow → Entry → Type 0
+TellsGrant rows r = (r.revoked ≡ false) ↔ HasRow r.client r.grant rows
 
--- so it is of each, and one that waits has its grant
-pub record IsMarked (rows : List GrantRow) (e : Held) : Type 0 where
+-- so it is of each, and one that waits has none
+pub record HasTrueMark (rows : List GrantRow) (e : Held) : Type 0 where
   pub tells : TellsGrant rows e.entry
   pub waiting : e.entry.issued ≡ false → e.entry.revoked ≡ false
 
@@ -292,7 +291,7 @@ pub record IsKept (s : Server) : Type 0 where
   pub owners : OwnsClientFrames s.table s.device.size
   pub accepted : All (IsAccepted s.table) s.book
   pub ordered : IsInOrder s.book
-  pub marked : All (IsMarked s.grants) s.book
+  pub marked : All (HasTrueMark s.grants) s.book
   pub handed_out : All (λ e. e.entry.id.0 ≤ s.last) s.book
   pub ready : All (λ e. state_of (found_of s.ports e.entry.port.0) ≡ ReadyState) s.book
   pub machine : Machine

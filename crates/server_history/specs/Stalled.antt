@@ -16,7 +16,7 @@ use Rattle.host_boot.specs.declared.Found.{Found}
 use Rattle.host_boot.specs.declared.Found.TheVariants.{Unserved, Unready}
 use Rattle.request_queue.specs.Entries.{Held, IsAccepted, IsInOrder}
 use Rattle.server_history.specs.Mended.{requests_of}
-use Rattle.server_history.specs.Server.{Server, IsMachineOf, IsMarked, OwnsClientFrames, disk_in, is_served, kept_at, mode_at, plain_mode, remembered_at, slots_at, used_for}
+use Rattle.server_history.specs.Server.{Server, IsMachineOf, HasTrueMark, OwnsClientFrames, disk_in, is_served, kept_at, mode_at, plain_mode, remembered_at, slots_at, used_for}
 
 -- What holds of a server whether or not its adapter is on. The adapter has the memory of the driver and of the clients.
 -- Ports are served in which a disk is wanted, and which the adapter has; another one is idle, has no slot that is used,
@@ -41,7 +41,7 @@ pub record KeepsBooks (s : Server) : Type 0 where
   pub owners : OwnsClientFrames s.table s.device.size
   pub accepted : All (IsAccepted s.table) s.book
   pub ordered : IsInOrder s.book
-  pub marked : All (IsMarked s.grants) s.book
+  pub marked : All (HasTrueMark s.grants) s.book
   pub handed_out : All (λ e. e.entry.id.0 ≤ s.last) s.book
   pub asked : All (λ e. is_served (found_of s.ports e.entry.port.0) ≡ true) s.book
   pub machine : Machine

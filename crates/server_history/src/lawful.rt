@@ -26,9 +26,9 @@ use agreement::readying::{readied_stays, stored_stays_over_acts};
 use agreement::recovering::halts_are_of_taken_commands;
 use agreement::stretches::other_ports_are_left;
 use block_machine::laws::{
-    due_in_turn, due_is_exact, ended_is_issued, limits_hold, living_was_accepted,
-    one_id_is_in_the_book_once, one_id_is_one_request, other_ports_stay, own_requests_count,
-    steps_go_on, what_is_kept_was_answered,
+    accepted_is_granted, due_in_turn, due_is_exact, ended_is_issued, limits_hold,
+    living_was_accepted, one_id_is_in_the_book_once, one_id_is_one_request, other_ports_stay,
+    own_requests_count, rows_shrink_and_owners_stay, steps_go_on, what_is_kept_was_answered,
 };
 use driver_history::laws::{a_turns_evidence_is_the_calls, histories_reach_their_machines};
 use driver_history::troubles::{
@@ -73,6 +73,8 @@ pub fn living_laws_hold()
 {
     limits_hold();
     living_was_accepted();
+    accepted_is_granted();
+    rows_shrink_and_owners_stay();
     one_id_is_one_request();
     what_is_kept_was_answered();
 }

@@ -1,5 +1,5 @@
 // Laws of the definitions, for callers: the clause is the theorem. Nothing comes of calling these functions.
-ghost use Rattle.std.specs.Prelude.{ℕ, Bool, true, false, ◌≡◌, ◌≢◌, ◌⊎◌, ◌<◌, ◌≤◌, ◌+◌, ◌*◌, ◌/◌, ◌%◌, List, [], ◌∷◌, Option, Some, None, Ok, Err, length, All, AllPairs, Contains, count_by, filter, not};
+ghost use Rattle.std.specs.Prelude.{ℕ, Bool, true, false, ◌≡◌, ◌≢◌, ◌<◌, ◌≤◌, ◌+◌, ◌*◌, ◌/◌, ◌%◌, List, [], Some, None, Ok, Err, length, All, Contains, count_by, not};
 ghost use Rattle.ata_types.specs.declared.Port.{Port};
 ghost use Rattle.ata_types.specs.declared.PortState.TheVariants.{Dead, Ready as ReadyState};
 ghost use Rattle.ata_types.specs.declared.grant.GrantRow.{GrantRow};
@@ -21,12 +21,11 @@ ghost use Rattle.adapter.specs.declared.access.DeviceStep.{DeviceStep};
 ghost use Rattle.agreement.specs.Driven.{AgreesWith, AnyUse, IsFollowed};
 ghost use Rattle.agreement.specs.Facts.{RunsWell, Undisturbed};
 ghost use Rattle.agreement.specs.Slots.{IsOver};
-ghost use Rattle.block_machine.specs.Due.{IsDue, NoneDue, is_plain};
-ghost use Rattle.block_machine.specs.Events.{Submit, StoreAt, LoadAt, Service, State, Tick, Device as Told, Submitted, Served, Shown, Stepped};
+ghost use Rattle.block_machine.specs.Due.{IsDue, is_plain};
+ghost use Rattle.block_machine.specs.Events.{Submit, StoreAt, LoadAt, RevokeOf, Service, State, Tick, Device as Told, Submitted, Served, Shown, Stepped, WasRevoked};
 ghost use Rattle.block_machine.specs.Refusals.{IsAcceptable, IsFirstRefusal, IsOpen, IsFirstMemFault};
-ghost use Rattle.block_machine.specs.Rules.{IsNamed, without_row};
+ghost use Rattle.block_machine.specs.Rules.{HasRow, IsNamed};
 ghost use Rattle.command_table.specs.Written.{IsUnused};
-ghost use Rattle.dma_frames.specs.Loan.{Lending};
 ghost use Rattle.dma_frames.specs.Table.{Table, LendsOnly, owner_of, lent_to};
 ghost use Rattle.host_boot.specs.Taken.{found_of, TakesOver};
 ghost use Rattle.host_boot.specs.declared.Found.TheVariants.{Ready, Unready};
@@ -34,20 +33,15 @@ ghost use Rattle.identify.specs.declared.DiskInfo.{DiskInfo};
 ghost use Rattle.host_boot.specs.declared.Host.{Host};
 ghost use Rattle.hba_regs.specs.Bits.{bit};
 ghost use Rattle.ncq.specs.Masks.{ReadsDone, SeesClear};
-ghost use Rattle.request_queue.specs.Entries.{Held, asks, asks_of, due_ids, revoked_all, waits_under};
-ghost use Rattle.request_queue.specs.Fates.{Holdings, MeetFates, fate_of};
-ghost use Rattle.request_queue.specs.declared.fate.Failed.{Failed};
-ghost use Rattle.request_queue.specs.declared.fate.Prospect.{Prospect};
-ghost use Rattle.server_history.specs.Fates.{MayMeet, MeetsInMachine};
-ghost use Rattle.agreement.specs.Driver.{Known};
-ghost use Rattle.block_machine.specs.State.{Machine};
+ghost use Rattle.request_queue.specs.Entries.{Held, asks, asks_of, due_ids};
 ghost use Rattle.server_history.specs.Histories.{Adds, AddsBy, AddsEvent, HasBegun, HoldsBy, load_said, store_said};
-ghost use Rattle.server_history.specs.Served.{Accepts, AnswersDone, AnswersOne, HasNone, IsMaskOf, IssuesAll, IssuesOne, accepting};
+ghost use Rattle.server_history.specs.Revoked.{RevokesAndIssues, RevokesGrant};
+ghost use Rattle.server_history.specs.Served.{Accepts, AnswersDone, AnswersOne, HasNone, IsMaskOf, IssuesOne, accepting};
 ghost use Rattle.server_history.specs.Stalled.{KeepsBooks};
 ghost use Rattle.server_history.specs.Tried.{TriesPort};
 ghost use Rattle.server_history.specs.Turns.{HasPart, InRestart, ServePorts, ServesPort, Ticks, TriesUnready, a_tick_older};
 ghost use Rattle.port_look.specs.declared.Trouble.TheVariants.{Hung};
-ghost use Rattle.server_history.specs.Server.{AreOfTwo, IsMarked, Server, mode_found, IsKept, IsLentOut, IsNewServer, IsSettled, kept_at, mode_in, ports_of, situation_of, slots_at, state_of, used_for};
+ghost use Rattle.server_history.specs.Server.{Server, mode_found, IsKept, IsNewServer, IsSettled, kept_at, mode_in, ports_of, situation_of, slots_at, state_of, used_for};
 ghost use Rattle.slots.specs.Uses.{IsLowestFree, IsTaken};
 ghost use Rattle.slots.specs.declared.Use.{Use as SlotUse};
 ghost use Rattle.port_look.specs.Looks.{IsLooking, LooksAt};
@@ -107,6 +101,8 @@ pub fn refusals_add()
         (fault : MemFault) → HoldsBy stuck s
         → IsFirstMemFault (owner_of s.table) (lent_to s.table) client frame offset count fault
         → AddsEvent s s (LoadAt client frame offset count) (load_said (Err fault) bytes) }
+    ensures revoke { (stuck : Bool) (s : Server) (client : ClientId) (number : ℕ) → HoldsBy stuck s
+        → (HasRow client number s.grants → ⊥) → AddsEvent s s (RevokeOf client number) (WasRevoked None) }
     ensures state { (stuck : Bool) (s : Server) (port : Port) → HoldsBy stuck s
         → AddsEvent s s (State port) (Shown ((ports_of s).state port)) }
 {
@@ -165,7 +161,7 @@ pub fn a_used_slot_has_its_request()
         × (request.entry.issued ≡ true) }
 {}
 
-/// A server goes on while requests are accepted, answered and issued.
+/// A server goes on while requests are accepted, answered and issued, and a grant is revoked.
 pub fn requests_keep()
     ensures accepted { (s : Server) (port : Port) (r : Request) (row : GrantRow) (id : RequestId) (table : Table)
         → IsKept s → IsAcceptable (situation_of s) r → IsNamed s.grants r row → row.port ≡ port → id.0 ≡ s.last + 1
@@ -174,6 +170,8 @@ pub fn requests_keep()
         ≡ ReadyState
         → (one : AnswersOne port request s new) → IsOver (s.device.port port.0) one.slot → IsKept new }
     ensures issued { (s new : Server) (port : Port) (id : RequestId) → IsKept s → IssuesOne port id s new → IsKept new }
+    ensures revoked { (s new : Server) (client : ClientId) (number : ℕ) (replies : List Reply) → IsKept s
+        → RevokesGrant client number replies s new → IsKept new }
 {
     the_laws_below_hold();
 }
@@ -294,13 +292,15 @@ pub fn acceptances_add()
     the_laws_below_hold();
 }
 
-/// As a client's grant of a number is revoked, marks go on to tell which grants are there: its row goes, the requests
-/// that waited under it are answered, and the others under it are marked.
-pub fn marks_tell_of_a_revocation()
-    ensures { (rows : List GrantRow) (client : ClientId) (number : ℕ) (entries : List Held)
-        → All (IsMarked rows) entries → All (IsMarked (without_row client number rows))
-        (revoked_all client number (filter (λ e. not (waits_under client number e.entry)) entries)) }
-{}
+/// A client's grant that is revoked adds an event: the requests that waited under it are answered, and what is due on
+/// its port is issued.
+pub fn revocations_add()
+    ensures { (s new : Server) (client : ClientId) (number : ℕ) (replies : List Reply) → IsSettled s
+        → RevokesAndIssues client number replies s new
+        → Adds s new (RevokeOf client number) (WasRevoked (Some replies)) }
+{
+    the_laws_below_hold();
+}
 
 /// Ports that have their turns in a service one after another add an event: ready ones are served, and others tried.
 pub fn services_add()

@@ -1,28 +1,18 @@
 // Laws of a server whether or not its adapter is on, and of one since a reset that got stuck: the clause is the
 // theorem. Nothing comes of calling these functions.
-ghost use Rattle.std.specs.Prelude.{ℕ, true, false, ◌≡◌, ◌≢◌, ◌+◌, ◌*◌, ◌<◌, List, [], None, Ok, Err, All, AllPairs, Contains, length};
+ghost use Rattle.std.specs.Prelude.{ℕ, ◌≡◌, ◌≢◌, ◌<◌, List, [], None, Some, All, AllPairs, Contains};
 ghost use Rattle.ata_types.specs.declared.Port.{Port};
-ghost use Rattle.ata_types.specs.declared.memory.TheConstants.{FRAME_BYTES};
-ghost use Rattle.ata_types.specs.declared.refusal.MemFault.{MemFault};
-ghost use Rattle.ata_types.specs.declared.refusal.Refusal.{Refusal};
 ghost use Rattle.ata_types.specs.declared.request.ClientId.{ClientId};
-ghost use Rattle.ata_types.specs.declared.request.Frame.{Frame};
 ghost use Rattle.ata_types.specs.declared.request.Reply.{Reply};
 ghost use Rattle.ata_types.specs.declared.request.Request.{Request};
-ghost use Rattle.adapter.specs.Access.{Loads, Stores};
-ghost use Rattle.adapter.specs.Asked.{Asked};
-ghost use Rattle.adapter.specs.Device.{Device};
-ghost use Rattle.adapter.specs.Rules.{IsFree, Stays};
-ghost use Rattle.adapter.specs.Steps.{Steps};
-ghost use Rattle.adapter.specs.declared.access.DeviceStep.{DeviceStep};
-ghost use Rattle.block_machine.specs.Events.{Device as Told, LoadAt, Reset, Served, Service, Shown, State, Stepped, StoreAt, Submit, Submitted, Tick, WasReset};
-ghost use Rattle.block_machine.specs.Refusals.{IsAcceptable, IsFirstMemFault, IsFirstRefusal, IsOpen};
+ghost use Rattle.block_machine.specs.Events.{Reset, RevokeOf, Served, Service, Tick, WasReset, WasRevoked};
+ghost use Rattle.block_machine.specs.Refusals.{IsAcceptable};
 ghost use Rattle.dma_frames.specs.Loan.{Lending};
-ghost use Rattle.dma_frames.specs.Table.{lent_to, owner_of};
 ghost use Rattle.request_queue.specs.Entries.{Held};
-ghost use Rattle.server_history.specs.Histories.{AddsEvent, AddsStalled, load_said, store_said};
+ghost use Rattle.server_history.specs.Histories.{AddsStalled};
+ghost use Rattle.server_history.specs.Revoked.{RevokesGrant};
 ghost use Rattle.server_history.specs.Resets.{MaySettle, SettlePorts, SettlesPort};
-ghost use Rattle.server_history.specs.Server.{AreOfTwo, IsKept, IsLentOut, Server, kept_at, ports_of, situation_of};
+ghost use Rattle.server_history.specs.Server.{AreOfTwo, IsKept, IsLentOut, Server, kept_at, situation_of};
 ghost use Rattle.server_history.specs.Stalled.{GetsStuck, KeepsBooks, IsStalled};
 
 use super::lawful::{living_laws_hold, the_laws_below_hold};
@@ -73,6 +63,16 @@ pub fn stalled_servers_admit_none()
 /// A tick adds an event, and nothing changes: no port is ready, so no request is issued that could get older.
 pub fn stalled_ticks_add()
     ensures { (s : Server) → IsStalled s → AddsStalled s s Tick (Served []) }
+{
+    the_laws_below_hold();
+}
+
+/// A client's grant that is revoked adds an event: the requests that waited under it are answered, and nothing is
+/// accessed.
+pub fn stalled_revocations_add()
+    ensures { (s new : Server) (client : ClientId) (number : ℕ) (replies : List Reply) → IsStalled s
+        → RevokesGrant client number replies s new
+        → AddsStalled s new (RevokeOf client number) (WasRevoked (Some replies)) }
 {
     the_laws_below_hold();
 }

@@ -22,7 +22,7 @@ use Rattle.server_history.proofs.state.IssueCounts.{places}
 use Rattle.server_history.proofs.any_turn.JoinedParts.{ready_or_not}
 use Rattle.server_history.proofs.state.LoanCounts.{issued_of}
 use Rattle.server_history.proofs.fates.MetFates.{nobody}
-use Rattle.server_history.proofs.fates.FittingFates.{fits_entry}
+use Rattle.server_history.proofs.fates.FittingFates.{fits_each}
 use Rattle.server_history.proofs.fates.RemainingBook.{IsLeft, fated, its_requests}
 use Rattle.server_history.proofs.state.PortSlots.{of_ready, used_or_not, used_ready}
 use Rattle.server_history.proofs.state.ServerInstant.{served_is}
@@ -85,7 +85,7 @@ may_settle s b = record { four_kept = b.four_kept; ordered = b.ordered; accepted
 -- and those of the other ports may still, once those of one port met theirs
 module _ (laws : LawsBelow) (s new : Server) (port : Port) (replies : List Reply) (low : port.0 < 4) (may : MaySettle s) (settles : SettlesPort port replies s new) where
   pub left : IsLeft port (fate_of None settles.prospect) (requests_of port s.book) (holdings_of port s) settles.now
-  left = fated laws port (fate_of None settles.prospect) (fits_entry None settles.prospect) (requests_of port s.book) replies (holdings_of port s) settles.now (its_requests port s may.ordered may.accepted) settles.meets
+  left = fated laws port (fate_of None settles.prospect) (requests_of port s.book) (fits_each None settles.prospect (requests_of port s.book)) replies (holdings_of port s) settles.now (its_requests port s may.ordered may.accepted) settles.meets
 
   pub kept_same : kept_at (with_holdings port settles.now s).kept port.0 ≡ settles.now.kept
   kept_same = get_or-set_same s.kept port.0 settles.now.kept [] (let four = may.four_kept in omega (arith, four, low))

@@ -1,5 +1,5 @@
 -- Calls of a server since a reset that got stuck, but for its service.
-use Rattle.std.proofs.Common.{ℕ, suc, ◌∙◌, Bool, true, false, ◌≡◌, ◌≢◌, ◌+◌, ◌*◌, ◌&&◌, if◌then◌else◌, List, [], ◌∷◌, Ok, Err, length, map, inl, inr, refl, sym, ap, ap₂, subst, arith, ⊎_elim}
+use Rattle.std.proofs.Common.{ℕ, suc, ◌∙◌, Bool, true, false, ◌≡◌, ◌≢◌, ◌+◌, ◌*◌, ◌&&◌, if◌then◌else◌, List, [], ◌∷◌, None, Ok, Err, length, map, inl, inr, refl, sym, ap, ap₂, subst, arith, ⊎_elim}
 use Rattle.std.specs.List.{Contains}
 use Rattle.std.proofs.lemmas.Bool.{false≢true}
 use Rattle.std.proofs.lemmas.List.Elements.{All-nil}
@@ -25,11 +25,12 @@ use Rattle.adapter.specs.declared.access.DeviceStep.{DeviceStep}
 use Rattle.agreement.specs.Driven.{known}
 use Rattle.agreement.specs.Links.{SameAdapter}
 use Rattle.agreement.proofs.driver.AddedSteps.{device_adds}
-use Rattle.block_machine.specs.Events.{AllMay, AnswersTick, Device as Told, IsHung, LoadAt, Moment, Served, Shown, State, Stepped, StoreAt, Submit, Submitted, Tick}
+use Rattle.block_machine.specs.Events.{AllMay, AnswersTick, Device as Told, IsHung, LoadAt, Moment, RevokeOf, Served, Shown, State, Stepped, StoreAt, Submit, Submitted, Tick, WasRevoked}
 use Rattle.block_machine.specs.Histories.{Happening, Instant, now}
 use Rattle.block_machine.specs.Left.{after}
 use Rattle.block_machine.specs.Ports.{Ports}
 use Rattle.block_machine.specs.Refusals.{IsAcceptable, IsFirstMemFault, IsFirstRefusal, IsOpen}
+use Rattle.block_machine.specs.Rules.{HasRow}
 use Rattle.block_machine.specs.State.{Pending}
 use Rattle.block_machine.specs.Steps.{Step, Age, Again, Answer, Load, Store, older}
 use Rattle.server_history.proofs.state.ListMembers.{contains_cases}
@@ -39,7 +40,7 @@ use Rattle.server_history.specs.Below.{LawsBelow}
 use Rattle.server_history.specs.Histories.{AddsEvent, AddsStalled, Leads, load_said, store_said}
 use Rattle.server_history.specs.Server.{Server, IsMachineOf, ports_of, situation_of}
 use Rattle.server_history.specs.Stalled.{KeepsBooks, IsStalled}
-use Rattle.server_history.proofs.plain_calls.RefusalsAndBytes.{GoesTo, device_event, load_ends, load_event, load_refused_event, state_event, store_ends, store_event, store_refused_event, submit_refused_event, undone_event}
+use Rattle.server_history.proofs.plain_calls.RefusalsAndBytes.{GoesTo, device_event, load_ends, load_event, load_refused_event, revoke_refused_event, state_event, store_ends, store_event, store_refused_event, submit_refused_event, undone_event}
 use Rattle.server_history.proofs.state.HistorySteps.{lead_by, machine_on, ports_same}
 use Rattle.server_history.proofs.state.FirstMembers.{nowhere}
 use Rattle.server_history.proofs.failed_reset.StalledInstant.{access_idle, booked_on, holds_off, never_ready, never_troubled, steps_idle, steps_same}
@@ -64,7 +65,7 @@ module _ (laws : LawsBelow) (s : Server) (t : IsStalled s) where
 
   -- ---- the server with another device
 
-  goes : (new : Device) → IsStalled (record s { device = new }) → GoesTo s new
+  pub goes : (new : Device) → IsStalled (record s { device = new }) → GoesTo s new
   goes new then_is = record {
     holds = holds_off (record s { device = new }) then_is.booked then_is.dead then_is.off;
     trouble = λ m are port. never_troubled s t.dead (told_by s.device m.ports) (record { device = s.device; moment = m }) (ports_of s) new port are (never_ready s t.dead port.0);
@@ -106,6 +107,9 @@ module _ (laws : LawsBelow) (s : Server) (t : IsStalled s) where
   pub stalled_load_refused : (client : ClientId) (frame : Frame) (offset count : ℕ) (bytes : List ℕ) (fault : MemFault)
       → IsFirstMemFault (owner_of s.table) (lent_to s.table) client frame offset count fault → AddsEvent s s (LoadAt client frame offset count) (load_said (Err fault) bytes)
   stalled_load_refused = load_refused_event laws s (goes s.device t)
+
+  pub stalled_revoke_refused : (client : ClientId) (number : ℕ) → (HasRow client number s.grants → ⊥) → AddsEvent s s (RevokeOf client number) (WasRevoked None)
+  stalled_revoke_refused client number none = revoke_refused_event laws s (goes s.device t) client number none (λ m at port ready. absurd (never_ready s t.dead port.0 ready))
 
   pub stalled_submit : (r : Request) (refusal : Refusal) → IsFirstRefusal (situation_of s) r refusal → AddsEvent s s (Submit r) (Submitted (Err refusal))
   stalled_submit r refusal is = submit_refused_event laws s (goes s.device t) r refusal is (λ m at port ready. absurd (never_ready s t.dead port.0 ready))

@@ -1,11 +1,14 @@
 -- What holds at the instant of a server each of whose served ports is dead, and whose adapter isn't on.
-use Rattle.std.proofs.Common.{ℕ, true, ◌≡◌, ◌≢◌, ◌⊎◌, ◌<◌, ◌≤◌, ◌+◌, ◌*◌, List, [], ◌∷◌, inl, inr, refl, sym, ap, ◌∙◌, subst, ⊎_elim}
+use Rattle.std.proofs.Common.{ℕ, true, ◌≡◌, ◌≢◌, ◌⊎◌, ◌<◌, ◌≤◌, ◌+◌, ◌*◌, List, [], ◌∷◌, length, get_or, Option, None, inl, inr, refl, sym, ap, ◌∙◌, subst, ⊎_elim}
+use Rattle.std.specs.Prelude.{count_by}
 use Rattle.std.specs.List.{All}
 use Rattle.std.proofs.lemmas.Bool.{false≢true}
 use Rattle.std.proofs.lemmas.List.Elements.{All-contains, All-head, All-tail}
 use Rattle.ata_types.specs.declared.Port.{Port}
 use Rattle.ata_types.specs.declared.PortState.TheVariants.{Absent, Ready as ReadyState, Unfit, Dead}
+use Rattle.ata_types.specs.declared.grant.GrantRow.{GrantRow}
 use Rattle.ata_types.specs.declared.memory.TheConstants.{DRIVER_BYTES}
+use Rattle.ata_types.specs.declared.request.ClientId.{ClientId}
 use Rattle.hba_regs.specs.Bits.{bit}
 use Rattle.hba_regs.specs.declared.reg.Reg.TheVariants.{Ghc}
 use Rattle.adapter.specs.Access.{Access, Does, DoesAll}
@@ -16,18 +19,22 @@ use Rattle.adapter.specs.Rules.{IsOn}
 use Rattle.adapter.specs.Steps.{Steps}
 use Rattle.agreement.specs.Links.{SameAdapter}
 use Rattle.block_machine.specs.Histories.{Instant, IsReached}
+use Rattle.block_machine.specs.Left.{IsRow}
 use Rattle.block_machine.specs.Ports.{AreFit, Evidence, Ports}
 use Rattle.block_machine.specs.State.{Machine}
 use Rattle.driver_history.specs.Histories.{LosesNoTrouble, TendsPort}
 use Rattle.agreement.specs.Acts.{InSlots}
 use Rattle.driver_history.specs.Holds.{HoldsOf, HoldsWith, NoneWaits}
+use Rattle.dma_frames.specs.Loan.{Lending}
+use Rattle.dma_frames.specs.Table.{Table}
 use Rattle.host_boot.specs.Taken.{found_of, wanted_of}
 use Rattle.host_boot.specs.declared.Found.{Found}
 use Rattle.host_boot.specs.declared.Found.TheVariants.{Ready, Unready, Unserved}
-use Rattle.request_queue.specs.Entries.{Held}
+use Rattle.request_queue.specs.Entries.{Held, IsAccepted, IsInOrder}
 use Rattle.request_queue.specs.Machine.{IsEntry}
 use Rattle.server_history.specs.Below.{LawsBelow}
-use Rattle.server_history.specs.Server.{Server, IsMachineOf, is_served, ports_of, state_of, use_of}
+use Rattle.server_history.specs.Mended.{requests_of}
+use Rattle.server_history.specs.Server.{HasTrueMark, Server, IsMachineOf, is_served, kept_at, ports_of, state_of, use_of}
 use Rattle.server_history.specs.Stalled.{AreDead, KeepsBooks}
 use Rattle.server_history.proofs.state.HistorySteps.{IsHolding}
 use Rattle.server_history.proofs.state.PortSlots.{none_kept}
@@ -183,6 +190,35 @@ booked_on s new b same idle m reached is = record {
   marked = b.marked;
   handed_out = b.handed_out;
   asked = b.asked;
+  machine = m;
+  reached = reached;
+  stands = is;
+}
+
+-- ---- the server with other requests
+
+pub booked_then : (s : Server) (grants : List GrantRow) (table : Table) (kept : List (List Lending)) (book : List Held) → KeepsBooks s → All IsRow grants → table.owners ≡ s.table.owners → length kept ≡ 4
+    → ((port : Port) → length (kept_at kept port.0) + count_by (λ (e : Held). e.entry.issued) (requests_of port book) ≤ 32) → All (IsAccepted table) book → IsInOrder book → All (HasTrueMark grants) book
+    → All (λ e. e.entry.id.0 ≤ s.last) book → All (λ e. is_served (found_of s.ports e.entry.port.0) ≡ true) book → (m : Machine) → IsReached m → IsMachineOf (record s { grants = grants; table = table; kept = kept; book = book }) m
+    → KeepsBooks (record s { grants = grants; table = table; kept = kept; book = book })
+booked_then s grants table kept book b rows owners four places accepted ordered marked handed_out asked m reached is = record {
+  room = b.room;
+  served = b.served;
+  few = b.few;
+  idle = b.idle;
+  unused = b.unused;
+  four = b.four;
+  four_modes = b.four_modes;
+  four_remembered = b.four_remembered;
+  four_kept = four;
+  places = places;
+  rows = rows;
+  owners = λ frame client own. b.owners frame client (ap (λ (list : List (Option ClientId)). get_or list frame.0 None) (sym owners) ∙ own);
+  accepted = accepted;
+  ordered = ordered;
+  marked = marked;
+  handed_out = handed_out;
+  asked = asked;
   machine = m;
   reached = reached;
   stands = is;

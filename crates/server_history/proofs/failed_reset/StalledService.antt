@@ -8,8 +8,6 @@ use Rattle.ata_types.specs.declared.Port.{Port}
 use Rattle.ata_types.specs.declared.PortState.TheVariants.{Dead, Absent, Foreign, Ready as ReadyState, Unfit}
 use Rattle.ata_types.specs.declared.request.ClientId.{ClientId}
 use Rattle.ata_types.specs.declared.request.Frame.{Frame}
-use Rattle.ata_types.specs.declared.request.Op.TheVariants.{Flush}
-use Rattle.ata_types.specs.declared.request.Outcome.{Outcome}
 use Rattle.ata_types.specs.declared.request.Outcome.TheVariants as outcome
 use Rattle.ata_types.specs.declared.request.Reply.{Reply}
 use Rattle.ata_types.specs.declared.request.RequestId.{RequestId}
@@ -47,21 +45,22 @@ use Rattle.adapter.specs.Device.{Device}
 use Rattle.std.proofs.lemmas.List.{set_past}
 use Rattle.server_history.proofs.recovery_turn.ReplacedPort.{is_listed}
 use Rattle.server_history.specs.Below.{LawsBelow}
-use Rattle.server_history.specs.Fates.{DecidesOn, KeepsNone, MayMeet, MeetsInMachine, keeps_fate, loans_of}
+use Rattle.server_history.specs.Fates.{DecidesOn, MayMeet, MeetsInMachine, keeps_fate, loans_of}
 use Rattle.server_history.specs.Mended.{holdings_of, requests_of}
 use Rattle.server_history.specs.Resets.{IsProspectAnew, MaySettle, SettlePorts, SettlesPort, with_holdings}
-use Rattle.server_history.specs.Server.{AreKept, Server, IsMachineOf, is_served, kept_at, ports_of, state_of, IsMarked}
+use Rattle.server_history.specs.Server.{AreKept, Server, IsMachineOf, is_served, kept_at, ports_of, state_of, HasTrueMark}
 use Rattle.server_history.specs.Stalled.{KeepsBooks, IsStalled}
 use Rattle.server_history.proofs.failed_reset.ServerBook.{kept_other, kept_same, left, may_settle, settles_on}
-use Rattle.server_history.proofs.failed_reset.DeadPortSteps.{TellsDeath, death_told, deaths_belong, deaths_grounded, deaths_issue_none, deaths_lawful, deaths_unplug_none}
+use Rattle.server_history.proofs.failed_reset.DeadPortSteps.{IsDeath, death_lawful, deaths_grounded, deaths_unplug_none}
+use Rattle.server_history.proofs.state.AnswerSteps.{IsAnswerOf, answers_belong, answers_issue_none, answers_lawful, answer_told}
 use Rattle.server_history.proofs.recovery_turn.MendedMachine.{deciding_leaves, fates_owners}
 use Rattle.server_history.proofs.any_turn.JoinedParts.{AreToldBelow, told_then}
 use Rattle.server_history.proofs.fates.MoreKeptLoans.{more_kept}
 use Rattle.server_history.proofs.state.FirstMembers.{nowhere}
-use Rattle.server_history.proofs.fates.FittingFates.{fits_entry, kept_dead_alone}
-use Rattle.server_history.proofs.fates.MetFates.{loans_in, meet, nobody}
+use Rattle.server_history.proofs.fates.FittingFates.{fits_each, kept_dead_alone}
+use Rattle.server_history.proofs.fates.MetFates.{loans_in, meet, nobody, none_parked}
 use Rattle.server_history.proofs.fates.RemainingBook.{WasIn, its_requests, marked_from, was_itself, was_more}
-use Rattle.server_history.proofs.failed_reset.StalledInstant.{either, holds_off, never_ready, never_troubled}
+use Rattle.server_history.proofs.failed_reset.StalledInstant.{booked_then, either, holds_off, never_ready, never_troubled}
 use Rattle.server_history.proofs.state.PairedLists.{at_left, at_right}
 use Rattle.server_history.proofs.state.RevokedMarks.{tells_of}
 use Rattle.server_history.proofs.state.ListMembers.{in_filter}
@@ -77,14 +76,6 @@ dead_prospect was found NoEnd x dead = refl
 other_prospect : (was : Option DiskInfo) (found : Found) (prospect : Prospect) → IsProspectAnew was found prospect → found ≢ Unready Dead → prospect ≢ NoEnd
 other_prospect was found prospect expects alive is = alive (subst (IsProspectAnew was found) is expects)
 
--- a request that is issued
-an_issued : RequestId → Port → Entry
-an_issued id port = record { id = id; client = record { 0 = 0 }; grant = 0; port = port; op = Flush; range = record { first = record { 0 = 0 }; count = 0 }; issued = true; issues = 0; age = 0; revoked = false }
-
-an_issued_is : (id : RequestId) (port : Port) → (an_issued id port).issued ≡ true
-unfolding an_issued
-an_issued_is id port = refl
-
 module _ (laws : LawsBelow) (s : Server) (t : IsStalled s) where
   abbrev b : KeepsBooks s
   b = t.booked
@@ -99,7 +90,7 @@ module _ (laws : LawsBelow) (s : Server) (t : IsStalled s) where
     may : AllMay m steps
     stands : IsMachineOf c (after m steps)
     backed : IsBacked s.device s.device m steps
-    deaths : All (TellsDeath (ports_of s)) steps
+    deaths : All (IsAnswerOf (IsDeath (ports_of s))) steps
     told : AreToldBelow n steps replies
     settle : MaySettle c
     settings : c ≡ with_all c.table c.kept c.book
@@ -113,7 +104,7 @@ module _ (laws : LawsBelow) (s : Server) (t : IsStalled s) where
     may = tt;
     stands = is;
     backed = laws.backed_none s.device m;
-    deaths = All-nil (TellsDeath (ports_of s));
+    deaths = All-nil (IsAnswerOf (IsDeath (ports_of s)));
     told = record { answers = []; permuted = IsPermutation-refl []; ordered = λ i j d lt below. absurd (omega (arith, lt, below)); low = All-nil (λ a. a.0.request.port.0 < 0); told = refl };
     settle = may_settle s b;
     settings = refl;
@@ -165,7 +156,7 @@ module _ (laws : LawsBelow) (s : Server) (t : IsStalled s) where
     keeps_issued dead e = ap (λ (f : Fate). keeps_fate f e) (ends_dead dead e)
 
     -- on a port that isn't served no loan is kept
-    quiet : found_of s.ports n ≢ Unready Dead → KeepsNone fate
+    quiet : found_of s.ports n ≢ Unready Dead → (e : Entry) → keeps_fate (fate e) e ≡ false
     quiet alive e = kept_dead_alone None one.prospect e (other_prospect _ (found_of s.ports n) one.prospect one.expects alive)
 
     not_dead : found_of s.ports n ≡ Unserved → found_of s.ports n ≢ Unready Dead
@@ -192,28 +183,30 @@ module _ (laws : LawsBelow) (s : Server) (t : IsStalled s) where
       marked = λ e there. tells_of w.rows s.grants e.entry p.stands.rows (marked_from s.grants s.book b.marked e (p.from e (of_its e there).0)).tells;
       earlier = (its_requests (port_at n) c p.settle.ordered p.settle.accepted).earlier;
       unserved = unserved;
-      parked = λ none id there. ⊎_elim
-          (λ free. absurd (nowhere id (subst (λ (ids : List RequestId). Contains ids id) (p.stands.unparked n (not_dead free)) there)))
-          (λ dead. absurd (false≢true (sym (none (an_issued id (port_at n))) ∙ keeps_issued dead (an_issued id (port_at n)) ∙ an_issued_is id (port_at n))))
-          (either s t.dead n);
     }
 
     met : MeetsInMachine (port_at n) fate requests its (holdings_of (port_at n) c) one.now k w
-    met = meet laws (port_at n) fate (fits_entry None one.prospect) requests its (holdings_of (port_at n) c) one.now k w may_meet one.meets
+    met = meet laws (port_at n) fate requests (fits_each None one.prospect requests) its (holdings_of (port_at n) c) one.now k w may_meet one.meets
 
     abbrev z : Machine
     z = after w met.steps
 
+    -- who was parked of a port that isn't dead is decided on
+    none_left : found_of s.ports n ≢ Unready Dead → met.parked n ≡ []
+    none_left alive =
+        none_parked (port_at n) fate requests (fits_each None one.prospect requests) its (holdings_of (port_at n) c) one.now k w met (quiet alive)
+        (λ id here. absurd (nowhere id (subst (λ (ids : List RequestId). Contains ids id) (p.stands.unparked n alive) here)))
+
     -- ---- its steps
 
-    its_death : (step : Step) → Contains met.steps step → DecidesOn (port_at n) step → TellsDeath (ports_of s) step
+    its_death : (step : Step) → Contains met.steps step → DecidesOn (port_at n) step → IsAnswerOf (IsDeath (ports_of s)) step
     its_death (Answer e o) here own = ⊎_elim
         (λ free. absurd (let x = met.answered e o here in none_unserved free x.0 (of_its x.0 x.1).0 (ap (λ (q : Port). q.0) (of_its x.0 x.1).1)))
         (λ dead.
         let x = met.answered e o here in
         let same : Ends outcome.PortDead ≡ Ends o = sym (ends_dead dead x.0.entry) ∙ x.3 in
         let is : outcome.PortDead ≡ o = cc in
-        subst (λ (y : Outcome). TellsDeath (ports_of s) (Answer e y)) is (ap (λ (q : Port). state_of (found_of s.ports q.0)) own ∙ ap state_of dead))
+        (sym is, ap (λ (q : Port). state_of (found_of s.ports q.0)) own ∙ ap state_of dead))
         (either s t.dead n)
     its_death (Again e) here own = absurd (⊎_elim
         (λ free. let x = met.again e here in none_unserved free x.0 (of_its x.0 x.1).0 (ap (λ (q : Port). q.0) (of_its x.0 x.1).1))
@@ -221,8 +214,8 @@ module _ (laws : LawsBelow) (s : Server) (t : IsStalled s) where
         (either s t.dead n))
     its_death step here own = absurd own
 
-    its_deaths : All (TellsDeath (ports_of s)) met.steps
-    its_deaths = All-weaker (Contains met.steps) (TellsDeath (ports_of s)) (λ step here. its_death step here (All-contains (DecidesOn (port_at n)) met.steps step met.own here)) met.steps (All-contains_itself met.steps)
+    its_deaths : All (IsAnswerOf (IsDeath (ports_of s))) met.steps
+    its_deaths = All-weaker (Contains met.steps) (IsAnswerOf (IsDeath (ports_of s))) (λ step here. its_death step here (All-contains (DecidesOn (port_at n)) met.steps step met.own here)) met.steps (All-contains_itself met.steps)
 
     -- ---- the machine
 
@@ -262,7 +255,7 @@ module _ (laws : LawsBelow) (s : Server) (t : IsStalled s) where
       used = p.stands.used;
       parked = met.parked;
       unparked = λ q alive. ⊎_elim
-          (λ (same : q ≡ n). ap met.parked same ∙ met.none (quiet (λ dead. alive (ap (found_of s.ports) same ∙ dead))))
+          (λ (same : q ≡ n). ap met.parked same ∙ none_left (λ dead. alive (ap (found_of s.ports) same ∙ dead)))
           (λ (other : q ≢ n). met.others q other ∙ p.stands.unparked q alive)
           (cases_eq q n);
       knows = met.knows;
@@ -305,7 +298,7 @@ module _ (laws : LawsBelow) (s : Server) (t : IsStalled s) where
       may = laws.basic.may m met.steps p.steps p.may met.may;
       stands = subst (IsMachineOf new) (sym (laws.basic.joined m met.steps p.steps)) stands_then;
       backed = laws.backed_parts s.device s.device s.device m p.steps met.steps p.backed (met.backed s.device);
-      deaths = All-append (TellsDeath (ports_of s)) met.steps p.steps its_deaths p.deaths;
+      deaths = All-append (IsAnswerOf (IsDeath (ports_of s))) met.steps p.steps its_deaths p.deaths;
       told = told_then n p.steps met.steps before its p.told met.tells (λ e o here. All-contains (DecidesOn (port_at n)) met.steps (Answer e o) met.own here);
       settle = subst MaySettle one.server (settles_on laws c mid (port_at n) its low p.settle one);
       settings = refl;
@@ -416,28 +409,9 @@ module _ (laws : LawsBelow) (s : Server) (t : IsStalled s) where
     stalled_then =
         let x = ended b.machine b.reached b.stands in
         record {
-          booked = record {
-            room = b.room;
-            served = b.served;
-            few = b.few;
-            idle = b.idle;
-            unused = b.unused;
-            four = b.four;
-            four_modes = b.four_modes;
-            four_remembered = b.four_remembered;
-            four_kept = x.settle.four_kept;
-            places = x.settle.places;
-            rows = b.rows;
-            owners = λ frame client own. b.owners frame client (ap (λ (owners : List (Option ClientId)). get_or owners frame.0 None) (sym x.owners) ∙ own);
-            accepted = nothing_left (IsAccepted new.table);
-            ordered = x.settle.ordered;
-            marked = nothing_left (IsMarked s.grants);
-            handed_out = nothing_left (λ e. e.entry.id.0 ≤ s.last);
-            asked = nothing_left (λ e. is_served (found_of s.ports e.entry.port.0) ≡ true);
-            machine = after b.machine x.steps;
-            reached = laws.basic.reached b.machine x.steps b.reached x.may;
-            stands = subst (λ (y : Server). IsMachineOf y (after b.machine x.steps)) same_server x.stands;
-          };
+          booked = booked_then s s.grants new.table new.kept new.book b b.rows x.owners x.settle.four_kept x.settle.places (nothing_left (IsAccepted new.table)) x.settle.ordered (nothing_left (HasTrueMark s.grants))
+              (nothing_left (λ e. e.entry.id.0 ≤ s.last)) (nothing_left (λ e. is_served (found_of s.ports e.entry.port.0) ≡ true)) (after b.machine x.steps) (laws.basic.reached b.machine x.steps b.reached x.may)
+              (subst (λ (y : Server). IsMachineOf y (after b.machine x.steps)) same_server x.stands);
           off = t.off;
           dead = t.dead;
         }
@@ -484,7 +458,7 @@ module _ (laws : LawsBelow) (s : Server) (t : IsStalled s) where
       answers : AnswersService old (told_by s.device old.ports) x.steps replies (record { machine = after old.machine x.steps; ports = ports_of s })
       answers = record {
         tells = record { answers = x.told.answers; same = x.told.permuted; ordered = x.told.ordered; told = x.told.told };
-        dead = λ e o here is. (death_told (ports_of s) x.steps x.deaths e o here).0;
+        dead = λ e o here is. (answer_told (IsDeath (ports_of s)) x.steps x.deaths e o here).0;
         grounded = deaths_grounded (ports_of s) (told_by s.device old.ports) x.steps x.deaths;
         unplugs = deaths_unplug_none (ports_of s) x.steps x.deaths (after old.machine x.steps);
         issues = λ port ready. absurd (never_ready s t.dead port.0 ready);
@@ -511,7 +485,8 @@ module _ (laws : LawsBelow) (s : Server) (t : IsStalled s) where
 
       event : (h : Happening Device DeviceStep) × (h.event.ask ≡ Service) × (h.event.said ≡ Served replies) × Leads first (h ∷ past) n
       event = lead_by laws first past s n Service (Served replies) x.steps refl refl leads (holds_off n stalled_then.booked t.dead t.off)
-          x.may (deaths_belong (ports_of s) x.steps x.deaths) (none_last x.steps (λ id. deaths_issue_none (ports_of s) id x.steps x.deaths)) (deaths_lawful (ports_of s) old no_evidence x.steps x.deaths)
+          x.may (answers_belong (IsDeath (ports_of s)) Service (ports_of s) (λ e o death. tt) x.steps x.deaths) (none_last x.steps (λ id. answers_issue_none (IsDeath (ports_of s)) id x.steps x.deaths))
+          (answers_lawful (IsDeath (ports_of s)) old no_evidence (ports_of s) (death_lawful (ports_of s) old no_evidence) x.steps x.deaths)
           answers
           []
           (refl, All-nil (IsServing (TendsPort old.ports)))

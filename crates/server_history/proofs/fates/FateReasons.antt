@@ -165,7 +165,7 @@ module _ (port : Port) where
   )
   deciding_lawful old evidence ports (step ∷ steps) all answer again = absurd (All-head (DecidesOn port) step steps all)
 
-  -- a request that goes again, or is aborted, revoked or told a fault in its place, is of a port that failed
+  -- a request that goes again, or is aborted, told Revoked or told a fault in its place, is of a port that failed
   pub deciding_grounded : (evidence : Evidence) (steps : List Step) → All (DecidesOn port) steps → ((e : Pending) → Contains steps (Again e) → Contains evidence.failed port)
       → ((e : Pending) (o : Outcome) → Contains steps (Answer e o) → RestsOnFailure o → Contains evidence.failed port) → AllGrounded evidence steps
   deciding_grounded evidence [] all again answer = tt

@@ -1,7 +1,9 @@
 -- What becomes of a request fits how far it is and whether it is marked, and loans are kept on dead ports alone.
-use Rattle.std.proofs.Common.{◌≡◌, ◌≢◌, ◌==◌, Bool, true, false, if◌then◌else◌, Option, Some, None, refl}
+use Rattle.std.proofs.Common.{◌≡◌, ◌≢◌, ◌==◌, Bool, true, false, if◌then◌else◌, List, Option, Some, None, refl}
+use Rattle.std.specs.List.{Contains}
 use Rattle.ata_types.specs.declared.request.Outcome.{Outcome}
 use Rattle.ata_types.specs.declared.request.Outcome.TheVariants.{Aborted, DeviceError, PortDead, Revoked, Unplugged}
+use Rattle.request_queue.specs.Entries.{Held}
 use Rattle.request_queue.specs.Fates.{fate_of, fate_on}
 use Rattle.request_queue.specs.declared.Entry.{Entry}
 use Rattle.request_queue.specs.declared.fate.Failed.{Failed}
@@ -18,6 +20,10 @@ pub record FitsEntry (fate : Fate) (e : Entry) : Type 0 where
   pub again : fate ≡ GoesAgain → (e.issued ≡ true) × ((e.issues == 4) ≡ false) × (e.revoked ≡ false)
   pub aborted : fate ≡ Ends Aborted → e.revoked ≡ false
   pub revoked : fate ≡ Ends Revoked → e.revoked ≡ true
+
+-- so it is of what becomes of each of these
+abbrev pub AllFit : (Entry → Fate) → List Held → Type 0
+AllFit fate requests = (e : Held) → Contains requests e → FitsEntry (fate e.entry) e.entry
 
 -- so it is of one that ends
 pub ends_fits : (e : Entry) (o : Outcome) → (o ≡ Aborted → e.revoked ≡ false) → (o ≡ Revoked → e.revoked ≡ true) → FitsEntry (Ends o) e
@@ -74,8 +80,8 @@ fits (Some failed) prospect e = by (failed.id.0 == e.id.0)
     by false = fits_on prospect e
 
 -- so it is of what becomes of requests after a recovery or a reset
-pub fits_entry : (failed : Option Failed) (prospect : Prospect) (e : Entry) → FitsEntry (fate_of failed prospect e) e
-fits_entry failed prospect e = (fits failed prospect e).entry
+pub fits_each : (failed : Option Failed) (prospect : Prospect) (requests : List Held) → AllFit (fate_of failed prospect) requests
+fits_each failed prospect requests e here = (fits failed prospect e.entry).entry
 
 pub kept_dead_alone : (failed : Option Failed) (prospect : Prospect) (e : Entry) → prospect ≢ Dead → keeps_fate (fate_of failed prospect e) e ≡ false
 kept_dead_alone failed prospect e = (fits failed prospect e).alive

@@ -27,14 +27,15 @@ use Rattle.request_queue.specs.declared.Entry.{Entry}
 use Rattle.request_queue.specs.declared.fate.Fate.{Fate}
 use Rattle.request_queue.specs.declared.fate.Fate.TheVariants.{Ends, GoesAgain, Waits}
 use Rattle.server_history.specs.Below.{LawsBelow}
-use Rattle.server_history.specs.Fates.{DecidesOn, KeepsNone, MayMeet, MeetsInMachine, keeps_fate, loan_of, loans_of}
+use Rattle.server_history.specs.Fates.{DecidesOn, IsLetGo, MayMeet, MeetsInMachine, keeps_fate, loan_of, loans_of}
 use Rattle.server_history.specs.Server.{AreOfTwo, TellsGrant}
-use Rattle.server_history.proofs.fates.FittingFates.{FitsEntry}
+use Rattle.server_history.proofs.fates.FittingFates.{AllFit, FitsEntry}
 use Rattle.server_history.proofs.healthy_turn.OneAnswer.{given_back}
 use Rattle.server_history.proofs.any_turn.JoinedParts.{all_pairs_append, answers_append, answers_there, first_or_later}
 use Rattle.adapter.proofs.Changed.{changed_each, changed_other, changed_same}
 use Rattle.server_history.proofs.state.PairedLists.{at_left}
-use Rattle.server_history.proofs.state.FirstMembers.{nowhere}
+use Rattle.server_history.proofs.state.FirstMembers.{first_here, nowhere}
+use Rattle.server_history.proofs.state.ListMembers.{contains_there}
 use Rattle.server_history.proofs.state.RevokedMarks.{tellable, unmarked_has}
 
 -- ---- fates
@@ -119,7 +120,7 @@ forgets_it parked port id =
 
 -- ---- one request
 
-module _ (laws : LawsBelow) (port : Port) (fate : Entry → Fate) (fits : (e : Entry) → FitsEntry (fate e) e) where
+module _ (laws : LawsBelow) (port : Port) (fate : Entry → Fate) where
   module _ (request : Held) (rest : List Held) (now mid : Holdings) (k : Known) (m : Machine) (may : MayMeet port fate (request ∷ rest) now k m) where
     pub here : Contains now.book request
     here = (may.here request (Contains-get_or (request ∷ rest) 0 request (omega arith))).0
@@ -160,18 +161,18 @@ module _ (laws : LawsBelow) (port : Port) (fate : Entry → Fate) (fits : (e : E
     forgets : Forgets p.request.id k.parked (decided k.parked port.0 request.entry.id)
     forgets = subst (λ (id : RequestId). Forgets id k.parked (decided k.parked port.0 request.entry.id)) (sym id_is) (forgets_it k.parked port.0 request.entry.id)
 
-    -- what is parked then is of the rest
-    left_parked : KeepsNone fate → (id : RequestId) → Contains ((decided k.parked port.0 request.entry.id) port.0) id → (e : Held) × Contains rest e × (e.entry.id ≡ id) × (e.entry.issued ≡ true)
-    left_parked quiet id there =
+    -- what is parked then was before, and isn't this one
+    left_parked : (id : RequestId) → Contains (decided k.parked port.0 request.entry.id port.0) id → Contains (k.parked port.0) id × (request.entry.id ≢ id)
+    left_parked id there =
         let b = but_in request.entry.id (k.parked port.0) id (subst (λ (list : List RequestId). Contains list id) (changed_same k.parked port.0 (but request.entry.id (k.parked port.0))) there) in
-        let w = may.parked quiet id b.0 in
-        ⊎_elim (λ (same : w.0 ≡ request). absurd (b.1 (sym w.2 ∙ ap (λ (e : Held). e.entry.id) same))) (λ (later : Contains rest w.0). (w.0, later, w.2, w.3)) (first_or_later request rest w.0 w.1)
+        (b.0, λ same. b.1 (sym same))
 
     -- ---- with those that come after it
 
     -- this step decides it, by which these are kept
     module _ (step : Step) (its later replies : List Reply) (new : Holdings) (split : replies ≡ its ++ later) (comes : May m step) (of_port : DecidesOn port step) (own : IsDevices step → ⊥)
         (parked : ℕ → List RequestId) (elsewhere : (q : ℕ) → q ≢ port.0 → parked q ≡ k.parked q)
+        (its_still : (id : RequestId) → Contains (parked port.0) id → Contains (k.parked port.0) id × (IsLetGo fate request → request.entry.id ≢ id))
         (gone : List Pending) (keeps : (after_step m step).kept ≡ gone ++ m.kept) (lends : mid.kept ≡ now.kept ++ loans_of gone) (alone : AllPairs AreOfTwo (loans_of gone))
         (its_own : (e : Pending) → Contains gone e → IsEntry request e × (keeps_fate (fate request.entry) request.entry ≡ true))
         (told : (e : Pending) (o : Outcome) → Answer e o ≡ step → IsEntry request e × (fate request.entry ≡ Ends o))
@@ -211,6 +212,17 @@ module _ (laws : LawsBelow) (port : Port) (fate : Entry → Fate) (fits : (e : E
           let w = r.whose y.0 y.1 in
           differs w.0 w.1 (sym w.2.id ∙ sym (ap (λ (l : Lending). l.request) y.2) ∙ sym same ∙ ap (λ (l : Lending). l.request) x.2 ∙ (its_own x.0 x.1).0.id)))
 
+      still_by : (id : RequestId) → Contains (r.parked port.0) id → Contains (k.parked port.0) id × ((e : Held) → Contains (request ∷ rest) e → IsLetGo fate e → e.entry.id ≢ id)
+      still_by id there =
+          let late = r.still id there in
+          let first = its_still id late.0 in (
+            first.0,
+            λ e here goes. ⊎_elim
+                (λ (same : e ≡ request). subst (λ (y : Held). y.entry.id ≢ id) (sym same) (first.1 (subst (IsLetGo fate) same goes)))
+                (λ (later_on : Contains rest e). late.1 e later_on goes)
+                (first_or_later request rest e here),
+          )
+
       pub decides : Tells (r.steps ++ step ∷ []) replies → MeetsInMachine port fate (request ∷ rest) replies now new k m
       decides tells = record {
         steps = r.steps ++ step ∷ [];
@@ -220,7 +232,7 @@ module _ (laws : LawsBelow) (port : Port) (fate : Entry → Fate) (fits : (e : E
         backed = λ d. laws.backed_parts d d d m (step ∷ []) r.steps (laws.backed_own d m step own) (r.backed d);
         knows = subst (λ (n : Machine). Knows n (record k { parked = r.parked })) (sym whole_is) r.knows;
         others = λ q ne. r.others q ne ∙ elsewhere q ne;
-        none = r.none;
+        still = still_by;
         book = subst (λ (n : Machine). IsBook new.book n.book) (sym whole_is) r.book;
         lent = λ frame. ap (λ (n : Machine). n.lent frame) whole_is ∙ r.lent frame;
         held = r.held ++ gone;
@@ -236,7 +248,7 @@ module _ (laws : LawsBelow) (port : Port) (fate : Entry → Fate) (fits : (e : E
   -- ---- one that ends
 
   module _ (request : Held) (rest : List Held) (now mid new : Holdings) (its later replies : List Reply) (k : Known) (m : Machine) (may : MayMeet port fate (request ∷ rest) now k m) (split : replies ≡ its ++ later)
-      (more : (k : Known) (m : Machine) → MayMeet port fate rest mid k m → MeetsInMachine port fate rest later mid new k m) (o : Outcome) (is : fate request.entry ≡ Ends o) (meets : MeetsFate request (Ends o) its now mid) where
+      (more : (k : Known) (m : Machine) → MayMeet port fate rest mid k m → MeetsInMachine port fate rest later mid new k m) (fit : FitsEntry (fate request.entry) request.entry) (o : Outcome) (is : fate request.entry ≡ Ends o) (meets : MeetsFate request (Ends o) its now mid) where
     abbrev x : Pending
     x = p request rest now mid k m may
 
@@ -246,7 +258,7 @@ module _ (laws : LawsBelow) (port : Port) (fate : Entry → Fate) (fits : (e : E
     comes : May m (Answer x o)
     comes = (
       (entry request rest now mid k m may).1,
-      tellable m request x o its_entry (its_mark request rest now mid k m may) (λ told. (fits request.entry).revoked (is ∙ ap Ends told)) (λ told. (fits request.entry).aborted (is ∙ ap Ends told)),
+      tellable m request x o its_entry (its_mark request rest now mid k m may) (λ told. fit.revoked (is ∙ ap Ends told)) (λ told. fit.aborted (is ∙ ap Ends told)),
     )
 
     of_port : x.request.port ≡ port
@@ -277,7 +289,8 @@ module _ (laws : LawsBelow) (port : Port) (fate : Entry → Fate) (fits : (e : E
         (subst (λ (book : List Held). Contains book e) (sym meets.1) ((laws.left now.book request.entry.id e).1 (w.0, differs request rest now mid k m may e there)), w.1)
 
     -- what comes of it, once the rest met their fates
-    module _ (parked : ℕ → List RequestId) (elsewhere : (q : ℕ) → q ≢ port.0 → parked q ≡ k.parked q) (gone : List Pending) (keeps : (after_step m (Answer x o)).kept ≡ gone ++ m.kept)
+    module _ (parked : ℕ → List RequestId) (elsewhere : (q : ℕ) → q ≢ port.0 → parked q ≡ k.parked q)
+        (its_still : (id : RequestId) → Contains (parked port.0) id → Contains (k.parked port.0) id × (IsLetGo fate request → request.entry.id ≢ id)) (gone : List Pending) (keeps : (after_step m (Answer x o)).kept ≡ gone ++ m.kept)
         (lends : mid.kept ≡ now.kept ++ loans_of gone) (alone : AllPairs AreOfTwo (loans_of gone)) (its_own : (e : Pending) → Contains gone e → IsEntry request e × (keeps_fate (fate request.entry) request.entry ≡ true))
         (goes : MayMeet port fate rest mid (record k { parked = parked }) (after_step m (Answer x o))) where
       r : MeetsInMachine port fate rest later mid new (record k { parked = parked }) (after_step m (Answer x o))
@@ -294,7 +307,7 @@ module _ (laws : LawsBelow) (port : Port) (fate : Entry → Fate) (fits : (e : E
 
       answers : MeetsInMachine port fate (request ∷ rest) replies now new k m
       answers =
-          decides request rest now mid k m may (Answer x o) its later replies new split comes of_port (λ none. none) parked elsewhere gone keeps lends alone its_own
+          decides request rest now mid k m may (Answer x o) its later replies new split comes of_port (λ none. none) parked elsewhere its_still gone keeps lends alone its_own
           (λ e other same.
           let e_is : e ≡ x = (let z : Answer e other ≡ Answer x o = same in cc) in
           let o_is : other ≡ o = (let z : Answer e other ≡ Answer x o = same in cc) in
@@ -311,7 +324,8 @@ module _ (laws : LawsBelow) (port : Port) (fate : Entry → Fate) (fits : (e : E
 
     by : (b : Bool) → keeps_loan o request.entry ≡ b → MeetsInMachine port fate (request ∷ rest) replies now new k m
     by false never =
-        answers (decided k.parked port.0 request.entry.id) (λ q ne. changed_other k.parked port.0 (but request.entry.id (k.parked port.0)) q ne) []
+        answers (decided k.parked port.0 request.entry.id) (λ q ne. changed_other k.parked port.0 (but request.entry.id (k.parked port.0)) q ne)
+        (λ id there. let w = left_parked request rest now mid k m may id there in (w.0, λ goes. w.1)) []
         (ap (λ (b : Bool). if b then x ∷ m.kept else m.kept) (stay ∙ never)) (loan.0 ∙ sym (append-nil now.kept)) (λ i j d lt below. absurd (omega (arith, lt, below))) (λ e there. absurd (nowhere e there))
         (record {
           reached = reached;
@@ -325,13 +339,12 @@ module _ (laws : LawsBelow) (port : Port) (fate : Entry → Fate) (fits : (e : E
           marked = λ e there. may.marked e (in_rest request rest now mid k m may e there);
           earlier = earlier request rest now mid k m may;
           unserved = λ e there none. may.unserved e (in_rest request rest now mid k m may e there) none;
-          parked = left_parked request rest now mid k m may;
         })
       where
         loan : EndsLoan false request now mid
         loan = subst (λ (b : Bool). EndsLoan b request now mid) never meets.2
     by true keeps =
-        answers k.parked (λ q ne. refl) (x ∷ [])
+        answers k.parked (λ q ne. refl) (λ id there. (there, λ goes. absurd (false≢true (sym goes.1 ∙ fate_is ∙ keeps)))) (x ∷ [])
         (ap (λ (b : Bool). if b then x ∷ m.kept else m.kept) (stay ∙ keeps)) (loan.0 ∙ ap (λ (l : Lending). now.kept ++ l ∷ []) loan_is) (λ i j d lt below. absurd (omega (arith, lt, below)))
         (λ e there. ⊎_elim (λ (same : e ≡ x). (subst (IsEntry request) (sym same) its_entry, fate_is ∙ keeps)) (λ none. absurd (nowhere e none)) (first_or_later x [] e there))
         (record {
@@ -347,7 +360,6 @@ module _ (laws : LawsBelow) (port : Port) (fate : Entry → Fate) (fits : (e : E
           marked = λ e there. may.marked e (in_rest request rest now mid k m may e there);
           earlier = earlier request rest now mid k m may;
           unserved = λ e there none. may.unserved e (in_rest request rest now mid k m may e there) none;
-          parked = λ quiet id there. absurd (false≢true (sym (quiet request.entry) ∙ fate_is ∙ keeps));
         })
       where
         loan : EndsLoan true request now mid
@@ -362,9 +374,9 @@ module _ (laws : LawsBelow) (port : Port) (fate : Entry → Fate) (fits : (e : E
   -- ---- each fate
 
   meet_one : (request : Held) (rest : List Held) (now mid new : Holdings) (its later replies : List Reply) (k : Known) (m : Machine) → MayMeet port fate (request ∷ rest) now k m → replies ≡ its ++ later
-      → ((k : Known) (m : Machine) → MayMeet port fate rest mid k m → MeetsInMachine port fate rest later mid new k m) → (f : Fate) → fate request.entry ≡ f → MeetsFate request f its now mid
+      → ((k : Known) (m : Machine) → MayMeet port fate rest mid k m → MeetsInMachine port fate rest later mid new k m) → FitsEntry (fate request.entry) request.entry → (f : Fate) → fate request.entry ≡ f → MeetsFate request f its now mid
       → MeetsInMachine port fate (request ∷ rest) replies now new k m
-  meet_one request rest now mid new its later replies k m may split more Waits is meets = record {
+  meet_one request rest now mid new its later replies k m may split more fit Waits is meets = record {
     steps = r.steps;
     parked = r.parked;
     may = r.may;
@@ -372,7 +384,13 @@ module _ (laws : LawsBelow) (port : Port) (fate : Entry → Fate) (fits : (e : E
     backed = r.backed;
     knows = r.knows;
     others = r.others;
-    none = r.none;
+    still = λ id there. let w = r.still id there in (
+      w.0,
+      λ e here goes. ⊎_elim
+          (λ (same : e ≡ request). absurd (goes.0 (ap (λ (y : Held). fate y.entry) same ∙ is)))
+          (λ (later_on : Contains rest e). w.1 e later_on goes)
+          (first_or_later request rest e here),
+    );
     book = r.book;
     lent = r.lent;
     held = r.held;
@@ -385,9 +403,6 @@ module _ (laws : LawsBelow) (port : Port) (fate : Entry → Fate) (fits : (e : E
     tells = subst (Tells r.steps) (sym (split ∙ ap (λ (x : List Reply). x ++ later) meets.0)) r.tells;
   }
     where
-      waiting : request.entry.issued ≡ false
-      waiting = (fits request.entry).waits is
-
       goes : MayMeet port fate rest now k m
       goes = record {
         reached = may.reached;
@@ -400,19 +415,14 @@ module _ (laws : LawsBelow) (port : Port) (fate : Entry → Fate) (fits : (e : E
         marked = λ e there. may.marked e (in_rest request rest now mid k m may e there);
         earlier = earlier request rest now mid k m may;
         unserved = λ e there never. may.unserved e (in_rest request rest now mid k m may e there) never;
-        parked = λ quiet id there.
-            let w = may.parked quiet id there in
-            ⊎_elim
-            (λ (same : w.0 ≡ request). absurd (false≢true (sym waiting ∙ ap (λ (e : Held). e.entry.issued) (sym same) ∙ w.3)))
-            (λ (then_on : Contains rest w.0). (w.0, then_on, w.2, w.3))
-            (first_or_later request rest w.0 w.1);
       }
 
       r : MeetsInMachine port fate rest later mid new k m
       r = more k m (subst (λ (h : Holdings). MayMeet port fate rest h k m) (sym meets.1) goes)
-  meet_one request rest now mid new its later replies k m may split more GoesAgain is meets =
+  meet_one request rest now mid new its later replies k m may split more fit GoesAgain is meets =
       decides request rest now mid k m may (Again x) its later replies new split comes of_port (λ none. none) (decided k.parked port.0 request.entry.id)
-      (λ q ne. changed_other k.parked port.0 (but request.entry.id (k.parked port.0)) q ne) [] refl
+      (λ q ne. changed_other k.parked port.0 (but request.entry.id (k.parked port.0)) q ne)
+      (λ id there. let w = left_parked request rest now mid k m may id there in (w.0, λ goes. w.1)) [] refl
       (ap (λ (h : Holdings). h.kept) meets.1 ∙ sym (append-nil now.kept)) (λ i j d lt below. absurd (omega (arith, lt, below))) (λ e there. absurd (nowhere e there))
       (λ e o same. let z : Answer e o ≡ Again x = same in absurd cc)
       (λ e same. let e_is : e ≡ x = (let z : Again e ≡ Again x = same in cc) in (subst (IsEntry request) (sym e_is) (entry request rest now mid k m may).2, is))
@@ -428,7 +438,7 @@ module _ (laws : LawsBelow) (port : Port) (fate : Entry → Fate) (fits : (e : E
       x = p request rest now mid k m may
 
       its_issue : (request.entry.issued ≡ true) × ((request.entry.issues == 4) ≡ false) × (request.entry.revoked ≡ false)
-      its_issue = (fits request.entry).again is
+      its_issue = fit.again is
 
       few : request.entry.issues < 4
       few =
@@ -457,16 +467,15 @@ module _ (laws : LawsBelow) (port : Port) (fate : Entry → Fate) (fits : (e : E
         marked = λ e there. may.marked e (in_rest request rest now mid k m may e there);
         earlier = earlier request rest now mid k m may;
         unserved = λ e there never. may.unserved e (in_rest request rest now mid k m may e there) never;
-        parked = left_parked request rest now mid k m may;
       }
 
       r : MeetsInMachine port fate rest later mid new (left_known request rest now mid k m may) (after_step m (Again x))
       r = more (left_known request rest now mid k m may) (after_step m (Again x)) (subst (λ (h : Holdings). MayMeet port fate rest h (left_known request rest now mid k m may) (after_step m (Again x))) (sym meets.1) goes)
-  meet_one request rest now mid new its later replies k m may split more (Ends o) is meets = meet_end request rest now mid new its later replies k m may split more o is meets
+  meet_one request rest now mid new its later replies k m may split more fit (Ends o) is meets = meet_end request rest now mid new its later replies k m may split more fit o is meets
 
-pub meet : LawsBelow → (port : Port) (fate : Entry → Fate) → ((e : Entry) → FitsEntry (fate e) e) → (requests : List Held) (replies : List Reply) (old new : Holdings) (k : Known) (m : Machine)
+pub meet : LawsBelow → (port : Port) (fate : Entry → Fate) (requests : List Held) → AllFit fate requests → (replies : List Reply) (old new : Holdings) (k : Known) (m : Machine)
     → MayMeet port fate requests old k m → MeetFates fate requests replies old new → MeetsInMachine port fate requests replies old new k m
-meet laws port fate fits [] replies old new k m may (none, is) = record {
+meet laws port fate [] fit replies old new k m may (none, is) = record {
   steps = [];
   parked = k.parked;
   may = tt;
@@ -474,7 +483,7 @@ meet laws port fate fits [] replies old new k m may (none, is) = record {
   backed = λ d. laws.backed_none d m;
   knows = may.knows;
   others = λ q ne. refl;
-  none = λ quiet. nobody (k.parked port.0) (λ id here. let w = may.parked quiet id here in nowhere w.0 w.1);
+  still = λ id here. (here, λ e none goes same. nowhere e none);
   book = subst (λ (h : Holdings). IsBook h.book m.book) (sym is) may.book;
   lent = λ frame. may.lent frame ∙ ap (λ (h : Holdings). lent_to h.table frame) (sym is);
   held = [];
@@ -486,7 +495,16 @@ meet laws port fate fits [] replies old new k m may (none, is) = record {
   again = λ e here. absurd (nowhere (Again e) here);
   tells = record { answers = []; same = IsPermutation-refl []; ordered = λ i j d lt below. absurd (omega (arith, lt, below)); told = none };
 }
-meet laws port fate fits (request ∷ rest) replies old new k m may (mid, its, later, split, meets, more) =
-    meet_one laws port fate fits request rest old mid new its later replies k m may split
-    (λ n machine next. meet laws port fate fits rest later mid new n machine next more)
-    (fate request.entry) refl meets
+meet laws port fate (request ∷ rest) fit replies old new k m may (mid, its, later, split, meets, more) =
+    meet_one laws port fate request rest old mid new its later replies k m may split
+    (λ n machine next. meet laws port fate rest (λ e there. fit e (contains_there request rest e there)) later mid new n machine next more)
+    (fit request (first_here request rest)) (fate request.entry) refl meets
+
+-- Where no loan is kept, and who was parked of the port are issued ones among these, none of the port is.
+pub none_parked : (port : Port) (fate : Entry → Fate) (requests : List Held) → AllFit fate requests → (replies : List Reply) (old new : Holdings) (k : Known) (m : Machine)
+    (r : MeetsInMachine port fate requests replies old new k m) → ((e : Entry) → keeps_fate (fate e) e ≡ false)
+    → ((id : RequestId) → Contains (k.parked port.0) id → (e : Held) × Contains requests e × (e.entry.id ≡ id) × (e.entry.issued ≡ true)) → r.parked port.0 ≡ []
+none_parked port fate requests fit replies old new k m r quiet its = nobody (r.parked port.0) (λ id here.
+    let s = r.still id here in
+    let w = its id s.0 in
+    s.1 w.0 w.1 (λ waits. false≢true (sym ((fit w.0 w.1).waits waits) ∙ w.3), quiet w.0.entry) w.2)

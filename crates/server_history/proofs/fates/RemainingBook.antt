@@ -23,8 +23,8 @@ use Rattle.request_queue.specs.declared.fate.Prospect.{Prospect}
 use Rattle.request_queue.specs.declared.fate.Prospect.TheVariants.{Dead, DiskLost, SameDisk}
 use Rattle.server_history.specs.Below.{LawsBelow}
 use Rattle.server_history.specs.Mended.{holdings_of, requests_of}
-use Rattle.server_history.specs.Server.{IsMarked, Server}
-use Rattle.server_history.proofs.fates.FittingFates.{FitsEntry}
+use Rattle.server_history.specs.Server.{HasTrueMark, Server}
+use Rattle.server_history.proofs.fates.FittingFates.{AllFit, FitsEntry}
 use Rattle.server_history.proofs.state.LoanCounts.{counts, fewer_issued, issued_of, kept_issued, one_fewer, requeued_issued}
 use Rattle.server_history.proofs.state.FirstMembers.{nowhere, first_here}
 use Rattle.ata_types.specs.declared.grant.GrantRow.{GrantRow}
@@ -114,18 +114,20 @@ was_more old mid e before w =
     }
 
 -- and so it is marked as it was
-pub marked_from : (rows : List GrantRow) (book : List Held) → All (IsMarked rows) book → (e : Held) → WasIn book e → IsMarked rows e
-marked_from rows book all e w =
-    let m = All-contains (IsMarked rows) book w.was all w.there in
+pub marked_as : (rows : List GrantRow) (book : List Held) (e : Held) (w : WasIn book e) → HasTrueMark rows w.was → HasTrueMark rows e
+marked_as rows book e w m =
     record {
-      tells = record {
-        granted = λ plain. let has = m.tells.granted (sym w.revoked ∙ plain) in (has.0, has.1, (has.2.0 ∙ sym w.client, has.2.1 ∙ sym w.grant));
-        revoked = λ marked has. m.tells.revoked (sym w.revoked ∙ marked) (has.0, has.1, (has.2.0 ∙ w.client, has.2.1 ∙ w.grant));
-      };
+      tells = (
+        λ plain. let has = m.tells.0 (sym w.revoked ∙ plain) in (has.0, has.1, (has.2.0 ∙ sym w.client, has.2.1 ∙ sym w.grant)),
+        λ has. w.revoked ∙ m.tells.1 (has.0, has.1, (has.2.0 ∙ w.client, has.2.1 ∙ w.grant)),
+      );
       waiting = λ waits. ⊎_elim (λ waited. w.revoked ∙ m.waiting waited) (λ plain. plain) (w.waiting waits);
     }
 
-module _ (laws : LawsBelow) (port : Port) (fate : Entry → Fate) (fits : (e : Entry) → FitsEntry (fate e) e) where
+pub marked_from : (rows : List GrantRow) (book : List Held) → All (HasTrueMark rows) book → (e : Held) → WasIn book e → HasTrueMark rows e
+marked_from rows book all e w = marked_as rows book e w (All-contains (HasTrueMark rows) book w.was all w.there)
+
+module _ (laws : LawsBelow) (port : Port) (fate : Entry → Fate) where
   -- ---- one request
 
   -- it met its fate, and the others may meet theirs
@@ -185,8 +187,8 @@ module _ (laws : LawsBelow) (port : Port) (fate : Entry → Fate) (fits : (e : E
         }
         by x here false same = was_itself old.book x here
 
-    goes_again : mid ≡ record old { book = map (at request.entry.id requeued) old.book } → fate request.entry ≡ GoesAgain → HasMet request rest old mid
-    goes_again is again = subst (HasMet request rest old) (sym is) (record {
+    goes_again : FitsEntry (fate request.entry) request.entry → mid ≡ record old { book = map (at request.entry.id requeued) old.book } → fate request.entry ≡ GoesAgain → HasMet request rest old mid
+    goes_again fit is again = subst (HasMet request rest old) (sym is) (record {
       may = record {
         here = λ e there. let w = of_rest e there in (laws.others old.book request.entry.id requeued e w.0 (differs e there), w.1);
         earlier = earlier;
@@ -201,7 +203,7 @@ module _ (laws : LawsBelow) (port : Port) (fate : Entry → Fate) (fits : (e : E
     })
       where
         issue : (request.entry.issued ≡ true) × ((request.entry.issues == 4) ≡ false) × (request.entry.revoked ≡ false)
-        issue = (fits request.entry).again again
+        issue = fit.again again
 
         few : request.entry.issues < 4
         few =
@@ -253,16 +255,16 @@ module _ (laws : LawsBelow) (port : Port) (fate : Entry → Fate) (fits : (e : E
           fewer = λ q. subst (λ (list : List Held). issued_of q list ≤ issued_of q old.book) (sym book) (fewer_issued q (λ (e : Held). not (has_id request.entry.id e)) old.book);
         }
 
-    meets_one : (f : Fate) → fate request.entry ≡ f → (told : List Reply) → MeetsFate request f told old mid → HasMet request rest old mid
-    meets_one Waits is told meets = waited meets.1 (λ o ends. let z : Waits ≡ Ends o = sym is ∙ ends in absurd cc)
-    meets_one GoesAgain is told meets = goes_again meets.1 is
-    meets_one (Ends o) is told meets = answered meets.1 (keeps_loan o request.entry) (kept_issued o request.entry) meets.2
+    meets_one : FitsEntry (fate request.entry) request.entry → (f : Fate) → fate request.entry ≡ f → (told : List Reply) → MeetsFate request f told old mid → HasMet request rest old mid
+    meets_one fit Waits is told meets = waited meets.1 (λ o ends. let z : Waits ≡ Ends o = sym is ∙ ends in absurd cc)
+    meets_one fit GoesAgain is told meets = goes_again fit meets.1 is
+    meets_one fit (Ends o) is told meets = answered meets.1 (keeps_loan o request.entry) (kept_issued o request.entry) meets.2
 
   -- ---- one after another
 
-  pub fated : (requests : List Held) (replies : List Reply) (old new : Holdings) → MayDecide port requests old → MeetFates fate requests replies old new
+  pub fated : (requests : List Held) → AllFit fate requests → (replies : List Reply) (old new : Holdings) → MayDecide port requests old → MeetFates fate requests replies old new
       → IsLeft port fate requests old new
-  fated [] replies old new may (none, is) = subst (IsLeft port fate [] old) (sym is) (record {
+  fated [] fit replies old new may (none, is) = subst (IsLeft port fate [] old) (sym is) (record {
     ordered = may.ordered;
     accepted = may.accepted;
     owners = refl;
@@ -271,9 +273,9 @@ module _ (laws : LawsBelow) (port : Port) (fate : Entry → Fate) (fits : (e : E
     places = le_refl (length old.kept + issued_of port old.book);
     fewer = λ q. le_refl (issued_of q old.book);
   })
-  fated (request ∷ rest) replies old new may (mid, told, later, split, meets, more) =
-      let one : HasMet request rest old mid = meets_one request rest old mid may (fate request.entry) refl told meets in
-      let rests = fated rest later mid new one.may more in
+  fated (request ∷ rest) fit replies old new may (mid, told, later, split, meets, more) =
+      let one : HasMet request rest old mid = meets_one request rest old mid may (fit request (first_here request rest)) (fate request.entry) refl told meets in
+      let rests = fated rest (λ e there. fit e (contains_there request rest e there)) later mid new one.may more in
       record {
         ordered = rests.ordered;
         accepted = rests.accepted;

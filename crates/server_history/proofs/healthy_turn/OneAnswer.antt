@@ -26,7 +26,7 @@ use Rattle.host_boot.specs.Taken.{found_of}
 use Rattle.request_queue.specs.Entries.{Held, IsAccepted, without}
 use Rattle.request_queue.specs.Machine.{IsBook, IsEntry}
 use Rattle.server_history.specs.Served.{AnswersOne, HasEnded}
-use Rattle.server_history.specs.Server.{Server, IsKept, IsMachineOf, mode_at, slots_at, state_of, usable_of, with_slot, used_for, IsMarked}
+use Rattle.server_history.specs.Server.{Server, IsKept, IsMachineOf, mode_at, slots_at, state_of, usable_of, with_slot, used_for, HasTrueMark}
 use Rattle.server_history.specs.Below.{LawsBelow}
 use Rattle.server_history.proofs.state.HistorySteps.{kept_then}
 use Rattle.server_history.proofs.state.PlacedSlots.{freed_was, placed_four, placed_has, placed_uses}
@@ -178,7 +178,7 @@ module _ (laws : LawsBelow) (s new : Server) (port : Port) (e : Held) (k : IsKep
   answer_kept =
       let a = answer_one k.machine k.reached k.stands in
       subst IsKept (sym one.server)
-      (kept_then s s.device new.table (with_slot s.slots port.0 slot None) (without id s.book) s.last k
+      (kept_then s s.device s.grants new.table (with_slot s.slots port.0 slot None) (without id s.book) s.last k k.rows
       k.on (same_refl s.device) k.behind one.lent.owners
       (placed_four s.ports s.modes s.slots port.0 slot None k.four low slot_low few k.slots)
       (placed_has s.ports s.modes s.slots port.0 slot None k.four low slot_low few k.slots)
@@ -189,7 +189,7 @@ module _ (laws : LawsBelow) (s new : Server) (port : Port) (e : Held) (k : IsKep
       (a.0, λ other ne. still_none q other (a.1 other ne)))
       (laws.still_answered s.table new.table s.book e one.here one.lent k.accepted)
       (laws.fewer s.book id k.ordered)
-      (left_each (IsMarked s.grants) k.marked)
+      (left_each (HasTrueMark s.grants) k.marked)
       (left_each (λ y. y.entry.id.0 ≤ s.last) k.handed_out)
       (left_each (λ y. state_of (found_of s.ports y.entry.port.0) ≡ ReadyState) k.ready)
       (after_step k.machine (Answer a.done outcome.Ok)) (laws.basic.reached k.machine (Answer a.done outcome.Ok ∷ []) k.reached (tt, (a.here, tt)))

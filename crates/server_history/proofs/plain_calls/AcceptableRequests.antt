@@ -1,5 +1,5 @@
 -- What a request is that may be accepted.
-use Rattle.std.proofs.Common.{ℕ, ◌≡◌, ◌≢◌, ◌+◌, ◌^◌, ◌<◌, ◌≤◌, List, length, Option, Some, None, refl, sym, ap, ◌∙◌, subst, ⊎_elim, arith, get_or}
+use Rattle.std.proofs.Common.{ℕ, ◌≡◌, ◌≢◌, ◌+◌, ◌^◌, ◌<◌, ◌≤◌, List, [], ◌∷◌, length, Option, Some, None, inl, inr, refl, sym, ap, ◌∙◌, subst, ⊎_elim, arith, get_or}
 use Rattle.std.specs.List.{All, AllPairs, Contains}
 use Rattle.std.specs.Prelude.{IsSome}
 use Rattle.std.proofs.lemmas.Bool.{cases_eq, cases_lt}
@@ -18,15 +18,15 @@ use Rattle.ata_types.specs.declared.request.Op.TheVariants.{Read, Write, Trim, F
 use Rattle.ata_types.specs.declared.request.Request.{Request}
 use Rattle.ata_types.specs.declared.request.RequestId.{RequestId}
 use Rattle.adapter.specs.Device.{Device}
-use Rattle.block_machine.specs.Confined.{IsGranted}
+use Rattle.block_machine.specs.Confined.{IsGranted, WasAccepted}
 use Rattle.block_machine.specs.Events as events
 use Rattle.block_machine.specs.Histories.{Instant, IsReached}
 use Rattle.block_machine.specs.Refusals.{Situation, IsAcceptable}
-use Rattle.block_machine.specs.Rules.{DifferInName, IsCount, IsNamed, frames_for}
+use Rattle.block_machine.specs.Rules.{DifferInName, IsCount, IsNamed, Names, frames_for}
 use Rattle.block_machine.specs.State as machine
 use Rattle.block_machine.specs.State.{Machine, block_of}
 use Rattle.block_machine.specs.Steps as steps
-use Rattle.block_machine.specs.Steps.{IsNew, newly_accepted}
+use Rattle.block_machine.specs.Steps.{IsLiving, IsNew, Step, newly_accepted}
 use Rattle.block_machine.proofs.Accepts.{accepted_is_granted}
 use Rattle.block_machine.proofs.Configured.{rows_differ}
 use Rattle.block_machine.proofs.Limits.{owned}
@@ -36,8 +36,9 @@ use Rattle.host_boot.specs.Taken.{found_of}
 use Rattle.request_queue.specs.Entries.{IsAccepted, unanswered_of}
 use Rattle.request_queue.specs.Machine.{IsEntry}
 use Rattle.server_history.specs.Served.{accepted_as}
-use Rattle.block_machine.specs.Left.{IsRow}
+use Rattle.block_machine.specs.Left.{IsRow, after}
 use Rattle.server_history.specs.Server.{Server, IsKept, IsMachineOf, ports_of, situation_of, state_of}
+use Rattle.server_history.specs.Basics.{LivingLaws}
 use Rattle.server_history.specs.Below.{LawsBelow}
 use Rattle.server_history.proofs.plain_calls.RefusalsAndBytes.{situation_is}
 
@@ -67,6 +68,25 @@ names_differ : (m : Machine) → IsReached m → AllPairs DifferInName m.rows
 names_differ m reached =
     subst (λ (n : Machine). AllPairs DifferInName n.rows) (sym reached.is)
     (rows_differ reached.first reached.past reached.starts.rows)
+
+-- ---- the grant of a request that was accepted
+
+-- it is of the start
+was_granted : LivingLaws → (start : Machine) (history : List Step) (r : machine.Accepted) → WasAccepted start history r → IsGranted start.rows r
+was_granted laws start [] r was = absurd was
+was_granted laws start (step ∷ past) r (inl came) =
+    let g = laws.granted (after start past) r came.1 in
+    record { row = g.row; named = ((laws.shrunk start past).0 g.row g.named.0, g.named.1); port = g.port; right = g.right; covered = g.covered }
+was_granted laws start (step ∷ past) r (inr was) = was_granted laws start past r was
+
+-- so an unanswered request is on the port of the row that it names
+pub on_its_port : LivingLaws → (m : Machine) → IsReached m → (e : machine.Pending) → Contains m.book e → (row : GrantRow) → Contains m.rows row → Names e.request.asked.client e.request.asked.grant row
+    → e.request.port ≡ row.port
+on_its_port laws m reached e here row there named =
+    let was = laws.lived reached.first reached.past e reached.starts reached.legal (subst (λ (n : Machine). IsLiving n e) reached.is (inl here)) in
+    let g = was_granted laws reached.first reached.past e.request was in
+    let at_start = (laws.shrunk reached.first reached.past).0 row (subst (λ (n : Machine). Contains n.rows row) reached.is there) in
+    g.port ∙ ap (λ (x : GrantRow). x.port) (one_row reached.first.rows reached.starts.rows e.request.asked.client e.request.asked.grant g.row row g.named.0 g.named.1 at_start named)
 
 module _ (s : Server) (r : Request) (acc : IsAcceptable (situation_of s) r) (row : GrantRow) (named : IsNamed s.grants r row) (port : Port) (port_is : row.port ≡ port) where
   -- its port is ready

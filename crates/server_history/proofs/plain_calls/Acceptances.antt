@@ -43,7 +43,7 @@ use Rattle.adapter.specs.Access.Access.{Loading, Reading, Storing, Writing}
 use Rattle.server_history.specs.Below.{LawsBelow}
 use Rattle.server_history.specs.Histories.{Adds, Leads}
 use Rattle.server_history.specs.Served.{IssuesIn, Accepts, IssuesAll, accepted_as, accepting}
-use Rattle.server_history.specs.Server.{Server, IsKept, IsMachineOf, IsSettled, mode_in, ports_of, situation_of, state_of, used_for, IsMarked}
+use Rattle.server_history.specs.Server.{Server, IsKept, IsMachineOf, IsSettled, mode_in, ports_of, situation_of, state_of, used_for, HasTrueMark}
 use Rattle.slots.specs.declared.Use.{Use as SlotUse}
 use Rattle.block_machine.specs.declared.due.Mode.{Mode}
 use Rattle.server_history.proofs.state.DueRequests.{none_due}
@@ -59,14 +59,14 @@ use Rattle.server_history.proofs.state.FirstMembers.{first_here}
 -- ---- what issuing writes
 
 -- neither GHC, nor a bit that tells of trouble
-issuing_spares_host : (port : Port) (access : Access) → IssuesIn port access → SparesRegister Ghc access
+pub issuing_spares_host : (port : Port) (access : Access) → IssuesIn port access → SparesRegister Ghc access
 issuing_spares_host port (Writing r v) here =
     λ q. ⊎_elim (λ (is : r ≡ Px port Sact). let z : Px port Sact ≡ Ghc = sym is ∙ q in absurd cc) (λ (is : r ≡ Px port Ci). let z : Px port Ci ≡ Ghc = sym is ∙ q in absurd cc) here.2.0
 issuing_spares_host port (Storing at bytes) here = tt
 issuing_spares_host port (Loading at bytes) here = absurd here.2
 issuing_spares_host port (Reading r v) here = absurd here.2
 
-issuing_clears_none : (port other : Port) (access : Access) → IssuesIn port access → ClearsNone other access
+pub issuing_clears_none : (port other : Port) (access : Access) → IssuesIn port access → ClearsNone other access
 issuing_clears_none port other (Writing r v) here = record {
   is = λ q. absurd (⊎_elim (λ (is : r ≡ Px port Sact). let z : Px port Sact ≡ Px other register.Is = sym is ∙ q in absurd cc) (λ (is : r ≡ Px port Ci). let z : Px port Ci ≡ Px other register.Is = sym is ∙ q in absurd cc) here.2.0);
   serr = λ q. absurd (⊎_elim (λ (is : r ≡ Px port Sact). let z : Px port Sact ≡ Px other register.Serr = sym is ∙ q in absurd cc) (λ (is : r ≡ Px port Ci). let z : Px port Ci ≡ Px other register.Serr = sym is ∙ q in absurd cc) here.2.0);
@@ -171,13 +171,13 @@ module _ (laws : LawsBelow) (s : Server) (k : IsKept s) (r : Request) (acc : IsA
       (append_in s.book e h there)
 
   -- it has the grant that it names
-  its_mark : IsMarked s.grants e
-  its_mark = record { tells = record { granted = λ plain. (row, named.0, named.1); revoked = λ marked. absurd (false≢true marked) }; waiting = λ waits. refl }
+  its_mark : HasTrueMark s.grants e
+  its_mark = record { tells = (λ plain. (row, named.0, named.1), λ has. refl); waiting = λ waits. refl }
 
   pub accept_kept : IsKept more
-  accept_kept = kept_then s s.device table s.slots (s.book ++ e ∷ []) (s.last + 1) k k.on (same_refl s.device) k.behind lends.owners k.four k.slots kinds_then k.commands k.alone accepted
+  accept_kept = kept_then s s.device s.grants table s.slots (s.book ++ e ∷ []) (s.last + 1) k k.rows k.on (same_refl s.device) k.behind lends.owners k.four k.slots kinds_then k.commands k.alone accepted
       (laws.longer s.book e k.ordered earlier (refl, refl, refl, refl) its.client_from its.client_to (has_room s r acc row named port port_is))
-      (All-push (IsMarked s.grants) s.book e k.marked its_mark)
+      (All-push (HasTrueMark s.grants) s.book e k.marked its_mark)
       (All-push (λ (x : Held). x.entry.id.0 ≤ s.last + 1) s.book e (All-weaker (λ (x : Held). x.entry.id.0 ≤ s.last) (λ (x : Held). x.entry.id.0 ≤ s.last + 1) (λ x low. omega (arith, low)) s.book k.handed_out) (omega (arith, id_is)))
       (All-push (λ (x : Held). state_of (found_of s.ports x.entry.port.0) ≡ ReadyState) s.book e k.ready ready)
       (next k.machine k.reached k.stands) (reached_next k.machine k.reached k.stands) (stands_next k.machine k.reached k.stands)

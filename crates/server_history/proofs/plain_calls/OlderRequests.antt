@@ -21,7 +21,7 @@ use Rattle.request_queue.specs.Entries as entries
 use Rattle.request_queue.specs.Entries.{Held}
 use Rattle.request_queue.specs.declared.Entry.{Entry}
 use Rattle.server_history.specs.Below.{LawsBelow}
-use Rattle.server_history.specs.Server.{Server, IsKept, IsMachineOf, IsSettled, mode_in, state_of, IsMarked}
+use Rattle.server_history.specs.Server.{Server, IsKept, IsMachineOf, IsSettled, mode_in, state_of, HasTrueMark}
 use Rattle.server_history.specs.Turns.{a_tick_older, is_ready}
 use Rattle.server_history.proofs.state.RevokedMarks.{older_marked}
 
@@ -160,7 +160,7 @@ module _ (laws : LawsBelow) (s : Server) where
       owners = k.owners;
       accepted = laws.ages.accepted s.table s.book ready k.accepted;
       ordered = laws.ages.ordered s.book ready k.ordered;
-      marked = still_all (IsMarked s.grants) (older_marked s.grants) k.marked;
+      marked = still_all (HasTrueMark s.grants) (older_marked s.grants) k.marked;
       handed_out = still_all (λ e. e.entry.id.0 ≤ s.last) (λ e age x. x) k.handed_out;
       ready = still_all (λ e. state_of (found_of s.ports e.entry.port.0) ≡ ReadyState) (λ e age x. x) k.ready;
       machine = after_step k.machine (Age ready);

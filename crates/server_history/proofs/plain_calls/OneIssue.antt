@@ -41,7 +41,7 @@ use Rattle.request_queue.specs.Entries.{asks}
 use Rattle.slots.specs.Uses.{IsLowestFree}
 use Rattle.slots.specs.declared.Use.{Use as SlotUse}
 use Rattle.server_history.specs.Served.{IssuesOne, task_of, use_for}
-use Rattle.server_history.specs.Server.{HasCommand, StandsAlone, Server, IsKept, IsMachineOf, IsPortOf, IsUsedAs, mode_at, mode_in, slots_at, state_of, usable_of, used_for, with_slot, IsMarked}
+use Rattle.server_history.specs.Server.{HasCommand, StandsAlone, Server, IsKept, IsMachineOf, IsPortOf, IsUsedAs, mode_at, mode_in, slots_at, state_of, usable_of, used_for, with_slot, HasTrueMark}
 use Rattle.server_history.specs.Below.{LawsBelow}
 use Rattle.server_history.proofs.state.DueRequests.{asked_alike, same_book}
 use Rattle.server_history.proofs.state.ChangedRequests.{all_changed}
@@ -381,7 +381,7 @@ module _ (laws : LawsBelow) (s new : Server) (port : Port) (id : RequestId) (k :
   issue_kept =
       let i = issue_one k.machine k.reached k.stands in
       subst IsKept (sym one.server)
-      (kept_then s new.device s.table (with_slot s.slots port.0 slot its_use) (map (at id issue) s.book) s.last k
+      (kept_then s new.device s.grants s.table (with_slot s.slots port.0 slot its_use) (map (at id issue) s.book) s.last k k.rows
       (laws.looking.services_on s.device new.device k.on driven) (laws.looking.services_same s.device new.device driven)
       (behind_issued laws s new.device port slot mode r e.frames (p k.machine k.reached k.stands) k issued_ready one.issues (its_transfer k.machine k.reached k.stands)
       (free k.machine k.reached k.stands, may k.machine k.reached k.stands))
@@ -393,7 +393,7 @@ module _ (laws : LawsBelow) (s new : Server) (port : Port) (id : RequestId) (k :
       alone_then
       (laws.still_issued s.table s.book id k.accepted)
       (laws.issued s.book id k.ordered (e, one.here, one.id_is, waiting))
-      (all_changed id issue (IsMarked s.grants) (issued_marked s.grants) s.book k.marked)
+      (all_changed id issue (HasTrueMark s.grants) (issued_marked s.grants) s.book k.marked)
       (all_changed id issue (λ y. y.entry.id.0 ≤ s.last) (λ y a. a) s.book k.handed_out)
       (all_changed id issue (λ y. state_of (found_of s.ports y.entry.port.0) ≡ ReadyState) (λ y a. a) s.book k.ready)
       (after k.machine (Issue mode i.request ∷ i.steps)) (laws.basic.reached k.machine (Issue mode i.request ∷ i.steps) k.reached i.may)

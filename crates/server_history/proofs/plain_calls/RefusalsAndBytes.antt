@@ -1,5 +1,5 @@
 -- Calls that leave the book: the device's steps, refusals, and clients' bytes.
-use Rattle.std.proofs.Common.{ℕ, ◌≡◌, ◌+◌, ◌*◌, ◌<◌, true, false, List, [], ◌∷◌, Ok, Err, ◌≢◌, Option, Some, ◌≤◌, length, refl, sym, ap, subst, inl, inr, arith}
+use Rattle.std.proofs.Common.{ℕ, ◌≡◌, ◌+◌, ◌*◌, ◌<◌, true, false, List, [], ◌∷◌, Ok, Err, ◌≢◌, Option, None, Some, ◌≤◌, length, refl, sym, ap, subst, inl, inr, arith}
 use Rattle.std.proofs.lemmas.Bool.{false≢true}
 use Rattle.std.proofs.lemmas.List.Elements.{All-cons, All-nil}
 use Rattle.ata_types.specs.declared.Port.{Port}
@@ -28,7 +28,8 @@ use Rattle.agreement.proofs.driver.AddedSteps.{device_adds, nothing_backed}
 use Rattle.server_history.proofs.state.DrivenAccesses.{by_one}
 use Rattle.agreement.proofs.device.AdapterOverAccesses.{access_same}
 use Rattle.agreement.proofs.driver.AskedPages.{access_sends_none}
-use Rattle.block_machine.specs.Events.{Ask, Submit, StoreAt, LoadAt, State, AllMay, Device as Told, Said, Submitted, Shown, Stepped, IsAnswered, Moment}
+use Rattle.block_machine.specs.Events.{Ask, Submit, StoreAt, LoadAt, RevokeOf, State, AllMay, Device as Told, Said, Submitted, Shown, Stepped, IsAnswered, Moment, WasRevoked}
+use Rattle.block_machine.specs.Rules.{HasRow}
 use Rattle.block_machine.specs.Histories.{Instant, Happening, IsReached, now}
 use Rattle.block_machine.specs.Left.{after}
 use Rattle.block_machine.specs.Ports.{Evidence, Ports}
@@ -203,6 +204,14 @@ module _ (laws : LawsBelow) where
         (λ old was at port ready. undue old.moment.machine at.machine port ready)
         (λ m are port. record { ties = record { finds = tt; faults = tt; tries = tt; boots = tt; trouble = goes.trouble m are port; well = λ i. absurd (uninterrupted s.device m.ports port i) }; heeds = uninterrupted s.device m.ports port })
 
+    pub revoke_refused_event : (client : ClientId) (number : ℕ) → (HasRow client number s.grants → ⊥)
+        → ((m : Machine) → IsMachineOf s m → (port : Port) → (ports_of s).state port ≡ ReadyState → IssuesDue (mode_in s port) [] m port) → AddsEvent s s (RevokeOf client number) (WasRevoked None)
+    revoke_refused_event client number none undue =
+        nothing_event s (RevokeOf client number) (WasRevoked None) goes (λ m. (refl, refl))
+        (λ old at evidence. (λ has. none (subst (HasRow client number) at.machine.rows has), refl, ports_same old.moment.ports (ports_of s) at.ports_are))
+        (λ old was at port ready. undue old.moment.machine at.machine port ready)
+        (λ m are port. record { ties = record { finds = tt; faults = tt; tries = tt; boots = tt; trouble = goes.trouble m are port; well = λ i. absurd (uninterrupted s.device m.ports port i) }; heeds = uninterrupted s.device m.ports port })
+
   -- ---- calls that lead to another device
 
   module _ (s : Server) (new : Device) (goes : GoesTo s new) where
@@ -335,7 +344,7 @@ module _ (laws : LawsBelow) where
 
   -- ---- events
 
-  stays : (s : Server) → IsKept s → GoesTo s s.device
+  pub stays : (s : Server) → IsKept s → GoesTo s s.device
   stays s k = record { holds = holding s k; trouble = λ m are port. untroubled s k m port }
 
   pub device_adds_event : (s : Server) (new : Device) (step : DeviceStep) → IsSettled s → Asked step s.device new → Steps s.device new
@@ -361,6 +370,12 @@ module _ (laws : LawsBelow) where
   pub load_refused : (s : Server) (client : ClientId) (frame : Frame) (offset count : ℕ) (bytes : List ℕ) (fault : MemFault) → IsSettled s
       → IsFirstMemFault (owner_of s.table) (lent_to s.table) client frame offset count fault → Adds s s (LoadAt client frame offset count) (load_said (Err fault) bytes)
   load_refused s client frame offset count bytes fault k is = record { settled = k; adds = load_refused_event laws s (stays s k.kept) client frame offset count bytes fault is }
+
+  pub revoke_refused : (s : Server) (client : ClientId) (number : ℕ) → IsSettled s → (HasRow client number s.grants → ⊥) → Adds s s (RevokeOf client number) (WasRevoked None)
+  revoke_refused s client number k none = record {
+    settled = k;
+    adds = revoke_refused_event laws s (stays s k.kept) client number none (λ m at port ready. none_issued s m at [] (λ id. refl) (mode_in s port) port (k.issued port));
+  }
 
   pub submit_refused : (s : Server) (r : Request) (refusal : Refusal) → IsSettled s → IsFirstRefusal (situation_of s) r refusal → Adds s s (Submit r) (Submitted (Err refusal))
   submit_refused s r refusal k is = record {

@@ -45,12 +45,12 @@ use Rattle.server_history.specs.Below.{LawsBelow}
 use Rattle.server_history.specs.Fates.{DecidesOn, MayMeet, MeetsInMachine, keeps_fate}
 use Rattle.server_history.specs.Mended.{AreUnused, IsFailed, IsFoundAfter, IsProspect, HasMetFates, holdings_of, requests_of, with_port}
 use Rattle.server_history.specs.Served.{answers_in}
-use Rattle.server_history.specs.Server.{AreKept, AreUsesOf, IsKept, IsMachineOf, Server, is_served, kept_at, slots_at, state_of, IsMarked}
+use Rattle.server_history.specs.Server.{AreKept, AreUsesOf, IsKept, IsMachineOf, Server, is_served, kept_at, slots_at, state_of, HasTrueMark}
 use Rattle.server_history.proofs.state.HistorySteps.{book_on, still_kept}
 use Rattle.server_history.proofs.state.KeptLoans.{none_alive}
 use Rattle.server_history.proofs.plain_calls.Looks.{finding_kept, found_over, looking_kept}
-use Rattle.server_history.proofs.fates.FittingFates.{fits_entry, kept_dead_alone}
-use Rattle.server_history.proofs.fates.MetFates.{meet}
+use Rattle.server_history.proofs.fates.FittingFates.{fits_each, kept_dead_alone}
+use Rattle.server_history.proofs.fates.MetFates.{meet, none_parked}
 use Rattle.server_history.proofs.recovery_turn.RecoveredDevice.{IsPassed, devices_both, passed, uses_then}
 use Rattle.server_history.proofs.recovery_turn.TurnParts.{AddsFates}
 use Rattle.server_history.proofs.recovery_turn.ReplacedPort.{is_listed}
@@ -190,15 +190,14 @@ module _ (laws : LawsBelow) (port : Port) (mid : Server) (k : IsKept mid) (ready
     ordered = k.ordered;
     accepted = k.accepted;
     here = of_its;
-    marked = λ e here. tells_of w.rows mid.grants e.entry (spares.rows ∙ is.rows) (All-contains (IsMarked mid.grants) mid.book e k.marked (of_its e here).0).tells;
+    marked = λ e here. tells_of w.rows mid.grants e.entry (spares.rows ∙ is.rows) (All-contains (HasTrueMark mid.grants) mid.book e k.marked (of_its e here).0).tells;
     earlier = AllPairs-filter IsEarlier (λ (x : Held). is_of port x.entry) mid.book k.ordered.ordered;
     unserved = unserved;
-    parked = λ quiet. parked_by;
   }
 
   module _ (later : List Reply) (now : Holdings) (meets : MeetFates fate its later (holdings_of port mid) now) where
     pub met : MeetsInMachine port fate its later (holdings_of port mid) now (at_slots t device) w
-    met = meet laws port fate (fits_entry failed prospect) its later (holdings_of port mid) now (at_slots t device) w may_meet meets
+    met = meet laws port fate its (fits_each failed prospect its) later (holdings_of port mid) now (at_slots t device) w may_meet meets
 
     abbrev z : Machine
     z = after w met.steps
@@ -221,6 +220,9 @@ module _ (laws : LawsBelow) (port : Port) (mid : Server) (k : IsKept mid) (ready
     -- on another port nothing is decided
     quiet : found ≢ Unready Dead → (e : Entry) → keeps_fate (fate e) e ≡ false
     quiet other e = kept_dead_alone failed prospect e (λ dead. other (subst (IsProspect trouble was found) dead expects))
+
+    none_left : found ≢ Unready Dead → met.parked port.0 ≡ []
+    none_left other = none_parked port fate its (fits_each failed prospect its) later (holdings_of port mid) now (at_slots t device) w met (quiet other) parked_by
 
     module _ (mode : Mode) (slots : PortSlots) (unused : AreUnused mode slots) where
       abbrev new : Server
@@ -245,7 +247,7 @@ module _ (laws : LawsBelow) (port : Port) (mid : Server) (k : IsKept mid) (ready
       unparked : (q : ℕ) → found_of new.ports q ≢ Unready Dead → met.parked q ≡ []
       unparked q lives = ⊎_elim
           (λ (same : q ≡ port.0).
-          ap met.parked same ∙ met.none (quiet (λ dead. lives (ap (found_of new.ports) same ∙ found_same ∙ dead))))
+          ap met.parked same ∙ none_left (λ dead. lives (ap (found_of new.ports) same ∙ found_same ∙ dead)))
           (λ (ne : q ≢ port.0). met.others q ne ∙ passed.left.parked q ne ∙ is.unparked q (λ dead. lives (found_other q ne ∙ dead)))
           (cases_eq q port.0)
 

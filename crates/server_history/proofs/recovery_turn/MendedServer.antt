@@ -42,7 +42,7 @@ use Rattle.server_history.proofs.state.PlainHalts.{again_halts, works_plainly}
 use Rattle.server_history.proofs.state.FirstMembers.{nowhere}
 use Rattle.server_history.proofs.plain_calls.Looks.{finding_kept, found_over, looking_kept}
 use Rattle.server_history.proofs.state.IssueCounts.{places}
-use Rattle.server_history.proofs.fates.FittingFates.{fits_entry}
+use Rattle.server_history.proofs.fates.FittingFates.{fits_each}
 use Rattle.server_history.proofs.fates.RemainingBook.{IsLeft, WasIn, ends_of, fated, its_requests}
 use Rattle.server_history.proofs.recovery_turn.ReplacedPort.{StandsAt, replaced_kept, same_over, stands_after, still_there}
 use Rattle.server_history.proofs.recovery_turn.SeenDevice.{saw_still}
@@ -201,7 +201,7 @@ module _ (laws : LawsBelow) (port : Port) (later : List Reply) (old new : Server
   -- ---- the requests
 
   left : IsLeft port (fate_of a.failed a.prospect) (requests_of port mid.book) (holdings_of port mid) a.now
-  left = fated laws port (fate_of a.failed a.prospect) (fits_entry a.failed a.prospect) (requests_of port mid.book) later (holdings_of port mid) a.now (its_requests port mid m.ordered m.accepted) a.meets
+  left = fated laws port (fate_of a.failed a.prospect) (requests_of port mid.book) (fits_each a.failed a.prospect (requests_of port mid.book)) later (holdings_of port mid) a.now (its_requests port mid m.ordered m.accepted) a.meets
 
   -- where one of the port is left, its port is ready
   still_ready : (e : Held) → Contains a.now.book e → e.entry.port.0 ≡ port.0 → state_of a.found ≡ ReadyState

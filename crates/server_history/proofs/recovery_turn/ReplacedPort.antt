@@ -48,7 +48,7 @@ use Rattle.slots.specs.Uses.{Uses as PortSlots, use_at}
 use Rattle.slots.specs.declared.Use.{Use as SlotUse}
 use Rattle.server_history.specs.Below.{LawsBelow}
 use Rattle.server_history.specs.Mended.{IsFoundAfter, AreUnused}
-use Rattle.server_history.specs.Server.{HasSlots, Server, IsKept, IsMachineOf, IsPortOf, is_served, kept_at, mode_at, mode_found, mode_in, no_slots, plain_mode, slots_at, state_of, usable_of, used_for, IsMarked}
+use Rattle.server_history.specs.Server.{HasSlots, Server, IsKept, IsMachineOf, IsPortOf, is_served, kept_at, mode_at, mode_found, mode_in, no_slots, plain_mode, slots_at, state_of, usable_of, used_for, HasTrueMark}
 use Rattle.port_look.specs.declared.Trouble.{Trouble}
 use Rattle.server_history.proofs.state.PortGrounds.{left_on}
 use Rattle.server_history.proofs.recovery_turn.OtherPorts.{Passes}
@@ -295,7 +295,7 @@ module _ (laws : LawsBelow) (port : Port) (s : Server) (k : IsKept s) (low : por
       ∙ All-contains (λ (x : Held). state_of (found_of s.ports x.entry.port.0) ≡ ReadyState) s.book w.was k.ready w.there)
       (cases_eq e.entry.port.0 port.0)
 
-  marked_one : (e : Held) → Contains book e → IsMarked s.grants e
+  marked_one : (e : Held) → Contains book e → HasTrueMark s.grants e
   marked_one e here = marked_from s.grants s.book k.marked e (left.from e here)
 
   handed_one : (e : Held) → Contains book e → e.entry.id.0 ≤ s.last
@@ -341,7 +341,7 @@ module _ (laws : LawsBelow) (port : Port) (s : Server) (k : IsKept s) (low : por
         (o.0, subst (λ (n : ℕ). 4096 * frame.0 + 4096 ≤ n) (sym alike.size) o.1);
     accepted = left.accepted;
     ordered = left.ordered;
-    marked = each_left (IsMarked s.grants) marked_one;
+    marked = each_left (HasTrueMark s.grants) marked_one;
     handed_out = each_left (λ (e : Held). e.entry.id.0 ≤ s.last) handed_one;
     ready = each_left (λ (e : Held). state_of (found_of then_is.ports e.entry.port.0) ≡ ReadyState) ready_one;
     machine = machine;

@@ -26,7 +26,7 @@ use Rattle.server_history.proofs.healthy_turn.AnswersAndIssues.{answers_apart, a
 -- ---- requests of another port
 
 -- the request of this id isn't of the port
-abbrev IsNoneOf : Port → RequestId → List Unanswered → Type 0
+abbrev pub IsNoneOf : Port → RequestId → List Unanswered → Type 0
 IsNoneOf q id list = All (λ r. r.port ≡ q → r.id ≢ id) list
 
 -- whose the requests are that pass
@@ -121,20 +121,22 @@ module _ (laws : LawsBelow) (q : Port) where
       ∙ x.0
 
   -- no request of one port has the id of one of another
+  pub none_of_one : (port : Port) (book : List Held) → q ≢ port → IsInOrder book → (e : Held) → Contains book e × (e.entry.port ≡ port) → IsNoneOf q e.entry.id (asks_of book)
+  none_of_one port book ne order e its = All-weaker (Contains (asks_of book)) (λ (r : Unanswered). r.port ≡ q → r.id ≢ e.entry.id) (λ r there is same.
+      let y = map_in (λ (x : Held). asks x.entry) book r there in
+      let one : y.0 ≡ e = laws.one book y.0 e order y.1 its.0 (sym (ap (λ (u : Unanswered). u.id) y.2) ∙ same) in
+      ne (sym is ∙ ap (λ (u : Unanswered). u.port) y.2 ∙ ap (λ (x : Held). x.entry.port) one ∙ its.1)) (asks_of book) (All-contains_itself (asks_of book))
+
   pub none_of_port : (port : Port) (book : List Held) → q ≢ port → IsInOrder book → All (λ (e : Held). IsNoneOf q e.entry.id (asks_of book)) (requests_of port book)
-  none_of_port port book ne order = All-weaker (Contains (requests_of port book)) (λ (e : Held). IsNoneOf q e.entry.id (asks_of book)) each (requests_of port book) (All-contains_itself (requests_of port book))
+  none_of_port port book ne order =
+      All-weaker (Contains (requests_of port book)) (λ (e : Held). IsNoneOf q e.entry.id (asks_of book)) (λ e here. none_of_one port book ne order e (booked e here, its_port e here)) (requests_of port book)
+      (All-contains_itself (requests_of port book))
     where
       its_port : (e : Held) → Contains (requests_of port book) e → e.entry.port ≡ port
       its_port e here = ap (λ (n : ℕ). record { 0 = n }) (eqb-true e.entry.port.0 port.0 (All-contains (λ (x : Held). is_of port x.entry ≡ true) (requests_of port book) e (filter_passes (λ (x : Held). is_of port x.entry) book) here))
 
       booked : (e : Held) → Contains (requests_of port book) e → Contains book e
       booked e here = All-contains (Contains book) (requests_of port book) e (All-filter (λ (x : Held). is_of port x.entry) (Contains book) book (All-contains_itself book)) here
-
-      each : (e : Held) → Contains (requests_of port book) e → IsNoneOf q e.entry.id (asks_of book)
-      each e here = All-weaker (Contains (asks_of book)) (λ (r : Unanswered). r.port ≡ q → r.id ≢ e.entry.id) (λ r there is same.
-          let y = map_in (λ (x : Held). asks x.entry) book r there in
-          let one : y.0 ≡ e = laws.one book y.0 e order y.1 (booked e here) (sym (ap (λ (u : Unanswered). u.id) y.2) ∙ same) in
-          ne (sym is ∙ ap (λ (u : Unanswered). u.port) y.2 ∙ ap (λ (x : Held). x.entry.port) one ∙ its_port e here)) (asks_of book) (All-contains_itself (asks_of book))
 
 -- ---- the whole
 

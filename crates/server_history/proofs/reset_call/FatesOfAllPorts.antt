@@ -44,14 +44,14 @@ use Rattle.server_history.proofs.recovery_turn.MendedMachine.{deciding_leaves}
 use Rattle.server_history.proofs.any_turn.JoinedParts.{all_pairs_append, answers_append, answers_there}
 use Rattle.server_history.proofs.state.FirstMembers.{first_here, nowhere}
 use Rattle.server_history.proofs.fates.MoreKeptLoans.{more_kept}
-use Rattle.server_history.proofs.fates.FittingFates.{fits_entry, kept_dead_alone}
-use Rattle.server_history.proofs.fates.MetFates.{meet}
+use Rattle.server_history.proofs.fates.FittingFates.{fits_each, kept_dead_alone}
+use Rattle.server_history.proofs.fates.MetFates.{meet, none_parked}
 use Rattle.server_history.proofs.fates.RemainingBook.{IsLeft, WasIn, ends_of, fated, marked_from, was_itself, was_more}
 use Rattle.server_history.specs.Below.{LawsBelow}
 use Rattle.server_history.specs.Fates.{DecidesOn, MayMeet, MeetsInMachine, keeps_fate}
 use Rattle.server_history.specs.Mended.{holdings_of, requests_of}
 use Rattle.server_history.specs.Resets.{IsProspectAnew, SettlePorts, SettlesPort, with_holdings}
-use Rattle.server_history.specs.Server.{AreKept, Server, kept_at, remembered_at, IsMarked}
+use Rattle.server_history.specs.Server.{AreKept, Server, kept_at, remembered_at, HasTrueMark}
 use Rattle.server_history.proofs.state.RevokedMarks.{tells_of}
 
 -- ---- a port's requests
@@ -111,7 +111,7 @@ pub record IsFatedTo (n : ℕ) (c : Server) (m : Machine) : Type 0 where
   pub next : m.next ≡ c.last + 1
   pub ordered : IsInOrder c.book
   pub accepted : All (IsAccepted c.table) c.book
-  pub marked : All (IsMarked c.grants) c.book
+  pub marked : All (HasTrueMark c.grants) c.book
   pub alive : (e : Held) → Contains c.book e → e.entry.port.0 < n → HasItsDisk c.remembered c.ports e.entry.port.0
 
 -- ---- one port
@@ -140,18 +140,17 @@ module _ (laws : LawsBelow) (n : ℕ) (low : n < 4) (replies : List Reply) (old 
     lent = at.lent;
     ordered = at.ordered;
     accepted = at.accepted;
-    marked = λ e here. tells_of m.rows old.grants e.entry at.rows (All-contains (IsMarked old.grants) old.book e at.marked (of_requests port old.book e here).0).tells;
+    marked = λ e here. tells_of m.rows old.grants e.entry at.rows (All-contains (HasTrueMark old.grants) old.book e at.marked (of_requests port old.book e here).0).tells;
     here = of_requests port old.book;
     earlier = AllPairs-filter IsEarlier (λ (x : Held). is_of port x.entry) old.book at.ordered.ordered;
     unserved = λ e here never q slot serves. serves_none old.ports at.uses q slot (at.left q slot) e.entry.id serves;
-    parked = λ quiet id here. let w = at.its n (omega arith) id here in (w.0, in_requests port old.book w.0 w.1 w.4, w.2, w.3);
   }
 
   pub met : MeetsInMachine port fate its replies (holdings_of port old) s.now (known at.uses at.parked old.device) m
-  met = meet laws port fate (fits_entry None s.prospect) its replies (holdings_of port old) s.now (known at.uses at.parked old.device) m may_meet s.meets
+  met = meet laws port fate its (fits_each None s.prospect its) replies (holdings_of port old) s.now (known at.uses at.parked old.device) m may_meet s.meets
 
   pub left : IsLeft port fate its (holdings_of port old) s.now
-  left = fated laws port fate (fits_entry None s.prospect) its replies (holdings_of port old) s.now
+  left = fated laws port fate its (fits_each None s.prospect its) replies (holdings_of port old) s.now
       (record { here = of_requests port old.book; earlier = may_meet.earlier; ordered = at.ordered; accepted = at.accepted }) s.meets
 
   abbrev z : Machine
@@ -176,6 +175,12 @@ module _ (laws : LawsBelow) (n : ℕ) (low : n < 4) (replies : List Reply) (old 
 
   quiet : found ≢ Unready Dead → (e : Entry) → keeps_fate (fate e) e ≡ false
   quiet lives e = kept_dead_alone None s.prospect e (λ dead. lives (subst (IsProspectAnew was found) dead s.expects))
+
+  -- where no loan is kept, none is parked
+  none_left : ((e : Entry) → keeps_fate (fate e) e ≡ false) → met.parked n ≡ []
+  none_left none =
+      none_parked port fate its (fits_each None s.prospect its) replies (holdings_of port old) s.now (known at.uses at.parked old.device) m met none
+      (λ id here. let w = at.its n (omega arith) id here in (w.0, in_requests port old.book w.0 w.1 w.4, w.2, w.3))
 
   abbrev new : Server
   new = with_holdings port s.now old
@@ -233,7 +238,7 @@ module _ (laws : LawsBelow) (n : ℕ) (low : n < 4) (replies : List Reply) (old 
     parked = met.parked;
     knows = met.knows;
     unparked = λ q lt lives. ⊎_elim
-        (λ (same : q ≡ n). ap met.parked same ∙ met.none (quiet (λ dead. lives (ap (found_of old.ports) same ∙ dead))))
+        (λ (same : q ≡ n). ap met.parked same ∙ none_left (quiet (λ dead. lives (ap (found_of old.ports) same ∙ dead))))
         (λ (ne : q ≢ n). met.others q ne ∙ at.unparked q (omega (arith, lt, ne)) lives)
         (cases_eq q n);
     its = its_then;
@@ -246,7 +251,7 @@ module _ (laws : LawsBelow) (n : ℕ) (low : n < 4) (replies : List Reply) (old 
     next = leaves.2 ∙ at.next;
     ordered = left.ordered;
     accepted = left.accepted;
-    marked = All-weaker (Contains s.now.book) (IsMarked old.grants) (λ e here. marked_from old.grants old.book at.marked e (left.from e here)) s.now.book (All-contains_itself s.now.book);
+    marked = All-weaker (Contains s.now.book) (HasTrueMark old.grants) (λ e here. marked_from old.grants old.book at.marked e (left.from e here)) s.now.book (All-contains_itself s.now.book);
     alive = alive_then;
   })
 

@@ -96,6 +96,7 @@ gives_up k m knows rest = record {
     disk = knows.agrees.disk;
     memory = knows.agrees.memory;
     sectors = knows.agrees.sectors;
+    lasting = knows.agrees.lasting;
   };
   have = λ port e moves own. inl (⊎_elim
       (λ booked. Contains-append_left (map (λ (x : Pending). x.request.id) m.book) (map (λ (x : Pending). x.request.id) m.kept) e.request.id (into_map (λ (x : Pending). x.request.id) m.book e booked.0))

@@ -31,7 +31,7 @@ use Rattle.server_history.proofs.reset_call.RetakenMachine.{IsRetaken, issued_in
 use Rattle.server_history.specs.Ended.{ResetLaws}
 use Rattle.server_history.proofs.state.PairedLists.{at_right}
 use Rattle.server_history.specs.Resets.{IsTakenAgain, IssuePorts, MaySettle, SettlePorts}
-use Rattle.server_history.specs.Server.{HasSlots, IsKept, IsMachineOf, IsSettled, Server, is_served, mode_at, mode_found, state_of, used_for, IsMarked}
+use Rattle.server_history.specs.Server.{HasSlots, IsKept, IsMachineOf, IsSettled, Server, is_served, mode_at, mode_found, state_of, used_for, HasTrueMark}
 use Rattle.server_history.specs.Stalled.{KeepsBooks}
 
 module _ (laws : ResetLaws) (s taken settled : Server) (booked : KeepsBooks s) (takes : IsTakenAgain s taken) (replies : List Reply) (settles : SettlePorts 0 taken.ports replies taken settled) (m : Machine) (reached : IsReached m)
@@ -77,7 +77,7 @@ module _ (laws : ResetLaws) (s taken settled : Server) (booked : KeepsBooks s) (
     next = its_retaken.next ∙ ap (λ (k : ℕ). k + 1) (sym (ap (λ (c : Server). c.last) takes.server));
     ordered = may.ordered;
     accepted = may.accepted;
-    marked = subst (λ (c : Server). All (IsMarked c.grants) c.book) (sym takes.server) booked.marked;
+    marked = subst (λ (c : Server). All (HasTrueMark c.grants) c.book) (sym takes.server) booked.marked;
     alive = λ e here lt. absurd (omega (arith, lt));
   }
 

@@ -13,6 +13,7 @@ use Rattle.ata_types.specs.declared.request.RequestId.{RequestId}
 use Rattle.adapter.specs.Device.{Device}
 use Rattle.adapter.specs.Idle.{IsIdle, TellsDisks}
 use Rattle.agreement.specs.Agrees.{SameSectors}
+use Rattle.agreement.specs.Returning.{may_return}
 use Rattle.agreement.specs.Driven.{known}
 use Rattle.agreement.specs.Driver.{Knows, idle}
 use Rattle.agreement.specs.Slots.{Free, Uses}
@@ -46,7 +47,7 @@ use Rattle.block_machine.specs.Due.{NoneDue}
 use Rattle.request_queue.specs.Entries.{Held, IsAccepted, IsInOrder, asks_of}
 use Rattle.request_queue.specs.Machine.{IsBook}
 use Rattle.slots.specs.Uses.{Uses as PortSlots}
-use Rattle.server_history.specs.Server.{Server, AreUsesOf, IsKept, IsMachineOf, IsNewServer, IsPortOf, IsSettled, IsUsedAs, is_served, AreKept, AreOfTwo, kept_at, mode_in, ports_of, state_of, use_of, used_for, IsMarked}
+use Rattle.server_history.specs.Server.{Server, AreUsesOf, IsKept, IsMachineOf, IsNewServer, IsPortOf, IsSettled, IsUsedAs, is_served, AreKept, AreOfTwo, kept_at, mode_in, ports_of, state_of, use_of, used_for, HasTrueMark}
 use Rattle.agreement.proofs.driver.Stretches.{followed_adds}
 use Rattle.server_history.proofs.start.TakenOverPorts.{behind, found_is, four, none_past, ports_on, served_there}
 use Rattle.server_history.proofs.state.FirstMembers.{nowhere}
@@ -65,6 +66,7 @@ machine_of d rows owner = record {
   disk_ids = λ port. (d.port port.0).disk.name;
   sizes = λ port. (d.port port.0).disk.size;
   disks = λ port. told_bytes (d.port port.0).disk.sectors;
+  aside = λ port k. may_return d.tape (d.port port.0).lasting port.0 k;
   book = [];
   kept = [];
   lent = λ frame. None;
@@ -77,7 +79,7 @@ machine_of d rows owner = record {
 machine_knows : (d : Device) (rows : List GrantRow) (owner : Frame → Option ClientId) → IsStart (machine_of d rows owner) → IsIdle d
     → TellsDisks d → Knows (machine_of d rows owner) (idle d)
 machine_knows d rows owner start is told =
-    idle_knows (machine_of d rows owner) d start is (λ q. record { present = refl; id = refl; size = refl }) (λ f b low small. refl) sectors
+    idle_knows (machine_of d rows owner) d start is (λ q. record { present = refl; id = refl; size = refl }) (λ f b low small. refl) sectors (λ _ port k. refl)
   where
     sectors : d.telling ≡ true → (port : ℕ) → SameSectors (machine_of d rows owner) (d.port port).disk port
     sectors tells q =
@@ -262,7 +264,7 @@ module _ (laws : TakenLaws) (s : Server) (host : Host) (d : Device) (is : IsIdle
     alone = λ port slot used is. absurd (let z : None ≡ Some used = sym (n.unused port slot) ∙ is in cc);
     accepted = subst (λ (book : List Held). All (IsAccepted s.table) book) (sym n.book) (All-nil (IsAccepted s.table));
     ordered = subst IsInOrder (sym n.book) none_in_order;
-    marked = subst (λ (book : List Held). All (IsMarked s.grants) book) (sym n.book) (All-nil (IsMarked s.grants));
+    marked = subst (λ (book : List Held). All (HasTrueMark s.grants) book) (sym n.book) (All-nil (HasTrueMark s.grants));
     handed_out = subst (λ (book : List Held). All (λ e. e.entry.id.0 ≤ s.last) book) (sym n.book) (All-nil (λ (e : Held). e.entry.id.0 ≤ s.last));
     ready = subst (λ (book : List Held). All (λ e. state_of (found_of s.ports e.entry.port.0) ≡ ReadyState) book) (sym n.book) (All-nil (λ (e : Held). state_of (found_of s.ports e.entry.port.0) ≡ ReadyState));
     machine = m;

@@ -1,17 +1,21 @@
 -- Steps that answer requests, and that answer none.
-use Rattle.std.proofs.Common.{◌≡◌, List, [], ◌∷◌, ◌++◌, map, refl, sym, ap, ◌∙◌, subst, ⊎_elim}
-use Rattle.std.specs.List.{AllZip, Contains}
-use Rattle.std.proofs.lemmas.List.Elements.{Contains-append_cases, Contains-append_left, Contains-append_right}
+use Rattle.std.proofs.Common.{◌≡◌, ◌⊎◌, ◌==◌, true, false, not, List, [], ◌∷◌, ◌++◌, map, inl, inr, refl, sym, ap, ◌∙◌, subst, ⊎_elim, eqb-true}
+use Rattle.std.specs.List.{All, AllZip, Contains, list_any}
+use Rattle.std.proofs.lemmas.Bool.{cases_Bool}
+use Rattle.std.proofs.lemmas.List.Elements.{All-contains, All-head, All-tail, Contains-append_cases, Contains-append_left, Contains-append_right}
 use Rattle.ata_types.specs.declared.Port.{Port}
 use Rattle.ata_types.specs.declared.request.Outcome.{Outcome}
 use Rattle.ata_types.specs.declared.request.Outcome.TheVariants.{Ok}
 use Rattle.ata_types.specs.declared.request.Reply.{Reply}
+use Rattle.ata_types.specs.declared.request.RequestId.{RequestId}
+use Rattle.adapter.specs.declared.access.DeviceStep.{DeviceStep}
 use Rattle.block_machine.specs.declared.due.Mode.{Mode}
-use Rattle.block_machine.specs.Events.{AllDevices, AllMay, IsDevices, answers_of, reply_of}
+use Rattle.block_machine.specs.Events.{AllDevices, AllLawful, AllMay, Ask, Belong, IsDevices, IsLawful, IsServers, Moment, answers_of, issues_it, reply_of}
 use Rattle.block_machine.specs.Left.{after}
+use Rattle.block_machine.specs.Ports.{Evidence, Ports}
 use Rattle.block_machine.specs.State.{Pending, Machine}
 use Rattle.block_machine.specs.Steps.{Step, Issue, Answer, May, after_step}
-use Rattle.server_history.proofs.state.ListMembers.{contains_cases, contains_here, contains_there, without_in}
+use Rattle.server_history.proofs.state.ListMembers.{contains_cases, contains_here, contains_there, in_filter, without_in}
 use Rattle.request_queue.specs.Entries.{Held}
 use Rattle.server_history.specs.Served.{HasEnded, IssuesOnly, answers_in, done_reply}
 use Rattle.server_history.specs.Below.{LawsBelow}
@@ -94,3 +98,63 @@ issuing_answers mode port [] base only = refl
 issuing_answers mode port (Issue its e ∷ late) base only = issuing_answers mode port late base only.2
 issuing_answers mode port (Answer e o ∷ late) base only = absurd only.0
 issuing_answers mode port (step ∷ late) base only = issuing_answers mode port late base only.1
+
+-- ---- steps that answer requests alone
+
+-- a request is answered, in this way
+abbrev pub IsAnswerOf : (Pending → Outcome → Type 0) → Step → Type 0
+IsAnswerOf Told (Answer e o) = Told e o
+IsAnswerOf Told step = ⊥
+
+module _ (Told : Pending → Outcome → Type 0) where
+  pub answer_told : (steps : List Step) → All (IsAnswerOf Told) steps → (e : Pending) (o : Outcome) → Contains steps (Answer e o) → Told e o
+  answer_told steps all e o here = All-contains (IsAnswerOf Told) steps (Answer e o) all here
+
+  pub answers_belong : (ask : Ask DeviceStep) (ports : Ports) → ((e : Pending) (o : Outcome) → Told e o → IsServers ask ports (Answer e o)) → (steps : List Step) → All (IsAnswerOf Told) steps → Belong ask ports steps
+  answers_belong ask ports own [] all = tt
+  answers_belong ask ports own (Answer e o ∷ steps) all =
+      (answers_belong ask ports own steps (All-tail (IsAnswerOf Told) (Answer e o) steps all), inr (own e o (All-head (IsAnswerOf Told) (Answer e o) steps all)))
+  answers_belong ask ports own (step ∷ steps) all = absurd (All-head (IsAnswerOf Told) step steps all)
+
+  pub answers_issue_none : (id : RequestId) (steps : List Step) → All (IsAnswerOf Told) steps → list_any (issues_it id) steps ≡ false
+  answers_issue_none id [] all = refl
+  answers_issue_none id (Answer e o ∷ steps) all = answers_issue_none id steps (All-tail (IsAnswerOf Told) (Answer e o) steps all)
+  answers_issue_none id (step ∷ steps) all = absurd (All-head (IsAnswerOf Told) step steps all)
+
+  pub answers_lawful : (old : Moment) (evidence : Evidence) (ports : Ports) → ((e : Pending) (o : Outcome) → Told e o → IsLawful old evidence ports e o) → (steps : List Step) → All (IsAnswerOf Told) steps
+      → AllLawful old evidence ports steps
+  answers_lawful old evidence ports lawful [] all = tt
+  answers_lawful old evidence ports lawful (Answer e o ∷ steps) all =
+      (answers_lawful old evidence ports lawful steps (All-tail (IsAnswerOf Told) (Answer e o) steps all), lawful e o (All-head (IsAnswerOf Told) (Answer e o) steps all))
+  answers_lawful old evidence ports lawful (step ∷ steps) all = absurd (All-head (IsAnswerOf Told) step steps all)
+
+  -- who is unanswered after them was so before
+  pub left_stood : (m : Machine) (steps : List Step) → All (IsAnswerOf Told) steps → (e : Pending) → Contains (after m steps).book e → Contains m.book e
+  left_stood m [] all e here = here
+  left_stood m (Answer x o ∷ steps) all e here =
+      left_stood m steps (All-tail (IsAnswerOf Told) (Answer x o) steps all) e (without_in x.request.id (after m steps).book e here).0
+  left_stood m (step ∷ steps) all e here = absurd (All-head (IsAnswerOf Told) step steps all)
+
+  -- and so was who is answered
+  pub answered_stood : (m : Machine) (steps : List Step) → All (IsAnswerOf Told) steps → AllMay m steps → (e : Pending) (o : Outcome) → Contains steps (Answer e o) → Contains m.book e
+  answered_stood m [] all may e o here = absurd (nowhere (Answer e o) here)
+  answered_stood m (Answer x p ∷ steps) all may e o here = ⊎_elim
+      (λ (is : Answer e o ≡ Answer x p).
+      let same : e ≡ x = cc in
+      subst (Contains m.book) (sym same) (left_stood m steps (All-tail (IsAnswerOf Told) (Answer x p) steps all) x may.1.0))
+      (λ (there : Contains steps (Answer e o)). answered_stood m steps (All-tail (IsAnswerOf Told) (Answer x p) steps all) may.0 e o there)
+      (contains_cases (Answer x p) steps (Answer e o) here)
+  answered_stood m (step ∷ steps) all may e o here = absurd (All-head (IsAnswerOf Told) step steps all)
+
+  -- who was unanswered is answered, or is so still
+  pub answered_or_left : (m : Machine) (steps : List Step) → All (IsAnswerOf Told) steps → (e : Pending) → Contains m.book e
+      → ((x : Pending) × (o : Outcome) × Contains steps (Answer x o) × (x.request.id.0 ≡ e.request.id.0)) ⊎ Contains (after m steps).book e
+  answered_or_left m [] all e here = inr here
+  answered_or_left m (Answer x o ∷ steps) all e here = ⊎_elim
+      (λ before. inl (before.0, before.1, contains_there (Answer x o) steps (Answer before.0 before.1) before.2, before.3))
+      (λ (there : Contains (after m steps).book e). ⊎_elim
+      (λ (its : (e.request.id.0 == x.request.id.0) ≡ true). inl (x, o, contains_here (Answer x o) steps (Answer x o) refl, sym (eqb-true e.request.id.0 x.request.id.0 its)))
+      (λ (other : (e.request.id.0 == x.request.id.0) ≡ false). inr (in_filter (λ (y : Pending). not (y.request.id.0 == x.request.id.0)) (after m steps).book e there (ap not other)))
+      (cases_Bool (e.request.id.0 == x.request.id.0)))
+      (answered_or_left m steps (All-tail (IsAnswerOf Told) (Answer x o) steps all) e here)
+  answered_or_left m (step ∷ steps) all e here = absurd (All-head (IsAnswerOf Told) step steps all)

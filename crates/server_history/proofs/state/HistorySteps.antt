@@ -3,6 +3,7 @@ use Rattle.std.proofs.Common.{false, ℕ, min, ◌≡◌, ◌≤◌, ◌<◌, �
 use Rattle.std.specs.List.{All, AllZip, Contains}
 use Rattle.ata_types.specs.declared.Port.{Port}
 use Rattle.ata_types.specs.declared.PortState.TheVariants.{Ready as ReadyState}
+use Rattle.ata_types.specs.declared.grant.GrantRow.{GrantRow}
 use Rattle.ata_types.specs.declared.request.ClientId.{ClientId}
 use Rattle.ata_types.specs.declared.memory.TheConstants.{DRIVER_BYTES}
 use Rattle.hba_regs.specs.Bits.{bit}
@@ -16,7 +17,7 @@ use Rattle.agreement.specs.Links.{SameAdapter}
 use Rattle.agreement.specs.Spares.{AllFurther, IsFurther, SparesBook}
 use Rattle.block_machine.specs.Events.{Ask, Said, AllMay, AllDevices, Belong, IssuesLast, AllLawful, IsAnswered, KeepsDisks}
 use Rattle.block_machine.specs.Histories.{Instant, Happening, IsHistory, IsReached, now}
-use Rattle.block_machine.specs.Left.{after}
+use Rattle.block_machine.specs.Left.{IsRow, after}
 use Rattle.block_machine.specs.Ports.{Ports, AreFit, Evidence, SamePorts, SameDisk}
 use Rattle.block_machine.specs.State.{Machine, Pending}
 use Rattle.block_machine.specs.Steps.{Step}
@@ -33,7 +34,7 @@ use Rattle.server_history.specs.Histories.{Leads}
 use Rattle.request_queue.specs.Entries.{Held, IsAccepted, IsInOrder}
 use Rattle.request_queue.specs.Machine.{IsBook, IsEntry, range_of}
 use Rattle.slots.specs.Uses.{Uses as PortSlots}
-use Rattle.server_history.specs.Server.{HasCommand, StandsAlone, HasSlots, Server, IsKept, IsMachineOf, IsPortOf, mode_found, mode_in, kept_at, AreKept, ports_of, state_of, used_for, IsMarked}
+use Rattle.server_history.specs.Server.{HasCommand, StandsAlone, HasSlots, Server, IsKept, IsMachineOf, IsPortOf, mode_found, mode_in, kept_at, AreKept, ports_of, state_of, used_for, HasTrueMark}
 use Rattle.slots.specs.declared.Use.{Use as SlotUse}
 use Rattle.block_machine.specs.Due.{is_plain}
 use Rattle.server_history.proofs.state.ServerInstant.{holds_with, slots}
@@ -108,16 +109,16 @@ machine_on laws s new m steps is own knows = machine_with laws s new m (after m 
 
 -- ---- what a server keeps
 
--- a server with this device, these loans, slots and book
-pub kept_then : (s : Server) (device : Device) (table : Table) (slots : List PortSlots) (book : List Held) (last : ℕ) → IsKept s → IsOn device → SameAdapter s.device device
+-- a server with this device, these grants, loans, slots and book
+pub kept_then : (s : Server) (device : Device) (grants : List GrantRow) (table : Table) (slots : List PortSlots) (book : List Held) (last : ℕ) → IsKept s → All IsRow grants → IsOn device → SameAdapter s.device device
     → ((port : ℕ) → port < 4 → IsPortOf s.wanted s.ports port device) → table.owners ≡ s.table.owners → length slots ≡ 4 → ((port : ℕ) → port < 4 → HasSlots s.ports s.modes slots port)
     → ((port : Port) (slot : ℕ) (used : SlotUse) (e : Held) → used_for slots port.0 slot ≡ Some used → Contains book e → e.entry.id ≡ used.id → used.queued ≡ not (is_plain (mode_in s port) e.entry.op))
     → ((port slot : ℕ) (used : SlotUse) → used_for slots port slot ≡ Some used → HasCommand used.queued device port slot)
     → ((port slot : ℕ) (used : SlotUse) → used_for slots port slot ≡ Some used → used.queued ≡ false → StandsAlone slots port slot)
-    → All (IsAccepted table) book → IsInOrder book → All (IsMarked s.grants) book → All (λ e. e.entry.id.0 ≤ last) book → All (λ e. state_of (found_of s.ports e.entry.port.0) ≡ ReadyState) book → (m : Machine) → IsReached m
-    → IsMachineOf (record s { device = device; table = table; slots = slots; book = book; last = last }) m
-    → IsKept (record s { device = device; table = table; slots = slots; book = book; last = last })
-kept_then s device table used_now book last k on same behind owners four used kinds commands alone accepted ordered marked handed_out ready m reached is = record {
+    → All (IsAccepted table) book → IsInOrder book → All (HasTrueMark grants) book → All (λ e. e.entry.id.0 ≤ last) book → All (λ e. state_of (found_of s.ports e.entry.port.0) ≡ ReadyState) book → (m : Machine) → IsReached m
+    → IsMachineOf (record s { device = device; grants = grants; table = table; slots = slots; book = book; last = last }) m
+    → IsKept (record s { device = device; grants = grants; table = table; slots = slots; book = book; last = last })
+kept_then s device grants table used_now book last k rows on same behind owners four used kinds commands alone accepted ordered marked handed_out ready m reached is = record {
   on = on;
   room = subst (λ (n : ℕ). DRIVER_BYTES ≤ n) (sym same.size) k.room;
   there = λ port served. let t = k.there port served in (t.0, ap (λ (pi : ℕ). bit pi port) same.pi ∙ t.1);
@@ -132,7 +133,7 @@ kept_then s device table used_now book last k on same behind owners four used ki
   kinds = kinds;
   commands = commands;
   alone = alone;
-  rows = k.rows;
+  rows = rows;
   owners = λ frame client own.
       let o = k.owners frame client (ap (λ (list : List (Option ClientId)). get_or list frame.0 None) (sym owners) ∙ own) in
       (o.0, subst (λ (n : ℕ). 4096 * frame.0 + 4096 ≤ n) (sym same.size) o.1);
@@ -151,7 +152,7 @@ pub kept_on : LawsBelow → (s : Server) (new : Device) → (k : IsKept s) → I
     → ((port : ℕ) → port < 4 → IsPortOf s.wanted s.ports port new) → ((port slot : ℕ) (used : SlotUse) → used_for s.slots port slot ≡ Some used → HasCommand used.queued new port slot) → (steps : List Step) → AllMay k.machine steps
     → IsMachineOf (record s { device = new }) (after k.machine steps) → IsKept (record s { device = new })
 kept_on laws s new k on same behind commands steps may is =
-    kept_then s new s.table s.slots s.book s.last k on same behind refl k.four k.slots k.kinds commands k.alone k.accepted k.ordered k.marked k.handed_out k.ready (after k.machine steps) (laws.basic.reached k.machine steps k.reached may) is
+    kept_then s new s.grants s.table s.slots s.book s.last k k.rows on same behind refl k.four k.slots k.kinds commands k.alone k.accepted k.ordered k.marked k.handed_out k.ready (after k.machine steps) (laws.basic.reached k.machine steps k.reached may) is
 
 -- ---- events
 

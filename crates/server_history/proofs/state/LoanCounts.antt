@@ -1,15 +1,16 @@
 -- How many loans of a port may be kept: one of each of its requests that is issued, beside those that are.
-use Rattle.std.proofs.Common.{ℕ, ◌≡◌, ◌≤◌, ◌+◌, Bool, true, false, cond, if◌then◌else◌, List, [], ◌∷◌, map, sym, ap, ◌∙◌, subst, arith, le_refl, ⊎_elim}
+use Rattle.std.proofs.Common.{ℕ, ◌≡◌, ◌≤◌, ◌+◌, ◌==◌, ◌&&◌, Bool, true, false, cond, if◌then◌else◌, List, [], ◌∷◌, map, refl, sym, ap, ◌∙◌, subst, arith, le_refl, ⊎_elim}
 use Rattle.std.specs.Prelude.{count_by, filter}
 use Rattle.std.specs.List.{Contains}
 use Rattle.std.proofs.lemmas.Bool.{cond-false, false≢true}
 use Rattle.std.proofs.lemmas.List.Sums.{sum_by-cons}
 use Rattle.ata_types.specs.declared.Port.{Port}
+use Rattle.ata_types.specs.declared.request.ClientId.{ClientId}
 use Rattle.ata_types.specs.declared.request.Outcome.{Outcome}
 use Rattle.ata_types.specs.declared.request.Outcome.TheVariants as outcome
 use Rattle.ata_types.specs.declared.request.RequestId.{RequestId}
 use Rattle.server_history.proofs.state.ListMembers.{contains_cases}
-use Rattle.request_queue.specs.Entries.{Held, at, has_id, is_of, requeued}
+use Rattle.request_queue.specs.Entries.{Held, all_marked_under, at, has_id, is_of, marked_under, requeued}
 use Rattle.request_queue.specs.Fates.{keeps_loan}
 use Rattle.request_queue.specs.declared.Entry.{Entry}
 use Rattle.server_history.specs.Mended.{requests_of}
@@ -78,6 +79,20 @@ requeued_issued port id (x ∷ book) =
     by : (b : Bool) → counts port (if b then record x { entry = requeued x.entry } else x) ≤ counts port x
     by true = own (is_of port x.entry)
     by false = le_refl (counts port x)
+
+-- and where requests are marked, as many are
+pub marked_issued : (port : Port) (client : ClientId) (grant : ℕ) (book : List Held) → issued_of port (all_marked_under client grant book) ≡ issued_of port book
+marked_issued port client grant [] = refl
+marked_issued port client grant (x ∷ book) =
+    let rest = marked_issued port client grant book in
+    let one = by (x.entry.client.0 == client.0 && x.entry.grant == grant) in
+    let left = issued_first port (record x { entry = marked_under client grant x.entry }) (all_marked_under client grant book) in
+    let right = issued_first port x book in
+    omega (arith, rest, one, left, right)
+  where
+    by : (b : Bool) → counts port (record x { entry = if b then record (x.entry) { revoked = true } else x.entry }) ≡ counts port x
+    by true = refl
+    by false = refl
 
 -- only an issued request's loan is kept
 pub kept_issued : (o : Outcome) (e : Entry) → keeps_loan o e ≡ true → e.issued ≡ true

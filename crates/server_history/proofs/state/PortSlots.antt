@@ -35,7 +35,7 @@ use Rattle.std.proofs.lemmas.List.{get_or_past}
 use Rattle.slots.specs.Uses.{Uses as PortSlots, IsLowestFree, IsTaken, use_at}
 use Rattle.slots.specs.declared.Use.{Use as SlotUse}
 use Rattle.server_history.specs.Served.{is_used}
-use Rattle.server_history.specs.Server.{Server, IsKept, IsMachineOf, IsUsedAs, is_served, mode_at, mode_found, mode_in, no_slots, slots_at, state_of, usable_of, use_of, used_for, IsMarked}
+use Rattle.server_history.specs.Server.{Server, IsKept, IsMachineOf, IsUsedAs, is_served, mode_at, mode_found, mode_in, no_slots, slots_at, state_of, usable_of, use_of, used_for, HasTrueMark}
 use Rattle.server_history.specs.Below.{LawsBelow}
 use Rattle.server_history.proofs.state.DueRequests.{asked_alike, same_book}
 use Rattle.server_history.proofs.state.PairedLists.{at_left, at_right}
@@ -285,7 +285,7 @@ issued_has s m port is k ready e here own issued = ⊎_elim
 pub due_has : (s : Server) (k : IsKept s) (m : Machine) → IsMachineOf s m → (e : Held) → Contains s.book e → (mode : Mode) → IsDue mode (asks_of s.book) (asks e.entry)
     → (p : Pending) → IsEntry e p → HasGrant m p
 due_has s k m is e here mode due p entry =
-    let mark = All-contains (IsMarked s.grants) s.book e k.marked here in
+    let mark = All-contains (HasTrueMark s.grants) s.book e k.marked here in
     unmarked_has m e p entry (tells_of m.rows s.grants e.entry is.rows mark.tells) (mark.waiting (not_true e.entry.issued (and_parts _ _ due.clear).0))
 
 module _ (laws : LawsBelow) (s : Server) (e : Held) (k : IsKept s) (here : Contains s.book e) (due : IsDue (mode_in s e.entry.port) (asks_of s.book) (asks e.entry)) where

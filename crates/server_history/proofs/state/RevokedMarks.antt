@@ -9,17 +9,17 @@ use Rattle.block_machine.specs.Steps.{HasGrant, IsTellable}
 use Rattle.request_queue.specs.Entries.{Held, issue}
 use Rattle.request_queue.specs.Machine.{IsEntry}
 use Rattle.request_queue.specs.declared.Entry.{Entry}
-use Rattle.server_history.specs.Server.{IsMarked, TellsGrant}
+use Rattle.server_history.specs.Server.{HasTrueMark, TellsGrant}
 
 -- ---- in the machine
 
 -- one that isn't marked has its grant there
 pub unmarked_has : (m : Machine) (e : Held) (p : Pending) → IsEntry e p → TellsGrant m.rows e.entry → e.entry.revoked ≡ false → HasGrant m p
-unmarked_has m e p entry tells plain = let has = tells.granted plain in (has.0, has.1, (has.2.0 ∙ sym entry.client, has.2.1 ∙ sym entry.grant))
+unmarked_has m e p entry tells plain = let has = tells.0 plain in (has.0, has.1, (has.2.0 ∙ sym entry.client, has.2.1 ∙ sym entry.grant))
 
 -- and one that is has none
 pub marked_none : (m : Machine) (e : Held) (p : Pending) → IsEntry e p → TellsGrant m.rows e.entry → e.entry.revoked ≡ true → HasGrant m p → ⊥
-marked_none m e p entry tells marked has = tells.revoked marked (has.0, has.1, (has.2.0 ∙ entry.client, has.2.1 ∙ entry.grant))
+marked_none m e p entry tells marked has = false≢true (sym (tells.1 (has.0, has.1, (has.2.0 ∙ entry.client, has.2.1 ∙ entry.grant))) ∙ marked)
 
 -- so one may be told Revoked that is marked, and Aborted one that isn't
 pub tellable : (m : Machine) (e : Held) (p : Pending) (o : Outcome) → IsEntry e p → TellsGrant m.rows e.entry
@@ -37,8 +37,8 @@ tells_of rows grants r same tells = subst (λ (list : List GrantRow). TellsGrant
 
 -- ---- as requests are issued, and get older
 
-pub issued_marked : (rows : List GrantRow) (e : Held) → IsMarked rows e → IsMarked rows (record e { entry = issue e.entry })
-issued_marked rows e m = record { tells = record { granted = m.tells.granted; revoked = m.tells.revoked }; waiting = λ waits. absurd (false≢true (sym waits)) }
+pub issued_marked : (rows : List GrantRow) (e : Held) → HasTrueMark rows e → HasTrueMark rows (record e { entry = issue e.entry })
+issued_marked rows e m = record { tells = (m.tells.0, m.tells.1); waiting = λ waits. absurd (false≢true (sym waits)) }
 
-pub older_marked : (rows : List GrantRow) (e : Held) (age : ℕ) → IsMarked rows e → IsMarked rows (record e { entry = record (e.entry) { age = age } })
-older_marked rows e age m = record { tells = record { granted = m.tells.granted; revoked = m.tells.revoked }; waiting = m.waiting }
+pub older_marked : (rows : List GrantRow) (e : Held) (age : ℕ) → HasTrueMark rows e → HasTrueMark rows (record e { entry = record (e.entry) { age = age } })
+older_marked rows e age m = record { tells = (m.tells.0, m.tells.1); waiting = m.waiting }

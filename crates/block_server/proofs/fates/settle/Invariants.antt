@@ -1,5 +1,5 @@
 use Rattle.std.proofs.Common.{drop, filter}
-use Rattle.block_server.specs.Fates.{holding}
+use Rattle.block_server.specs.Fates.{HavePlaces, holding}
 use Rattle.block_server.proofs.Settling.{SoFar}
 use Rattle.request_queue.specs.Entries.{Held, is_of}
 use Rattle.request_queue.specs.Fates.{fate_of}
@@ -9,3 +9,4 @@ abbrev pub invariant-loop-place : goal.invariant-loop-place
 invariant-loop-place l =
     SoFar (fate_of l.failed l.prospect) (filter (λ (e : Held). is_of l.fn.port e.entry) l.fn.book) (holding l.fn.book l.fn.table l.fn.kept) l.fn.replies.items
     (drop l.place (filter (λ (e : Held). is_of l.fn.port e.entry) l.fn.book)) (holding l.book l.table l.kept) l.replies.items
+    × HavePlaces (drop l.place (filter (λ (e : Held). is_of l.fn.port e.entry) l.fn.book)) l.kept

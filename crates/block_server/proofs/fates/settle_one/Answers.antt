@@ -1,5 +1,5 @@
 use Rattle.std.proofs.Common.{◌≡◌, ◌++◌, List, [], ◌∷◌, refl, sym, ap, ◌∙◌, subst, append-nil, arith, None}
-use Rattle.std.specs.List.{All, Contains}
+use Rattle.std.specs.List.{Contains}
 use Rattle.ata_types.specs.declared.request.Reply.{Reply}
 use Rattle.ata_types.specs.declared.request.RequestId.{RequestId}
 use Rattle.dma_frames.specs.Table.{Table, LendsOnly}
@@ -8,7 +8,7 @@ use Rattle.request_queue.specs.Fates.{MeetsFate, fate_of, keeps_loan, reply_to}
 use Rattle.request_queue.specs.declared.Entry.{Entry}
 use Rattle.request_queue.specs.declared.fate.Fate.{Fate}
 use Rattle.block_server.specs.Fates.{HavePlaces, IsSound, holding}
-use Rattle.block_server.proofs.Settling.{again, ends_back, ends_kept, kept_issued, left_each, may_go_again, places_kept, places_left, shorter}
+use Rattle.block_server.proofs.Settling.{again, ends_back, ends_kept, kept_issued, left_each, may_go_again, places_kept, places_left, shorter, sound_back}
 use Rattle.block_server.proofs.fates.settle_one.Goals as goal
 use Rattle.block_server.proofs.fates.settle_one.Goals.{then-keeps_loan, else-keeps_loan}
 
@@ -109,11 +109,8 @@ returns-after-keeps_loan-clause-sound c =
         ordered = ordered;
         accepted = left_each c.args.id c.args.book.now left (IsAccepted c.args.table.now) sound.accepted;
       }))
-      | else-keeps_loan w ↦ subst (λ (table : Table). IsSound table c.answer-loan.new.self) (sym w.table-is) (subst (IsSound w.give_back.new.self) (sym rest) (record {
-        ordered = ordered;
-        accepted = subst (λ (id : RequestId). All (IsAccepted w.give_back.new.self) (without id c.args.book.now)) c.answer-loan.ensures.id.0
-            (c.accepted_requests_stay.ensures.answered c.args.table.now w.give_back.new.self c.args.book.now taken c.answer-loan.ensures.entry w.give_back.ensures sound.accepted);
-      }))
+      | else-keeps_loan w ↦ subst (λ (table : Table). IsSound table c.answer-loan.new.self) (sym w.table-is)
+          (sound_back c.args.id c.args.book.now c.answer-loan.new.self taken c.args.table.now w.give_back.new.self c.accepted_requests_stay.ensures.answered ordered sound.accepted c.answer-loan.ensures.entry c.answer-loan.ensures.id.0 w.give_back.ensures rest)
     ]
 
 pub returns-after-keeps_loan-clause-room : goal.returns-after-keeps_loan-clause-room

@@ -10,5 +10,6 @@ returns g c =
       moves = c.moves_keep_to_their_places.ensures;
       run = c.histories_are_runs.ensures;
       reads = c.reads_hold.ensures;
+      lasts = c.plugs_find.ensures;
     } in
     record { none = no_call laws g.A.Adapter.device; one = one_call laws g.A.Adapter.device; more = more_calls laws g.A.Adapter.device }

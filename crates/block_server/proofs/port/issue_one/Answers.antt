@@ -1,4 +1,4 @@
-use Rattle.std.proofs.Common.{List, Some, not, ap, ◌∙◌, subst, rules}
+use Rattle.std.proofs.Common.{List, Some, not, ap, ◌∙◌, subst}
 use Rattle.agreement.specs.Readying.{IsStored}
 use Rattle.ata_types.specs.declared.request.Frame.{Frame}
 use Rattle.ncq.specs.Tasks.{HasBlockOf, IssuesTask, addresses_of, meaning_of}
@@ -54,4 +54,6 @@ returns g c = record {
 }
 
 pub issue_task-requires-clause-agreed : goal.issue_task-requires-clause-agreed
-issue_task-requires-clause-agreed g c = search rules
+issue_task-requires-clause-agreed g c =
+    let l = c.requires.lends in
+    (sending.may_issue l.0 (g.A.Adapter.device c.args.adapter.now) c.args.book.now c.args.slots.now c.args.port c.args.mode l.1 c.args.id c.requires.due c.a_due_request_may_issue.ensures.lowest c.in-Some.slot.0 c.in-Some.ensures.lowest).3

@@ -12,4 +12,5 @@ pub returns-in_default : goal.returns-in_default
 returns-in_default g c = record {
   issues = λ s l. none_issued c.a_mended_port_goes_on.ensures.undue s (g.A.Adapter.device c.args.adapter.now) c.args.book.now c.args.slots.now c.args.port c.args.mode c.args.found.now l c.in_default.not-Ready;
   as_many = refl;
+  none = λ none. refl;
 }

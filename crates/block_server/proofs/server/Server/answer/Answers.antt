@@ -4,7 +4,7 @@ use Rattle.server_history.specs.Histories.{AddsEvent}
 use Rattle.block_server.specs.Running.{ask_of}
 use Rattle.block_server.specs.View.{server_of}
 use Rattle.block_server.specs.declared.types.Event.{Event}
-use Rattle.block_server.proofs.Wanted.{reset_wants, service_wants, submit_wants, tick_wants}
+use Rattle.block_server.proofs.Wanted.{reset_wants, revoke_wants, service_wants, submit_wants, tick_wants}
 use Rattle.block_server.proofs.server.Server.answer.Goals as goal
 
 pub returns-in-State-clause-adds : goal.returns-in-State-clause-adds
@@ -24,3 +24,7 @@ returns-in-Tick-clause-wanted g c = tick_wants g.A.Adapter.device c.args.self.no
 
 pub returns-in-Reset-clause-wanted : goal.returns-in-Reset-clause-wanted
 returns-in-Reset-clause-wanted g c = reset_wants g.A.Adapter.device c.args.self.now c.reset_into.new.self c.reset_into.new.replies.items c.reset_into.result c.reset_into.ensures.resets
+
+pub returns-in-Revoke-clause-wanted : goal.returns-in-Revoke-clause-wanted
+returns-in-Revoke-clause-wanted g c =
+    revoke_wants g.A.Adapter.device c.args.self.now c.revoke_into.new.self _ _ c.revoke_into.new.replies.items c.revoke_into.result c.revoke_into.ensures.revokes

@@ -1,0 +1,88 @@
+// The call by which a client's grant is revoked.
+ghost use Rattle.std.specs.Prelude.{[], IfErr, IfOk, None, Ok, Err, Some};
+
+use super::Server;
+use crate::NoRow;
+use crate::fates::answer_waiting;
+use crate::port::issue_where_ready;
+use adapter::Adapter;
+use ata_types::{ClientId, Replies};
+use request_queue::laws::{accepted_requests_stay, the_book_stays_in_order};
+use server_history::laws::{refusals_add, requests_keep, revocations_add};
+use server_history::stalled::{a_server_is_booked, stalled_revocations_add};
+
+impl<A: Adapter> Server<A> {
+    ghost use Rattle.block_machine.specs.Events.{RevokeOf, WasRevoked};
+    ghost use Rattle.block_server.specs.Revoking.{Revokes, revoke_said};
+    ghost use Rattle.block_server.specs.View.{server_of};
+    ghost use Rattle.server_history.specs.Histories.{AddsEvent};
+
+    /// Revokes the client's grant of this number.
+    ///
+    /// | What | Then |
+    /// |---|---|
+    /// | the grant | It is gone: a request that names it is refused (`NoGrant`), and none is issued under it. |
+    /// | a request that waits under it | It is told `Revoked`, and its frames are given back. |
+    /// | one that is issued | It goes on, with its frames. Where it would go again, or be `Aborted`, it is `Revoked`. |
+    /// | the grant's port, if it is ready | What is due there by now is issued. Else no access is made. |
+    ///
+    /// Which requests go again `service`, `tick` and `reset` say. The replies stand in order of acceptance. `NoRow` is
+    /// told where the client has no grant of this number: then nothing changes, and no access is made. No memory is
+    /// taken. (All of this is this project's own.)
+    pub fn revoke(&mut self, client: ClientId, number: u8) -> Result<Replies, NoRow>
+        ensures revoked { IfOk result (λ replies. Revokes A.device self.old self.new client number replies.items (Ok
+            tt)) }
+        ensures none { IfErr result (λ none. Revokes A.device self.old self.new client number [] (Err none)) }
+        ensures adds { IfOk result (λ replies. AddsEvent (server_of A.device self.old) (server_of A.device self.new)
+            (RevokeOf client number) (WasRevoked (Some replies.items))) }
+        ensures adds_none { IfErr result (λ none. AddsEvent (server_of A.device self.old)
+            (server_of A.device self.new) (RevokeOf client number) (WasRevoked None)) }
+    {
+        let mut replies = Replies::new();
+        self.revoke_into(client, number, &mut replies)?;
+        Ok(replies)
+    }
+
+    /// The same, where the replies stand in a list that the caller keeps, in place of what it had.
+    pub fn revoke_into(
+        &mut self,
+        client: ClientId,
+        number: u8,
+        replies: &mut Replies,
+    ) -> Result<(), NoRow>
+        ensures revokes { Revokes A.device self.old self.new client number replies.new.items result }
+        ensures adds { AddsEvent (server_of A.device self.old) (server_of A.device self.new) (RevokeOf client number)
+            (revoke_said result replies.new.items) }
+    {
+        accepted_requests_stay();
+        the_book_stays_in_order();
+        a_server_is_booked();
+        requests_keep();
+        revocations_add();
+        stalled_revocations_add();
+        refusals_add();
+        replies.clear();
+        let Some(row) = self.grants.revoke(client, number) else {
+            return Err(NoRow);
+        };
+        self.book.revoke(client, number);
+        answer_waiting(&mut self.book, &mut self.table, client, number, replies);
+        if self.stuck {
+            // No port is ready.
+            return Ok(());
+        }
+        let place = usize::from(row.port.0);
+        let found = self.ports[place];
+        let mode = self.modes[place];
+        let slots = &mut self.slots[place];
+        issue_where_ready(
+            &mut self.adapter,
+            &mut self.book,
+            slots,
+            row.port,
+            mode,
+            &found,
+        );
+        Ok(())
+    }
+}

@@ -1,0 +1,7 @@
+-- A client's grant is revoked: what becomes of the book, of the machine, and of what is due, whether or not the
+-- adapter is on.
+pub mod RevokedBook
+pub mod RevokedMachine
+pub mod RevokedServer
+pub mod Revocation
+pub mod StalledRevocation

@@ -1,0 +1,239 @@
+-- A grant that is revoked adds an event: what waited under it is answered, and then what is due on its port is issued, if it is ready.
+use Rattle.std.proofs.Common.{ℕ, ◌≡◌, ◌≢◌, ◌<◌, ◌++◌, ◌||◌, Bool, List, [], Some, refl, sym, ap, ◌∙◌, subst, arith, ⊎_elim}
+use Rattle.std.specs.List.{Contains, list_any}
+use Rattle.std.specs.List.Sorted.{IsPermutation}
+use Rattle.std.proofs.lemmas.Bool.{false≢true}
+use Rattle.std.proofs.lemmas.List.Elements.{All-contains, All-nil, All-weaker, Contains-append_cases, Contains-append_right}
+use Rattle.ata_types.specs.declared.Port.{Port}
+use Rattle.ata_types.specs.declared.PortState.TheVariants.{Ready as ReadyState}
+use Rattle.ata_types.specs.declared.request.ClientId.{ClientId}
+use Rattle.ata_types.specs.declared.request.Outcome.{Outcome}
+use Rattle.ata_types.specs.declared.request.Outcome.TheVariants.{Revoked}
+use Rattle.ata_types.specs.declared.request.Reply.{Reply}
+use Rattle.ata_types.specs.declared.request.RequestId.{RequestId}
+use Rattle.adapter.specs.Device.{Device}
+use Rattle.adapter.specs.declared.access.DeviceStep.{DeviceStep}
+use Rattle.agreement.specs.Driven.{IsDrivenBy}
+use Rattle.agreement.specs.Links.{SparesRegister}
+use Rattle.block_machine.specs.Due.{NoneDue}
+use Rattle.block_machine.specs.Events.{AnswersRevoke, Moment, RevokeOf, WasRevoked, answers_of, issues_it}
+use Rattle.block_machine.specs.Histories.{Instant, IsReached, now}
+use Rattle.block_machine.specs.Left.{IsRow, after}
+use Rattle.block_machine.specs.Ports.{Ports}
+use Rattle.block_machine.specs.Rules.{without_row}
+use Rattle.block_machine.specs.State as machine
+use Rattle.block_machine.specs.State.{Machine}
+use Rattle.block_machine.specs.Steps.{Step, Answer}
+use Rattle.block_machine.specs.declared.due.Mode.{Mode}
+use Rattle.driver_history.specs.Histories.{IssuesDue, IssuesOn}
+use Rattle.driver_history.specs.Trace.{ClearsNone, LeavesEngine}
+use Rattle.hba_regs.specs.declared.reg.Reg.TheVariants.{Ghc}
+use Rattle.host_boot.specs.Taken.{found_of}
+use Rattle.request_queue.specs.Entries.{asks_of, due_ids}
+use Rattle.server_history.specs.Below.{LawsBelow}
+use Rattle.server_history.specs.Histories.{Adds, AddsEvent}
+use Rattle.server_history.specs.Revoked.{RevokesAndIssues, RevokesGrant, with_revoked}
+use Rattle.server_history.specs.Served.{IssuesAll, IssuesEach, IssuesIn}
+use Rattle.server_history.specs.Server.{IsKept, IsMachineOf, IsSettled, Server, mode_in, ports_of, state_of}
+use Rattle.server_history.proofs.any_turn.JoinedParts.{ready_or_not}
+use Rattle.server_history.proofs.plain_calls.Acceptances.{issuing_clears_none, issuing_spares_host}
+use Rattle.server_history.proofs.plain_calls.IssueRounds.{AreIssued, any_append, belong_on, dues, dues_carried, each_driven, each_issued, each_settings, last_on, lawful_on, or_none, settled}
+use Rattle.server_history.proofs.plain_calls.RefusalsAndBytes.{GoesTo, reached, stays}
+use Rattle.server_history.proofs.recovery_turn.CallPart.{unready_undue}
+use Rattle.server_history.proofs.revoke_call.RevokedMachine as revoked
+use Rattle.server_history.proofs.revoke_call.RevokedMachine.{MayRevoke}
+use Rattle.server_history.proofs.revoke_call.RevokedServer.{none_other, revoked_kept}
+use Rattle.server_history.proofs.state.AnswerSteps.{issuing_answers, no_answer_issuing}
+use Rattle.server_history.proofs.state.CallEvidence.{no_evidence, told_by, uninterrupted}
+use Rattle.server_history.proofs.state.DueRequests.{none_due, none_issued}
+use Rattle.server_history.proofs.state.FirstMembers.{nowhere}
+use Rattle.server_history.proofs.state.HistorySteps.{IsHolding, holding, lead_by, ports_same, with_device}
+use Rattle.server_history.proofs.state.TurnAccesses.{issuing_is, issuing_leaves}
+
+module _ (laws : LawsBelow) (s : Server) (client : ClientId) (number : ℕ) (replies : List Reply) (mid : Server) (r : RevokesGrant client number replies s mid) where
+  abbrev port : Port
+  port = r.row.port
+
+  -- the server once those that waited are answered
+  abbrev then_is : Server
+  then_is = with_revoked client number r.now s
+
+  -- ---- what is said of it
+
+  module _ (new : Server) (new_is : ports_of new ≡ ports_of s) (rows_are : new.grants ≡ then_is.grants) (old : Moment) (ports_are : old.ports ≡ ports_of s) (h : MayRevoke s old.machine) (late : List Step)
+      (none : (e : machine.Pending) (o : Outcome) → Contains late (Answer e o) → ⊥) (unanswered : answers_of (late ++ revoked.steps laws s client number replies mid r old.machine h) ≡ answers_of (revoked.steps laws s client number replies mid r old.machine h))
+      (stands : IsMachineOf new (after old.machine (late ++ revoked.steps laws s client number replies mid r old.machine h)))
+      (issued : (q : Port) → (ports_of new).state q ≡ ReadyState → NoneDue (mode_in new q) (asks_of new.book) q) where
+    abbrev early : List Step
+    early = revoked.steps laws s client number replies mid r old.machine h
+
+    early_answer : (e : machine.Pending) (o : Outcome) → Contains (late ++ early) (Answer e o) → Contains early (Answer e o)
+    early_answer e o there = ⊎_elim (λ here. absurd (none e o here)) (λ here. here) (Contains-append_cases late early (Answer e o) there)
+
+    pub answers : AnswersRevoke client number old (late ++ early) replies (record { machine = after old.machine (late ++ early); ports = ports_of new })
+    answers = record {
+      there = revoked.has_row laws s client number replies mid r old.machine h;
+      rows = stands.rows ∙ rows_are ∙ ap (without_row client number) (sym h.stands.rows);
+      tells = let t = revoked.tells_replies laws s client number replies mid r old.machine h in
+          record { answers = t.answers; same = subst (IsPermutation t.answers) (sym unanswered) t.same; ordered = t.ordered; told = t.told };
+      all = λ e here waits its. Contains-append_right late early (Answer e Revoked) (revoked.all laws s client number replies mid r old.machine h e here waits its);
+      only = λ e o there. revoked.only laws s client number replies mid r old.machine h e o (early_answer e o there);
+      same = ports_same old.ports (ports_of new) (ports_are ∙ sym new_is);
+      issues = λ q ready. none_due new (after old.machine (late ++ early)) stands (mode_in new q) q (issued q ready);
+    }
+
+  -- ---- where the port isn't ready, nothing is issued, and there is no access
+
+  module _ (holds : IsHolding then_is) (goes : GoesTo s s.device) (unready : state_of (found_of s.ports port.0) ≢ ReadyState)
+      (issued : (q : Port) → (ports_of s).state q ≡ ReadyState → NoneDue (mode_in s q) (asks_of r.now.book) q) (may : (m : Machine) → IsReached m → IsMachineOf s m → MayRevoke s m) where
+    pub quiet_event : AddsEvent s then_is (RevokeOf client number) (WasRevoked (Some replies))
+    quiet_event first past leads =
+        lead_by laws first past s then_is (RevokeOf client number) (WasRevoked (Some replies)) steps refl refl leads holds
+        (revoked.may laws s client number replies mid r m h)
+        (revoked.belong laws s client number replies mid r m h (ports_of s))
+        (revoked.last laws s client number replies mid r m h)
+        (revoked.lawful laws s client number replies mid r m h old.moment no_evidence (ports_of s))
+        (answers then_is refl refl old.moment leads.stands.ports_are h [] (λ e o here. nowhere (Answer e o) here) refl stands issued)
+        []
+        (refl, (r.row, revoked.row_there laws s client number replies mid r m h, r.named, All-nil (IssuesOn port), λ other. refl))
+        (λ q. All-nil (LeavesEngine q))
+        (λ q ready. none_issued then_is (after m steps) stands steps (revoked.issue_none laws s client number replies mid r m h) (mode_in s q) q (issued q ready))
+        (λ q. record { ties = record { finds = tt; faults = tt; tries = tt; boots = tt; trouble = goes.trouble old.moment leads.stands.ports_are q; well = λ i. absurd (uninterrupted s.device old.moment.ports q i) }; heeds = uninterrupted s.device old.moment.ports q })
+        (revoked.backed laws s client number replies mid r m h)
+        stands
+      where
+        old : Instant Device
+        old = now first past
+
+        m : Machine
+        m = old.moment.machine
+
+        h : MayRevoke s m
+        h = may m (reached laws first past s leads) leads.stands.machine
+
+        steps : List Step
+        steps = revoked.steps laws s client number replies mid r m h
+
+        stands : IsMachineOf then_is (after m steps)
+        stands = revoked.stands laws s client number replies mid r m h
+
+  -- ---- where it is ready
+
+  module _ (t : IsSettled s) where
+    abbrev k : IsKept s
+    k = t.kept
+
+    may : (m : Machine) → IsReached m → IsMachineOf s m → MayRevoke s m
+    may m was is = record { ordered = k.ordered; accepted = k.accepted; marked = k.marked; reached = was; stands = is }
+
+    kept : IsKept then_is
+    kept = revoked_kept laws s client number replies mid r k
+
+    apart : (q : Port) → q ≢ port → NoneDue (mode_in s q) (asks_of r.now.book) q
+    apart = none_other laws s client number replies mid r k t.issued
+
+    port_low : port.0 < 4
+    port_low = let low = (All-contains IsRow s.grants r.row k.rows r.there).port in omega (arith, low)
+
+    module _ (new : Server) (issues : IssuesAll port then_is new) where
+      settles : IsSettled new
+      settles = settled laws port then_is new kept apart issues
+
+      abbrev ids : List RequestId
+      ids = due_ids (mode_in s port) port (asks_of r.now.book)
+
+      same : new ≡ record then_is { device = new.device; slots = new.slots; book = new.book }
+      same = each_settings laws port ids then_is new issues
+
+      -- nothing is due where it isn't ready
+      unissued : state_of (found_of s.ports port.0) ≢ ReadyState → new ≡ then_is
+      unissued other =
+          subst (λ (list : List RequestId). IssuesEach port list then_is new)
+          (unready_undue laws then_is kept port (λ info found. other (ap state_of found))) issues
+
+      quiet : state_of (found_of s.ports port.0) ≢ ReadyState → AddsEvent s new (RevokeOf client number) (WasRevoked (Some replies))
+      quiet other =
+          subst (λ (n : Server). AddsEvent s n (RevokeOf client number) (WasRevoked (Some replies))) (sym (unissued other))
+          (quiet_event (holding then_is kept) (stays laws s k) other (λ q ready. (subst IsSettled (unissued other) settles).issued q) may)
+
+      module _ (ready : state_of (found_of s.ports port.0) ≡ ReadyState) where
+        driven : IsDrivenBy (IssuesIn port) s.device new.device
+        driven = each_driven laws port ids then_is new issues
+
+        event : AddsEvent s new (RevokeOf client number) (WasRevoked (Some replies))
+        event first past leads =
+            lead_by laws first past s new (RevokeOf client number) (WasRevoked (Some replies)) (x.steps ++ early) (ap (λ (n : Server). n.wanted) same) (ap ports_of same) leads (holding new settles.kept)
+            (laws.basic.may m x.steps early (revoked.may laws s client number replies mid r m h) x.may)
+            (belong_on mode port {D = DeviceStep} (RevokeOf client number) (ports_of new) (λ p own. (its_ready p own, its_mode p own)) x.steps early x.only (revoked.belong laws s client number replies mid r m h (ports_of new)))
+            (last_on mode port x.steps early x.only x.last (revoked.last laws s client number replies mid r m h) (λ id late first_too. false≢true (sym (revoked.issue_none laws s client number replies mid r m h id) ∙ first_too)))
+            (lawful_on mode port old.moment no_evidence (ports_of new) x.steps early x.only (revoked.lawful laws s client number replies mid r m h old.moment no_evidence (ports_of new)))
+            (answers new (ap ports_of same) (ap (λ (n : Server). n.grants) same) old.moment leads.stands.ports_are h x.steps (no_answer_issuing mode port x.steps x.only) (issuing_answers mode port x.steps early x.only) stands (λ q on. settles.issued q))
+            driven.accesses
+            (driven.all, (r.row, revoked.row_there laws s client number replies mid r m h, r.named, All-weaker (IssuesIn port) (IssuesOn port) (λ access here. issuing_is port port_low access here) driven.accesses driven.only, λ other. absurd (other its_state)))
+            (λ q. All-weaker (IssuesIn port) (LeavesEngine q) (issuing_leaves port q) driven.accesses driven.only)
+            (λ q is_ready. due_now q)
+            (λ q. record {
+              ties = record {
+                finds = tt;
+                faults = tt;
+                tries = tt;
+                boots = tt;
+                trouble = laws.calls.ordinary q (with_device s.device old) new.device driven.accesses (told_by s.device old.moment.ports) (ports_of new) k.on driven.all
+                    (All-weaker (IssuesIn port) (SparesRegister Ghc) (issuing_spares_host port) driven.accesses driven.only) (All-weaker (IssuesIn port) (ClearsNone q) (issuing_clears_none port q) driven.accesses driven.only);
+                well = λ i. absurd (uninterrupted s.device old.moment.ports q i);
+              };
+              heeds = uninterrupted s.device old.moment.ports q;
+            })
+            (laws.backed_parts s.device s.device new.device m early x.steps (revoked.backed laws s client number replies mid r m h) x.backed)
+            stands
+          where
+            old : Instant Device
+            old = now first past
+
+            m : Machine
+            m = old.moment.machine
+
+            h : MayRevoke s m
+            h = may m (reached laws first past s leads) leads.stands.machine
+
+            early : List Step
+            early = revoked.steps laws s client number replies mid r m h
+
+            x : AreIssued port ids then_is new (after m early)
+            x = each_issued laws port ids then_is new kept issues (after m early) (revoked.reached_then laws s client number replies mid r m h) (revoked.stands laws s client number replies mid r m h)
+
+            stands : IsMachineOf new (after m (x.steps ++ early))
+            stands = subst (IsMachineOf new) (sym (laws.basic.joined m x.steps early)) x.stands
+
+            mode : Mode
+            mode = mode_in s port
+
+            its_state : old.moment.ports.state port ≡ ReadyState
+            its_state = ap (λ (ports : Ports). ports.state port) leads.stands.ports_are ∙ ready
+
+            its_mode : (p : machine.Pending) → p.request.port ≡ port → (ports_of new).mode p.request.port ≡ mode
+            its_mode p own = ap (mode_in new) own ∙ ap (λ (n : Server). mode_in n port) same
+
+            its_ready : (p : machine.Pending) → p.request.port ≡ port → (ports_of new).state p.request.port ≡ ReadyState
+            its_ready p own = ap (λ (q : Port). state_of (found_of new.ports q.0)) own ∙ ap (λ (n : Server). state_of (found_of n.ports port.0)) same ∙ ready
+
+            mode_is : (q : Port) → mode_in new q ≡ mode_in s q
+            mode_is q = ap (λ (n : Server). mode_in n q) same
+
+            due_now : (q : Port) → IssuesDue (mode_in new q) (x.steps ++ early) (after m (x.steps ++ early)) q
+            due_now q =
+                subst (λ (takes : Mode). IssuesDue takes (x.steps ++ early) (after m (x.steps ++ early)) q) (sym (mode_is q))
+                (subst (λ (n : Machine). IssuesDue (mode_in s q) (x.steps ++ early) n q) (sym (laws.basic.joined m x.steps early))
+                (dues_carried laws (mode_in s q) x.steps (x.steps ++ early) (after (after m early) x.steps) (after (after m early) x.steps) q refl
+                (λ u here own. sym (any_append (issues_it u.id) x.steps early ∙ ap (λ (b : Bool). list_any (issues_it u.id) x.steps || b) (revoked.issue_none laws s client number replies mid r m h u.id) ∙ or_none (list_any (issues_it u.id) x.steps)))
+                (dues laws port then_is new kept issues (after m early) x q (apart q))))
+
+      pub adds : AddsEvent s new (RevokeOf client number) (WasRevoked (Some replies))
+      adds = ⊎_elim event quiet (ready_or_not (state_of (found_of s.ports port.0)))
+
+pub revocation : LawsBelow → (s new : Server) (client : ClientId) (number : ℕ) (replies : List Reply) → IsSettled s → RevokesAndIssues client number replies s new
+    → Adds s new (RevokeOf client number) (WasRevoked (Some replies))
+revocation laws s new client number replies t a = record { settled = settles laws s client number replies a.mid a.revokes t new issues; adds = adds laws s client number replies a.mid a.revokes t new issues }
+  where
+    issues : IssuesAll a.revokes.row.port (with_revoked client number a.revokes.now s) new
+    issues = subst (λ (n : Server). IssuesAll a.revokes.row.port n new) a.revokes.server a.issues

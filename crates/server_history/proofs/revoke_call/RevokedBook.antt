@@ -1,0 +1,120 @@
+-- The book once a grant is revoked: which requests are told so, and that each of them is marked.
+use Rattle.std.proofs.Common.{ℕ, ◌≡◌, ◌==◌, Bool, true, false, cond, not, List, refl, sym, ap, ◌∙◌, subst, eqb-true, eq-eqb}
+use Rattle.std.specs.List.{All, AllPairs, Contains}
+use Rattle.std.proofs.lemmas.Bool.{and_from, and_parts, cond-true}
+use Rattle.std.proofs.lemmas.List.Elements.{All-contains}
+use Rattle.std.proofs.lemmas.List.Kept.{AllPairs-filter}
+use Rattle.ata_types.specs.declared.request.ClientId.{ClientId}
+use Rattle.ata_types.specs.declared.request.Outcome.TheVariants.{Aborted, Revoked}
+use Rattle.request_queue.specs.Entries.{Held, IsEarlier, IsInOrder, marked_under, waits_under}
+use Rattle.request_queue.specs.declared.Entry.{Entry}
+use Rattle.server_history.specs.Revoked.{ends_revoked, waiting_under, without_grant}
+use Rattle.server_history.specs.Server.{HasTrueMark, Server, TellsGrant}
+use Rattle.server_history.proofs.fates.FittingFates.{AllFit, ends_fits}
+use Rattle.server_history.proofs.plain_calls.IssueRounds.{not_true}
+use Rattle.server_history.proofs.state.ListMembers.{filter_in, in_filter, map_in}
+use Rattle.server_history.proofs.state.RevokedGrants.{marked_one, tells_then, under}
+
+-- What a mark changes: nothing but itself.
+pub record IsMarkOf (was e : Held) : Type 0 where
+  pub id : e.entry.id ≡ was.entry.id
+  pub client : e.entry.client ≡ was.entry.client
+  pub grant : e.entry.grant ≡ was.entry.grant
+  pub port : e.entry.port ≡ was.entry.port
+  pub op : e.entry.op ≡ was.entry.op
+  pub issued : e.entry.issued ≡ was.entry.issued
+
+module _ (client : ClientId) (number : ℕ) where
+  -- the request, marked if it is under the grant
+  abbrev pub mark : Held → Held
+  mark e = record e { entry = marked_under client number e.entry }
+
+  mark_of : (e : Held) → IsMarkOf e (mark e)
+  mark_of e = by (under client number e.entry)
+    where
+      by : (b : Bool) → IsMarkOf e (record e { entry = cond b (record (e.entry) { revoked = true }) (e.entry) })
+      by true = record { id = refl; client = refl; grant = refl; port = refl; op = refl; issued = refl }
+      by false = record { id = refl; client = refl; grant = refl; port = refl; op = refl; issued = refl }
+
+  -- who is under it is marked
+  marked_is : (e : Held) → under client number e.entry ≡ true → (mark e).entry.revoked ≡ true
+  marked_is e is = ap (λ (x : Entry). x.revoked) (cond-true (under client number e.entry) (record (e.entry) { revoked = true }) e.entry is)
+
+  -- what a waiting request of the grant is
+  pub record WaitsUnder (e : Entry) : Type 0 where
+    pub waits : e.issued ≡ false
+    pub client_is : e.client ≡ client
+    pub grant_is : e.grant ≡ number
+
+  pub waits_as : (e : Entry) → waits_under client number e ≡ true → WaitsUnder e
+  waits_as e is =
+      let a = and_parts (not e.issued) (under client number e) is in
+      let b = and_parts (e.client.0 == client.0) (e.grant == number) a.1 in
+      record { waits = not_true e.issued a.0; client_is = ap (λ (n : ℕ). record { 0 = n }) (eqb-true e.client.0 client.0 b.0); grant_is = eqb-true e.grant number b.1 }
+
+  pub as_waits : (e : Entry) → e.issued ≡ false → e.client ≡ client → e.grant ≡ number → waits_under client number e ≡ true
+  as_waits e waits its_client its_grant =
+      and_from (not e.issued) (under client number e) (ap not waits)
+      (and_from (e.client.0 == client.0) (e.grant == number) (eq-eqb e.client.0 client.0 (ap (λ (c : ClientId). c.0) its_client)) (eq-eqb e.grant number its_grant))
+
+  module _ (s : Server) where
+    abbrev pub old : Server
+    old = without_grant client number s
+
+    -- the requests that are told Revoked
+    abbrev pub requests : List Held
+    requests = waiting_under client number old.book
+
+    -- each request was there before
+    pub was_there : (e : Held) → Contains old.book e → (was : Held) × Contains s.book was × (e ≡ mark was)
+    was_there e here = map_in mark s.book e here
+
+    pub mark_is : (e : Held) (here : Contains old.book e) → IsMarkOf (was_there e here).0 e
+    mark_is e here = let w = was_there e here in subst (IsMarkOf w.0) (sym w.2) (mark_of w.0)
+
+    pub of_requests : (e : Held) → Contains requests e → Contains old.book e × WaitsUnder e.entry
+    of_requests e here = let w = filter_in (λ (x : Held). waits_under client number x.entry) old.book e here in (w.0, waits_as e.entry w.1)
+
+    pub in_requests : (e : Held) → Contains old.book e → WaitsUnder e.entry → Contains requests e
+    in_requests e here w = in_filter (λ (x : Held). waits_under client number x.entry) old.book e here (as_waits e.entry w.waits w.client_is w.grant_is)
+
+    under_was : (e : Held) → Contains requests e → (here : Contains old.book e) → under client number (was_there e here).0.entry ≡ true
+    under_was e there here =
+        let w = (of_requests e there).1 in
+        let m = mark_is e here in
+        let was = (was_there e here).0.entry in
+        and_from (was.client.0 == client.0) (was.grant == number)
+        (eq-eqb was.client.0 client.0 (ap (λ (c : ClientId). c.0) (sym m.client ∙ w.client_is))) (eq-eqb was.grant number (sym m.grant ∙ w.grant_is))
+
+    pub is_marked : (e : Held) → Contains requests e → e.entry.revoked ≡ true
+    is_marked e there =
+        let here = (of_requests e there).0 in
+        let w = was_there e here in
+        ap (λ (x : Held). x.entry.revoked) w.2 ∙ marked_is w.0 (under_was e there here)
+
+    pub fit : AllFit ends_revoked requests
+    fit e there = ends_fits e.entry Revoked (λ is. let z : Revoked ≡ Aborted = is in absurd cc) (λ is. is_marked e there)
+
+    pub earlier : IsInOrder old.book → AllPairs IsEarlier requests
+    earlier ordered = AllPairs-filter IsEarlier (λ (x : Held). waits_under client number x.entry) old.book ordered.ordered
+
+    module _ (marked : All (HasTrueMark s.grants) s.book) where
+      -- marks tell which grants are there then
+      pub tells : (e : Held) → Contains old.book e → TellsGrant old.grants e.entry
+      tells e here =
+          let w = was_there e here in
+          subst (λ (x : Held). TellsGrant old.grants x.entry) (sym w.2) (tells_then s.grants client number w.0.entry (All-contains (HasTrueMark s.grants) s.book w.0 marked w.1).tells)
+
+      -- and of one that isn't told Revoked all that its mark is to tell
+      pub true_mark : (e : Held) → Contains old.book e → (WaitsUnder e.entry → ⊥) → HasTrueMark old.grants e
+      true_mark e here left =
+          let w = was_there e here in
+          let m = mark_is e here in
+          subst (HasTrueMark old.grants) (sym w.2)
+          (marked_one s.grants client number w.0
+          (stays (waits_under client number w.0.entry) (λ is. let u = waits_as w.0.entry is in left (record { waits = m.issued ∙ u.waits; client_is = m.client ∙ u.client_is; grant_is = m.grant ∙ u.grant_is })))
+          (All-contains (HasTrueMark s.grants) s.book w.0 marked w.1))
+        where
+          stays : (b : Bool) → (b ≡ true → ⊥) → b ≡ false
+          stays true other = absurd (other refl)
+          stays false other = refl

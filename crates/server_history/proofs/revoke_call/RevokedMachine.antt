@@ -1,0 +1,350 @@
+-- From a machine that stands for the server, the step that revokes the grant, and the answers of those that waited under it, lead to one that stands for the server after them.
+use Rattle.std.proofs.Common.{ℕ, ◌≡◌, ◌≢◌, ◌++◌, false, List, [], ◌∷◌, append-nil, get_or, Option, None, inl, inr, refl, sym, ap, ◌∙◌, subst, ⊎_elim}
+use Rattle.std.specs.List.{All, Contains, list_any}
+use Rattle.std.proofs.lemmas.Bool.{cases_eq, false≢true}
+use Rattle.std.proofs.lemmas.List.Elements.{All-contains, All-contains_itself, All-weaker, Contains-append_cases, Contains-append_left}
+use Rattle.std.specs.List.Sorted.{IsPermutation}
+use Rattle.server_history.proofs.state.ListMembers.{contains_cases}
+use Rattle.ata_types.specs.declared.Port.{Port}
+use Rattle.ata_types.specs.declared.grant.GrantRow.{GrantRow}
+use Rattle.ata_types.specs.declared.request.ClientId.{ClientId}
+use Rattle.ata_types.specs.declared.request.Frame.{Frame}
+use Rattle.ata_types.specs.declared.request.Outcome.{Outcome}
+use Rattle.ata_types.specs.declared.request.Outcome.TheVariants.{Revoked}
+use Rattle.ata_types.specs.declared.request.Reply.{Reply}
+use Rattle.ata_types.specs.declared.request.RequestId.{RequestId}
+use Rattle.adapter.specs.Device.{PortState}
+use Rattle.adapter.specs.declared.access.DeviceStep.{DeviceStep}
+use Rattle.adapter.specs.declared.tape.Entry.{Entry as TapeEntry}
+use Rattle.agreement.specs.Driven.{known}
+use Rattle.agreement.specs.Driver.{HasNoSlot, IsBacked, Known, Knows}
+use Rattle.agreement.specs.Slots.{Armed, Free, IsServed, Own, Serves, Use}
+use Rattle.block_machine.specs.Events.{AllLawful, AllMay, Belong, IsLawful, IsUnder, IssuesLast, Moment, RevokeOf, Tells, answers_of, issues_it}
+use Rattle.block_machine.specs.Histories.{IsReached}
+use Rattle.block_machine.specs.Left.{after}
+use Rattle.block_machine.specs.Ports.{Evidence, Ports}
+use Rattle.block_machine.specs.Rules.{HasRow, without_row}
+use Rattle.block_machine.specs.State.{Machine, Pending}
+use Rattle.block_machine.specs.Steps.{Step, Again, Answer, Revoke, after_step}
+use Rattle.host_boot.specs.Taken.{found_of}
+use Rattle.request_queue.specs.Entries.{Held, IsAccepted, IsInOrder, asks_of}
+use Rattle.request_queue.specs.Machine.{IsBook, IsEntry}
+use Rattle.request_queue.specs.declared.fate.Fate.TheVariants.{Ends, GoesAgain}
+use Rattle.server_history.specs.Below.{LawsBelow}
+use Rattle.server_history.specs.Fates.{DecidesOn, MayMeet, MeetsInMachine}
+use Rattle.server_history.specs.Mended.{holdings_of}
+use Rattle.server_history.specs.Revoked.{RevokesGrant, ends_revoked, waiting_under, with_revoked, without_grant}
+use Rattle.server_history.specs.Server.{AreKept, HasTrueMark, IsMachineOf, Server}
+use Rattle.server_history.proofs.any_turn.JoinedParts.{answers_append}
+use Rattle.server_history.proofs.any_turn.TurnsInOrder.{belong_join, lawful_join}
+use Rattle.server_history.proofs.fates.MetFates.{meet, nobody}
+use Rattle.server_history.proofs.fates.RemainingBook.{IsLeft, fated, marked_as}
+use Rattle.server_history.proofs.healthy_turn.CallPart.{none_last}
+use Rattle.server_history.proofs.plain_calls.AcceptableRequests.{on_its_port}
+use Rattle.server_history.proofs.plain_calls.IssueRounds.{any_append, or_none}
+use Rattle.server_history.proofs.recovery_turn.MendedMachine.{deciding_leaves, fates_owners}
+use Rattle.server_history.proofs.recovery_turn.SparedPorts.{IsNoneOf, fates_apart, none_of_one}
+use Rattle.block_machine.specs.Due.{of_port}
+use Rattle.server_history.proofs.revoke_call.RevokedBook.{WaitsUnder, earlier, fit, in_requests, mark_is, of_requests, tells, true_mark, was_there}
+use Rattle.server_history.proofs.state.AnswerSteps.{IsAnswerOf, answer_told, answered_or_left, answered_stood, answers_belong, answers_issue_none, answers_lawful}
+use Rattle.server_history.proofs.state.FirstMembers.{nowhere}
+use Rattle.server_history.proofs.state.PairedLists.{at_left, at_right}
+use Rattle.server_history.proofs.state.RevokedMarks.{tells_of}
+
+-- ---- what the driver knows
+
+-- it speaks of no grant
+served_then : (client : ClientId) (number : ℕ) (m : Machine) (memory : ℕ → ℕ) (tape : List TapeEntry) (p : PortState) (port slot : ℕ) (u : Use) → IsServed m memory tape p port slot u
+    → IsServed (after_step m (Revoke client number)) memory tape p port slot u
+served_then client number m memory tape p port slot Free is = is
+served_then client number m memory tape p port slot Armed is = is
+served_then client number m memory tape p port slot (Own o) is = is
+served_then client number m memory tape p port slot (Serves id) is = record {
+  pending = is.pending;
+  moves = is.moves;
+  id_is = is.id_is;
+  port_is = is.port_is;
+  placed = is.placed;
+  command = is.command;
+  places = is.places;
+  told = is.told;
+  means = is.means;
+  stage = is.stage;
+}
+
+knows_then : (client : ClientId) (number : ℕ) (m : Machine) (k : Known) → Knows m k → Knows (after_step m (Revoke client number)) k
+knows_then client number m k knows = record {
+  agrees = record {
+    slot = λ port slot. served_then client number m k.device.memory k.device.tape (k.device.port port) port slot (k.uses port slot) (knows.agrees.slot port slot);
+    apart = knows.agrees.apart;
+    received = knows.agrees.received;
+    disk = λ port. let d = knows.agrees.disk port in record { present = d.present; id = d.id; size = d.size };
+    memory = knows.agrees.memory;
+    sectors = λ telling port. let d = knows.agrees.sectors telling port in record { told = d.told; tells = d.tells; same = d.same };
+    lasting = knows.agrees.lasting;
+  };
+  have = knows.have;
+}
+
+-- ---- its steps
+
+-- one that waited is told Revoked
+abbrev pub IsRevoked : Pending → Outcome → Type 0
+IsRevoked e o = (o ≡ Revoked) × (e.issued ≡ false)
+
+-- What it needs of the server's book, and of a machine: this is so whether or not the adapter is on.
+pub record MayRevoke (s : Server) (m : Machine) : Type 0 where
+  pub ordered : IsInOrder s.book
+  pub accepted : All (IsAccepted s.table) s.book
+  pub marked : All (HasTrueMark s.grants) s.book
+  pub reached : IsReached m
+  pub stands : IsMachineOf s m
+
+module _ (laws : LawsBelow) (s : Server) (client : ClientId) (number : ℕ) (replies : List Reply) (mid : Server) (r : RevokesGrant client number replies s mid) (m : Machine) (may_revoke : MayRevoke s m) where
+  abbrev is : IsMachineOf s m
+  is = may_revoke.stands
+
+  abbrev reached : IsReached m
+  reached = may_revoke.reached
+
+  abbrev ordered : IsInOrder s.book
+  ordered = may_revoke.ordered
+
+  abbrev accepted : All (IsAccepted s.table) s.book
+  accepted = may_revoke.accepted
+
+  abbrev marked : All (HasTrueMark s.grants) s.book
+  marked = may_revoke.marked
+
+  abbrev old : Server
+  old = without_grant client number s
+
+  abbrev port : Port
+  port = r.row.port
+
+  abbrev requests : List Held
+  requests = waiting_under client number old.book
+
+  -- the server then
+  abbrev new : Server
+  new = with_revoked client number r.now s
+
+  -- once the row is gone
+  abbrev n : Machine
+  n = after_step m (Revoke client number)
+
+  pub row_there : Contains m.rows r.row
+  row_there = subst (λ (rows : List GrantRow). Contains rows r.row) (sym is.rows) r.there
+
+  abbrev pub has_row : HasRow client number m.rows
+  has_row = (r.row, row_there, r.named)
+
+  n_reached : IsReached n
+  n_reached = laws.basic.reached m (Revoke client number ∷ []) reached (tt, has_row)
+
+  n_rows : n.rows ≡ old.grants
+  n_rows = ap (without_row client number) is.rows
+
+  n_book : IsBook old.book n.book
+  n_book = laws.revokes s.book m client number is.book
+
+  abbrev k : Known
+  k = known is.uses is.parked s.device
+
+  -- those that wait under the grant are on its port
+  its_port : (e : Held) → Contains requests e → e.entry.port ≡ port
+  its_port e there =
+      let w = of_requests client number s e there in
+      let p = at_left IsEntry old.book n.book n_book e w.0 in
+      sym p.2.port ∙ on_its_port laws.living m reached p.0 p.1 r.row row_there (r.named.0 ∙ sym w.1.client_is ∙ sym p.2.client, r.named.1 ∙ sym w.1.grant_is ∙ sym p.2.grant)
+
+  pub here : (e : Held) → Contains requests e → Contains old.book e × (e.entry.port ≡ port)
+  here e there = ((of_requests client number s e there).0, its_port e there)
+
+  old_ordered : IsInOrder old.book
+  old_ordered = laws.marked s.book client number ordered
+
+  old_accepted : All (IsAccepted s.table) old.book
+  old_accepted = laws.still_marked s.table s.book client number accepted
+
+  unserved : (e : Held) → Contains requests e → HasNoSlot is.uses e.entry.id
+  unserved e there =
+      let w = of_requests client number s e there in
+      let p = at_left IsEntry old.book n.book n_book e w.0 in
+      subst (HasNoSlot is.uses) p.2.id (laws.slots.waiting is.uses m s.device reached is.knows.agrees p.0 p.1 (p.2.issued ∙ w.1.waits))
+
+  may_meet : MayMeet port ends_revoked requests (holdings_of port old) k n
+  may_meet = record {
+    reached = n_reached;
+    knows = knows_then client number m k is.knows;
+    book = n_book;
+    lent = is.lent;
+    ordered = old_ordered;
+    accepted = old_accepted;
+    here = here;
+    marked = λ e there. tells_of n.rows old.grants e.entry n_rows (tells client number s marked e (here e there).0);
+    earlier = earlier client number s old_ordered;
+    unserved = λ e there never. unserved e there;
+  }
+
+  pub met : MeetsInMachine port ends_revoked requests replies (holdings_of port old) r.now k n
+  met = meet laws port ends_revoked requests (fit client number s) replies (holdings_of port old) r.now k n may_meet r.meets
+
+  abbrev z : Machine
+  z = after n met.steps
+
+  pub left : IsLeft port ends_revoked requests (holdings_of port old) r.now
+  left = fated laws port ends_revoked requests (fit client number s) replies (holdings_of port old) r.now
+      (record { here = here; earlier = earlier client number s old_ordered; ordered = old_ordered; accepted = old_accepted }) r.meets
+
+  -- each request that is left was in the book before
+  pub before : (e : Held) → Contains r.now.book e → (was : Held) × Contains s.book was × (e.entry.id ≡ was.entry.id) × (e.entry.port ≡ was.entry.port) × (e.entry.op ≡ was.entry.op)
+  before e there =
+      let w = left.from e there in
+      let b = was_there client number s w.was w.there in
+      let mark = mark_is client number s w.was w.there in
+      (b.0, b.1, w.id ∙ mark.id, w.port ∙ mark.port, w.op ∙ mark.op)
+
+  pub each_left : (P : Held → Type 0) → ((e : Held) → Contains r.now.book e → P e) → All P r.now.book
+  each_left P each = All-weaker (Contains r.now.book) P each r.now.book (All-contains_itself r.now.book)
+
+  -- who is left wasn't told so
+  left_other : (e : Held) (there : Contains r.now.book e) → WaitsUnder client number (left.from e there).was.entry → ⊥
+  left_other e there waits =
+      let w = left.from e there in
+      left.gone w.was Revoked (in_requests client number s w.was w.there waits) refl e there w.id
+
+  pub marked_then : All (HasTrueMark old.grants) r.now.book
+  marked_then = each_left (HasTrueMark old.grants) (λ e there.
+      let w = left.from e there in
+      marked_as old.grants old.book e w (true_mark client number s marked w.was w.there (left_other e there)))
+
+  -- ---- the machine then
+
+  none_held : met.held ≡ []
+  none_held = nobody met.held (λ e there. false≢true (met.whose e there).3)
+
+  same_kept : z.kept ≡ m.kept
+  same_kept = met.kept ∙ ap (λ (held : List Pending). held ++ m.kept) none_held
+
+  leaves : (z.rows ≡ n.rows) × ((frame : Frame) → z.owner frame ≡ n.owner frame) × (z.next ≡ n.next)
+  leaves = deciding_leaves port n met.steps met.own
+
+  stands_z : IsMachineOf new z
+  stands_z = record {
+    uses = is.uses;
+    used = is.used;
+    parked = met.parked;
+    unparked = λ q alive. ⊎_elim
+        (λ (same : q ≡ port.0).
+        ap met.parked same
+        ∙ nobody (met.parked port.0) (λ id there.
+        nowhere id (subst (λ (ids : List RequestId). Contains ids id) (is.unparked port.0 (λ dead. alive (ap (found_of s.ports) same ∙ dead))) (met.still id there).0)))
+        (λ (other : q ≢ port.0). met.others q other ∙ is.unparked q alive)
+        (cases_eq q port.0);
+    knows = met.knows;
+    book = met.book;
+    kept = subst (AreKept s.ports s.kept) (sym same_kept) is.kept;
+    rows = leaves.0 ∙ n_rows;
+    owner = λ frame. leaves.1 frame ∙ is.owner frame ∙ ap (λ (owners : List (Option ClientId)). get_or owners frame.0 None) (sym (fates_owners ends_revoked requests replies (holdings_of port old) r.now r.meets));
+    lent = met.lent;
+    next = leaves.2 ∙ is.next;
+  }
+
+  -- ---- the steps
+
+  abbrev pub steps : List Step
+  steps = met.steps ++ Revoke client number ∷ []
+
+  its_step : (step : Step) → Contains met.steps step → DecidesOn port step → IsAnswerOf IsRevoked step
+  its_step (Answer e o) there own =
+      let x = met.answered e o there in
+      let same : Ends Revoked ≡ Ends o = x.3 in
+      let is : o ≡ Revoked = cc in
+      (is, x.2.issued ∙ (of_requests client number s x.0 x.1).1.waits)
+  its_step (Again e) there own = let x = met.again e there in let same : Ends Revoked ≡ GoesAgain = x.3 in absurd cc
+  its_step step there own = absurd own
+
+  all_answers : All (IsAnswerOf IsRevoked) met.steps
+  all_answers = All-weaker (Contains met.steps) (IsAnswerOf IsRevoked) (λ step there. its_step step there (All-contains (DecidesOn port) met.steps step met.own there)) met.steps (All-contains_itself met.steps)
+
+  joined : after m steps ≡ z
+  joined = laws.basic.joined m met.steps (Revoke client number ∷ [])
+
+  pub may : AllMay m steps
+  may = laws.basic.may m met.steps (Revoke client number ∷ []) (tt, has_row) met.may
+
+  pub stands : IsMachineOf new (after m steps)
+  stands = subst (IsMachineOf new) (sym joined) stands_z
+
+  pub reached_then : IsReached (after m steps)
+  reached_then = laws.basic.reached m steps reached may
+
+  -- what is asked of another port is as it was
+  pub apart : (q : Port) → q ≢ port → of_port q (asks_of r.now.book) ≡ of_port q (asks_of s.book)
+  apart q ne =
+      fates_apart laws q ends_revoked requests replies (holdings_of port old) r.now r.meets
+      (All-weaker (Contains requests) (λ (e : Held). IsNoneOf q e.entry.id (asks_of old.book)) (λ e there. none_of_one laws q port old.book ne old_ordered e (here e there)) requests (All-contains_itself requests))
+      ∙ ap (of_port q) (laws.asks_marked s.book client number)
+
+  pub backed : IsBacked s.device s.device m steps
+  backed = laws.backed_parts s.device s.device s.device m (Revoke client number ∷ []) met.steps (laws.backed_own s.device m (Revoke client number) (λ none. none)) (met.backed s.device)
+
+  pub belong : (ports : Ports) → Belong {D = DeviceStep} (RevokeOf client number) ports steps
+  belong ports = belong_join (RevokeOf client number) ports met.steps (Revoke client number ∷ [])
+      (answers_belong IsRevoked (RevokeOf client number) ports (λ e o told. told.0) met.steps all_answers) (tt, inr (refl, refl))
+
+  pub issue_none : (id : RequestId) → list_any (issues_it id) steps ≡ false
+  issue_none id = any_append (issues_it id) met.steps (Revoke client number ∷ []) ∙ or_none (list_any (issues_it id) met.steps) ∙ answers_issue_none IsRevoked id met.steps all_answers
+
+  pub last : IssuesLast steps
+  last = none_last steps issue_none
+
+  pub lawful : (then_at : Moment) (evidence : Evidence) (ports : Ports) → AllLawful then_at evidence ports steps
+  lawful then_at evidence ports = lawful_join then_at evidence ports met.steps (Revoke client number ∷ [])
+      (answers_lawful IsRevoked then_at evidence ports (λ e o told. told_lawful e o told.0 told.1) met.steps all_answers) tt
+    where
+      told_lawful : (e : Pending) (o : Outcome) → o ≡ Revoked → e.issued ≡ false → IsLawful then_at evidence ports e o
+      told_lawful e o is waits = subst (IsLawful then_at evidence ports e) (sym is) (inl waits)
+
+  pub tells_replies : Tells steps replies
+  tells_replies = record { answers = met.tells.answers; same = subst (IsPermutation met.tells.answers) (sym (answers_append met.steps (Revoke client number ∷ []) ∙ append-nil (answers_of met.steps))) met.tells.same; ordered = met.tells.ordered; told = met.tells.told }
+
+  -- ---- who is answered
+
+  answered_first : (e : Pending) (o : Outcome) → Contains steps (Answer e o) → Contains met.steps (Answer e o)
+  answered_first e o there = ⊎_elim
+      (λ (early : Contains met.steps (Answer e o)). early)
+      (λ (revoke : Contains (Revoke client number ∷ []) (Answer e o)). ⊎_elim
+      (λ (same : Answer e o ≡ Revoke client number). absurd (let y : Answer e o ≡ Revoke client number = same in cc))
+      (λ none. absurd (nowhere (Answer e o) none))
+      (contains_cases (Revoke client number) [] (Answer e o) revoke))
+      (Contains-append_cases met.steps (Revoke client number ∷ []) (Answer e o) there)
+
+  pub only : (e : Pending) (o : Outcome) → Contains steps (Answer e o) → Contains m.book e × (e.issued ≡ false) × IsUnder client number e.request
+  only e o there =
+      let first = answered_first e o there in
+      let x = met.answered e o first in
+      let w = (of_requests client number s x.0 x.1).1 in (
+        answered_stood IsRevoked n met.steps all_answers met.may e o first,
+        (answer_told IsRevoked met.steps all_answers e o first).1,
+        (x.2.client ∙ w.client_is, x.2.grant ∙ w.grant_is),
+      )
+
+  pub all : (e : Pending) → Contains m.book e → e.issued ≡ false → IsUnder client number e.request → Contains steps (Answer e Revoked)
+  all e there waits its = Contains-append_left met.steps (Revoke client number ∷ []) (Answer e Revoked) (⊎_elim told never (answered_or_left IsRevoked n met.steps all_answers e there))
+    where
+      told : (x : Pending) × (o : Outcome) × Contains met.steps (Answer x o) × (x.request.id.0 ≡ e.request.id.0) → Contains met.steps (Answer e Revoked)
+      told (x, o, here, same) =
+          let one : x ≡ e = laws.basic.one m reached x e (answered_stood IsRevoked n met.steps all_answers met.may x o here) there same in
+          subst (λ (y : Pending). Contains met.steps (Answer y Revoked)) one
+          (subst (λ (p : Outcome). Contains met.steps (Answer x p)) (answer_told IsRevoked met.steps all_answers x o here).0 here)
+
+      never : Contains z.book e → Contains met.steps (Answer e Revoked)
+      never still =
+          let h = at_right IsEntry r.now.book z.book met.book e still in
+          let w = left.from h.0 h.1 in
+          let a = at_right IsEntry old.book n.book n_book e there in
+          let one : w.was ≡ a.0 = laws.one old.book w.was a.0 old_ordered w.there a.1 (sym w.id ∙ sym h.2.id ∙ a.2.id) in
+          absurd (left_other h.0 h.1 (subst (λ (y : Held). WaitsUnder client number y.entry) (sym one)
+          (record { waits = sym a.2.issued ∙ waits; client_is = sym a.2.client ∙ its.0; grant_is = sym a.2.grant ∙ its.1 })))

@@ -1,0 +1,101 @@
+-- What a server keeps once a grant is revoked, whether or not its adapter is on.
+use Rattle.std.proofs.Common.{refl, ℕ, true, ◌≡◌, ◌≢◌, ◌+◌, ◌≤◌, List, length, not, sym, ap, ◌∙◌, arith}
+use Rattle.std.specs.List.{All, Contains}
+use Rattle.std.proofs.lemmas.List.Elements.{All-contains, All-filter}
+use Rattle.ata_types.specs.declared.Port.{Port}
+use Rattle.ata_types.specs.declared.PortState.TheVariants.{Ready as ReadyState}
+use Rattle.ata_types.specs.declared.grant.GrantRow.{GrantRow}
+use Rattle.ata_types.specs.declared.request.ClientId.{ClientId}
+use Rattle.ata_types.specs.declared.request.Op.{Op}
+use Rattle.ata_types.specs.declared.request.Reply.{Reply}
+use Rattle.ata_types.specs.declared.request.RequestId.{RequestId}
+use Rattle.block_machine.specs.Due.{NoneDue, is_plain}
+use Rattle.block_machine.specs.Left.{IsRow, after}
+use Rattle.block_machine.specs.Rules.{has_name, without_row}
+use Rattle.host_boot.specs.Taken.{found_of}
+use Rattle.request_queue.specs.Entries.{Held, all_marked_under, asks_of}
+use Rattle.server_history.specs.Below.{LawsBelow}
+use Rattle.server_history.specs.Mended.{holdings_of}
+use Rattle.server_history.specs.Revoked.{RevokesGrant, ends_revoked, waiting_under, with_revoked, without_grant}
+use Rattle.server_history.specs.Server.{IsKept, Server, is_served, kept_at, mode_in, state_of}
+use Rattle.server_history.specs.Stalled.{IsStalled, KeepsBooks}
+use Rattle.server_history.proofs.failed_reset.StalledInstant.{booked_then}
+use Rattle.server_history.proofs.fates.RemainingBook.{IsLeft}
+use Rattle.server_history.proofs.revoke_call.RevokedMachine as revoked
+use Rattle.server_history.proofs.revoke_call.RevokedMachine.{MayRevoke}
+use Rattle.server_history.proofs.state.HistorySteps.{kept_then}
+use Rattle.server_history.proofs.state.LoanCounts.{issued_of, marked_issued}
+
+module _ (laws : LawsBelow) (s : Server) (client : ClientId) (number : ℕ) (replies : List Reply) (mid : Server) (r : RevokesGrant client number replies s mid) where
+  -- grants are as a configuration may give them still
+  rows_then : All IsRow s.grants → All IsRow (without_row client number s.grants)
+  rows_then rows = All-filter (λ (row : GrantRow). not (has_name client number row)) IsRow s.grants rows
+
+  -- ---- a server whose adapter is on
+
+  module _ (k : IsKept s) where
+    pub may_revoke : MayRevoke s k.machine
+    may_revoke = record { ordered = k.ordered; accepted = k.accepted; marked = k.marked; reached = k.reached; stands = k.stands }
+
+    abbrev Left : Type 0
+    Left = (e : Held) → Contains r.now.book e → (was : Held) × Contains s.book was × (e.entry.id ≡ was.entry.id) × (e.entry.port ≡ was.entry.port) × (e.entry.op ≡ was.entry.op)
+
+    before : Left
+    before = revoked.before laws s client number replies mid r k.machine may_revoke
+
+    pub revoked_kept : IsKept (with_revoked client number r.now s)
+    revoked_kept = kept_then s s.device (without_row client number s.grants) r.now.table s.slots r.now.book s.last k (rows_then k.rows) k.on (record { telling = refl; size = refl; cap = refl; pi = refl }) k.behind left.owners k.four k.slots
+        (λ q slot used e its here same.
+        let b = before e here in
+        k.kinds q slot used b.0 its b.1 (sym b.2 ∙ same) ∙ ap (λ (o : Op). not (is_plain (mode_in s q) o)) (sym b.4))
+        k.commands k.alone left.accepted left.ordered (revoked.marked_then laws s client number replies mid r k.machine may_revoke)
+        (revoked.each_left laws s client number replies mid r k.machine may_revoke (λ e. e.entry.id.0 ≤ s.last) (λ e here.
+        let b = before e here in
+        let low = All-contains (λ (x : Held). x.entry.id.0 ≤ s.last) s.book b.0 k.handed_out b.1 in
+        let id = ap (λ (i : RequestId). i.0) b.2 in omega (arith, low, id)))
+        (revoked.each_left laws s client number replies mid r k.machine may_revoke (λ e. state_of (found_of s.ports e.entry.port.0) ≡ ReadyState) (λ e here.
+        let b = before e here in
+        ap (λ (q : Port). state_of (found_of s.ports q.0)) b.3 ∙ All-contains (λ (x : Held). state_of (found_of s.ports x.entry.port.0) ≡ ReadyState) s.book b.0 k.ready b.1))
+        (after k.machine (revoked.steps laws s client number replies mid r k.machine may_revoke)) (revoked.reached_then laws s client number replies mid r k.machine may_revoke)
+        (revoked.stands laws s client number replies mid r k.machine may_revoke)
+      where
+        left : IsLeft r.row.port ends_revoked (waiting_under client number (without_grant client number s).book) (holdings_of r.row.port (without_grant client number s)) r.now
+        left = revoked.left laws s client number replies mid r k.machine may_revoke
+
+    pub none_other : ((q : Port) → NoneDue (mode_in s q) (asks_of s.book) q) → (q : Port) → q ≢ r.row.port → NoneDue (mode_in s q) (asks_of r.now.book) q
+    none_other none q ne u own due =
+        none q u own ((laws.same_due (mode_in s q) q (asks_of r.now.book) (asks_of s.book) u (revoked.apart laws s client number replies mid r k.machine may_revoke q ne) own).0 due)
+
+  -- ---- one whose adapter is off
+
+  module _ (t : IsStalled s) where
+    abbrev b : KeepsBooks s
+    b = t.booked
+
+    pub may_revoke_off : MayRevoke s b.machine
+    may_revoke_off = record { ordered = b.ordered; accepted = b.accepted; marked = b.marked; reached = b.reached; stands = b.stands }
+
+    pub revoked_stalled : IsStalled (with_revoked client number r.now s)
+    revoked_stalled = record {
+      booked = booked_then s (without_row client number s.grants) r.now.table s.kept r.now.book b (rows_then b.rows) left.owners b.four_kept
+          (λ q.
+          let fewer : issued_of q r.now.book ≤ issued_of q (all_marked_under client number s.book) = left.fewer q in
+          let same = marked_issued q client number s.book in
+          let were : length (kept_at s.kept q.0) + issued_of q s.book ≤ 32 = b.places q in
+          omega (arith, fewer, same, were))
+          left.accepted left.ordered (revoked.marked_then laws s client number replies mid r b.machine may_revoke_off)
+          (revoked.each_left laws s client number replies mid r b.machine may_revoke_off (λ e. e.entry.id.0 ≤ s.last) (λ e here.
+          let x = revoked.before laws s client number replies mid r b.machine may_revoke_off e here in
+          let low = All-contains (λ (y : Held). y.entry.id.0 ≤ s.last) s.book x.0 b.handed_out x.1 in
+          let id = ap (λ (i : RequestId). i.0) x.2 in omega (arith, low, id)))
+          (revoked.each_left laws s client number replies mid r b.machine may_revoke_off (λ e. is_served (found_of s.ports e.entry.port.0) ≡ true) (λ e here.
+          let x = revoked.before laws s client number replies mid r b.machine may_revoke_off e here in
+          ap (λ (q : Port). is_served (found_of s.ports q.0)) x.3 ∙ All-contains (λ (y : Held). is_served (found_of s.ports y.entry.port.0) ≡ true) s.book x.0 b.asked x.1))
+          (after b.machine (revoked.steps laws s client number replies mid r b.machine may_revoke_off)) (revoked.reached_then laws s client number replies mid r b.machine may_revoke_off)
+          (revoked.stands laws s client number replies mid r b.machine may_revoke_off);
+      off = t.off;
+      dead = t.dead;
+    }
+      where
+        left : IsLeft r.row.port ends_revoked (waiting_under client number (without_grant client number s).book) (holdings_of r.row.port (without_grant client number s)) r.now
+        left = revoked.left laws s client number replies mid r b.machine may_revoke_off

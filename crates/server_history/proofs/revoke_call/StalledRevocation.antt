@@ -1,0 +1,29 @@
+-- A grant that is revoked since a reset that got stuck adds an event: what waited under it is answered, and nothing is issued.
+use Rattle.std.proofs.Common.{ℕ, List, Some, sym, subst}
+use Rattle.ata_types.specs.declared.request.ClientId.{ClientId}
+use Rattle.ata_types.specs.declared.request.Reply.{Reply}
+use Rattle.block_machine.specs.Events.{RevokeOf, WasRevoked}
+use Rattle.server_history.specs.Below.{LawsBelow}
+use Rattle.server_history.specs.Histories.{AddsStalled}
+use Rattle.server_history.specs.Revoked.{RevokesGrant, with_revoked}
+use Rattle.server_history.specs.Server.{Server}
+use Rattle.server_history.specs.Stalled.{IsStalled}
+use Rattle.server_history.proofs.failed_reset.StalledCalls.{goes}
+use Rattle.server_history.proofs.failed_reset.StalledInstant.{holds_off, never_ready}
+use Rattle.server_history.proofs.revoke_call.Revocation.{quiet_event}
+use Rattle.server_history.proofs.revoke_call.RevokedServer.{revoked_stalled}
+
+pub stalled_revocation : LawsBelow → (s new : Server) (client : ClientId) (number : ℕ) (replies : List Reply) → IsStalled s → RevokesGrant client number replies s new
+    → AddsStalled s new (RevokeOf client number) (WasRevoked (Some replies))
+stalled_revocation laws s new client number replies t r = subst (λ (n : Server). AddsStalled s n (RevokeOf client number) (WasRevoked (Some replies))) (sym r.server) (record {
+  stalled = off;
+  adds = quiet_event laws s client number replies new r
+      (holds_off (with_revoked client number r.now s) off.booked off.dead off.off)
+      (goes laws s t s.device t)
+      (never_ready s t.dead r.row.port.0)
+      (λ q ready. absurd (never_ready s t.dead q.0 ready))
+      (λ m was is. record { ordered = t.booked.ordered; accepted = t.booked.accepted; marked = t.booked.marked; reached = was; stands = is });
+})
+  where
+    off : IsStalled (with_revoked client number r.now s)
+    off = revoked_stalled laws s client number replies new r t
