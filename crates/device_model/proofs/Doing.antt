@@ -1,5 +1,5 @@
 -- What a model makes of a step that it is told.
-use Rattle.std.proofs.Common.{ℕ, Bool, true, false, ◌≡◌, ◌≢◌, ◌<◌, ◌≤◌, ◌^◌, ◌⊎◌, ◌∙◌, List, Option, Some, refl, sym, ap, subst, inl, inr}
+use Rattle.std.proofs.Common.{ℕ, Bool, true, false, ◌≡◌, ◌≢◌, ◌<◌, ◌≤◌, ◌^◌, ◌⊎◌, ◌∙◌, List, Option, Some, ⊎_elim, refl, sym, ap, subst, inl, inr}
 use Rattle.std.specs.Prelude.{option_map}
 use Rattle.adapter.specs.Asked.{Fails, GoesOn}
 use Rattle.adapter.specs.declared.access.DeviceStep.TheVariants as asked
@@ -12,7 +12,7 @@ use Rattle.adapter.proofs.Runs.{Steps-refl}
 use Rattle.adapter.specs.Steps.{Can, Steps}
 use Rattle.adapter.specs.Steps.Step.{Fault}
 use Rattle.sector_store.specs.declared.store.Failures.{Failures}
-use Rattle.device_model.specs.Does.{AnswersStep, AsksStore, ClearsFewer, Did, FailsToClear, FailsToMove, GoesOnSo, HasFailed, IsLeftOut, LacksMemory, NeedsAddresses, NoneFails, StepKeeps, Possible, asked_port, says_failed}
+use Rattle.device_model.specs.Does.{AnswersStep, AsksStore, ClearsFewer, Completes, Did, FailsToClear, FailsToMove, GoesOnSo, HasFailed, IsLeftOut, LacksMemory, NeedsAddresses, NoneFails, StepKeeps, Possible, asked_port, says_failed}
 use Rattle.device_model.specs.Disks.{bay_of, disk_in, disk_of, failures_of, identity_of, says_of, which_of}
 use Rattle.device_model.specs.Modelled.{device_at}
 use Rattle.device_model.specs.Paged.{GainsPages}
@@ -99,6 +99,10 @@ module _ {S : Type 0} (size : S → ℕ) (told : S → Option (ℕ → List ℕ)
     starved_on = λ yes. yes;
     starved_since = λ yes. inl yes;
   }
+
+  -- a command that ended did so whole
+  pub done_whole : (p : Port) (slot : Slot) (old new : Model S) → Did size told failures (asked.Done p slot) old new → Completes size told failures (asked.Done p slot) old new
+  done_whole p slot old new did = ⊎_elim (λ whole. whole) (λ failed. absurd failed) did.came
 
   module _ (s : DeviceStep) (old new : Model S) where
     pub did_it : (answer : Bool) → AnswersStep size told failures s answer old new → answer ≡ true → Did size told failures s old new

@@ -7,7 +7,7 @@ use Rattle.adapter.specs.Device.{Disk, Taken, Halt, PortState, Device}
 use Rattle.adapter.specs.Memory.{changed}
 use Rattle.adapter.specs.OneCommand.{IsFreeSlot}
 use Rattle.adapter.specs.Says.{pieces}
-use Rattle.adapter.specs.Steps.{Can, IsWorking, WorksOn, admits, begun, Brings, next_place, next_sector, with_fetch, with_move, with_clear, with_done, block_after}
+use Rattle.adapter.specs.Steps.{Can, IsWorking, WorksOn, admits, begun, Brings, next_place, next_sector, with_fetch, with_move, with_clear, with_done, with_flush, block_after}
 use Rattle.adapter.specs.Steps.Step.{Fetch, Move, Done}
 use Rattle.adapter.specs.declared.command.Operation.{Operation}
 use Rattle.adapter.specs.declared.command.Operation.TheVariants.{Trim}
@@ -160,11 +160,11 @@ module _ (port slot : ℕ) where
       }
 
   -- and it has ended
-  pub done_port : (old new : Device) (e : Ends (SendsEnd slot) port slot old new) → new.port port ≡ with_done (old.port port) slot e.done.flag e.done.t.meaning.operation
+  pub done_port : (old new : Device) (e : Ends (SendsEnd slot) port slot old new) → new.port port ≡ with_flush (with_done (old.port port) slot e.done.flag e.done.t.meaning.operation) e.done.t.meaning.operation (length old.tape)
   done_port old new e =
       let f : DoesDone port slot old e.mid = e.done in
       ap (λ (d : Device). d.port port) (end_rest port slot f.flag f.t.meaning.operation e.mid new e.posts)
-      ∙ (ap (λ (d : Device). d.port port) f.effect ∙ changed_same old.port port (with_done (old.port port) slot f.flag f.t.meaning.operation))
+      ∙ (ap (λ (d : Device). d.port port) f.effect ∙ changed_same old.port port (with_flush (with_done (old.port port) slot f.flag f.t.meaning.operation) f.t.meaning.operation (length old.tape)))
 
   done_gone : (old new : Device) → Ends (SendsEnd slot) port slot old new → (new.port port).taken slot ≡ None
   done_gone old new e = ap (λ (p : PortState). p.taken slot) (done_port old new e) ∙ changed_same (old.port port).taken slot None
@@ -238,7 +238,7 @@ module _ (port slot : ℕ) where
   done_frees old new going plain e =
       let f : DoesDone port slot old e.mid = e.done in
       let p : PortState = old.port port in
-      let state : PortState = with_done p slot f.flag f.t.meaning.operation in
+      let state : PortState = with_flush (with_done p slot f.flag f.t.meaning.operation) f.t.meaning.operation (length old.tape) in
       let same : f.t ≡ going.t = some_one (sym f.can.works.taken ∙ going.works.taken) in
       let issued : state.ci ≡ changed p.ci slot false =
       ap (λ b. if b then p.ci else changed p.ci slot false) (ap (λ (x : Taken). is_queued x.meaning.operation) same ∙ plain) in

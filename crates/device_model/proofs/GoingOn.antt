@@ -1,10 +1,10 @@
 -- What a port does by itself is steps, which compose.
-use Rattle.std.proofs.Common.{ℕ, Bool, zero, suc, true, false, ◌≡◌, ◌%◌, List, None, refl, sym, ◌∙◌, ap, subst, inl, inr}
+use Rattle.std.proofs.Common.{ℕ, length, Bool, zero, suc, true, false, ◌≡◌, ◌%◌, List, None, refl, sym, ◌∙◌, ap, subst, inl, inr}
 use Rattle.std.proofs.lemmas.Bool.Decides.{eqb_tells}
 use Rattle.adapter.specs.Device.{PortState, Device}
 use Rattle.adapter.specs.Memory.{changed}
 use Rattle.adapter.specs.Asked.{DoesOne, DoesSome, GoesOn}
-use Rattle.adapter.specs.Steps.{MayLinkUp, with_clear, with_done, with_fetch, with_link, with_move, with_port, with_reset}
+use Rattle.adapter.specs.Steps.{MayLinkUp, with_clear, with_done, with_flush, with_fetch, with_link, with_move, with_port, with_reset}
 use Rattle.adapter.specs.Steps.Step.{Fall, FrFall, LinkUp}
 use Rattle.device_model.proofs.Places.{fun_ext, changed_same, changed_other, changed_each}
 use Rattle.device_model.proofs.Own.{own_none, own_on, own_one}
@@ -144,7 +144,7 @@ one_settled port slot old new (inr (inr (inr (most, c)))) =
     (same _ _ refl refl refl refl refl refl refl)
 one_settled port slot old new (inr (inr (inl e))) =
     let rest = end_rest port slot e.done.flag e.done.t.meaning.operation e.mid new e.posts in
-    settled_with old new port (with_done (old.port port) slot e.done.flag e.done.t.meaning.operation)
+    settled_with old new port (with_flush (with_done (old.port port) slot e.done.flag e.done.t.meaning.operation) e.done.t.meaning.operation (length old.tape))
     (ap (λ (d : Device). d.hr) rest ∙ ap (λ (d : Device). d.hr) e.done.effect)
     (ap (λ (d : Device). d.port) rest ∙ ap (λ (d : Device). d.port) e.done.effect) (same _ _ refl refl refl refl refl refl refl)
 

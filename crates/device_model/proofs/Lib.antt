@@ -30,5 +30,6 @@ pub mod Told
 pub mod Paging
 pub mod SentPages
 pub mod Plugging
+pub mod Losing
 pub mod Waiting
 pub mod SideBySide

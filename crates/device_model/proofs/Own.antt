@@ -1,5 +1,5 @@
 -- The model's own steps, one after another.
-use Rattle.std.proofs.Common.{ℕ, Bool, zero, suc, true, false, ◌≡◌, ◌+◌, ◌∙◌, List, [], ◌∷◌, ◌++◌, None, Some, All, refl, sym, ap, subst, inl, inr, arith}
+use Rattle.std.proofs.Common.{ℕ, length, Bool, zero, suc, true, false, ◌≡◌, ◌+◌, ◌∙◌, List, [], ◌∷◌, ◌++◌, None, Some, All, refl, sym, ap, subst, inl, inr, arith}
 use Rattle.std.proofs.lemmas.Bool.Decides.{eqb_tells}
 use Rattle.std.proofs.lemmas.List.Elements.{All-append, All-nil}
 use Rattle.std.specs.Prelude.{if◌then◌else◌, slice_index_or}
@@ -11,7 +11,7 @@ use Rattle.adapter.specs.declared.access.FatalError.{FatalError}
 use Rattle.adapter.specs.declared.command.Operation.{Operation}
 use Rattle.device_model.proofs.Absurd.{some-none, some_one, true-false}
 use Rattle.device_model.proofs.Places.{changed_other, changed_same}
-use Rattle.adapter.specs.Steps.{Step, Can, Steps, after, begun, block_after, with_clear, with_done, with_fault, with_fetch, with_move}
+use Rattle.adapter.specs.Steps.{Step, Can, Steps, after, begun, block_after, with_clear, with_done, with_flush, with_fault, with_fetch, with_move}
 use Rattle.adapter.proofs.Runs.{Steps-one, Steps-refl, Steps-trans}
 use Rattle.adapter.specs.Steps.Step.{Fetch, FetchFault, Move, Clear, Done, Fault, Fatal, Fall, FrFall, LinkUp, Unplug, Plug, ResetEnds, Scribble}
 use Rattle.device_model.specs.Finishing.{sends_page}
@@ -75,7 +75,7 @@ one_keeps_present q port slot old new (inr (inr (inr (most, c)))) =
     ap (λ (d : Device). (d.port q).present) c.effect ∙ present_with q old.port port (with_clear (old.port port) slot c.t c.first c.count) refl
 one_keeps_present q port slot old new (inr (inr (inl e))) =
     ap (λ (d : Device). (d.port q).present) (end_rest port slot e.done.flag e.done.t.meaning.operation e.mid new e.posts)
-    ∙ (ap (λ (d : Device). (d.port q).present) e.done.effect ∙ present_with q old.port port (with_done (old.port port) slot e.done.flag e.done.t.meaning.operation) refl)
+    ∙ (ap (λ (d : Device). (d.port q).present) e.done.effect ∙ present_with q old.port port (with_flush (with_done (old.port port) slot e.done.flag e.done.t.meaning.operation) e.done.t.meaning.operation (length old.tape)) refl)
 
 pub fault_keeps_present : (q : ℕ) (port slot error kept : ℕ) (old new : Device) → Fails SendsFailed port slot error kept old new → (new.port q).present ≡ (old.port q).present
 fault_keeps_present q port slot error kept old new f =
@@ -126,7 +126,7 @@ module _ (P : Operation → List ℕ → Type 0) (is_plain : (o : Operation) (pl
       (only.taken m.t m.can.works.taken)
   only_by_one old new (inr (inr (inl e))) only =
       let t : Taken = e.done.t in
-      let p : PortState = with_done (old.port port) slot e.done.flag t.meaning.operation in
+      let p : PortState = with_flush (with_done (old.port port) slot e.done.flag t.meaning.operation) t.meaning.operation (length old.tape) in
       let there : new.port port ≡ p =
       ap (λ (d : Device). d.port port) (end_rest port slot e.done.flag t.meaning.operation e.mid new e.posts)
       ∙ (ap (λ (d : Device). d.port port) e.done.effect ∙ changed_same old.port port p) in

@@ -1,5 +1,5 @@
 -- A command that sends a page, and can be done to its end, as the model does it by itself.
-use Rattle.std.proofs.Common.{ℕ, Bool, zero, suc, true, false, ◌≡◌, ◌≢◌, ◌<◌, ◌≤◌, ◌+◌, ◌^◌, ◌⊎◌, ◌∙◌, List, Option, None, Some, refl, sym, ap, subst, inl, inr, arith}
+use Rattle.std.proofs.Common.{ℕ, length, Bool, zero, suc, true, false, ◌≡◌, ◌≢◌, ◌<◌, ◌≤◌, ◌+◌, ◌^◌, ◌⊎◌, ◌∙◌, List, Option, None, Some, refl, sym, ap, subst, inl, inr, arith}
 use Rattle.std.specs.Prelude.{◌&&◌, not, if◌then◌else◌, is_some, option_map}
 use Rattle.std.proofs.lemmas.Bool.Decides.{eqb_tells}
 use Rattle.adapter.specs.Access.{note, noted}
@@ -9,7 +9,7 @@ use Rattle.adapter.specs.Device.{Notes, PortState, Device, Taken}
 use Rattle.adapter.specs.Memory.{changed}
 use Rattle.adapter.specs.OneCommand.{IsFreeSlot}
 use Rattle.adapter.specs.Says.{Says}
-use Rattle.adapter.specs.Steps.{Can, IsFetchable, IsWorking, IsAlone, WorksOn, begun, with_clear, with_done, with_fetch, with_move}
+use Rattle.adapter.specs.Steps.{Can, IsFetchable, IsWorking, IsAlone, WorksOn, begun, with_clear, with_done, with_flush, with_fetch, with_move}
 use Rattle.adapter.specs.Steps.Step.{Fetch}
 use Rattle.adapter.specs.declared.command.Operation.{Operation}
 use Rattle.device_model.proofs.Absurd.{some-none, some_one, true-false}
@@ -364,7 +364,7 @@ one_elsewhere port slot old new (inr (inr (inr (most, c)))) k ne =
     let p : PortState = with_clear (old.port port) slot c.t c.first c.count in
     weight_with old new port p k (ap (λ (d : Device). d.port port) c.effect ∙ changed_same old.port port p) refl (changed_other (old.port port).taken slot _ k ne)
 one_elsewhere port slot old new (inr (inr (inl e))) k ne =
-    let p : PortState = with_done (old.port port) slot e.done.flag e.done.t.meaning.operation in
+    let p : PortState = with_flush (with_done (old.port port) slot e.done.flag e.done.t.meaning.operation) e.done.t.meaning.operation (length old.tape) in
     weight_with old new port p k
     (ap (λ (d : Device). d.port port) (end_rest port slot e.done.flag e.done.t.meaning.operation e.mid new e.posts)
     ∙ (ap (λ (d : Device). d.port port) e.done.effect ∙ changed_same old.port port p))
@@ -416,7 +416,7 @@ one_apart port slot old new (inr (inr (inl e))) =
       λ q ne.
           ap (λ (d : Device). d.port q) rest
           ∙ (ap (λ (d : Device). d.port q) e.done.effect
-          ∙ changed_other old.port port (with_done (old.port port) slot e.done.flag e.done.t.meaning.operation) q ne),
+          ∙ changed_other old.port port (with_flush (with_done (old.port port) slot e.done.flag e.done.t.meaning.operation) e.done.t.meaning.operation (length old.tape)) q ne),
     )
 
 some_apart : (n port slot : ℕ) (old new : Device) → DoesSome (SendsEnd slot) n port slot old new → (new.size ≡ old.size) × ((q : ℕ) → q ≢ port → new.port q ≡ old.port q)

@@ -1,9 +1,10 @@
 -- A disk is put into a port, or isn't.
-use Rattle.std.proofs.Common.{ℕ, true, false, ◌≡◌, ◌<◌, ◌∙◌, ◌++◌, ◌∷◌, [], List, Option, Some, refl, sym, ap, subst, inl, inr, arith}
+use Rattle.std.proofs.Common.{ℕ, true, false, ◌≡◌, ◌<◌, ◌∙◌, ◌++◌, ◌∷◌, [], List, Option, Some, refl, sym, ap, inl, inr, arith}
 use Rattle.std.specs.Prelude.{if◌then◌else◌, is_some, nat_eq, option_map, slice_set}
 use Rattle.adapter.specs.Asked.{DoesPlug}
 use Rattle.adapter.specs.Device.{Device, Disk}
-use Rattle.adapter.specs.Steps.{IsKnownBy, after}
+use Rattle.std.proofs.lemmas.Option.{same_Some}
+use Rattle.adapter.specs.Steps.{after}
 use Rattle.adapter.specs.Steps.Step.{Plug}
 use Rattle.adapter.specs.declared.access.DeviceStep.TheVariants as asked
 use Rattle.adapter.specs.declared.access.DiskNumber.{DiskNumber}
@@ -11,11 +12,11 @@ use Rattle.adapter.specs.declared.tape.Entry.TheVariants as entry
 use Rattle.ata_types.specs.declared.Port.{Port}
 use Rattle.sector_store.specs.Stores.{AreSectors}
 use Rattle.sector_store.specs.declared.store.Failures.{Failures}
-use Rattle.device_model.specs.Disks.{bay_of, disk_in, disk_number, disk_over, identity, plugged_as}
+use Rattle.device_model.specs.Disks.{bay_of, disk_in, disk_number, disk_over, identity, is_same, plugged_as}
 use Rattle.device_model.specs.Does.{Did, IsLeftOut, LacksMemory, Possible}
 use Rattle.device_model.specs.Modelled.{device_at, media_of, outside_at, tells}
 use Rattle.device_model.specs.Tells.{bay_told, each_tells}
-use Rattle.device_model.specs.Whole.{Outside, device_of, outside_plugged}
+use Rattle.device_model.specs.Whole.{Outside, device_of, media_plugged, outside_plugged}
 use Rattle.device_model.specs.declared.bay.Bay.{Bay}
 use Rattle.device_model.specs.declared.disks.ModelDisk.{ModelDisk}
 use Rattle.device_model.specs.declared.disks.Which.{Which}
@@ -24,6 +25,20 @@ use Rattle.device_model.specs.declared.model.Model.{Model}
 use Rattle.device_model.proofs.NewModel.{disks_are}
 use Rattle.device_model.proofs.Telling.{gains_one}
 use Rattle.device_model.proofs.TwoDisks.{both_turned, has_disks, in_kept, number_small, of_number, one_number, seated_behind, seated_here, seated_keeps, seated_others, seated_outside, seated_same}
+
+same_number : (w v : Which) → is_same w v ≡ nat_eq (disk_number w) (disk_number v)
+same_number Disk0 Disk0 = refl
+same_number Disk0 Disk1 = refl
+same_number Disk1 Disk0 = refl
+same_number Disk1 Disk1 = refl
+
+-- what is lasting of a disk that is put in
+lasting_of : {S : Type 0} (told : S → Option (ℕ → List ℕ)) (w v : Which) (was comes now : S) → now ≡ (if is_same w v then was else comes) →
+    told now ≡ (if nat_eq (disk_number w) (disk_number v) then told was else told comes)
+lasting_of told Disk0 Disk0 was comes now e = ap told e
+lasting_of told Disk0 Disk1 was comes now e = ap told e
+lasting_of told Disk1 Disk0 was comes now e = ap told e
+lasting_of told Disk1 Disk1 was comes now e = ap told e
 
 module _ {S : Type 0} (size : S → ℕ) (told : S → Option (ℕ → List ℕ)) (failures : S → Option Failures) (m new : Model S) (p : Port) (number : DiskNumber)
     (held : new.held ≡ m.held) (queue : new.queue ≡ m.queue) (accesses : new.accesses ≡ m.accesses) (a b : Bay S) (was : bay_of m p.0 ≡ Some a)
@@ -52,26 +67,35 @@ module _ {S : Type 0} (size : S → ℕ) (told : S → Option (ℕ → List ℕ)
   -- a disk is put in
   module _ (which : Which) (found : disk_number which ≡ number.0) (which_is : b.which ≡ which) (kept : (w : Which) → disk_in b w ≡ disk_in a w)
       (later : (disk : Which → S → Disk) → plugged_as disk b.later ≡ plugged_as disk a.later ++ disk which b.disk.store ∷ [])
-      (says : b.says ≡ a.says) (first : b.first ≡ a.first) where
+      (says : b.says ≡ a.says) (first : b.first ≡ a.first) (lasting : b.lasting.value ≡ (if is_same which a.which then a.lasting.value else b.disk.store)) where
     abbrev put_disk : Disk
     put_disk = disk_over b.which (size b.disk.store) (told b.disk.store)
 
-    media : media_of size told (Some b) ≡ record { disk = put_disk; plugged = (media_of size told (bay_of m p.0)).plugged ++ put_disk ∷ [] }
+    media : media_of size told (Some b) ≡ media_plugged (media_of size told (bay_of m p.0)) put_disk
     media =
         let was_put : List Disk = plugged_as (λ w s. disk_over w (size s) (told s)) a.later in
         let more = later (λ w s. disk_over w (size s) (told s)) ∙ ap (λ (w : Which). was_put ++ disk_over w (size b.disk.store) (told b.disk.store) ∷ []) (sym which_is) in
-        (λ i. record { disk = put_disk; plugged = disk_over Disk0 (size (first i).value) (told (first i).value) ∷ more i })
-        ∙ ap (λ x. record { disk = put_disk; plugged = (media_of size told x).plugged ++ put_disk ∷ [] }) (sym was)
+        let lasts = lasting_of told which a.which a.lasting.value b.disk.store b.lasting.value lasting
+        ∙ ap (λ (w : Which). if nat_eq (disk_number w) (disk_number a.which) then told a.lasting.value else told b.disk.store) (sym which_is) in
+        (λ i. record { disk = put_disk; plugged = disk_over Disk0 (size (first i).value) (told (first i).value) ∷ more i; lasting = lasts i })
+        ∙ ap (λ x. media_plugged (media_of size told x) put_disk) (sym was)
 
     tells_so : tells told (Some b) ≡ tells told (Some a)
     tells_so = both_turned (λ (x : ModelDisk S). is_some (told x.store)) a b kept
 
+    -- whether it is the one that was in last
+    same_named : (media_of size told (bay_of m p.0)).disk ≡ (media_of size told (Some a)).disk → is_same which a.which ≡ nat_eq put_disk.name (media_of size told (bay_of m p.0)).disk.name
+    same_named at =
+        same_number which a.which
+        ∙ (ap (λ (w : Which). nat_eq (disk_number w) (disk_number a.which)) (sym which_is) ∙ ap (λ (d : Disk). nat_eq (disk_number b.which) d.name) (sym at))
+
     pub does_plug : ((d : Device) → d ≡ device_at size told m → ((d.port p.0).present ≡ false)) → ((s : S) → AreSectors (size s) (told s)) →
-        ((o : Outside) (disk : Disk) → disk.name ≡ number.0 → device_of new.hardware (outside_plugged o p.0 disk) ≡ after (Plug p.0 disk) (device_of m.hardware o)) →
+        ((o : Outside) (disk : Disk) → disk.name ≡ number.0 → is_same which a.which ≡ nat_eq disk.name (o.media p.0).disk.name → device_of new.hardware (outside_plugged o p.0 disk) ≡ after (Plug p.0 disk) (device_of m.hardware o)) →
         DoesPlug p.0 number.0 (device_at size told m) (device_at size told new)
     does_plug free are did =
         let name : disk_number b.which ≡ number.0 = ap disk_number which_is ∙ found in
         let o : Outside = outside_at size told m in
+        let at : (media_of size told (bay_of m p.0)).disk ≡ (media_of size told (Some a)).disk = ap (λ x. (media_of size told x).disk) was in
         record {
           disk = put_disk;
           name = name;
@@ -79,14 +103,20 @@ module _ {S : Type 0} (size : S → ℕ) (told : S → Option (ℕ → List ℕ)
             free _ refl,
             disks_are size told are (Some b),
             λ telling. bay_told size told (Some b) (tells_so ∙ (ap (tells told) (sym was) ∙ each_tells size told m.bays.items telling p.0)),
-            subst (λ x. IsKnownBy (media_of size told x).disk put_disk) (sym was)
-                (λ same. in_kept (λ (x : ModelDisk S). size x.store) a b (one_number b.which a.which same) (λ w. ap (λ (x : ModelDisk S). size x.store) (kept w))),
+            λ same.
+                let which_same : b.which ≡ a.which = one_number b.which a.which (same ∙ ap (λ (d : Disk). d.name) at) in
+                record {
+                  size = in_kept (λ (x : ModelDisk S). size x.store) a b which_same (λ w. ap (λ (x : ModelDisk S). size x.store) (kept w)) ∙ sym (ap (λ (d : Disk). d.size) at);
+                  holds = λ last comes is_last is_comes k lt.
+                      let told_same : told b.disk.store ≡ told a.disk.store = in_kept (λ (x : ModelDisk S). told x.store) a b which_same (λ w. ap (λ (x : ModelDisk S). told x.store) (kept w)) in
+                      inl (ap (λ (f : ℕ → List ℕ). f k) (same_Some comes last (sym is_comes ∙ (told_same ∙ (sym (ap (λ (d : Disk). d.sectors) at) ∙ is_last)))));
+                },
           );
-          effect = ap (λ (x : Outside). device_of new.hardware x) (seated_outside m new p.0 a b was items size told _ tells_so media) ∙ did o put_disk name;
+          effect = ap (λ (x : Outside). device_of new.hardware x) (seated_outside m new p.0 a b was items size told _ tells_so media) ∙ did o put_disk name (same_named at);
         }
 
     pub did_plug : p.0 < 4 → ((d : Device) → d ≡ device_at size told m → ((d.port p.0).present ≡ false)) → ((s : S) → AreSectors (size s) (told s)) →
-        ((o : Outside) (disk : Disk) → disk.name ≡ number.0 → device_of new.hardware (outside_plugged o p.0 disk) ≡ after (Plug p.0 disk) (device_of m.hardware o)) →
+        ((o : Outside) (disk : Disk) → disk.name ≡ number.0 → is_same which a.which ≡ nat_eq disk.name (o.media p.0).disk.name → device_of new.hardware (outside_plugged o p.0 disk) ≡ after (Plug p.0 disk) (device_of m.hardware o)) →
         new.hardware.starved ≡ m.hardware.starved →
         Possible (asked.Plug p number) (device_at size told m) × Did size told failures (asked.Plug p number) m new
     did_plug small free are did starved =
@@ -106,7 +136,7 @@ module _ {S : Type 0} (size : S → ℕ) (told : S → Option (ℕ → List ℕ)
                 ∙ (ap Some (which_is ∙ of_number which number.0 found)
                 ∙ sym (ap (λ x. option_map (λ (_ : Which). if nat_eq number.0 0 then Disk0 else Disk1) (option_map (λ (y : Bay S). y.which) x)) was));
             others = seated_others m new p.0 a b was items;
-            pages = gains_one size m new (entry.Plug p (disk_number b.which)) (ap (λ (d : Device). d.tape) (did (outside_at size told m) put_disk (ap disk_number which_is ∙ found)))
+            pages = gains_one size m new (entry.Plug p (disk_number b.which)) (ap (λ (d : Device). d.tape) (did (outside_at size told m) put_disk (ap disk_number which_is ∙ found) (same_named (ap (λ x. (media_of size told x).disk) was))))
                 (λ x e. absurd (cc e));
             disks = λ _ w. seated_same m new p.0 a b was items (option_map (λ (x : Bay S). disk_in x w)) (ap Some (kept w)) p.0;
             keeps = seated_keeps m new p.0 a b was items size (λ w _. kept w) (λ w. ap (identity size) (kept w)) queue accesses;

@@ -122,6 +122,7 @@ done_may (asked.Hold p) old new did = did
 done_may (asked.Release p) old new did = did
 done_may (asked.Unplug p) old new did = did
 done_may (asked.Plug p number) old new did = did
+done_may (asked.LosePlug p) old new did = did
 
 -- a fault in the place of a step, or on its way, is one of the device's own
 pub moving_fails : (port slot : ℕ) (was now : Option Failures) (says later : Option Description) (old new : Device) (f : FailsToMove port slot was now says later old new) →
@@ -169,6 +170,7 @@ fails_may (asked.Hold p) was now says later old new f = absurd f
 fails_may (asked.Release p) was now says later old new f = absurd f
 fails_may (asked.Unplug p) was now says later old new f = absurd f
 fails_may (asked.Plug p number) was now says later old new f = absurd f
+fails_may (asked.LosePlug p) was now says later old new f = absurd f
 
 pub did_may : {S : Type 0} (size : S → ℕ) (told : S → Option (ℕ → List ℕ)) (failures : S → Option Failures) (s : DeviceStep) (old new : Model S) →
     Did size told failures s old new → Asked s (device_at size told old) (device_at size told new)

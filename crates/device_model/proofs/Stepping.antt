@@ -1,12 +1,12 @@
 -- Steps of the hardware, of a port by its index in the array.
-use Rattle.std.proofs.Common.{ℕ, Bool, true, false, ◌≡◌, ◌<◌, List, [], ◌∷◌, ◌++◌, Some, length, ◌⊎◌, refl, sym, ◌∙◌, ap, subst, inl, inr}
+use Rattle.std.proofs.Common.{ℕ, Bool, true, false, ◌≡◌, ◌<◌, List, [], ◌∷◌, ◌++◌, Option, Some, length, nat_eq, ◌⊎◌, refl, sym, ◌∙◌, ap, subst, inl, inr}
 use Rattle.std.specs.Prelude.{slice_set, slice_index_or, IfSome, if◌then◌else◌}
 use Rattle.std.specs.Global.{Vec}
 use Rattle.adapter.specs.Commands.{Meaning, direction_of, is_queued, is_ranged, reads_memory}
-use Rattle.adapter.specs.Device.{Disk, Device, IsSector}
+use Rattle.adapter.specs.Device.{Disk, Lasting, PortState, Device, IsSector}
 use Rattle.adapter.specs.Memory.{changed, patched, bytes_at}
 use Rattle.adapter.specs.Says.{Says}
-use Rattle.adapter.specs.Steps.{AreKeptBits, admits, after, IsFinished, MayBeDone, MayFault, MayFetch, MayFetchFault, MayMove, Brings, recorded, with_clear, with_fault, with_fetch, with_move, with_done, clear_entry, done_entry, fault_entry, move_of, noted_bytes, memory_after, next_place, next_sector}
+use Rattle.adapter.specs.Steps.{AreKeptBits, admits, after, IsFinished, MayBeDone, MayFault, MayFetch, MayFetchFault, MayMove, Brings, recorded, with_clear, with_fault, with_fetch, with_move, with_done, with_flush, clear_entry, done_entry, fault_entry, move_of, noted_bytes, memory_after, next_place, next_sector}
 use Rattle.adapter.specs.Steps.Step.{Clear, FetchFault, Move, Unplug, Plug}
 use Rattle.adapter.specs.declared.access.FatalError.{FatalError}
 use Rattle.adapter.specs.declared.access.FatalError.TheVariants.{Interface, HostBus}
@@ -20,8 +20,8 @@ use Rattle.adapter.specs.Asked.{DoesFatal, DoesFault, DoesFetch, Ends, fatal_bit
 use Rattle.device_model.specs.Fetched.{bytes_of}
 use Rattle.device_model.specs.Sent.{SendsEnd}
 use Rattle.device_model.specs.Slots.{HasUntaken, MayTake, HoldsAt, IsNext}
-use Rattle.device_model.specs.View.{Media, cause_of, halt_of, held_in, kept_by, media_after, media_cleared, operation_of, port_of, taken_of, blank}
-use Rattle.device_model.specs.Whole.{Outside, device_of, outside_after, outside_cleared, outside_plugged}
+use Rattle.device_model.specs.View.{Media, cause_of, halt_of, held_in, kept_by, media_after, media_cleared, media_ended, operation_of, port_of, taken_of, blank}
+use Rattle.device_model.specs.Whole.{Outside, device_of, media_plugged, outside_after, outside_cleared, outside_ended, outside_plugged}
 use Rattle.device_model.specs.declared.port.TakenCommand.{TakenCommand}
 use Rattle.device_model.specs.declared.port.Transfer.{Transfer}
 use Rattle.device_model.specs.declared.port.Transfer.TheVariants as transfer
@@ -78,17 +78,27 @@ unplugged h o p port new tape e small is more =
     let P : ℕ → Type 0 = λ q. device_of (record h { ports = slice_set h.ports p new; tape = tape }) o ≡ after (Unplug q) (device_of h o) in
     subst P e (set_port_recorded h o p new _ tape (entry.Unplug (record { 0 = p })) small is (rw (← e) at more))
 
+-- what of another disk is lasting, or of the same
+lasting_put : (same : Bool) (was comes : Option (ℕ → List ℕ)) (at here since : ℕ) → since ≡ (if same then at else here) →
+    ◌≡◌ {A = Lasting} (record { sectors = if same then was else comes; since = since }) (if same then record { sectors = was; since = at } else record { sectors = comes; since = here })
+lasting_put true was comes at here since e = λ i. record { sectors = was; since = e i }
+lasting_put false was comes at here since e = λ i. record { sectors = comes; since = e i }
+
 -- a disk is put in
-pub plugged_in : (h : Hardware) (o : Outside) (p port : ℕ) (new : PortModel) (tape : Vec Entry) (disk : Disk) (number : ℕ) → disk.name ≡ number → p ≡ port → p < length h.ports →
-    ((m : Media) → port_of new m ≡ record (port_of (slice_index_or h.ports p blank) m) { ssts_det = 3; present = true; fresh = false; serr_n = true; serr_x = true }) →
+pub plugged_in : (h : Hardware) (o : Outside) (p port : ℕ) (new : PortModel) (tape : Vec Entry) (disk : Disk) (number since : ℕ) → disk.name ≡ number → p ≡ port → p < length h.ports →
+    since ≡ (if nat_eq disk.name (o.media p).disk.name then (slice_index_or h.ports p blank).lasting_at else length h.tape.items) →
+    ((m : Media) → port_of new m ≡ record (port_of (slice_index_or h.ports p blank) m) { ssts_det = 3; present = true; fresh = false; serr_n = true; serr_x = true; lasting = record { sectors = m.lasting; since = since } }) →
     tape.items ≡ h.tape.items ++ entry.Plug (record { 0 = port }) number ∷ [] →
     device_of (record h { ports = slice_set h.ports p new; tape = tape }) (outside_plugged o port disk) ≡ after (Plug port disk) (device_of h o)
-plugged_in h o p port new tape disk number name e some is more =
-    let media : Media = record { disk = disk; plugged = (o.media p).plugged ++ disk ∷ [] } in
+plugged_in h o p port new tape disk number since name e some lasts is more =
+    let media : Media = media_plugged (o.media p) disk in
+    let state : PortState = port_of (slice_index_or h.ports p blank) media in
+    let lasting = lasting_put (nat_eq disk.name (o.media p).disk.name) (o.media p).lasting disk.sectors (slice_index_or h.ports p blank).lasting_at (length h.tape.items) since lasts in
     let named : entry.Plug (record { 0 = p }) number ≡ entry.Plug (record { 0 = p }) disk.name = ap (entry.Plug (record { 0 = p })) (sym name) in
     let P : ℕ → Type 0 = λ q. device_of (record h { ports = slice_set h.ports p new; tape = tape }) (outside_plugged o q disk) ≡ after (Plug q disk) (device_of h o) in
     subst P e
-    (set_port_plugged h o p new media _ tape (entry.Plug (record { 0 = p }) disk.name) some (is media)
+    (set_port_plugged h o p new media _ tape (entry.Plug (record { 0 = p }) disk.name) some
+    (is media ∙ ap (λ (l : Lasting). record state { ssts_det = 3; present = true; fresh = false; serr_n = true; serr_x = true; lasting = l }) lasting)
     (rw (← e) at more ∙ ap (λ (x : Entry). h.tape.items ++ x ∷ []) named))
 
 is_cause : (k : Transfer) → (cause_of k ≡ 0) ⊎ (cause_of k ≡ 1) ⊎ (cause_of k ≡ 3)
@@ -113,19 +123,19 @@ may_end h o port slot t holds all = record {
 -- a command is at its end, and its FIS is sent
 pub port_ends : (h : Hardware) (o : Outside) (p port slot : ℕ) (new : PortModel) (t : TakenCommand) (tape : Vec Entry) (last : Device) → p ≡ port →
     p < length h.ports → HoldsAt (slice_index_or h.ports p blank) slot t → IsFinished (taken_of t) →
-    port_of new (o.media p) ≡ with_done (port_of (slice_index_or h.ports p blank) (o.media p)) slot (cause_of t.transfer) (operation_of t.transfer) →
+    port_of new (media_ended (o.media p) (operation_of t.transfer)) ≡ with_flush (with_done (port_of (slice_index_or h.ports p blank) (o.media p)) slot (cause_of t.transfer) (operation_of t.transfer)) (operation_of t.transfer) (length h.tape.items) →
     tape.items ≡ h.tape.items ++ done_entry port slot (operation_of t.transfer) ∷ [] →
-    SendsEnd slot p (cause_of t.transfer) (operation_of t.transfer) (device_of (record h { ports = slice_set h.ports p new; tape = tape }) o) last →
+    SendsEnd slot p (cause_of t.transfer) (operation_of t.transfer) (device_of (record h { ports = slice_set h.ports p new; tape = tape }) (outside_ended o p (operation_of t.transfer))) last →
     Ends (SendsEnd slot) port slot (device_of h o) last
 port_ends h o p port slot new t tape last e small holds all is more sends =
     subst (λ q. Ends (SendsEnd slot) q slot (device_of h o) last) e
     (record {
-      mid = device_of (record h { ports = slice_set h.ports p new; tape = tape }) o;
+      mid = device_of (record h { ports = slice_set h.ports p new; tape = tape }) (outside_ended o p (operation_of t.transfer));
       done = record {
         flag = cause_of t.transfer;
         t = taken_of t;
         can = may_end h o p slot t holds all;
-        effect = set_port_recorded h o p new _ tape (done_entry p slot (operation_of t.transfer)) small is (rw e more);
+        effect = set_port_plugged h o p new (media_ended (o.media p) (operation_of t.transfer)) _ tape (done_entry p slot (operation_of t.transfer)) small is (rw e more);
       };
       posts = sends;
     })

@@ -86,9 +86,9 @@ module _ {S : Type 0} (size : S → ℕ) where
       subst (λ (y : Move). BringsOf (identity_of size old y.port.0) (says_of old y.port.0) y) same here)
 
   -- a command ended
-  pub gains_done : (o : Outside) (port slot : ℕ) (old new : Model S) → Ends (SendsEnd slot) port slot (device_of old.hardware o) (device_of new.hardware o) →
+  pub gains_done : (o later : Outside) (port slot : ℕ) (old new : Model S) → Ends (SendsEnd slot) port slot (device_of old.hardware o) (device_of new.hardware later) →
       GainsPages size old new
-  gains_done o port slot old new e =
-      let rest = end_rest port slot e.done.flag e.done.t.meaning.operation e.mid (device_of new.hardware o) e.posts in
+  gains_done o later port slot old new e =
+      let rest = end_rest port slot e.done.flag e.done.t.meaning.operation e.mid (device_of new.hardware later) e.posts in
       gains_one old new (done_entry port slot e.done.t.meaning.operation) (ap (λ (x : Device). x.tape) rest ∙ ap (λ (x : Device). x.tape) e.done.effect)
       (λ x is. absurd (cc is))

@@ -1,5 +1,5 @@
 -- Steps of the hardware, as a model answers them.
-use Rattle.std.proofs.Common.{ℕ, Bool, true, false, ◌≡◌, ◌<◌, ◌∙◌, List, [], ◌∷◌, ◌++◌, Option, refl, sym, ap, subst, inl, inr}
+use Rattle.std.proofs.Common.{ℕ, Bool, true, false, ◌≡◌, ◌<◌, ◌∙◌, List, [], ◌∷◌, ◌++◌, Option, None, Some, refl, sym, ap, subst, inl, inr}
 use Rattle.std.specs.Global.{Vec}
 use Rattle.std.specs.Prelude.{if◌then◌else◌, option_map}
 use Rattle.adapter.specs.Asked.{DoesFatal, DoesFault, DoesFetch, DoesScribble, DoneOf, Ends, Fails, fatal_bit}
@@ -11,20 +11,22 @@ use Rattle.adapter.specs.Steps.Step.{Fetch, FetchFault, Done, Fault, Fatal, Unpl
 use Rattle.adapter.specs.declared.access.DeviceStep.{DeviceStep}
 use Rattle.adapter.specs.declared.access.DeviceStep.TheVariants as asked
 use Rattle.adapter.specs.declared.access.FatalError.{FatalError}
+use Rattle.adapter.specs.declared.command.Operation.{Operation}
+use Rattle.adapter.specs.declared.command.Operation.TheVariants as operation
 use Rattle.adapter.specs.declared.tape.Entry.{Entry}
 use Rattle.adapter.specs.declared.tape.Entry.TheVariants as entry
 use Rattle.adapter.specs.declared.tape.Move.{Move}
 use Rattle.ata_types.specs.declared.Port.{Port}
 use Rattle.ata_types.specs.declared.Slot.{Slot}
 use Rattle.sector_store.specs.declared.store.Failures.{Failures}
-use Rattle.device_model.specs.Disks.{SaysOnly, disk_in, says_of, which_of}
+use Rattle.device_model.specs.Disks.{EndsOnly, SaysOnly, bay_ended, disk_in, says_of, which_of}
 use Rattle.device_model.specs.Does.{AnswersStep, EndsIt, IsLeftOut, MayBeFetched, StepKeeps, LacksMemory, Possible, asked_fault, asked_port, says_after, says_failed, which_after}
 use Rattle.device_model.specs.Finishing.{HasRoom, IsPassed}
 use Rattle.device_model.specs.Held.{held_after}
-use Rattle.device_model.specs.Modelled.{device_at, outside_at}
+use Rattle.device_model.specs.Modelled.{device_at, media_of, outside_at}
 use Rattle.device_model.specs.Sent.{Sends, SendsEnd, SendsFailed, SendsFault}
-use Rattle.device_model.specs.View.{kept_by}
-use Rattle.device_model.specs.Whole.{Outside, device_of}
+use Rattle.device_model.specs.View.{kept_by, media_ended}
+use Rattle.device_model.specs.Whole.{Outside, device_of, outside_ended}
 use Rattle.device_model.specs.declared.hardware.Hardware.{Hardware}
 use Rattle.device_model.specs.declared.bay.Bay.{Bay}
 use Rattle.device_model.specs.declared.bay.Description.{Description}
@@ -33,7 +35,7 @@ use Rattle.device_model.specs.declared.model.Model.{Model}
 use Rattle.device_model.proofs.Doing.{left_same}
 use Rattle.device_model.proofs.Posting.{fault_rest}
 use Rattle.device_model.proofs.Telling.{gains_none, gains_one, gains_done}
-use Rattle.device_model.proofs.TwoDisks.{saying_here, saying_keeps, saying_others, saying_outside, saying_same}
+use Rattle.device_model.proofs.TwoDisks.{put_keeps, put_others, put_outside, put_same, saying_here, saying_keeps, saying_others, saying_outside, saying_same}
 use Rattle.device_model.specs.Paged.{naming}
 
 -- a command failed, and then its FIS was sent
@@ -44,6 +46,25 @@ fault_sent port at slot error kept queued old mid new f kind here sent = record 
   fault = f;
   posts = subst (λ (b : Bool). SendsFault b port mid new) kind (subst (λ (q : ℕ). SendsFault queued q mid new) here sent);
 }
+
+-- what is behind a port once a command has ended
+ended_media : {S : Type 0} (size : S → ℕ) (told : S → Option (ℕ → List ℕ)) (o : Operation) (x : Option (Bay S)) → media_of size told (option_map (bay_ended o) x) ≡ media_ended (media_of size told x) o
+ended_media size told operation.Flush None = refl
+ended_media size told operation.Flush (Some b) = refl
+ended_media size told operation.Identify None = refl
+ended_media size told operation.Identify (Some b) = refl
+ended_media size told operation.ReadLog None = refl
+ended_media size told operation.ReadLog (Some b) = refl
+ended_media size told operation.Read None = refl
+ended_media size told operation.Read (Some b) = refl
+ended_media size told operation.ReadQueued None = refl
+ended_media size told operation.ReadQueued (Some b) = refl
+ended_media size told operation.Write None = refl
+ended_media size told operation.Write (Some b) = refl
+ended_media size told operation.WriteQueued None = refl
+ended_media size told operation.WriteQueued (Some b) = refl
+ended_media size told operation.Trim None = refl
+ended_media size told operation.Trim (Some b) = refl
 
 module _ {S : Type 0} (size : S → ℕ) (told : S → Option (ℕ → List ℕ)) (failures : S → Option Failures) (m : Model S) (h : Hardware) where
   abbrev new : Model S
@@ -157,27 +178,40 @@ module _ {S : Type 0} (size : S → ℕ) (told : S → Option (ℕ → List ℕ)
   senseless_answers p s false port slot only done same passed starved =
       fetch_left p s port slot only (same refl) (passed refl)
 
-  pub done_answers : (p : Port) (s : Slot) (did : Bool) → p.0 < 4 → s.0 < 32 →
-      (did ≡ true → Ends (SendsEnd s.0) p.0 s.0 (device_of m.hardware behind) (device_of h behind)) → (did ≡ false → device_of h behind ≡ device_of m.hardware behind) →
-      (did ≡ false → IsPassed m.hardware h ((flag : ℕ) × (t : Taken) × Can (Done p.0 s.0 flag t) (device_of m.hardware behind))) →
-      (did ≡ true → h.starved ≡ m.hardware.starved) → AnswersStep size told failures (asked.Done p s) did m new
-  done_answers p s true port slot done same passed starved =
-      let d = done refl in (
+  -- a command ended
+  pub done_answers : (p : Port) (s : Slot) (o : Operation) (bays : Vec (Option (Bay S))) → p.0 < 4 → s.0 < 32 →
+      Ends (SendsEnd s.0) p.0 s.0 (device_of m.hardware behind) (device_of h (outside_ended behind p.0 o)) →
+      h.starved ≡ m.hardware.starved → EndsOnly o p.0 m.bays.items bays.items → AnswersStep size told failures (asked.Done p s) true m (record new { bays = bays })
+  done_answers p s o bays port slot d starved only =
+      let last : Model S = record new { bays = bays } in
+      let put : Bay S → Bay S = bay_ended o in
+      let behind_then : outside_at size told last ≡ outside_ended behind p.0 o =
+      put_outside put m last p.0 only size told (λ x. media_ended x o) (λ b. refl) (ended_media size told o) in
+      let P : Outside → Type 0 = λ x. Ends (SendsEnd s.0) p.0 s.0 (device_of m.hardware behind) (device_of h x) in (
         (port, slot, d.done.flag, d.done.t, d.done.can),
         record {
-          came = inl (record { asked = d; fine = λ _ _. refl; says = refl; ends = λ _. tt });
+          came = inl (record {
+            asked = subst P (sym behind_then) d;
+            fine = λ q w. put_same put m last p.0 only (λ x. option_map (λ (y : ModelDisk S). failures y.store) (option_map (λ (y : Bay S). disk_in y w) x)) (λ b. refl) q;
+            says = put_same put m last p.0 only (option_map (λ (y : Bay S). y.says)) (λ b. refl) p.0;
+            ends = λ _. tt;
+          });
           held = refl;
-          which = refl;
-          others = λ _ _. refl;
-          pages = gains_done size behind p.0 s.0 m new d;
-          disks = λ _ _. refl;
-          keeps = on_hardware;
-          starved = starved refl;
+          which = put_same put m last p.0 only (option_map (λ (y : Bay S). y.which)) (λ b. refl) p.0;
+          others = put_others put m last p.0 only;
+          pages = gains_done size behind (outside_ended behind p.0 o) p.0 s.0 m last d;
+          disks = λ _ w. put_same put m last p.0 only (option_map (λ (y : Bay S). disk_in y w)) (λ b. refl) p.0;
+          keeps = put_keeps put m last p.0 only size (λ b w. refl) refl refl;
+          starved = starved;
         },
       )
-  done_answers p s false port slot done same passed starved =
+
+  -- none did
+  pub done_left : (p : Port) (s : Slot) → p.0 < 4 → s.0 < 32 → device_of h behind ≡ device_of m.hardware behind →
+      IsPassed m.hardware h ((flag : ℕ) × (t : Taken) × Can (Done p.0 s.0 flag t) (device_of m.hardware behind)) → AnswersStep size told failures (asked.Done p s) false m new
+  done_left p s port slot same passed =
       passed_left (asked.Done p s) ((flag : ℕ) × (t : Taken) × Can (Done p.0 s.0 flag t) (device_of m.hardware behind)) (λ may. (may.2, may.3, may.4))
-      (λ may. (port, slot, may.0, may.1, may.2)) (λ none. none) (same refl) (passed refl)
+      (λ may. (port, slot, may.0, may.1, may.2)) (λ none. none) same passed
 
   -- a command that is taken fails: in the model the log names it, if it is queued
   module _ (step : DeviceStep) (s : Slot) (error kept : ℕ) (may : Possible step (device_at size told m))

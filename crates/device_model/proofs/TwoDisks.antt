@@ -278,7 +278,7 @@ module _ {S : Type 0} where
       abbrev was_put : List Disk
       was_put = (media_of size told (Some a)).plugged
 
-      store_media : media_of size told (Some b) ≡ record { disk = disk_over a.which (size b.disk.store) (told b.disk.store); plugged = was_put }
+      store_media : media_of size told (Some b) ≡ record { disk = disk_over a.which (size b.disk.store) (told b.disk.store); plugged = was_put; lasting = told a.lasting.value }
       store_media = ap (λ (x : Bay S). media_of size told (Some x)) rest
 
       store_tells : is_some (told b.disk.store) ≡ is_some (told a.disk.store) → tells told (Some b) ≡ tells told (Some a)
@@ -292,7 +292,7 @@ module _ {S : Type 0} where
           seated_outside m new port a b was items size told _
           (store_tells (ap (λ (d : Disk). is_some d.sectors) is ∙ cleared_tells (disk_over a.which (size a.disk.store) (told a.disk.store)) first count))
           (store_media
-          ∙ (ap (λ (d : Disk). record { disk = d; plugged = was_put }) is ∙ ap (λ x. media_cleared (media_of size told x) first count) (sym was)))
+          ∙ (ap (λ (d : Disk). record { disk = d; plugged = was_put; lasting = told a.lasting.value }) is ∙ ap (λ x. media_cleared (media_of size told x) first count) (sym was)))
 
       -- a piece was moved
       pub outside_moved : (next : NextMove) (r : TakenCommand) (bytes : List ℕ) → next.transfer ≡ r.transfer → next.sector ≡ next_sector (taken_of r) →
@@ -301,7 +301,7 @@ module _ {S : Type 0} where
           outside_at size told new ≡ outside_after (outside_at size told m) port (taken_of r) bytes
       outside_moved next r bytes kind sector is =
           seated_outside m new port a b was items size told _ (store_tells (ap (λ (d : Disk). is_some d.sectors) is_after ∙ still_tells r.transfer old (next_sector (taken_of r)) bytes))
-          (store_media ∙ (ap (λ (d : Disk). record { disk = d; plugged = was_put }) is_after ∙ ap (λ x. media_after (media_of size told x) (taken_of r) bytes) (sym was)))
+          (store_media ∙ (ap (λ (d : Disk). record { disk = d; plugged = was_put; lasting = told a.lasting.value }) is_after ∙ ap (λ x. media_after (media_of size told x) (taken_of r) bytes) (sym was)))
         where
           old : Disk
           old = disk_over a.which (size a.disk.store) (told a.disk.store)
@@ -313,7 +313,67 @@ module _ {S : Type 0} where
       pub outside_kept : size b.disk.store ≡ size a.disk.store → told b.disk.store ≡ told a.disk.store → outside_at size told new ≡ outside_at size told m
       outside_kept sizes tells_so =
           seated_behind m new port a b was items size told
-          (store_media ∙ (λ i. record { disk = disk_over a.which (sizes i) (tells_so i); plugged = was_put })) (store_tells (ap is_some tells_so))
+          (store_media ∙ (λ i. record { disk = disk_over a.which (sizes i) (tells_so i); plugged = was_put; lasting = told a.lasting.value })) (store_tells (ap is_some tells_so))
+
+  -- ---- the disks of a port are others, if it has some
+
+  module _ (put : Bay S → Bay S) (m new : Model S) (port : ℕ) (items : new.bays.items ≡ slice_set m.bays.items port (option_map put (bay_of m port))) where
+    pub put_same : {X : Type 0} (f : Option (Bay S) → X) → ((b : Bay S) → f (Some (put b)) ≡ f (Some b)) → (q : ℕ) → f (bay_of new q) ≡ f (bay_of m q)
+    put_same f same q =
+        ap (λ (l : List (Option (Bay S))). f (slice_index_or l q None)) items
+        ∙ set_same f m.bays.items port (option_map put (bay_of m port)) (by (bay_of m port)) q
+      where
+        by : (x : Option (Bay S)) → f (option_map put x) ≡ f x
+        by None = refl
+        by (Some b) = same b
+
+    pub put_others : (q : ℕ) → q ≢ port → bay_of new q ≡ bay_of m q
+    put_others q ne = ap (λ (l : List (Option (Bay S))). slice_index_or l q None) items ∙ get_or-set_other m.bays.items port q (option_map put (bay_of m port)) None ne
+
+    put_here : bay_of new port ≡ option_map put (bay_of m port)
+    put_here = by (bay_of m port) refl
+      where
+        by : (x : Option (Bay S)) → bay_of m port ≡ x → bay_of new port ≡ option_map put (bay_of m port)
+        by None is =
+            ap (λ (l : List (Option (Bay S))). slice_index_or l port None)
+            (items ∙ set_none m.bays.items port (option_map put (bay_of m port)) (is ∙ sym (ap (option_map put) is)))
+            ∙ (is ∙ sym (ap (option_map put) is))
+        by (Some b) is =
+            ap (λ (l : List (Option (Bay S))). slice_index_or l port None) items
+            ∙ get_or-set_same m.bays.items port (option_map put (bay_of m port)) None (there m.bays.items port b is)
+
+    -- what is behind the ports then
+    pub put_outside : (size : S → ℕ) (told : S → Option (ℕ → List ℕ)) (media : Media → Media) → ((b : Bay S) → tells told (Some (put b)) ≡ tells told (Some b)) →
+        ((x : Option (Bay S)) → media_of size told (option_map put x) ≡ media (media_of size told x)) →
+        outside_at size told new ≡ record (outside_at size told m) { media = changed (outside_at size told m).media port (media ((outside_at size told m).media port)) }
+    put_outside size told media same is = λ i. record { telling = tell i; media = fun_ext behind i }
+      where
+        was_media : ℕ → Media
+        was_media = (outside_at size told m).media
+
+        by : (x : Option (Bay S)) → tells told (option_map put x) ≡ tells told x
+        by None = refl
+        by (Some b) = same b
+
+        tell : all_tell told new.bays.items ≡ all_tell told m.bays.items
+        tell = ap (all_tell told) items ∙ all_tell_set told m.bays.items port (option_map put (bay_of m port)) (by (bay_of m port))
+
+        behind : (q : ℕ) → media_of size told (bay_of new q) ≡ changed was_media port (media (was_media port)) q
+        behind q =
+            elim (eqb_tells q port) [
+              | inl here ↦
+                  subst (λ k. media_of size told (bay_of new k) ≡ changed was_media port (media (was_media port)) k) (sym here.1)
+                  (ap (media_of size told) put_here ∙ (is (bay_of m port) ∙ sym (changed_same was_media port (media (was_media port)))))
+              | inr differ ↦ ap (media_of size told) (put_others q differ.1) ∙ sym (changed_other was_media port (media (was_media port)) q differ.1)
+            ]
+
+    pub put_keeps : (size : S → ℕ) → ((b : Bay S) (w : Which) → disk_in (put b) w ≡ disk_in b w) → new.queue ≡ m.queue → new.accesses ≡ m.accesses → StepKeeps size m new
+    put_keeps size same queue accesses = record {
+      out = λ q w _. put_same (option_map (λ (b : Bay S). disk_in b w)) (λ b. ap Some (same b w)) q;
+      identities = λ q w. put_same (λ x. option_map (identity size) (option_map (λ (b : Bay S). disk_in b w) x)) (λ b. ap (λ (d : ModelDisk S). Some (identity size d)) (same b w)) q;
+      queue = queue;
+      accesses = accesses;
+    }
 
   -- ---- what the disks of a port say is another
 
@@ -323,30 +383,17 @@ module _ {S : Type 0} where
     saying b = record b { says = says b.says }
 
     pub saying_same : {X : Type 0} (f : Option (Bay S) → X) → ((b : Bay S) → f (Some (saying b)) ≡ f (Some b)) → (q : ℕ) → f (bay_of new q) ≡ f (bay_of m q)
-    saying_same f same q =
-        ap (λ (l : List (Option (Bay S))). f (slice_index_or l q None)) items
-        ∙ set_same f m.bays.items port (option_map saying (bay_of m port)) (by (bay_of m port)) q
-      where
-        by : (x : Option (Bay S)) → f (option_map saying x) ≡ f x
-        by None = refl
-        by (Some b) = same b
+    saying_same f same q = put_same saying m new port items f same q
 
     pub saying_others : (q : ℕ) → q ≢ port → bay_of new q ≡ bay_of m q
-    saying_others q ne = ap (λ (l : List (Option (Bay S))). slice_index_or l q None) items ∙ get_or-set_other m.bays.items port q (option_map saying (bay_of m port)) None ne
+    saying_others q ne = put_others saying m new port items q ne
 
     pub saying_here : says_of new port ≡ option_map says (says_of m port)
-    saying_here = by (bay_of m port) refl
+    saying_here = ap (option_map (λ (b : Bay S). b.says)) (put_here saying m new port items) ∙ by (bay_of m port)
       where
-        by : (x : Option (Bay S)) → bay_of m port ≡ x → says_of new port ≡ option_map says (says_of m port)
-        by None is =
-            ap (option_map (λ (b : Bay S). b.says))
-            (ap (λ (l : List (Option (Bay S))). slice_index_or l port None)
-            (items ∙ set_none m.bays.items port (option_map saying (bay_of m port)) (is ∙ sym (ap (option_map saying) is))))
-            ∙ (ap (option_map (λ (b : Bay S). b.says)) is ∙ sym (ap (λ x. option_map says (option_map (λ (b : Bay S). b.says) x)) is))
-        by (Some b) is =
-            let put = ap (λ (l : List (Option (Bay S))). slice_index_or l port None) items
-            ∙ get_or-set_same m.bays.items port (option_map saying (bay_of m port)) None (there m.bays.items port b is) in
-            ap (option_map (λ (x : Bay S). x.says)) (put ∙ ap (option_map saying) is) ∙ sym (ap (λ x. option_map says (option_map (λ (y : Bay S). y.says) x)) is)
+        by : (x : Option (Bay S)) → option_map (λ (b : Bay S). b.says) (option_map saying x) ≡ option_map says (option_map (λ (b : Bay S). b.says) x)
+        by None = refl
+        by (Some b) = refl
 
     pub saying_outside : (size : S → ℕ) (told : S → Option (ℕ → List ℕ)) → outside_at size told new ≡ outside_at size told m
     saying_outside size told =
@@ -360,12 +407,7 @@ module _ {S : Type 0} where
         tell = ap (all_tell told) items ∙ all_tell_set told m.bays.items port (option_map saying (bay_of m port)) (by (bay_of m port))
 
     pub saying_keeps : (size : S → ℕ) → new.queue ≡ m.queue → new.accesses ≡ m.accesses → StepKeeps size m new
-    saying_keeps size queue accesses = record {
-      out = λ q w _. saying_same (option_map (λ (b : Bay S). disk_in b w)) (λ b. refl) q;
-      identities = λ q w. saying_same (λ x. option_map (identity size) (option_map (λ (b : Bay S). disk_in b w) x)) (λ b. refl) q;
-      queue = queue;
-      accesses = accesses;
-    }
+    saying_keeps size queue accesses = put_keeps saying m new port items size (λ b w. refl) queue accesses
 
   -- ---- ports that have disks
 

@@ -65,6 +65,7 @@ still_out (asked.Truth p) d q w v at out never may = out
 still_out (asked.Hold p) d q w v at out never may = out
 still_out (asked.Release p) d q w v at out never may = out
 still_out (asked.Unplug p) d q w v at out never may = out
+still_out (asked.LosePlug p) d q w v at out never may = out
 
 -- where a port has no disk in it, nothing that is asked puts one in, but a Plug
 still_empty : (s : DeviceStep) (old new : Device) (q : ℕ) (w : Which) (v : Option Which) → (old.port q).present ≡ false → (PutsIn q w s → ⊥) → Possible s old →
@@ -86,6 +87,7 @@ still_empty (asked.Unplug p) old new q w v empty never may did same = unplug_emp
 still_empty (asked.Plug p number) old new q w None empty never may did same = plug_elsewhere q p.0 number.0 old new did empty (λ here. some-none (same here) refl)
 still_empty (asked.Plug p number) old new q w (Some v) empty never may did same =
     plug_elsewhere q p.0 number.0 old new did empty (λ here. absurd (never (sym here, named_by w number.0 may.2 (sym (some_one (same here))))))
+still_empty (asked.LosePlug p) old new q w v empty never may did same = plug_elsewhere q p.0 (old.port p.0).disk.name old new did empty (λ here. never (sym here))
 
 moving_keeps : (q port slot : ℕ) (was now : Option Failures) (says later : Option Description) (old new : Device) → FailsToMove port slot was now says later old new →
     (new.port q).present ≡ (old.port q).present
@@ -128,6 +130,7 @@ still_failed q (asked.Hold p) was now says later old new empty f = absurd f
 still_failed q (asked.Release p) was now says later old new empty f = absurd f
 still_failed q (asked.Unplug p) was now says later old new empty f = absurd f
 still_failed q (asked.Plug p number) was now says later old new empty f = absurd f
+still_failed q (asked.LosePlug p) was now says later old new empty f = absurd f
 
 -- the disk is the one that is in or was last, or it isn't
 is_it : (v : Option Which) (w : Which) → (v ≡ Some w) ⊎ (v ≢ Some w)
@@ -169,6 +172,7 @@ module _ {S : Type 0} (size : S → ℕ) (told : S → Option (ℕ → List ℕ)
   none_moves (asked.Release p) m at empty moves = moves
   none_moves (asked.Unplug p) m at empty moves = moves
   none_moves (asked.Plug p number) m at empty moves = moves
+  none_moves (asked.LosePlug p) m at empty moves = moves
 
   one_stays : (s : DeviceStep) (answer : Bool) (old new : Model S) (w : Which) → which_of old q ≢ Some w → (PutsIn q w s → ⊥) →
       AnswersStep size told failures s answer old new → (which_of new q ≢ Some w) × (disk_of new q w ≡ disk_of old q w)

@@ -1,7 +1,10 @@
 -- The disks of a model: two for each port that has some, of which one is in at a time, and how they stand (this
 -- project's own).
 use Rattle.std.specs.Prelude.{ℕ, ◌≡◌, Bool, true, false, List, [], ◌∷◌, ◌++◌, Option, None, Some, codes, if◌then◌else◌, option_map, slice_index_or, slice_set}
+use Rattle.std.specs.declared.snapshot.Snapshot.{Snapshot}
 use Rattle.adapter.specs.Device.{Disk}
+use Rattle.adapter.specs.declared.command.Operation.{Operation}
+use Rattle.adapter.specs.declared.command.Operation.TheVariants.{Flush}
 use Rattle.sector_store.specs.declared.store.Failures.{Failures}
 use Rattle.device_model.specs.declared.bay.Bay.{Bay}
 use Rattle.device_model.specs.declared.bay.Description.{Description}
@@ -92,6 +95,19 @@ failing failures (Some b) = failures b.disk.store
 
 abbrev pub failures_of : {S : Type 0} → (S → Option Failures) → Model S → ℕ → Option Failures
 failures_of failures m port = failing failures (bay_of m port)
+
+-- the disks of a port after such a command has ended: a flush makes lasting what the disk that is in holds
+abbrev pub lasting_store : {S : Type 0} → Operation → Bay S → Snapshot S
+lasting_store Flush b = record { marker = record {}; value = b.disk.store }
+lasting_store _ b = b.lasting
+
+abbrev pub bay_ended : {S : Type 0} → Operation → Bay S → Bay S
+bay_ended operation b = record b { lasting = lasting_store operation b }
+
+-- a command of this port has ended, and nothing else is another
+abbrev pub EndsOnly : {S : Type 0} → Operation → ℕ → (old new : List (Option (Bay S))) → Type 0
+EndsOnly operation port old new = new ≡ slice_set old port (option_map (bay_ended operation)
+    (slice_index_or old port None))
 
 -- what the disks of this port say is another, if it has some, and nothing else
 abbrev pub SaysOnly : {S : Type 0} → (Description → Description) → ℕ → (old new : List (Option (Bay S))) → Type 0

@@ -58,6 +58,7 @@ Possible (asked.Hold p) d = p.0 < 4
 Possible (asked.Release p) d = p.0 < 4
 Possible (asked.Unplug p) d = (p.0 < 4) × Can (Unplug p.0) d
 Possible (asked.Plug p number) d = (p.0 < 4) × HasDisks d p.0 × (number.0 < 2) × ((d.port p.0).present ≡ false)
+Possible (asked.LosePlug p) d = (p.0 < 4) × HasDisks d p.0 × ((d.port p.0).present ≡ false)
 
 -- Without growing, the tape has no room for what the step notes there. A Finish notes each of its moves and clears, and
 -- the end; a Fetch a fault alone. A Clear notes what it clears, and then a fault, where the store fails behind some
@@ -75,6 +76,7 @@ LacksMemory (asked.FaultBusy p s error) d h = HasRoom h 1 → ⊥
 LacksMemory (asked.Fatal p error) d h = HasRoom h 1 → ⊥
 LacksMemory (asked.Unplug p) d h = HasRoom h 1 → ⊥
 LacksMemory (asked.Plug p number) d h = HasRoom h 1 → ⊥
+LacksMemory (asked.LosePlug p) d h = HasRoom h 1 → ⊥
 LacksMemory step d h = ⊥
 
 -- so many moves of sectors, or clears, are left of an operation
@@ -123,6 +125,7 @@ asked_port (asked.Hold p) = p.0
 asked_port (asked.Release p) = p.0
 asked_port (asked.Unplug p) = p.0
 asked_port (asked.Plug p number) = p.0
+asked_port (asked.LosePlug p) = p.0
 
 -- what the disks of a port say of themselves once a command that is taken in a slot has failed with an error: the log
 -- names it, if it is queued
@@ -144,9 +147,10 @@ abbrev pub which_after : DeviceStep → Option Which → Option Which
 which_after (asked.Plug p number) which = option_map (λ (_ : Which). if nat_eq number.0 0 then Disk0 else Disk1) which
 which_after step which = which
 
--- the step puts this disk into this port
+-- the step puts this disk into this port; or the one of the port that was last in, which may be this one
 abbrev pub PutsIn : (port : ℕ) → Which → DeviceStep → Type 0
 PutsIn port which (asked.Plug p number) = (p.0 ≡ port) × (number.0 ≡ disk_number which)
+PutsIn port which (asked.LosePlug p) = p.0 ≡ port
 PutsIn port which step = ⊥
 
 -- What no step changes: the disk of a port that isn't in, or wasn't last; of each disk its serial number and how many

@@ -27,6 +27,7 @@ media_of size told (Some b) =
       disk = disk_over b.which (size b.disk.store) (told b.disk.store);
       plugged = disk_over Disk0 (size b.first.value) (told b.first.value)
           ∷ plugged_as (λ which store. disk_over which (size store) (told store)) b.later;
+      lasting = told b.lasting.value;
     }
 
 -- the stores of both disks of a port tell their sectors, if it has disks; and so do those of all ports

@@ -97,10 +97,12 @@ held_in slots = λ slot. slice_index_or slots slot None
 abbrev pub slots_of : (ℕ → Option TakenCommand) → ℕ → Option Taken
 slots_of taken = λ slot. option_map taken_of (taken slot)
 
--- what is behind a port: its disk, and those that were plugged in
+-- what is behind a port: its disk, and those that were plugged in; and what that disk held when it last ended a flush,
+-- or else when it was first in
 pub record Media : Type 0 where
   pub disk : Disk
   pub plugged : List Disk
+  pub lasting : Option (ℕ → List ℕ)
 
 -- the same after the next piece of this command, these bytes, was moved
 abbrev pub media_after : Media → Taken → List ℕ → Media
@@ -109,6 +111,14 @@ media_after m t bytes = record m { disk = disk_after t.meaning.operation m.disk 
 -- the same after sectors were cleared, so many from the first on
 abbrev pub media_cleared : Media → (first count : ℕ) → Media
 media_cleared m first count = record m { disk = disk_cleared m.disk first count }
+
+-- the same after such a command has ended: a flush makes lasting what the disk holds
+abbrev pub lasting_sectors : Operation → Media → Option (ℕ → List ℕ)
+lasting_sectors Flush m = m.disk.sectors
+lasting_sectors _ m = m.lasting
+
+abbrev pub media_ended : Media → Operation → Media
+media_ended m operation = record m { lasting = lasting_sectors operation m }
 
 abbrev pub port_of : PortModel → Media → PortState
 port_of p m =
@@ -130,6 +140,7 @@ port_of p m =
       sact = bits_of p.sact;
       disk = m.disk;
       plugged = m.plugged;
+      lasting = record { sectors = m.lasting; since = p.lasting_at };
       present = p.present;
       fresh = p.fresh;
       link_due = p.link_due;
@@ -168,6 +179,7 @@ blank =
       halting = halting.Running;
       broken = false;
       taken = [];
+      lasting_at = 0;
       readings = record {
         st_set_at = 0;
         sctl_written_at = 0;

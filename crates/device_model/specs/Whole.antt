@@ -1,10 +1,11 @@
 -- The state of the whole adapter that a model stands for.
-use Rattle.std.specs.Prelude.{ℕ, Bool, ◌<◌, ◌≢◌, ◌++◌, ◌∷◌, List, [], length, Some, slice_index, slice_index_or}
+use Rattle.std.specs.Prelude.{ℕ, Bool, ◌<◌, ◌≢◌, ◌++◌, ◌∷◌, List, [], length, Some, if◌then◌else◌, nat_eq, slice_index, slice_index_or}
 use Rattle.adapter.specs.Device.{Disk, Taken, Device}
 use Rattle.adapter.specs.Memory.{changed}
+use Rattle.adapter.specs.declared.command.Operation.{Operation}
 use Rattle.hba_regs.specs.declared.reg.Reg.{Reg}
 use Rattle.hba_regs.specs.declared.reg.Reg.TheVariants.{Px}
-use Rattle.device_model.specs.View.{Media, media_after, media_cleared, port_of, blank}
+use Rattle.device_model.specs.View.{Media, media_after, media_cleared, media_ended, port_of, blank}
 use Rattle.device_model.specs.declared.hardware.Hardware.{Hardware}
 
 -- what is outside the hardware: what is behind each port, and whether all disks tell their sectors
@@ -20,6 +21,10 @@ outside_after o port t bytes = record o { media = changed o.media port (media_af
 abbrev pub outside_cleared : Outside → (port first count : ℕ) → Outside
 outside_cleared o port first count =
     record o { media = changed o.media port (media_cleared (o.media port) first count) }
+
+-- the same after such a command of this port has ended
+abbrev pub outside_ended : Outside → ℕ → Operation → Outside
+outside_ended o port operation = record o { media = changed o.media port (media_ended (o.media port) operation) }
 
 abbrev pub device_of : Hardware → Outside → Device
 device_of h o =
@@ -43,12 +48,26 @@ HasRegister _ = Unit {0}
 
 -- no disk, ever
 abbrev pub no_media : Media
-no_media = record { disk = record { name = 0; size = 0; sectors = Some (λ k. []) }; plugged = [] }
+no_media =
+    record {
+      disk = record { name = 0; size = 0; sectors = Some (λ k. []) };
+      plugged = [];
+      lasting = Some (λ k. []);
+    }
+
+-- what is behind a port after this disk was put in
+abbrev pub media_plugged : Media → Disk → Media
+media_plugged m disk =
+    record {
+      disk = disk;
+      plugged = m.plugged ++ disk ∷ [];
+      lasting = if nat_eq disk.name m.disk.name then m.lasting else disk.sectors;
+    }
 
 -- the same after this disk was put into a port
 abbrev pub outside_plugged : Outside → ℕ → Disk → Outside
 outside_plugged o port disk =
-    record o { media = changed o.media port (record { disk = disk; plugged = (o.media port).plugged ++ disk ∷ [] }) }
+    record o { media = changed o.media port (media_plugged (o.media port) disk) }
 
 -- The port is one that has disks: one was put in, or was in at first.
 abbrev pub HasDisks : Device → ℕ → Type 0

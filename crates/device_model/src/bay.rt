@@ -1,10 +1,10 @@
 // The disks of a port, as a model has them.
-ghost use Rattle.std.specs.Prelude.{◌≡◌, ◌<◌, ◌≤◌, ◌+◌, ◌++◌, ◌∷◌, [], ℕ, true, false, length, IfSome};
+ghost use Rattle.std.specs.Prelude.{◌≡◌, ◌<◌, ◌≤◌, ◌+◌, ◌++◌, ◌∷◌, [], ℕ, true, false, length, if◌then◌else◌, IfSome};
 ghost use Rattle.adapter.specs.Commands.{is_ranged, reads_memory};
 ghost use Rattle.adapter.specs.Device.{Disk, IsSector};
 ghost use Rattle.adapter.specs.Steps.{disk_after, disk_cleared};
 ghost use Rattle.sector_store.specs.Stores.{FailsOn};
-ghost use Rattle.device_model.specs.Disks.{disk_in, disk_over, identity, plugged_as};
+ghost use Rattle.device_model.specs.Disks.{bay_ended, disk_in, disk_over, identity, is_same, plugged_as};
 ghost use Rattle.device_model.specs.Exchanged.{Exchanges, IsExchanged, piece_of};
 ghost use Rattle.device_model.specs.Paged.{IsItsLog, IsItsPage, IsTurned, lying, naming, no_lies, truthful};
 ghost use Rattle.device_model.specs.View.{operation_of};
@@ -54,6 +54,9 @@ pub struct Bay<S> {
     pub first: Snapshot<S>,
     /// Those that were put in after it, for proofs alone.
     pub later: Plugged<S>,
+    /// The disk that is in, or was last, as it was when it last ended a flush, or else when it was first in; for proofs
+    /// alone.
+    pub lasting: Snapshot<S>,
 }
 
 /// Turns these bits of a page.
@@ -95,9 +98,11 @@ impl<S: SectorStore> Bay<S> {
         ensures other { result.other ≡ disks.spare }
         ensures says { result.says ≡ record { abilities = abilities; log = None; lies = no_lies; log_lies = no_lies } }
         ensures first { result.first.value ≡ disks.first.store }
+        ensures lasting { result.lasting.value ≡ disks.first.store }
         ensures later { (disk : Which → S → Disk) → plugged_as disk result.later ≡ [] }
     {
         let first = Snapshot::of(&disks.first.store);
+        let lasting = Snapshot::of(&disks.first.store);
         Bay {
             which: Which::Disk0,
             disk: disks.first,
@@ -110,6 +115,7 @@ impl<S: SectorStore> Bay<S> {
             },
             first,
             later: Plugged::Nothing,
+            lasting,
         }
     }
 
@@ -256,16 +262,29 @@ impl<S: SectorStore> Bay<S> {
         self.says.log_lies = [0; PAGE_BYTES];
     }
 
-    /// Has a disk stand as the one that is in. It has the sectors that it had.
+    /// Such a command has ended: a flush makes lasting what the disk that is in holds.
+    pub fn end(&mut self, transfer: Transfer)
+        ensures { self.new ≡ bay_ended (operation_of transfer) self.old }
+    {
+        match transfer {
+            Transfer::Flush => self.lasting = Snapshot::of(&self.disk.store),
+            _ => {}
+        }
+    }
+
+    /// Has a disk stand as the one that is in. It has the sectors that it had; of another one they are lasting.
     fn turn_to(&mut self, which: Which)
         ensures which { self.new.which ≡ which }
         ensures disks { (w : Which) → disk_in self.new w ≡ disk_in self.old w }
+        ensures lasting { self.new.lasting.value
+            ≡ (if is_same which self.old.which then self.old.lasting.value else self.new.disk.store) }
         ensures rest { self.new ≡ record self.old
-            { which = self.new.which; disk = self.new.disk; other = self.new.other } }
+            { which = self.new.which; disk = self.new.disk; other = self.new.other; lasting = self.new.lasting } }
     {
         if self.which != which {
             mem::swap(&mut self.disk, &mut self.other);
             self.which = which;
+            self.lasting = Snapshot::of(&self.disk.store);
         }
     }
 
@@ -275,8 +294,15 @@ impl<S: SectorStore> Bay<S> {
         ensures disks { (w : Which) → disk_in self.new w ≡ disk_in self.old w }
         ensures later { (disk : Which → S → Disk) → plugged_as disk self.new.later
             ≡ plugged_as disk self.old.later ++ disk which self.new.disk.store ∷ [] }
-        ensures rest { self.new ≡ record self.old
-            { which = self.new.which; disk = self.new.disk; other = self.new.other; later = self.new.later } }
+        ensures lasting { self.new.lasting.value
+            ≡ (if is_same which self.old.which then self.old.lasting.value else self.new.disk.store) }
+        ensures rest { self.new ≡ record self.old {
+          which = self.new.which;
+          disk = self.new.disk;
+          other = self.new.other;
+          later = self.new.later;
+          lasting = self.new.lasting;
+        } }
     {
         self.turn_to(which);
         self.later.note(which, &self.disk.store);

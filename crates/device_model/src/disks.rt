@@ -3,7 +3,7 @@ ghost use Rattle.std.specs.Prelude.{◌≡◌, ◌≤◌, ◌++◌, ◌∷◌, [
 ghost use Rattle.adapter.specs.Device.{Disk};
 ghost use Rattle.sector_store.specs.Pages.{IsPage};
 ghost use Rattle.sector_store.specs.Stores.{IsSector};
-ghost use Rattle.device_model.specs.Disks.{disk_number, plugged_as, port_0_alone};
+ghost use Rattle.device_model.specs.Disks.{disk_number, is_same, plugged_as, port_0_alone};
 
 use adapter::DiskNumber;
 use sector_store::SectorStore;
@@ -56,6 +56,16 @@ impl Which {
             0 => Some(Which::Disk0),
             1 => Some(Which::Disk1),
             _ => None,
+        }
+    }
+
+    /// Whether it is that one.
+    pub fn is(self, other: Which) -> bool
+        ensures { result ≡ is_same self other }
+    {
+        match self {
+            Which::Disk0 => matches!(other, Which::Disk0),
+            Which::Disk1 => matches!(other, Which::Disk1),
         }
     }
 

@@ -11,7 +11,8 @@ ghost use Rattle.adapter.specs.Asked.{Asked};
 ghost use Rattle.sector_store.specs.Stores.{FailsOn};
 ghost use Rattle.device_model.specs.Fetched.{bytes_of};
 ghost use Rattle.adapter.specs.OneCommand.{IsFreeSlot};
-ghost use Rattle.device_model.specs.Disks.{SaysOnly, disk_of, given_for, port_0_alone};
+ghost use Rattle.device_model.specs.Disks.{EndsOnly, SaysOnly, disk_of, given_for, port_0_alone};
+ghost use Rattle.device_model.specs.View.{operation_of};
 ghost use Rattle.device_model.specs.Finishing.{FindsPage, HasPage, HasMove, HasRoom, IsBusy, MayPage, sends_page};
 ghost use Rattle.device_model.specs.Held.{IsPortLoose};
 ghost use Rattle.device_model.specs.Paged.{lying, naming, truthful};
@@ -27,7 +28,7 @@ use crate::clearing::Run;
 use crate::config::{ModelConfig, NoMemory};
 use crate::disks::{Disks, PortDisks, Which};
 use crate::hardware::Hardware;
-use crate::port::PortModel;
+use crate::port::{PortModel, Transfer};
 use crate::steps::{Begun, FoundPage, Growths};
 use adapter::{Adapter, DeviceStep, DiskNumber, DiskPage, Entry, FatalError, Stepped};
 use ata_types::{FEWEST_FRAMES, FRAME_BYTES, MOST_FRAMES, PORTS, Port, Slot};
@@ -268,7 +269,11 @@ impl<S: SectorStore> Model<S> {
         if port.0 >= 4 || slot.0 >= 32 {
             return false;
         }
-        self.hardware.done(port.0, slot.0)
+        let Some(transfer) = self.hardware.done(port.0, slot.0) else {
+            return false;
+        };
+        end_in(&mut self.bays, usize::from(port.0), transfer);
+        true
     }
 
     /// Fails a slot's command, which is taken, with an error, and leaves its disk busy or not. The log names it, if it
@@ -333,7 +338,10 @@ impl<S: SectorStore> Model<S> {
         let Some(bay) = &mut self.bays[place] else {
             return false;
         };
-        if !self.hardware.plug(port.0, which.number()) {
+        if !self
+            .hardware
+            .plug(port.0, which.number(), which.is(bay.which))
+        {
             return false;
         }
         bay.put_in(which);
@@ -475,7 +483,7 @@ impl<S: SectorStore> Model<S> {
                 Outcome::Done => did = true,
             }
         }
-        self.hardware.done(port.0, slot.0) || did
+        self.done(port, slot) || did
     }
 
     /// Takes the IDENTIFY DEVICE or READ LOG EXT of a slot, unless it is taken. No other one of its port may be taken
@@ -594,6 +602,21 @@ impl<S: SectorStore> Model<S> {
         true
     }
 
+    /// Puts the disk of a port that was last in into it again, as it was when it was taken out.
+    fn lose_plug(&mut self, port: Port) -> bool
+        ensures { AnswersStep S.size S.told S.failures (DeviceStep.LosePlug port) result self.old self.new }
+    {
+        let place = usize::from(port.0);
+        if place >= PORTS || !has_disks(self.bays.as_slice(), place) {
+            return false;
+        }
+        let Some(bay) = &self.bays[place] else {
+            return false;
+        };
+        let last = DiskNumber(bay.which.number() as u8);
+        self.plug(port, last)
+    }
+
     /// Has the device do a step.
     #[inline(never)]
     fn do_step(&mut self, s: &DeviceStep) -> bool
@@ -617,6 +640,7 @@ impl<S: SectorStore> Model<S> {
             DeviceStep::Release(port) => self.hold(port, false),
             DeviceStep::Unplug(port) => self.unplug(port),
             DeviceStep::Plug(port, disk) => self.plug(port, disk),
+            DeviceStep::LosePlug(port) => self.lose_plug(port),
         }
     }
 
@@ -636,6 +660,17 @@ impl<S: SectorStore> Model<S> {
                 self.queue.remove(place);
                 let _done = self.do_step(&queued.step);
             }
+        }
+    }
+}
+
+/// Has the disks of a port know that such a command of it has ended, if it has disks.
+fn end_in<S: SectorStore>(bays: &mut Vec<Option<Bay<S>>>, port: usize, transfer: Transfer)
+    ensures { EndsOnly (operation_of transfer) port bays.old.items bays.new.items }
+{
+    if port < bays.len() {
+        if let Some(bay) = &mut bays[port] {
+            bay.end(transfer);
         }
     }
 }

@@ -1,7 +1,9 @@
 // One port of the model.
 ghost use Rattle.std.specs.Prelude.{◌≡◌, ◌↔◌, [], unwrap_or, IfOk, IsTrue};
 ghost use Rattle.adapter.specs.Commands.{direction_of, is_queued, is_ranged, pieces_moved, reads_memory};
+ghost use Rattle.adapter.specs.Device.{Disk, Lasting};
 ghost use Rattle.adapter.specs.Idle.{IsIdlePort};
+ghost use Rattle.adapter.specs.Steps.{lasting_after};
 ghost use Rattle.device_model.specs.Finishing.{sends_page};
 ghost use Rattle.device_model.specs.Modelled.{IsReset};
 ghost use Rattle.device_model.specs.View.{Media, cause_of, operation_of, port_of};
@@ -158,6 +160,18 @@ impl Transfer {
         matches!(self, Transfer::Identify | Transfer::ReadLog)
     }
 
+    /// How long the tape was when the disk last ended a flush, once this has ended: so long, if it is one, and else as
+    /// before.
+    pub fn lasting_at(self, was: usize, here: usize) -> usize
+        ensures { (lasting : Lasting) (disk : Disk) → lasting.since ≡ was
+            → result ≡ (lasting_after (operation_of self) lasting disk here).since }
+    {
+        match self {
+            Transfer::Flush => here,
+            _ => was,
+        }
+    }
+
     /// Whether it clears the sectors of a block that it moves.
     pub fn is_trim(self) -> bool
         ensures { IsTrue result ↔ (self ≡ Transfer.Trim) }
@@ -243,6 +257,8 @@ pub struct PortModel {
     /// A fatal error stopped it.
     pub broken: bool,
     pub taken: TakenCommands,
+    /// How long the tape was when its disk last ended a flush, or else when that disk was first in, for proofs alone.
+    pub lasting_at: usize,
     pub readings: Readings,
 }
 
@@ -276,6 +292,7 @@ impl PortModel {
             halting: Halting::Running,
             broken: false,
             taken,
+            lasting_at: 0,
             readings: Readings::default(),
         })
     }

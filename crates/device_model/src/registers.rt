@@ -221,11 +221,19 @@ impl PortModel {
         self.serr_n = true;
     }
 
-    /// A disk is put in, and its link is up (AHCI 1.3.1, 3.3.10 and 3.3.12).
-    pub fn plug(&mut self)
-        ensures { (m : Media) → port_of self.new m ≡ record (port_of self.old m)
-            { ssts_det = 3; present = true; fresh = false; serr_n = true; serr_x = true } }
+    /// A disk is put in, and its link is up (AHCI 1.3.1, 3.3.10 and 3.3.12). The tape was so long when it last ended a
+    /// flush, or else when it was first in.
+    pub fn plug(&mut self, lasting_at: usize)
+        ensures { (m : Media) → port_of self.new m ≡ record (port_of self.old m) {
+          ssts_det = 3;
+          present = true;
+          fresh = false;
+          serr_n = true;
+          serr_x = true;
+          lasting = record { sectors = m.lasting; since = lasting_at };
+        } }
     {
+        self.lasting_at = lasting_at;
         self.detected = true;
         self.present = true;
         self.fresh = false;

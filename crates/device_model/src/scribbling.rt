@@ -3,33 +3,29 @@
 ghost use Rattle.std.specs.Prelude.{◌≡◌, ◌+◌, ◌*◌, ◌<◌, ◌≤◌, ◌^◌, ℕ, false, true, if◌then◌else◌, is_some, length, nat_le, replicate, slice_index_or};
 ghost use Rattle.ata_types.specs.declared.memory.TheConstants.{HEADER_BYTES};
 ghost use Rattle.adapter.specs.Asked.{DoesScribble, filled};
+ghost use Rattle.adapter.specs.Memory.{patched};
 ghost use Rattle.device_model.specs.Fetched.{bytes_of};
 ghost use Rattle.device_model.specs.View.{blank, held_in};
 ghost use Rattle.device_model.specs.Whole.{Outside, device_of};
 
 use crate::hardware::{Hardware, put};
+use adapter::laws::a_scribble_goes_on;
 use ata_types::{HEADER_BYTES, RECEIVED_BYTES};
 
-/// Where PRDBC stands in a command header (AHCI 1.3.1, 4.2.2).
+/// Where PRDBC stands in a command header, and how many bytes it has (AHCI 1.3.1, 4.2.2).
 const COUNT: usize = 4;
 
-/// Fills four bytes of a memory with one, if all of them are in it.
-fn fill_count(memory: &mut [u8], at: usize, byte: u8)
-    requires { at < 2 ^ 40 }
-    ensures { bytes_of memory.new ≡ filled (length memory.old) at 4 byte (bytes_of memory.old) }
-{
-    if at + 4 <= memory.len() {
-        put(memory, at, &[byte; 4]);
-    }
-}
+const COUNT_BYTES: usize = 4;
 
-/// Fills a received FIS area in a memory with a byte, if it is in it.
-fn fill_area(memory: &mut [u8], at: usize, byte: u8)
-    requires { at < 2 ^ 40 }
-    ensures { bytes_of memory.new ≡ filled (length memory.old) at RECEIVED_BYTES byte (bytes_of memory.old) }
+/// Puts bytes over those from a place on, if all of these are in the memory.
+fn put_within(memory: &mut [u8], at: usize, bytes: &[u8])
+    requires { at + length bytes.now < 2 ^ 64 }
+    ensures { bytes_of memory.new ≡
+        (if nat_le (at + length bytes.now) (length memory.old) then patched (bytes_of memory.old) at bytes.now
+        else bytes_of memory.old) }
 {
-    if at + RECEIVED_BYTES as usize <= memory.len() {
-        put(memory, at, &[byte; RECEIVED_BYTES as usize]);
+    if at + bytes.len() <= memory.len() {
+        put(memory, at, bytes);
     }
 }
 
@@ -49,7 +45,7 @@ impl Hardware {
         if self.ports[port].taken.get(slot).is_some() {
             let list = self.ports[port].addresses.clb as usize;
             let at = list + HEADER_BYTES as usize * usize::from(slot) + COUNT;
-            fill_count(&mut self.memory, at, byte);
+            put_within(&mut self.memory, at, &[byte; COUNT_BYTES]);
         }
     }
 
@@ -67,8 +63,9 @@ impl Hardware {
         if !self.ports[place].fre {
             return false;
         }
+        a_scribble_goes_on();
         let area = self.ports[place].addresses.fb as usize;
-        fill_area(&mut self.memory, area, byte);
+        put_within(&mut self.memory, area, &[byte; RECEIVED_BYTES as usize]);
         for slot in 0..32u8 {
             self.scribble_count(place, slot, byte);
         }

@@ -1,10 +1,10 @@
 // The slots of a port: which command is taken, and how it goes on.
 ghost use Rattle.std.specs.Prelude.{◌≡◌, ◌<◌, ◌^◌, ◌+◌, ℕ, None, Some, true, false, slice_index_or, IfSome, List};
-ghost use Rattle.adapter.specs.Steps.{IsAlone, IsFetchable, IsWorking, admits, with_clear, with_done, with_fault, with_fetch, with_move};
+ghost use Rattle.adapter.specs.Steps.{IsAlone, IsFetchable, IsWorking, admits, with_clear, with_done, with_fault, with_fetch, with_flush, with_move};
 ghost use Rattle.adapter.specs.declared.command.Operation.{Operation};
 ghost use Rattle.device_model.specs.Fetched.{IsNew};
 ghost use Rattle.device_model.specs.Slots.{IsOpenTo, MayTake, HasUntaken, HoldsAt};
-ghost use Rattle.device_model.specs.View.{Media, cause_of, halt_of, held_in, kept_by, media_after, media_cleared, operation_of, port_of, taken_of, blank};
+ghost use Rattle.device_model.specs.View.{Media, cause_of, halt_of, held_in, kept_by, media_after, media_cleared, media_ended, operation_of, port_of, taken_of, blank};
 ghost use Rattle.device_model.specs.declared.port.TakenCommand.{TakenCommand};
 
 use crate::bits::with_bit_as;
@@ -79,12 +79,15 @@ impl PortModel {
         self.taken.add_cleared(slot, run.count);
     }
 
-    /// The command of a slot ends without error: a queued one leaves PxSACT, and a plain one PxCI.
-    pub fn end(&mut self, slot: u8, transfer: Transfer)
+    /// The command of a slot ends without error, with the tape so long: a queued one leaves PxSACT, and a plain one
+    /// PxCI.
+    pub fn end(&mut self, slot: u8, transfer: Transfer, here: usize)
         requires { slot < 32 }
-        ensures { (m : Media) → port_of self.new m ≡ with_done (port_of self.old m) slot (cause_of transfer)
-            (operation_of transfer) }
+        ensures { (m : Media) → port_of self.new (media_ended m (operation_of transfer)) ≡ with_flush
+            (with_done (port_of self.old m) slot (cause_of transfer) (operation_of transfer)) (operation_of transfer)
+            here }
     {
+        self.lasting_at = transfer.lasting_at(self.lasting_at, here);
         self.taken.remove(slot);
         self.is = with_bit_as(self.is, transfer.cause(), true);
         self.halting = Halting::Running;

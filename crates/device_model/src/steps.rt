@@ -1,5 +1,5 @@
 // Steps that the hardware does when it is told.
-ghost use Rattle.std.specs.Prelude.{◌≡◌, ◌↔◌, IsTrue, ◌<◌, ◌≤◌, ◌+◌, ◌^◌, ◌++◌, ◌∷◌, [], true, false, ℕ, List, None, Some, IfSome, if◌then◌else◌, length, slice_index, slice_index_or};
+ghost use Rattle.std.specs.Prelude.{◌≡◌, ◌↔◌, IsTrue, ◌<◌, ◌≤◌, ◌+◌, ◌^◌, ◌++◌, ◌∷◌, [], true, false, ℕ, List, None, Some, IfSome, if◌then◌else◌, length, nat_eq, slice_index, slice_index_or};
 ghost use Rattle.std.specs.Vec.{vec_len, vec_capacity};
 ghost use Rattle.adapter.specs.Commands.{Meaning, is_queued, is_ranged, reads_memory};
 ghost use Rattle.adapter.specs.Device.{Disk, Taken};
@@ -15,7 +15,7 @@ ghost use Rattle.device_model.specs.Finishing.{HasRoom, FindsPage, IsInside, Are
 ghost use Rattle.device_model.specs.Sent.{SendsEnd};
 ghost use Rattle.device_model.specs.Slots.{HoldsAt, IsNext, HasUntaken};
 ghost use Rattle.device_model.specs.View.{held_in, kept_by, operation_of, taken_of, blank};
-ghost use Rattle.device_model.specs.Whole.{Outside, device_of, outside_after, outside_plugged};
+ghost use Rattle.device_model.specs.Whole.{Outside, device_of, outside_after, outside_ended, outside_plugged};
 ghost use Rattle.device_model.specs.declared.port.TakenCommand.{TakenCommand};
 
 use crate::fetch::{count_pieces, piece_at, read_command, read_into, read_page, says_command};
@@ -200,6 +200,14 @@ fn piece_in(memory: &[u8], next: NextMove) -> &[u8; 512]
         unreachable!()
     };
     bytes
+}
+
+/// How long the tape was when a disk that is put in last ended a flush, or else when it was first in: as before, if it
+/// is the one that was in last, and else as long as it is here.
+fn lasting_since(same: bool, was: usize, here: usize) -> usize
+    ensures { result ≡ (if same then was else here) }
+{
+    if same { was } else { here }
 }
 
 impl Hardware {
@@ -393,33 +401,34 @@ impl Hardware {
         rest_of(command, block, &self.memory)
     }
 
-    /// Ends a slot's command, of which nothing is left to move or to clear, and sends its FIS; `false` says that there
-    /// is none, or that the tape found no memory.
-    pub fn done(&mut self, port: u8, slot: u8) -> bool
+    /// Ends a slot's command, of which nothing is left to move or to clear, sends its FIS, and tells what it was.
+    /// `None` says that there is none, or that the tape found no memory.
+    pub fn done(&mut self, port: u8, slot: u8) -> Option<Transfer>
         requires port { port < 4 }
         requires slot { slot < 32 }
-        ensures did { result ≡ true → (o : Outside) → Ends (SendsEnd slot) port slot (device_of self.old o)
-            (device_of self.new o) }
-        ensures refused { result ≡ false → (o : Outside) → device_of self.new o ≡ device_of self.old o }
-        ensures left { result ≡ false → (o : Outside) → IsPassed self.old self.new ((flag : ℕ) × (t : Taken)
+        ensures did { IfSome result (λ transfer. (o : Outside) → Ends (SendsEnd slot) port slot (device_of self.old o)
+            (device_of self.new (outside_ended o port (operation_of transfer)))) }
+        ensures refused { result ≡ None → (o : Outside) → device_of self.new o ≡ device_of self.old o }
+        ensures left { result ≡ None → (o : Outside) → IsPassed self.old self.new ((flag : ℕ) × (t : Taken)
             × Can (DoneStep port slot flag t) (device_of self.old o)) }
-        ensures fed { result ≡ true → self.new.starved ≡ self.old.starved }
+        ensures fed { IfSome result (λ transfer. self.new.starved ≡ self.old.starved) }
     {
         let Some(transfer) = self.finished_at(port, slot) else {
-            return false;
+            return None;
         };
+        let here = self.tape.len();
         let entry = Entry::Done(Done {
             port: Port(port),
             slot: Slot(slot),
             operation: transfer.operation(),
         });
         if !record(&mut self.tape, &mut self.starved, entry) {
-            return false;
+            return None;
         }
         let place = usize::from(port);
-        self.ports[place].end(slot, transfer);
+        self.ports[place].end(slot, transfer, here);
         self.send_end(place, slot, transfer);
-        true
+        Some(transfer)
     }
 
     /// Whether a slot has a queued command that is taken, or a plain one, on an engine that hasn't fallen.
@@ -602,11 +611,13 @@ impl Hardware {
         true
     }
 
-    /// A disk is put into a port; `false` says that there was a disk, or that the tape found no memory.
-    pub fn plug(&mut self, port: u8, number: u32) -> bool
+    /// A disk is put into a port, the one that was in last or another; `false` says that there was a disk, or that the
+    /// tape found no memory.
+    pub fn plug(&mut self, port: u8, number: u32, same: bool) -> bool
         requires { port < 4 }
         ensures free { result ≡ true → (o : Outside) → ((device_of self.old o).port port).present ≡ false }
         ensures did { result ≡ true → (o : Outside) (disk : Disk) → disk.name ≡ number →
+            same ≡ nat_eq disk.name (o.media port).disk.name →
             device_of self.new (outside_plugged o port disk) ≡ after (PlugStep port disk) (device_of self.old o) }
         ensures refused { result ≡ false → (o : Outside) → device_of self.new o ≡ device_of self.old o }
         ensures left { result ≡ false → (o : Outside)
@@ -617,11 +628,13 @@ impl Hardware {
         if self.ports[place].present {
             return false;
         }
+        let here = self.tape.len();
+        let lasting_at = lasting_since(same, self.ports[place].lasting_at, here);
         let entry = Entry::Plug(Port(port), number);
         if !record(&mut self.tape, &mut self.starved, entry) {
             return false;
         }
-        self.ports[place].plug();
+        self.ports[place].plug(lasting_at);
         true
     }
 

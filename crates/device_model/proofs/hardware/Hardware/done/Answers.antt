@@ -3,7 +3,11 @@ use Rattle.adapter.specs.Device.{Taken}
 use Rattle.adapter.specs.Steps.{IsFinished}
 use Rattle.device_model.proofs.Absurd.{true-false}
 use Rattle.device_model.specs.Slots.{HoldsAt}
-use Rattle.device_model.specs.View.{blank, cause_of, taken_of}
+use Rattle.adapter.specs.Asked.{Ends}
+use Rattle.device_model.specs.Sent.{SendsEnd}
+use Rattle.device_model.specs.View.{blank, cause_of, operation_of, taken_of}
+use Rattle.device_model.specs.Whole.{device_of, outside_ended}
+use Rattle.device_model.specs.declared.port.Transfer.{Transfer}
 use Rattle.device_model.specs.declared.hardware.Hardware.{Hardware}
 use Rattle.device_model.proofs.Finishing.{holds}
 use Rattle.device_model.proofs.Stepping.{may_end, port_ends}
@@ -11,7 +15,7 @@ use Rattle.device_model.proofs.SlotLemmas.{at_port}
 use Rattle.device_model.proofs.hardware.Hardware.done.Goals as goal
 
 pub returns-clause-did : goal.returns-clause-did
-returns-clause-did c = λ _ o.
+returns-clause-did c = λ o.
     let h : Hardware = c.args.self.now in
     let p : ℕ = c.from-place.result in
     let port : ℕ = c.args.port in
@@ -19,9 +23,12 @@ returns-clause-did c = λ _ o.
     let found = c.in-Some.ensures.found in
     let kind : c.in-Some.transfer ≡ found.0.transfer = found.3 in
     let P : ℕ → Type 0 = λ q. HoldsAt (slice_index_or h.ports q blank) c.args.slot found.0 in
-    port_ends h o p port c.args.slot c.end.new.self found.0 c.record.new.tape _ c.from-place.ensures small (subst P (sym c.from-place.ensures) found.1)
-    found.2 (rw kind at (rw (at_port h.ports p c.index-self-place.result small) at (c.end.ensures (o.media p)))) (rw kind at (rw c.operation.ensures at c.record.ensures.added c.if-not-record.false))
-    (rw kind at (c.send_end.ensures.sent o))
+    let R : Transfer → ℕ → Type 0 = λ k q. Ends (SendsEnd c.args.slot) port c.args.slot (device_of h o) (device_of c.send_end.new.self (outside_ended o q (operation_of k))) in
+    subst (λ q. R c.in-Some.transfer q) c.from-place.ensures
+    (subst (λ k. R k p) (sym kind)
+    (port_ends h o p port c.args.slot c.end.new.self found.0 c.record.new.tape _ c.from-place.ensures small (subst P (sym c.from-place.ensures) found.1)
+    found.2 (rw kind at (rw (at_port h.ports p c.index-self-place.result small) at (rw (c.len-here.ensures, h.tape.ok.0) at (c.end.ensures (o.media p))))) (rw kind at (rw c.operation.ensures at c.record.ensures.added c.if-not-record.false))
+    (rw kind at (c.send_end.ensures.sent (outside_ended o p (operation_of c.in-Some.transfer))))))
 
 pub returns-in_default-clause-left : goal.returns-in_default-clause-left
 returns-in_default-clause-left c = λ _ o.

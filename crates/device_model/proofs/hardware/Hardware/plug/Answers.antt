@@ -1,4 +1,6 @@
-use Rattle.std.proofs.Common.{rules, arith, ◌<◌, length, ℕ, inl, inr, refl}
+use Rattle.std.proofs.Common.{rules, arith, ◌≡◌, ◌<◌, ◌∙◌, Bool, length, nat_eq, ℕ, inl, inr, ap, refl, sym}
+use Rattle.std.specs.Prelude.{if◌then◌else◌, slice_index_or}
+use Rattle.device_model.specs.View.{blank}
 use Rattle.device_model.proofs.Absurd.{true-false}
 use Rattle.device_model.proofs.Stepping.{plugged_in}
 use Rattle.device_model.proofs.SlotLemmas.{at_port}
@@ -13,12 +15,16 @@ returns-clause-free c = λ _ o.
     rw c.from-place.ensures at free
 
 pub returns-clause-did : goal.returns-clause-did
-returns-clause-did c = λ _ o disk name.
+returns-clause-did c = λ _ o disk name same.
     let h = c.args.self.now in
     let p : ℕ = c.from-place.result in
     let small : p < length h.ports = search rules in
-    plugged_in h o p c.args.port _ c.record.new.tape disk c.args.number name c.from-place.ensures small
-    (rw (at_port h.ports p c.index-self-place-2.result small) at c.plug.ensures) (c.record.ensures.added c.if-not-record.false)
+    let at : ℕ = (slice_index_or h.ports p blank).lasting_at in
+    let since : c.lasting_since-lasting_at.result ≡ (if c.args.same then at else length h.tape.items) =
+    rw (c.len-here.ensures, h.tape.ok.0) at (rw (at_port h.ports p c.index-self-place-2.result small) at c.lasting_since-lasting_at.ensures) in
+    plugged_in h o p c.args.port _ c.record.new.tape disk c.args.number c.lasting_since-lasting_at.result name c.from-place.ensures small
+    (since ∙ ap (λ (b : Bool). if b then at else length h.tape.items) (same ∙ ap (λ (q : ℕ). nat_eq disk.name (o.media q).disk.name) (sym c.from-place.ensures)))
+    (rw (at_port h.ports p c.index-self-place-3.result small) at c.plug.ensures) (c.record.ensures.added c.if-not-record.false)
 
 pub returns-then-self-place-clause-left : goal.returns-then-self-place-clause-left
 returns-then-self-place-clause-left c = λ _ o.

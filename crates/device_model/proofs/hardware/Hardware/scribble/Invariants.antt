@@ -1,7 +1,6 @@
 use Rattle.std.proofs.Common.{◌≡◌, length}
 use Rattle.std.specs.Prelude.{slice_index_or}
-use Rattle.ata_types.specs.declared.memory.TheConstants.{RECEIVED_BYTES}
-use Rattle.adapter.specs.Asked.{counts_filled, filled}
+use Rattle.adapter.specs.Asked.{IsScribbled}
 use Rattle.device_model.specs.Fetched.{bytes_of}
 use Rattle.device_model.specs.View.{Media, blank, port_of}
 use Rattle.device_model.proofs.hardware.Hardware.scribble.Given as goal
@@ -12,9 +11,7 @@ invariant-loop-slot l =
     let old = l.fn.self in
     let p = slice_index_or old.ports l.port blank in
     record {
-      filled : (m : Media) → bytes_of l.self.memory.items
-          ≡ counts_filled l.slot (length old.memory.items) l.byte (port_of p m)
-          (filled (length old.memory.items) p.addresses.fb RECEIVED_BYTES l.byte (bytes_of old.memory.items));
+      filled : (m : Media) → IsScribbled l.slot (length old.memory.items) l.byte (port_of p m) (bytes_of old.memory.items) (bytes_of l.self.memory.items);
       rest : l.self ≡ record old { memory = l.self.memory };
       size : length l.self.memory.items ≡ length old.memory.items;
     }

@@ -13,10 +13,10 @@ use Rattle.device_model.specs.declared.hardware.Hardware.{Hardware}
 use Rattle.device_model.specs.declared.port.TakenCommand.{TakenCommand}
 use Rattle.device_model.proofs.Absurd.{true-false}
 use Rattle.adapter.proofs.Going.{goes_one, goes_next}
-use Rattle.device_model.proofs.Doing.{answered_true, clear_fails, cut_short, did_it, left_it, left_same, meanwhile_on, move_fails}
+use Rattle.device_model.proofs.Doing.{answered_true, done_whole, clear_fails, cut_short, did_it, left_it, left_same, meanwhile_on, move_fails}
 use Rattle.device_model.proofs.Paging.{finish_clears, finish_moves, page_asks_none, page_taken}
 use Rattle.device_model.proofs.Finishing.{never_past, cleared_goes, fetched_size, going_has_clear, holds, moved_goes, going_has_move, going_may_end, done_ended, done_frees, no_more_going}
-use Rattle.device_model.proofs.Telling.{gains_none, gains_done}
+use Rattle.device_model.proofs.Telling.{gains_none}
 use Rattle.device_model.proofs.Told.{on_hardware}
 use Rattle.device_model.proofs.Transfers.{page_plain, page_unranged}
 use Rattle.device_model.proofs.TwoDisks.{disks_kept, found_disks, no_bay, no_disks}
@@ -224,23 +224,17 @@ returns-then-done-clause-answers g c =
     let o : Outside = outside_at g.S.SectorStore.size g.S.SectorStore.told m in
     let start : Outside = outside_at g.S.SectorStore.size g.S.SectorStore.told first in
     let is = c.loop-run.invariant in
-    let done = c.done.ensures.did c.if-done.true o in
-    let all = meanwhile_on g.S.SectorStore.size g.S.SectorStore.told g.S.SectorStore.failures c.args.port.0 first m (record m { hardware = c.done.new.self }) is.meanwhile
-    (record {
-      held = refl;
-      says = refl;
-      which = refl;
-      others = λ _ _. refl;
-      pages = gains_done g.S.SectorStore.size o c.args.port.0 c.args.slot.0 m _ done;
-      keeps = on_hardware g.S.SectorStore.size g.S.SectorStore.told g.S.SectorStore.failures m c.done.new.self;
-      starved = c.done.ensures.fed c.if-done.true;
-    }) in
+    let step = did_it g.S.SectorStore.size g.S.SectorStore.told g.S.SectorStore.failures (asked.Done c.args.port c.args.slot) _ _ c.done.result c.done.ensures c.if-done.true in
+    let whole = done_whole g.S.SectorStore.size g.S.SectorStore.told g.S.SectorStore.failures c.args.port c.args.slot _ _ step in
+    let done = whole.asked in
+    let all = meanwhile_on g.S.SectorStore.size g.S.SectorStore.told g.S.SectorStore.failures c.args.port.0 first m _ is.meanwhile
+    (record { held = step.held; says = whole.says; which = step.which; others = step.others; pages = step.pages; keeps = step.keeps; starved = step.starved }) in
     answered_true g.S.SectorStore.size g.S.SectorStore.told g.S.SectorStore.failures (asked.Finish c.args.port c.args.slot) first _ c.done.result c.if-done.true (
       ((found_disks g.S.SectorStore.size g.S.SectorStore.told c.args.self.now c.from.result c.args.port.0 _ c.from.ensures c.as_slice.ensures.value (sym c.has_disks.ensures.disks ∙ c.if-not-has_disks.false)), c.requires, c.in-Some.field-0.rest.left, c.in-Some.field-0.rest.clears, c.in-Some.ensures.begun.ready start),
       record {
         came = inl (record {
           asked = goes_next (SendsEnd c.args.slot.0) c.args.port.0 c.args.slot.0 _ _ _ c.loop-run.did is.did is.refused (inr (inr (inl done)));
-          fine = is.fine;
+          fine = λ q which. whole.fine q which ∙ is.fine q which;
           says = all.says;
           ends = λ _.
               let issued = no_more_going c.args.port.0 c.args.slot.0 c.loop-run.did _ _ is.did is.refused in
@@ -250,7 +244,7 @@ returns-then-done-clause-answers g c =
         which = all.which;
         others = all.others;
         pages = all.pages;
-        disks = is.disks;
+        disks = λ none which. step.disks (λ asks. asks) which ∙ is.disks none which;
         keeps = all.keeps;
         starved = all.starved;
       },
@@ -264,10 +258,8 @@ end_is_done g c =
     let P : ℕ → Type 0 = λ n. IsGoing (device_at g.S.SectorStore.size g.S.SectorStore.told m) c.args.port.0 c.args.slot.0 0 n in
     let none : c.in-Some.field-0.rest.clears - c.loop-run._run ≡ 0 = omega (arith, c.loop-run-test.false) in
     let going = subst P none c.loop-run.invariant.going in
-    elim (c.done.ensures.left c.if-done.false o) [
-      | inl never ↦ never.0 (0, going.t, going_may_end c.args.port.0 c.args.slot.0 _ going)
-      | inr missed ↦ missed.1 (omega (arith, c.loop-run.invariant.room))
-    ]
+    let left = left_it g.S.SectorStore.size g.S.SectorStore.told g.S.SectorStore.failures (asked.Done c.args.port c.args.slot) _ _ c.done.result c.done.ensures c.if-done.false in
+    (left.why tt (omega (arith, c.if-port-ge4.false), c.requires, 0, going.t, going_may_end c.args.port.0 c.args.slot.0 _ going)).0 (omega (arith, c.loop-run.invariant.room))
 
 pub returns-else-done-clause-answers : goal.returns-else-done-clause-answers
 returns-else-done-clause-answers g c = absurd (end_is_done g c)
@@ -364,7 +356,7 @@ returns-then-done-clause-sends g c = λ disks has.
     let none : c.in-Some.field-0.rest.clears - c.loop-run._run ≡ 0 = omega (arith, c.loop-run-test.false) in
     let going = subst P none c.loop-run.invariant.going in
     let page = page_taken c.args.port.0 c.args.slot.0 c.loop-run.did _ _ c.loop-run.invariant.did c.loop-run.invariant.refused has going.t going.works.taken in (
-      λ _. done_frees c.args.port.0 c.args.slot.0 _ _ going (page_plain _ page.0) (c.done.ensures.did c.if-done.true o),
+      λ _. done_frees c.args.port.0 c.args.slot.0 _ _ going (page_plain _ page.0) (done_whole g.S.SectorStore.size g.S.SectorStore.told g.S.SectorStore.failures c.args.port c.args.slot _ _ (did_it g.S.SectorStore.size g.S.SectorStore.told g.S.SectorStore.failures (asked.Done c.args.port c.args.slot) _ _ c.done.result c.done.ensures c.if-done.true)).asked,
       λ never. true-false c.if-done.true never,
     )
 

@@ -53,6 +53,7 @@ returns g c =
     c.put_in.ensures.later
     (ap (λ (x : Bay g.row.S.Denot). x.says) put)
     (ap (λ (x : Bay g.row.S.Denot). x.first) put)
+    c.put_in.ensures.lasting
     (omega (arith, small, at))
     (λ d is. ap (λ (x : Device). (x.port c.args.port.0).present) is ∙ c.plug.ensures.free yes (outside_at g.S.SectorStore.size g.S.SectorStore.told m))
-    g.met.S.SectorStore.tells_sectors (λ o disk name. c.plug.ensures.did yes o disk (name ∙ (sym c.in-Some.ensures.found ∙ sym c.number.ensures))) (c.plug.ensures.fed yes)
+    g.met.S.SectorStore.tells_sectors (λ o disk name same. c.plug.ensures.did yes o disk (name ∙ (sym c.in-Some.ensures.found ∙ sym c.number.ensures)) (c.is.ensures ∙ same)) (c.plug.ensures.fed yes)

@@ -1,5 +1,0 @@
-use Rattle.device_model.proofs.Filled.{filled_there}
-use Rattle.device_model.proofs.scribbling.fill_count.Goals as goal
-
-pub returns-then-at-memory : goal.returns-then-at-memory
-returns-then-at-memory c = filled_there c.args.memory.now c.put.new.memory c.args.at 4 c.args.byte c.if-at-memory.true c.put.ensures
