@@ -3,7 +3,7 @@ use Rattle.std.specs.Prelude.{List, map}
 use Rattle.block_server.specs.declared.types.Event.{Event}
 use Rattle.block_server.specs.declared.types.Event.TheVariants as calls
 use Rattle.script.specs.declared.line.Line.{Line}
-use Rattle.script.specs.declared.line.Line.TheVariants.{Submit, Store, Load, Service, Tick, Reset, State, Device}
+use Rattle.script.specs.declared.line.Line.TheVariants.{Submit, Store, Load, Service, Tick, Reset, Revoke, State, Device}
 
 -- the call that a line asks for
 abbrev pub event_of : Line → Event
@@ -13,6 +13,7 @@ event_of (Load client frame offset count) = calls.ClientLoad client frame offset
 event_of Service = calls.Service
 event_of Tick = calls.Tick
 event_of Reset = calls.Reset
+event_of (Revoke client grant) = calls.Revoke client grant
 event_of (State port) = calls.State port
 event_of (Device step) = calls.Device step
 

@@ -2,6 +2,8 @@
 use Rattle.std.specs.Prelude.{ℕ, Bool, true, false, List, [], ◌∷◌, ◌++◌, drop, Ok, Err}
 use Rattle.std.specs.Borrow.{Bor}
 use Rattle.std.specs.List.{flat_map}
+use Rattle.ata_types.specs.declared.refusal.Refusal.TheVariants as refusal
+use Rattle.ata_types.specs.declared.refusal.Rule.TheVariants.{NoGrant}
 use Rattle.ata_types.specs.declared.request.Reply.{Reply}
 use Rattle.adapter.specs.declared.tape.Entry.{Entry}
 use Rattle.adapter.specs.declared.tape.Entry.TheVariants as entry
@@ -19,9 +21,9 @@ abbrev pub replies_text : List Reply → List ℕ
 replies_text [] = answer_line answer.Quiet
 replies_text (reply ∷ replies) = flat_map (λ r. answer_line (answer.Replied r)) (reply ∷ replies)
 
--- that the adapter was reset, and a line for each reply
-abbrev pub reset_text : List Reply → List ℕ
-reset_text replies = answer_line answer.Done ++ flat_map (λ r. answer_line (answer.Replied r)) replies
+-- that the call is done, and a line for each reply
+abbrev pub done_text : List Reply → List ℕ
+done_text replies = answer_line answer.Done ++ flat_map (λ r. answer_line (answer.Replied r)) replies
 
 -- what a call said
 abbrev pub said_text : Said → List ℕ
@@ -32,8 +34,10 @@ said_text (said.Stored (Err fault)) = answer_line (answer.Barred fault)
 said_text (said.Loaded (Ok bytes)) = answer_line (answer.Bytes (referred bytes.items))
 said_text (said.Loaded (Err fault)) = answer_line (answer.Barred fault)
 said_text (said.Served replies) = replies_text replies.items
-said_text (said.WasReset (Ok replies)) = reset_text replies.items
+said_text (said.WasReset (Ok replies)) = done_text replies.items
 said_text (said.WasReset (Err stuck)) = answer_line answer.Stuck
+said_text (said.WasRevoked (Ok replies)) = done_text replies.items
+said_text (said.WasRevoked (Err none)) = answer_line (answer.Refused (refusal.Rule NoGrant))
 said_text (said.State state) = answer_line (answer.State state)
 said_text (said.Stepped done) = answer_line (answer.Stepped done)
 

@@ -36,6 +36,10 @@ pub fn event(line: Line) -> Event
         Line::Service => Event::Service,
         Line::Tick => Event::Tick,
         Line::Reset => Event::Reset,
+        Line::Revoke { client, grant } => Event::Revoke {
+            client,
+            number: grant,
+        },
         Line::State(port) => Event::State(port),
         Line::Device(step) => Event::Device(step),
     }

@@ -3,12 +3,12 @@ ghost use Rattle.std.specs.Prelude.{◌≡◌, ◌≢◌, ◌≤◌, ℕ, IfErr,
 ghost use Rattle.std.specs.Io.KnownBytes.{Appends};
 ghost use Rattle.std.specs.declared.io.ErrorKind.TheVariants.{Interrupted};
 ghost use Rattle.block_server.specs.Sayings.{with_replies};
-ghost use Rattle.play.specs.Lines.{call_text, gained_text, replies_text, reset_text, said_text, trace_text};
+ghost use Rattle.play.specs.Lines.{call_text, gained_text, replies_text, done_text, said_text, trace_text};
 ghost use Rattle.script.specs.Answer.{answer_line};
 ghost use Rattle.std.specs.List.{flat_map};
 
 use adapter::Entry;
-use ata_types::Reply;
+use ata_types::{Refusal, Reply, Rule};
 use block_server::Told;
 use script::Answer;
 use std::io;
@@ -51,15 +51,15 @@ fn print_replies<W: io::Write>(out: &mut W, replies: &[Reply]) -> io::Result<()>
     print_each(out, replies)
 }
 
-/// Prints that the adapter was reset, and a line for each reply.
-fn print_reset<W: io::Write>(out: &mut W, replies: &[Reply]) -> io::Result<()>
-    ensures { OnOk result (Appends (W.contents out.old) (W.contents out.new) (reset_text replies.now)) }
+/// Prints that the call is done, and a line for each reply.
+fn print_done<W: io::Write>(out: &mut W, replies: &[Reply]) -> io::Result<()>
+    ensures { OnOk result (Appends (W.contents out.old) (W.contents out.new) (done_text replies.now)) }
 {
     Answer::Done.print(out)?;
     print_each(out, replies)
 }
 
-/// Prints what a call said, of which the replies of a service, a tick or a reset stand in a list.
+/// Prints what a call said, of which the replies of a service, a tick, a reset or a revocation stand in a list.
 fn print_told<W: io::Write>(out: &mut W, told: &Told, replies: &[Reply]) -> io::Result<()>
     ensures { OnOk result
         (Appends (W.contents out.old) (W.contents out.new) (said_text (with_replies told.now replies.now))) }
@@ -71,8 +71,9 @@ fn print_told<W: io::Write>(out: &mut W, told: &Told, replies: &[Reply]) -> io::
         Told::Loaded(Ok(bytes)) => Answer::Bytes(bytes.as_slice()).print(out),
         Told::Stored(Err(fault)) | Told::Loaded(Err(fault)) => Answer::Barred(*fault).print(out),
         Told::Served => print_replies(out, replies),
-        Told::WasReset(Ok(())) => print_reset(out, replies),
+        Told::WasReset(Ok(())) | Told::WasRevoked(Ok(())) => print_done(out, replies),
         Told::WasReset(Err(_)) => Answer::Stuck.print(out),
+        Told::WasRevoked(Err(_)) => Answer::Refused(Refusal::Rule(Rule::NoGrant)).print(out),
         Told::State(state) => Answer::State(*state).print(out),
         Told::Stepped(did) => Answer::Stepped(*did).print(out),
     }
@@ -112,8 +113,8 @@ fn print_trace<W: io::Write>(
 }
 
 /// Writes what is printed of a call, in place of what the text had: with a trace, what the tape gained past so many
-/// entries, and then what the call said, of which the replies of a service, a tick or a reset stand in a list. It fails
-/// where memory is refused.
+/// entries, and then what the call said, of which the replies of a service, a tick, a reset or a revocation stand in a
+/// list. It fails where memory is refused.
 pub fn print_call(
     text: &mut Vec<u8>,
     trace: bool,

@@ -197,7 +197,8 @@ fn play_line<A: Watched, W: io::Write>(
 {
     make_call(server, event(line), &mut room.said);
     let adapter = server.adapter();
-    if adapter.has_ended() {
+    let is_starved = adapter.has_ended();
+    if is_starved {
         return Err(Stop::NoMemory);
     }
     let tape = adapter.tape();

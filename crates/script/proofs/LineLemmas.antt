@@ -20,7 +20,7 @@ use Rattle.adapter.specs.declared.access.DeviceStep.TheVariants as step
 use Rattle.adapter.specs.declared.access.FatalError.{FatalError}
 use Rattle.adapter.specs.declared.access.FatalError.TheVariants.{Interface, HostBus}
 use Rattle.script.specs.declared.line.Line.{Line}
-use Rattle.script.specs.declared.line.Line.TheVariants.{Submit, Store, Load, Service, Tick, Reset, State, Device}
+use Rattle.script.specs.declared.line.Line.TheVariants.{Submit, Store, Load, Service, Tick, Reset, Revoke, State, Device}
 use Rattle.script.specs.Fields.{Word, fatal_word, frames_word}
 use Rattle.script.specs.Line.{IsLine, IsPlace, IsRequest, IsStep, line_text, line_words, op_word, page_word, place_words, request_words, step_words}
 use Rattle.script.proofs.FrameLemmas.{IsFrame, decimals}
@@ -110,6 +110,7 @@ step_are (step.Fatal port error) h =
 step_are (step.Truth port) h = port_are (codes "truth") port (fixed (codes "truth") refl) h
 step_are (step.Hold port) h = port_are (codes "hold") port (fixed (codes "hold") refl) h
 step_are (step.Release port) h = port_are (codes "release") port (fixed (codes "release") refl) h
+step_are (step.LosePlug port) h = port_are (codes "loseplug") port (fixed (codes "loseplug") refl) h
 step_are (step.Unplug port) h = port_are (codes "unplug") port (fixed (codes "unplug") refl) h
 step_are (step.Plug port disk) h =
     more (fixed (codes "plug") refl) (more (number port.0 (omega (arith, h.0))) (more (number disk.0 (omega (arith, h.1))) none))
@@ -125,6 +126,8 @@ line_are (Load client frame offset count) h =
 line_are Service h = more (fixed (codes "service") refl) none
 line_are Tick h = more (fixed (codes "tick") refl) none
 line_are Reset h = more (fixed (codes "reset") refl) none
+line_are (Revoke client grant) h =
+    more (fixed (codes "revoke") refl) (more (number client.0 (omega (arith, h.0))) (more (number grant (omega (arith, h.1))) none))
 line_are (State port) h = port_are (codes "state") port (fixed (codes "state") refl) h
 line_are (Device s) h = more (fixed (codes "dev") refl) (step_are s h)
 
@@ -148,6 +151,7 @@ step_few (step.Hold port) = omega arith
 step_few (step.Release port) = omega arith
 step_few (step.Unplug port) = omega arith
 step_few (step.Plug port disk) = omega arith
+step_few (step.LosePlug port) = omega arith
 
 request_few : (op : Op) (r : Request) → length (request_words op r) ≤ 5
 request_few Read r = omega arith
@@ -163,6 +167,7 @@ few_words (Load client frame offset count) = omega arith
 few_words Service = omega arith
 few_words Tick = omega arith
 few_words Reset = omega arith
+few_words (Revoke client grant) = omega arith
 few_words (State port) = omega arith
 few_words (Device s) = omega (arith, step_few s)
 
@@ -173,6 +178,7 @@ some_words (Load client frame offset count) = omega arith
 some_words Service = omega arith
 some_words Tick = omega arith
 some_words Reset = omega arith
+some_words (Revoke client grant) = omega arith
 some_words (State port) = omega arith
 some_words (Device s) = omega arith
 

@@ -15,7 +15,7 @@ use Rattle.ata_types.specs.declared.request.Frame.{Frame}
 use Rattle.ata_types.specs.declared.request.Op.{Op}
 use Rattle.ata_types.specs.declared.request.Op.TheVariants.{Read, Write, Trim, Flush}
 use Rattle.script.specs.declared.line.Line.{Line}
-use Rattle.script.specs.declared.line.Line.TheVariants.{Submit, Store, Load, Service, Tick, Reset, State, Device}
+use Rattle.script.specs.declared.line.Line.TheVariants.{Submit, Store, Load, Service, Tick, Reset, Revoke, State, Device}
 use Rattle.script.specs.Line.{IsLine, IsStep, line_words, op_word, page_word, step_words}
 use Rattle.script.specs.Fields.{Word}
 
@@ -67,6 +67,7 @@ as_lie (step.Hold p) page port offset bits h e = absurd (omega (arith, ap length
 as_lie (step.Release p) page port offset bits h e = absurd (omega (arith, ap length e))
 as_lie (step.Unplug p) page port offset bits h e = absurd (omega (arith, ap length e))
 as_lie (step.Plug p d) page port offset bits h e = absurd (omega (arith, ap length e))
+as_lie (step.LosePlug p) page port offset bits h e = absurd (omega (arith, ap length e))
 
 -- no operation's word is one of these: it has another length, or other letters
 no_store : {X : Type 0} (op : Op) → op_word op ≡ codes "store" → X
@@ -123,6 +124,7 @@ as_store (Load c f o n) client frame offset bytes h e = absurd (omega (arith, ap
 as_store Service client frame offset bytes h e = absurd (omega (arith, ap length e))
 as_store Tick client frame offset bytes h e = absurd (omega (arith, ap length e))
 as_store Reset client frame offset bytes h e = absurd (omega (arith, ap length e))
+as_store (Revoke c g) client frame offset bytes h e = absurd (omega (arith, ap length e))
 as_store (State p) client frame offset bytes h e = absurd (omega (arith, ap length e))
 as_store (Device s) client frame offset bytes h e = absurd (omega (arith, ap (λ ws. length (get_or ws 0 [])) e))
 
@@ -166,5 +168,6 @@ as_load (Store c f o b) client frame offset count h e = absurd (omega (arith, ap
 as_load Service client frame offset count h e = absurd (omega (arith, ap length e))
 as_load Tick client frame offset count h e = absurd (omega (arith, ap length e))
 as_load Reset client frame offset count h e = absurd (omega (arith, ap length e))
+as_load (Revoke c g) client frame offset count h e = absurd (omega (arith, ap length e))
 as_load (State p) client frame offset count h e = absurd (omega (arith, ap length e))
 as_load (Device s) client frame offset count h e = absurd (omega (arith, ap (λ ws. length (get_or ws 0 [])) e))

@@ -15,7 +15,7 @@ use Rattle.adapter.specs.declared.access.DeviceStep.{DeviceStep}
 use Rattle.adapter.specs.declared.access.DeviceStep.TheVariants as step
 use Rattle.script.specs.Fields.{Word, fatal_word, frames_word}
 use Rattle.script.specs.declared.line.Line.{Line}
-use Rattle.script.specs.declared.line.Line.TheVariants.{Submit, Store, Load, Service, Tick, Reset, State, Device}
+use Rattle.script.specs.declared.line.Line.TheVariants.{Submit, Store, Load, Service, Tick, Reset, Revoke, State, Device}
 
 abbrev pub op_word : Op → Word
 op_word Read = codes "read"
@@ -63,6 +63,7 @@ step_words (step.Hold port) = codes "hold" ∷ decimal port.0 ∷ []
 step_words (step.Release port) = codes "release" ∷ decimal port.0 ∷ []
 step_words (step.Unplug port) = codes "unplug" ∷ decimal port.0 ∷ []
 step_words (step.Plug port disk) = codes "plug" ∷ decimal port.0 ∷ decimal disk.0 ∷ []
+step_words (step.LosePlug port) = codes "loseplug" ∷ decimal port.0 ∷ []
 
 abbrev pub line_words : Line → List Word
 line_words (Submit request) = op_word request.op ∷ request_words request.op request
@@ -73,6 +74,7 @@ line_words (Load client frame offset count) =
 line_words Service = codes "service" ∷ []
 line_words Tick = codes "tick" ∷ []
 line_words Reset = codes "reset" ∷ []
+line_words (Revoke client grant) = codes "revoke" ∷ decimal client.0 ∷ decimal grant ∷ []
 line_words (State port) = codes "state" ∷ decimal port.0 ∷ []
 line_words (Device asked) = codes "dev" ∷ step_words asked
 
@@ -118,6 +120,7 @@ IsStep (step.Hold port) = port.0 < 4
 IsStep (step.Release port) = port.0 < 4
 IsStep (step.Unplug port) = port.0 < 4
 IsStep (step.Plug port disk) = (port.0 < 4) × (disk.0 < 2)
+IsStep (step.LosePlug port) = port.0 < 4
 
 -- the value has a line
 abbrev pub IsLine : Line → Type 0
@@ -129,5 +132,6 @@ IsLine (Load client frame offset count) = (client.0 < 256) × (frame.0 < 65536) 
 IsLine Service = Unit {0}
 IsLine Tick = Unit {0}
 IsLine Reset = Unit {0}
+IsLine (Revoke client grant) = (client.0 < 256) × (grant < 256)
 IsLine (State port) = port.0 < 4
 IsLine (Device asked) = IsStep asked

@@ -27,7 +27,7 @@ pub enum Answer<'a> {
     Replied(Reply),
     /// No request has ended.
     Quiet,
-    /// The adapter was reset.
+    /// The adapter was reset, or a grant was revoked.
     Done,
     /// The adapter didn't end its reset.
     Stuck,

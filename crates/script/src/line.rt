@@ -43,6 +43,12 @@ pub enum Line {
     Tick,
     /// Reset the adapter.
     Reset,
+    /// Revoke a client's grant.
+    Revoke {
+        client: ClientId,
+        /// The number of the client's grant.
+        grant: u8,
+    },
     /// Show the state of a port.
     State(Port),
     /// Have the device do a step.
@@ -149,6 +155,7 @@ fn of_port(name: &str, port: &str) -> Option<DeviceStep>
     let port = fields::port(port)?;
     match name {
         "unplug" => Some(DeviceStep::Unplug(port)),
+        "loseplug" => Some(DeviceStep::LosePlug(port)),
         "hold" => Some(DeviceStep::Hold(port)),
         "release" => Some(DeviceStep::Release(port)),
         "truth" => Some(DeviceStep::Truth(port)),
@@ -275,6 +282,18 @@ fn load(client: &str, frame: &str, offset: &str, count: &str) -> Option<Line>
     })
 }
 
+/// The revocation that is asked, from the words after `revoke`.
+fn revoke(client: &str, grant: &str) -> Option<Line>
+    ensures found { IfSome result (λ line. IsLine line
+        × (line_words line ≡ codes "revoke" ∷ client.now ∷ grant.now ∷ [])) }
+    ensures only { (line : Line) → IsLine line → line_words line ≡ codes "revoke" ∷ client.now ∷ grant.now ∷ []
+        → result ≡ Some line }
+{
+    let client = fields::client(client)?;
+    let grant = fields::number(grant, 255)? as u8;
+    Some(Line::Revoke { client, grant })
+}
+
 /// What the words of a line ask.
 fn asked(words: &[&str]) -> Option<Line>
     ensures found { IfSome result (λ line. IsLine line × (line_words line ≡ map (λ w. w.now) words.now)) }
@@ -311,6 +330,10 @@ fn asked(words: &[&str]) -> Option<Line>
         },
         "load" => match rest {
             [client, frame, offset, count] => load(client, frame, offset, count),
+            _ => None,
+        },
+        "revoke" => match rest {
+            [client, grant] => revoke(client, grant),
             _ => None,
         },
         "state" => match rest {

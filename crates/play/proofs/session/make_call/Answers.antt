@@ -1,9 +1,8 @@
-use Rattle.std.proofs.Common.{◌≡◌, ◌≤◌, ◌+◌, ◌∷◌, ◌++◌, [], List, Option, Some, None, ap, arith, length, length-append, refl, subst, sym, ◌∙◌}
+use Rattle.std.proofs.Common.{◌≡◌, ◌∷◌, ◌++◌, [], List, Option, Some, None, ap, arith, length, length-append, refl, subst, sym, ◌∙◌}
 use Rattle.std.specs.Prelude.{IsOk, IsSome, OnOk, Ok, Err}
 use Rattle.std.specs.declared.result.Result.{Result}
-use Rattle.ata_types.specs.declared.request.Reply.{Reply}
 use Rattle.block_server.specs.Promise.{Simulates}
-use Rattle.block_server.specs.Sayings.{last_of, said_in, with_replies}
+use Rattle.block_server.specs.Sayings.{last_of, with_replies}
 use Rattle.block_server.specs.declared.types.Said.{Said}
 use Rattle.block_server.specs.declared.types.Told.{Told}
 use Rattle.play.proofs.session.make_call.Goals as goal

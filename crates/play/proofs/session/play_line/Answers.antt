@@ -1,4 +1,4 @@
-use Rattle.std.proofs.Common.{◌≡◌, ◌∙◌, List, Option, Some, None, refl, ap, subst, sym, false}
+use Rattle.std.proofs.Common.{◌≡◌, ◌∙◌, Option, Some, None, refl, ap, subst, sym, false}
 use Rattle.std.specs.Borrow.{Bor}
 use Rattle.std.specs.Prelude.{MatchOption}
 use Rattle.std.proofs.lemmas.Bool.{false≢true}
@@ -9,8 +9,8 @@ use Rattle.play.proofs.Printing.{appends_none, part_of}
 use Rattle.play.proofs.session.play_line.Goals as goal
 
 -- nothing of it is printed
-pub returns-then-has_ended-clause-printed : goal.returns-then-has_ended-clause-printed
-returns-then-has_ended-clause-printed g c =
+pub returns-then-is_starved-clause-printed : goal.returns-then-is_starved-clause-printed
+returns-then-is_starved-clause-printed g c =
     let device = g.A.Adapter.device in
     let call = c.make_call.ensures.keeps in
     let said = with_replies call.0 c.make_call.new.said.replies.items in
@@ -43,7 +43,7 @@ returns-in_default-write_out-clause-printed g c =
     let tape : c.tape-tape.result.now ≡ (device c.make_call.new.server.adapter).tape =
     c.tape-tape.ensures ∙ ap (λ (m : g.row.A.Denot). (device m).tape) c.adapter-adapter.ensures in
     let fed : g.A.Watched.ended c.make_call.new.server.adapter ≡ false =
-    ap g.A.Watched.ended (sym c.adapter-adapter.ensures) ∙ sym c.has_ended.ensures ∙ c.if-has_ended.false in
+    ap g.A.Watched.ended (sym c.adapter-adapter.ensures) ∙ sym c.has_ended-is_starved.ensures ∙ c.if-is_starved.false in
     let last = c.make_call.new.said.last in
     let Last : Option (Bor Told) → Type 0 = λ o. MatchOption o (last ≡ None) (λ told. last ≡ Some told.now) in
     let here = subst Last c.unwrap.ensures c.last.ensures in
@@ -65,7 +65,7 @@ returns-clause-printed g c =
     let tape : c.tape-tape.result.now ≡ (device c.make_call.new.server.adapter).tape =
     c.tape-tape.ensures ∙ ap (λ (m : g.row.A.Denot). (device m).tape) c.adapter-adapter.ensures in
     let fed : g.A.Watched.ended c.make_call.new.server.adapter ≡ false =
-    ap g.A.Watched.ended (sym c.adapter-adapter.ensures) ∙ sym c.has_ended.ensures ∙ c.if-has_ended.false in
+    ap g.A.Watched.ended (sym c.adapter-adapter.ensures) ∙ sym c.has_ended-is_starved.ensures ∙ c.if-is_starved.false in
     let last = c.make_call.new.said.last in
     let Last : Option (Bor Told) → Type 0 = λ o. MatchOption o (last ≡ None) (λ told. last ≡ Some told.now) in
     let here = subst Last c.unwrap.ensures c.last.ensures in
