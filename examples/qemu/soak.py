@@ -5,8 +5,9 @@ answers is compared with shadow copies.
 soak.py [--requests N] [--seed N] [--ports N] [--failures] [--seconds N] [--keep FOLDER]
 
 It writes a configuration and a script, has run.sh play it, and goes through script and answers side by side: each
-refusal is the one that the rules say, each reply is of a request that is unanswered, and each loaded byte is what the
-shadow of the frame has, by the order in which requests were accepted. With --failures QEMU's blkdebug fails reads and
+refusal is the one that the rules say, each reply is of a request that is unanswered, each that is told Revoked had a
+grant that was revoked, and each loaded byte is what the shadow of the frame has, by the order in which requests were
+accepted. With --failures QEMU's blkdebug fails reads and
 writes: docs/QEMU.md says what comes of it. The last line tells how many requests were accepted, how many accesses each
 took, and how many differences were found.
 """
@@ -24,6 +25,10 @@ HERE = pathlib.Path(__file__).resolve().parent
 SECTOR, FRAME, SECTORS = 512, 4096, 512
 CLIENTS, CLIENT_FRAMES, FIRST_FRAME = 8, 15, 40
 MOST_UNANSWERED, MOST_COUNT, FAILURES = 16, 256, 100
+# How often a grant is revoked, of the times that requests were made and answered.
+REVOCATIONS = 0.03
+# The numbers of the grants that are revoked now and then.
+REVOCABLE = range(16, 19)
 RIGHTS = {"read": "r", "write": "w", "trim": "t", "flush": "f"}
 
 
@@ -32,8 +37,8 @@ def first_bytes(port, sector):
 
 
 class Grants:
-    """What each client may do: under number P all of port P's disk, and under P + 8 a part of it, which it may read
-    alone."""
+    """What each client may do: under number P all of port P's disk, under 8 a part of port 0's, which it may read
+    alone, and under 16 to 18 all of a port's disk until the grant is revoked."""
 
     def __init__(self, ports):
         self.rows = {}
@@ -41,6 +46,8 @@ class Grants:
             for port in range(ports):
                 self.rows[client, port] = (port, 0, SECTORS, "rwtf")
             self.rows[client, 8] = (0, 16 * client, 32, "r")
+            for number in REVOCABLE:
+                self.rows[client, number] = (number % ports, 0, SECTORS, "rwf")
 
     def text(self):
         lines = []
@@ -93,7 +100,8 @@ class Writer:
     def request(self):
         client = self.random.randrange(1, CLIENTS + 1)
         kind = self.random.choices(["read", "write", "flush", "trim"], [60, 36, 3, 1])[0]
-        grant = self.random.randrange(self.ports) if self.random.random() < 0.97 else self.random.choice([8, 9])
+        kinds = [range(self.ports), REVOCABLE, (8, 9)]
+        grant = self.random.choice(self.random.choices(kinds, [85, 12, 3])[0])
         if kind == "flush":
             self.lines.append(f"flush {client} {grant}")
             return
@@ -108,6 +116,14 @@ class Writer:
                 self.store(client, frame)
         names = ",".join(str(frame) for frame in frames)
         self.lines.append(f"{kind} {client} {grant} {first} {count} {names}")
+
+    def revoke(self):
+        """Revokes a grant, while a read waits under it for a write of its sectors, if both are accepted."""
+        client, grant = self.random.randrange(1, CLIENTS + 1), self.random.choice(REVOCABLE)
+        first, frames = self.random.randrange(SECTORS - 8), self.frames_of(client, 2)
+        for kind, frame in zip(("write", "read"), frames):
+            self.lines.append(f"{kind} {client} {grant} {first} 8 {frame}")
+        self.call(f"revoke {client} {grant}")
 
     def call(self, name):
         """A call that may have several answers, and a line behind it that tells where these end."""
@@ -129,6 +145,8 @@ class Writer:
                 self.call("tick")
             if self.random.random() < resets:
                 self.call("reset")
+            if self.random.random() < REVOCATIONS:
+                self.revoke()
         for _ in range(8):
             # Each is waited for, or hangs, and then the third tick restarts its port.
             for _ in range(4):
@@ -207,8 +225,10 @@ class Shadow:
         if not said.startswith("ok "):
             return
         self.count = int(said.split()[1])
-        port = self.grants.rows[client, number][0]
-        self.open[self.count] = dict(kind=kind, client=client, port=port, first=first, count=count, frames=frames)
+        port = self.grants.rows.get((client, number), (0,))[0]
+        self.open[self.count] = dict(
+            kind=kind, client=client, number=number, port=port, first=first, count=count, frames=frames
+        )
         for frame in frames:
             self.lent[frame] = self.count
         if kind == "write":
@@ -225,7 +245,22 @@ class Shadow:
                 return data
         return first_bytes(port, sector)
 
-    def reply(self, place, number, outcome):
+    def revoke(self, place, words, said):
+        """The client's row goes, if there is one."""
+        is_there = self.grants.rows.pop((int(words[1]), int(words[2])), None) is not None
+        expected = "done" if is_there else "refused 1 NoGrant"
+        if said != expected:
+            self.differs(place, f"{' '.join(words)}: {said} in place of {expected}")
+
+    def is_told(self, request, outcome, words):
+        """Whether a request may be told so by the call of these words: in a revocation, Revoked under its grant."""
+        if words[0] == "revoke":
+            return outcome == "Revoked" and [request["client"], request["number"]] == [*map(int, words[1:3])]
+        if outcome == "Revoked":
+            return (request["client"], request["number"]) not in self.grants.rows
+        return outcome == "Ok" or self.may_fail and (outcome == "Aborted" or outcome.startswith("DeviceError 41 "))
+
+    def reply(self, place, number, outcome, words):
         request = self.open.pop(number, None)
         if request is None:
             self.differs(place, f"reply {number}, which isn't unanswered")
@@ -235,11 +270,14 @@ class Shadow:
             del self.lent[frame]
         fine = outcome == "Ok"
         self.outcomes[outcome.split()[0]] += 1
-        if not fine and not (self.may_fail and (outcome == "Aborted" or outcome.startswith("DeviceError 41 "))):
-            self.differs(place, f"reply {number} {outcome}")
+        if not self.is_told(request, outcome, words):
+            self.differs(place, f"{' '.join(words)}: reply {number} {outcome}")
         for sector in range(request["count"]):
             key = request["port"], request["first"] + sector
-            if request["kind"] == "write" and not fine:
+            if request["kind"] == "write" and words[0] == "revoke":
+                # It wasn't issued, so it left nothing.
+                self.versions[key] = [it for it in self.versions[key] if it[0] != number]
+            elif request["kind"] == "write" and not fine:
                 for version in self.versions[key]:
                     if version[0] == number:
                         version[1] = None
@@ -290,12 +328,14 @@ class Shadow:
                 if said != "state Ready":
                     self.differs(place, f"{line}: {said}")
             else:
-                if said not in ("quiet", "done") and not said.startswith("reply "):
+                if words[0] == "revoke":
+                    self.revoke(place, words, said)
+                elif said not in ("quiet", "done") and not said.startswith("reply "):
                     self.differs(place, f"{line}: {said}")
                 while said is not None and not said.startswith("state "):
                     if said.startswith("reply "):
                         _, number, outcome = said.split(" ", 2)
-                        self.reply(place, int(number), outcome)
+                        self.reply(place, int(number), outcome, words)
                     if held is None or not held.startswith("reply "):
                         break
                     said, held = held, next(answers, None)
@@ -362,7 +402,7 @@ def main():
         shadow.differences.append(f"run.sh ended with status {ran.returncode}")
     if shadow.open:
         shadow.differences.append(f"{len(shadow.open)} requests are unanswered")
-    failed = sum(count for outcome, count in shadow.outcomes.items() if outcome != "Ok")
+    failed = sum(count for outcome, count in shadow.outcomes.items() if outcome not in ("Ok", "Revoked"))
     # Each failure of a disk fails one command, and a request is told so once at most.
     if failed > FAILURES * words.ports:
         most = FAILURES * words.ports
