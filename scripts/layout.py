@@ -19,13 +19,15 @@ LINES = {
     "docs/CLAIMS.md": 220,
     "docs/DECISIONS.md": 250,
     "docs/DEFINITIONS.md": 220,
+    "docs/HARDWARE.md": 80,
     "docs/OPEN.md": 60,
     "docs/PERFORMANCE.md": 70,
 }
-BYTES = {"README.md": 10_000}
+BYTES = {"README.md": 10_000, "docs/HARDWARE.md": 4_000}
 ALL_BYTES = 130_000
-CODE = ["crates/*/src/**/*.rt", "crates/*/specs/**/*.antt", "examples/**/*.rt.txt"]
-SCRIPTS = ["scripts/*", "examples/*.sh", "examples/qemu/*.sh", "examples/qemu/*.py", "bench/*.py", ".ci/run"]
+CODE = ["crates/*/src/**/*.rt", "crates/*/specs/**/*.antt", "examples/**/*.rt.txt", "examples/*/host/src/*.rs"]
+SCRIPTS = ["scripts/*", "examples/*.sh", "examples/*/*.sh", "examples/*/*.py", "examples/vfio/machine/*", "bench/*.py"]
+SCRIPTS += [".ci/run"]
 DOCUMENTS = ["*.md", "docs/*.md"]
 OTHERS = ["examples/*/README.md"]
 # An import can't be broken, and a row of a table neither.

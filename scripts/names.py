@@ -12,6 +12,7 @@ DOCUMENTS = sorted(
     it for pattern in ("*.md", "docs/*.md", "examples/*/README.md") for it in glob.glob(pattern, root_dir=ROOT)
 )
 PLACES = ("crates", "scripts", "examples", "bench", "docs", ".ci")
+CODE = (".rt", ".rs", ".antt", ".py", ".sh", ".toml", ".script", ".edit")
 # What is made by a run, or stands for a name.
 MADE = re.compile(r"out/|/NAME|NAME\b|FILE|CRATE")
 PATH = re.compile(r"(?:crates|scripts|examples|bench|docs|src|specs|proofs)/[\w./+-]*[\w/+]")
@@ -32,7 +33,7 @@ def words():
             found |= {it.rpartition("/")[2] for it in folders}
             for name in names:
                 found |= {name, name.partition(".")[0]}
-                if at != f"{ROOT}/docs" and name.endswith((".rt", ".antt", ".py", ".sh", ".toml", ".script", ".edit")):
+                if at != f"{ROOT}/docs" and name.endswith(CODE):
                     found |= {*re.findall(r"\w+", read(os.path.relpath(f"{at}/{name}", ROOT)))}
     return found | {*re.findall(r"\w+", read("crates.txt"))}
 
