@@ -36,14 +36,14 @@ zero_after_fis a low high =
     ∙ (patched_past (patched (λ _. 0) 0 header_bytes) 0x1000 fis_bytes a low ∙ patched_past (λ _. 0) 0 header_bytes a (omega (arith, low)))
 
 abbrev prd : Prd
-prd = record { address = 0x28000; bytes = 4096 }
+prd = record { address = 0x64000; bytes = 4096 }
 
 -- the one PRD is of whole pieces
 all_one : All IsWhole (prd ∷ [])
 all_one zero d small = refl
 all_one (suc k) d small = absurd (omega arith)
 
-pub first_says : Says first_memory 0 0 (read_of 100 8) (cut 0x28000 8)
+pub first_says : Says first_memory 0 0 (read_of 100 8) (cut 0x64000 8)
 unfolding first_memory patched bytes_at
 first_says = record {
   table = 0x1000;
@@ -157,11 +157,11 @@ pieces_no first (suc n) at (inr past) = rw (from_no first 512 at (inr (omega (ar
 
 command : SaysCommand first_read 0 0
 unfolding changed
-command = record { meaning = read_of 100 8; places = cut 0x28000 8; says = first_says }
+command = record { meaning = read_of 100 8; places = cut 0x64000 8; says = first_says }
 
 -- where it stands
 abbrev stands : Standing
-stands = record { header = 0; table = 0x1000; entries = 1; places = cut 0x28000 8; received = 0x400 }
+stands = record { header = 0; table = 0x1000; entries = 1; places = cut 0x64000 8; received = 0x400 }
 
 stands_is : standing first_read 0 0 command ≡ stands
 unfolding changed command first_says
@@ -175,9 +175,9 @@ one_of true b c h = inl refl
 one_of false true c h = inr (inl refl)
 one_of false false c h = inr (inr h)
 
-unwritten : (at : ℕ) → (at < 4) ⊎ (8 ≤ at) → (at < 0x400) ⊎ (0x500 ≤ at) → (at < 0x28000) ⊎ (0x29000 ≤ at) → is_written stands at ≡ false
+unwritten : (at : ℕ) → (at < 4) ⊎ (8 ≤ at) → (at < 0x400) ⊎ (0x500 ≤ at) → (at < 0x64000) ⊎ (0x65000 ≤ at) → is_written stands at ≡ false
 unwritten at count area frame =
-    none_of (is_from 4 4 at) (is_of_pieces (cut 0x28000 8) at) (is_from 0x400 256 at) (from_no 4 4 at count) (pieces_no 0x28000 8 at frame) (from_no 0x400 256 at area)
+    none_of (is_from 4 4 at) (is_of_pieces (cut 0x64000 8) at) (is_from 0x400 256 at) (from_no 4 4 at count) (pieces_no 0x64000 8 at frame) (from_no 0x400 256 at area)
 
 stands_apart : (at : ℕ) → is_read_alone stands at ≡ true → is_unwritten stands at ≡ true
 stands_apart at h =
@@ -208,7 +208,7 @@ first_command = record {
     quiet = record { st = refl; cr = refl; fre = refl; fr = refl; ci = λ _. refl; sact = λ _. refl; taken = λ _. refl }
 
 -- the next frame is none of it
-elsewhere : IsElsewhere stands 0x29000 4096 first_read
+elsewhere : IsElsewhere stands 0x65000 4096 first_read
 elsewhere = record {
   inside = omega arith;
   elsewhere = λ a low high.
@@ -220,18 +220,18 @@ elsewhere = record {
     or_no : (a b : Bool) → a ≡ false → b ≡ false → a || b ≡ false
     or_no a b x y = rw (x, y) refl
 
-pub first_free : Stays (IsFree 0x29000 4096) first_read
+pub first_free : Stays (IsFree 0x65000 4096) first_read
 unfolding first_command
 first_free =
-    let P : Standing → Type 0 = λ s. IsElsewhere s 0x29000 4096 first_read in
-    elsewhere_free first_read 0 0 first_command 0x29000 4096 (subst P (sym stands_is) elsewhere)
+    let P : Standing → Type 0 = λ s. IsElsewhere s 0x65000 4096 first_read in
+    elsewhere_free first_read 0 0 first_command 0x65000 4096 (subst P (sym stands_is) elsewhere)
 
 -- ---- and it can be done
 
-pub first_done : (new : Device) × IsRead first_read new 0 0 100 8 (cut 0x28000 8) sector_of
+pub first_done : (new : Device) × IsRead first_read new 0 0 100 8 (cut 0x64000 8) sector_of
 unfolding changed
 first_done =
-    read_done first_read 0 0 100 8 (cut 0x28000 8) sector_of
+    read_done first_read 0 0 100 8 (cut 0x64000 8) sector_of
     (record {
       fetch = record {
         fetchable = record { st = refl; issued = refl; free = refl };
@@ -242,9 +242,9 @@ first_done =
       disk = first_sane.disk 0;
       told_is = refl;
       on_disk = omega arith;
-      inside = λ k small. let place = cut_index 0x28000 8 k small in omega (arith, place, small);
+      inside = λ k small. let place = cut_index 0x64000 8 k small in omega (arith, place, small);
       apart = λ j k before small.
-          let first = cut_index 0x28000 8 j (omega (arith, before, small)) in
-          let then = cut_index 0x28000 8 k small in
+          let first = cut_index 0x64000 8 j (omega (arith, before, small)) in
+          let then = cut_index 0x64000 8 k small in
           inl (omega (arith, first, then, before));
     })

@@ -1,4 +1,4 @@
--- An adapter as a driver leaves it when it has issued its first read: 8 sectors from 100 on, into frame 40.
+-- An adapter as a driver leaves it when it has issued its first read: 8 sectors from 100 on, into frame 100.
 use Rattle.std.specs.Prelude.{ℕ, ◌*◌, true, false, List, [], ◌∷◌, None, Some, replicate}
 use Rattle.ata_types.specs.declared.memory.TheConstants.{FRAME_BYTES}
 use Rattle.adapter.specs.Memory.{patched, changed}
@@ -13,9 +13,9 @@ header_bytes = 5 ∷ 0 ∷ 1 ∷ 0 ∷ 0 ∷ 0 ∷ 0 ∷ 0 ∷ 0 ∷ 0x10 ∷ 0 
 abbrev pub fis_bytes : List ℕ
 fis_bytes = 0x27 ∷ 0x80 ∷ 0x25 ∷ 0 ∷ 0x64 ∷ 0 ∷ 0 ∷ 0x40 ∷ 0 ∷ 0 ∷ 0 ∷ 0 ∷ 8 ∷ 0 ∷ []
 
--- the PRD: a whole frame at 28000h, where frame 40 begins
+-- the PRD: a whole frame at 64000h, where frame 100 begins
 abbrev pub prd_bytes : List ℕ
-prd_bytes = 0 ∷ 0x80 ∷ 2 ∷ 0 ∷ 0 ∷ 0 ∷ 0 ∷ 0 ∷ 0 ∷ 0 ∷ 0 ∷ 0 ∷ 0xff ∷ 0x0f ∷ 0 ∷ 0 ∷ []
+prd_bytes = 0 ∷ 0x40 ∷ 6 ∷ 0 ∷ 0 ∷ 0 ∷ 0 ∷ 0 ∷ 0 ∷ 0 ∷ 0 ∷ 0 ∷ 0xff ∷ 0x0f ∷ 0 ∷ 0 ∷ []
 
 -- the command list is at 0, and the table of slot 0 at 1000h; all else is zero
 unfoldable pub first_memory : ℕ → ℕ

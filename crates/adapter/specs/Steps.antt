@@ -303,8 +303,8 @@ put_into port k (entry.Clear clear) =
     then Some (replicate 512 0) else None
 put_into port k _ = None
 
--- A disk of the port of which this is lasting held these bytes in its sector k when it last ended a flush, or else when
--- it was first in; or they were put there since.
+-- A disk of the port of which this is lasting held these bytes in its sector k when it last ended a flush, or, if it
+-- ended none, when it was first in; or they were put there since.
 abbrev pub WereHeld : List Entry → Lasting → (port k : ℕ) → List ℕ → Type 0
 WereHeld tape lasting port k bytes = (option_map (λ sectors. sectors k) lasting.sectors ≡ Some bytes)
     ⊎ ((entry : Entry) × Contains (drop lasting.since tape) entry × (put_into port k entry ≡ Some bytes))

@@ -138,13 +138,13 @@ pub fn a_read_can_be_done()
 {}
 
 /// There is an adapter with a command, so that the laws above speak of something: eight sectors from 100 on are to be
-/// read into frame 40. It is switched on; its memory and disks are sane; the bytes of the slot say the read; frame 41
+/// read into frame 100. It is switched on; its memory and disks are sane; the bytes of the slot say the read; frame 101
 /// is free, whatever the device does; and the read can be done.
 pub fn a_first_read_exists()
     ensures on { IsOn first_read }
     ensures sane { IsSane first_read }
     ensures command { HasOneCommand first_read 0 0 }
-    ensures says { Says first_read.memory 0 0 (read_of 100 8) (cut 0x28000 8) }
-    ensures free { Stays (IsFree 0x29000 FRAME_BYTES) first_read }
-    ensures done { (new : Device) × IsRead first_read new 0 0 100 8 (cut 0x28000 8) sector_of }
+    ensures says { Says first_read.memory 0 0 (read_of 100 8) (cut 0x64000 8) }
+    ensures free { Stays (IsFree 0x65000 FRAME_BYTES) first_read }
+    ensures done { (new : Device) × IsRead first_read new 0 0 100 8 (cut 0x64000 8) sector_of }
 {}

@@ -1,5 +1,7 @@
 -- What the driver of two queued reads knows, that are served at once (this project's own).
-use Rattle.std.specs.Prelude.{ℕ, true, ◌≡◌, ◌*◌, List, [], ◌∷◌, Some, Contains, replicate}
+use Rattle.std.specs.Prelude.{ℕ, true, ◌≡◌, ◌+◌, ◌*◌, List, [], ◌∷◌, ◌++◌, Some, Contains, replicate}
+use Rattle.std.specs.Int.{to_le_bytes, w32}
+use Rattle.ata_types.specs.declared.memory.TheConstants.{TABLE_HEAD}
 use Rattle.ata_types.specs.declared.request.Frame.{Frame}
 use Rattle.ata_types.specs.declared.request.RequestId.{RequestId}
 use Rattle.hba_regs.specs.declared.reg.Reg.TheVariants.{Px}
@@ -19,6 +21,7 @@ use Rattle.block_machine.specs.State.{Pending, Machine}
 use Rattle.block_machine.specs.Steps.{MayMove}
 use Rattle.agreement.specs.Agrees.{port_at}
 use Rattle.agreement.specs.Driver.{Known, Knows}
+use Rattle.agreement.specs.Places.{table_of}
 use Rattle.agreement.specs.Slots.{Free, Serves, put, Armed, Uses}
 use Rattle.agreement.specs.Witness.{first_id, ready_with}
 
@@ -33,19 +36,19 @@ queued_read first = record { operation = ReadQueued; first = first; count = 8 }
 abbrev pub queued_bytes : ℕ → ℕ → List ℕ
 queued_bytes slot first = 0x27 ∷ 0x80 ∷ 0x60 ∷ 8 ∷ first ∷ 0 ∷ 0 ∷ 0x40 ∷ 0 ∷ 0 ∷ 0 ∷ 0 ∷ 8 * slot ∷ replicate 7 0
 
--- the header of slot 1, but for its zeros at the end: no W, one PRD, and a table at 1400h
+-- the header of slot 1, but for its zeros at the end: no W, one PRD, and the address of the slot's table
 abbrev pub second_header : List ℕ
-second_header = 5 ∷ 0 ∷ 1 ∷ 0 ∷ 0 ∷ 0 ∷ 0 ∷ 0 ∷ 0 ∷ 0x14 ∷ 0 ∷ 0 ∷ []
+second_header = 5 ∷ 0 ∷ 1 ∷ replicate 5 0 ++ to_le_bytes w32 (table_of 0 1)
 
--- its PRD: a whole frame at 29000h, where frame 41 begins
+-- its PRD: a whole frame at 65000h, where frame 101 begins
 abbrev pub second_prd : List ℕ
-second_prd = 0 ∷ 0x90 ∷ 2 ∷ 0 ∷ 0 ∷ 0 ∷ 0 ∷ 0 ∷ 0 ∷ 0 ∷ 0 ∷ 0 ∷ 0xff ∷ 0x0f ∷ 0 ∷ 0 ∷ []
+second_prd = 0 ∷ 0x50 ∷ 6 ∷ 0 ∷ 0 ∷ 0 ∷ 0 ∷ 0 ∷ 0 ∷ 0 ∷ 0 ∷ 0 ∷ 0xff ∷ 0x0f ∷ 0 ∷ 0 ∷ []
 
--- In the first read's memory: slot 0 has a queued read from sector 100 on into frame 40, and slot 1 one from sector
--- 108 on into frame 41.
+-- In the first read's memory: slot 0 has a queued read from sector 100 on into frame 100, and slot 1 one from sector
+-- 108 on into frame 101.
 unfoldable pub two_memory : ℕ → ℕ
-two_memory = patched (patched (patched (patched first_memory 0x1000 (queued_bytes 0 100)) 32 second_header) 0x1400
-    (queued_bytes 1 108)) 0x1480 second_prd
+two_memory = patched (patched (patched (patched first_memory 0x1000 (queued_bytes 0 100)) 32 second_header)
+    (table_of 0 1) (queued_bytes 1 108)) (table_of 0 1 + TABLE_HEAD) second_prd
 
 -- Such a device: PxSACT was written with bit 0 and with bit 1, then PxCI with bit 0, and then with bit 1; and slot 0's
 -- command is taken.
@@ -59,7 +62,7 @@ abbrev pub two_issued : Device
 two_issued = written (Px (port_at 0) Ci) 2 one_issued
 
 abbrev pub one_taken : Device
-one_taken = after (Fetch 0 0 (queued_read 100) (cut 0x28000 8)) two_issued
+one_taken = after (Fetch 0 0 (queued_read 100) (cut 0x64000 8)) two_issued
 
 -- slots 0 and 1 of port 0 are armed
 abbrev pub armed_uses : Uses

@@ -17,6 +17,7 @@ use Rattle.block_machine.specs.State.{Pending, Machine}
 use Rattle.block_machine.specs.Steps.{MayMove}
 use Rattle.agreement.specs.Agrees.{port_at}
 use Rattle.agreement.specs.Driver.{Known, Knows}
+use Rattle.agreement.specs.Places.{scratch_of}
 use Rattle.agreement.specs.Witness.{first_id, first_uses, page_bytes, ready_with, DoneIsKnown}
 
 -- DATA SET MANAGEMENT with TRIM, and its FIS: one block
@@ -34,7 +35,7 @@ trim_block = 100 ∷ 0 ∷ 0 ∷ 0 ∷ 0 ∷ 0 ∷ 8 ∷ 0 ∷ replicate 504 0
 -- the scratch frame.
 unfoldable pub trim_memory : ℕ → ℕ
 trim_memory = patched (patched (patched (patched first_memory 0 (0x45 ∷ [])) 0x1000 trim_bytes) 0x1080 page_bytes)
-    0x9000 trim_block
+    (scratch_of 0) trim_block
 
 -- such a device before bit 0 of PxCI is written, after, and when the command is taken
 abbrev pub prepared_trim : Device
@@ -44,7 +45,7 @@ abbrev pub issued_trim : Device
 issued_trim = written (Px (port_at 0) Ci) 1 prepared_trim
 
 abbrev pub taken_trim : Device
-taken_trim = after (Fetch 0 0 trim (0x9000 ∷ [])) issued_trim
+taken_trim = after (Fetch 0 0 trim (scratch_of 0 ∷ [])) issued_trim
 
 -- slot 0 of port 0 serves request 1
 abbrev pub trim_known : Known
@@ -62,6 +63,6 @@ pub record TrimIsKnown : Type 0 where
   pub permitted : Stays (MayWrite (Px (port_at 0) Ci) 1) prepared_trim
   pub issued : Knows machine trim_known
   pub takes : Steps issued_trim taken_trim
-  pub taken : (taken_trim.port 0).taken 0 ≡ Some (begun trim (0x9000 ∷ []))
+  pub taken : (taken_trim.port 0).taken 0 ≡ Some (begun trim (scratch_of 0 ∷ []))
   pub knows : Knows machine (record trim_known { device = taken_trim })
   pub done : DoneIsKnown trim_known first_id

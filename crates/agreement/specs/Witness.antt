@@ -1,5 +1,6 @@
 -- What the driver of the first read knows, and one with a command of its own (this project's own).
-use Rattle.std.specs.Prelude.{ℕ, false, ◌≡◌, List, [], ◌∷◌, replicate, Contains}
+use Rattle.std.specs.Prelude.{ℕ, false, ◌≡◌, List, [], ◌∷◌, ◌++◌, replicate, Contains}
+use Rattle.std.specs.Int.{to_le_bytes, w32}
 use Rattle.ata_types.specs.declared.request.RequestId.{RequestId}
 use Rattle.hba_regs.specs.declared.reg.Reg.TheVariants.{Px}
 use Rattle.hba_regs.specs.declared.reg.PortReg.TheVariants.{Cmd, Ci}
@@ -18,6 +19,7 @@ use Rattle.block_machine.specs.Steps.{Again, May, MayMove}
 use Rattle.agreement.specs.Agrees.{port_at}
 use Rattle.agreement.specs.Driver.{Known, Knows, IsPrepared, IsOwnPrepared, HasNoSlot, idle, parking}
 use Rattle.agreement.specs.Facts.{IsHalted, FindsPage}
+use Rattle.agreement.specs.Places.{scratch_of}
 use Rattle.agreement.specs.Slots.{Free, Own, Serves, Uses, put, IsEnded}
 
 -- request 1
@@ -130,9 +132,9 @@ EndedIsKnown = DoneIsKnown first_known first_id
 abbrev pub identify_bytes : List ℕ
 identify_bytes = 0x27 ∷ 0x80 ∷ 0xec ∷ replicate 17 0
 
--- the PRD of its page: 512 bytes at 9000h, where the scratch frame of port 0 begins
+-- the PRD of its page: 512 bytes from the beginning of port 0's scratch frame on
 abbrev pub page_bytes : List ℕ
-page_bytes = 0 ∷ 0x90 ∷ 0 ∷ 0 ∷ 0 ∷ 0 ∷ 0 ∷ 0 ∷ 0 ∷ 0 ∷ 0 ∷ 0 ∷ 0xff ∷ 1 ∷ 0 ∷ 0 ∷ []
+page_bytes = to_le_bytes w32 (scratch_of 0) ++ replicate 8 0 ++ 0xff ∷ 1 ∷ 0 ∷ 0 ∷ []
 
 -- they stand in the first read's table, and the header of slot 0 is the same
 unfoldable pub identify_memory : ℕ → ℕ

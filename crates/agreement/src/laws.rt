@@ -28,7 +28,7 @@ ghost use Rattle.block_machine.specs.Histories.{IsReached, AddsSteps};
 ghost use Rattle.block_machine.specs.Left.{IsStart, after, AllTold};
 ghost use Rattle.block_machine.specs.Refusals.{IsOpen};
 ghost use Rattle.block_machine.specs.State.{Accepted, Pending, Machine, unanswered};
-ghost use Rattle.block_machine.specs.Steps.{Step, Accept, Issue, Age, Again, Answer, Release, Store, Load, May, NoneKept, older, after_step, stays, MayMove};
+ghost use Rattle.block_machine.specs.Steps.{Step, Accept, Issue, Age, Again, Answer, Release, Store, Load, May, NoneKept, older, after_step, stays, MayMove, Revoke};
 ghost use Rattle.block_machine.specs.declared.due.Mode.{Mode};
 ghost use Rattle.agreement.specs.Agrees.{Agrees, IsDiskOf, SameMemory, SameSectors, HaveSlots, AreApart, port_at};
 ghost use Rattle.agreement.specs.Returning.{may_return};
@@ -143,6 +143,12 @@ pub fn accepting_agrees()
 /// Nor does a tick.
 pub fn ticking_agrees()
     ensures { (k : Known) (m : Machine) (ready : Port → Bool) → Knows m k → Knows (after_step m (Age ready)) k }
+{}
+
+/// Nor does a client's grant that is revoked.
+pub fn revoking_agrees()
+    ensures { (k : Known) (m : Machine) (client : ClientId) (number : ℕ) → Knows m k
+        → Knows (after_step m (Revoke client number)) k }
 {}
 
 /// A slot whose command is over is given up, and its request is decided on later.

@@ -13,10 +13,10 @@ pub const CLIENTS: usize = 8;
 pub const MOST_GRANTS: usize = 64;
 
 /// Sectors of the longest read or write.
-pub const MOST_REQUEST_SECTORS: u32 = 256;
+pub const MOST_REQUEST_SECTORS: u32 = 1024;
 
 /// Frames of the longest read or write, eight sectors to each.
-pub const MOST_REQUEST_FRAMES: usize = 32;
+pub const MOST_REQUEST_FRAMES: usize = 128;
 
 /// Unanswered requests of all clients together: 16 of each of eight.
 pub const MOST_UNANSWERED: usize = 128;

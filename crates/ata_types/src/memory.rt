@@ -9,9 +9,9 @@ pub const FRAME_BYTES: u32 = 4096;
 /// Frames of the largest memory that a server can use.
 pub const MOST_FRAMES: u16 = 1024;
 
-/// The driver's frames of each port. The first has the port's command list and its received FIS area, the next eight
-/// have its command tables, and the last is its scratch frame.
-pub const PORT_FRAMES: u16 = 10;
+/// The driver's frames of each port. The first has the port's command list and its received FIS area, the next
+/// seventeen have its command tables, and the last is its scratch frame.
+pub const PORT_FRAMES: u16 = 19;
 
 /// Bytes of the driver's frames of a port: those of port p begin at byte `PORT_BYTES` p, with its command list.
 pub const PORT_BYTES: u32 = FRAME_BYTES * PORT_FRAMES as u32;
@@ -44,7 +44,7 @@ pub const TABLE_ALIGNMENT: u32 = 128;
 pub const TABLES: u32 = FRAME_BYTES;
 
 /// Bytes that each slot has for its command table, one slot's behind the other's.
-pub const TABLE_BYTES: u32 = 1024;
+pub const TABLE_BYTES: u32 = 2176;
 
 /// Bytes of a command table before its PRDs: the command FIS, and what isn't used (AHCI 1.3.1, 4.2.3).
 pub const TABLE_HEAD: u32 = 128;

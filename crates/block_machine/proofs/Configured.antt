@@ -8,7 +8,7 @@ use Rattle.ata_types.specs.declared.request.Frame.{Frame}
 use Rattle.ata_types.specs.declared.grant.GrantRow.{GrantRow}
 use Rattle.ata_types.specs.declared.limits.TheConstants.{MOST_UNANSWERED}
 use Rattle.block_machine.specs.State.{Accepted, Pending, Machine}
-use Rattle.block_machine.specs.Rules.{DifferInName, has_name}
+use Rattle.block_machine.specs.Rules.{DifferInName, is_under}
 use Rattle.block_machine.specs.Steps.{Step, Accept, Revoke, after_step, unanswered_of}
 use Rattle.block_machine.specs.Left.{after, IsLegal, IsStart}
 use Rattle.block_machine.specs.Confined.{IsGranted, WasAccepted}
@@ -18,7 +18,7 @@ use Rattle.block_machine.proofs.Accepts.{living_accepted, accepted_is_granted}
 
 -- each of the rows that the step leaves was there
 row_step : (m : Machine) (step : Step) (row : GrantRow) → Contains (after_step m step).rows row → Contains m.rows row
-row_step m (Revoke client number) row h = (filter_in (λ (r : GrantRow). not (has_name client number r)) m.rows row h).0
+row_step m (Revoke client number) row h = (filter_in (λ (r : GrantRow). not (is_under client number r.client r.number)) m.rows row h).0
 row_step m _ row h = h
 
 pub rows_shrink : (m : Machine) (h : List Step) (row : GrantRow) → Contains (after m h).rows row → Contains m.rows row
@@ -27,7 +27,7 @@ rows_shrink m (step ∷ past) row h = rows_shrink m past row (row_step (after m 
 
 -- those that differ in name do so still
 differ_step : (m : Machine) (step : Step) → AllPairs DifferInName m.rows → AllPairs DifferInName (after_step m step).rows
-differ_step m (Revoke client number) differ = AllPairs-filter DifferInName (λ (r : GrantRow). not (has_name client number r)) m.rows differ
+differ_step m (Revoke client number) differ = AllPairs-filter DifferInName (λ (r : GrantRow). not (is_under client number r.client r.number)) m.rows differ
 differ_step m _ differ = differ
 
 pub rows_differ : (m : Machine) (h : List Step) → AllPairs DifferInName m.rows → AllPairs DifferInName (after m h).rows

@@ -47,7 +47,7 @@ abbrev pub request : ℕ → Op → ℕ → ℕ → List Frame → Request
 request n op first count frames = record { client = client; grant = n; op = op; first = record { 0 = first }; count = count; frames = record { items = frames } }
 
 abbrev pub owner : Frame → Option ClientId
-owner f = cond (nat_le DRIVER_FRAMES f.0 && nat_lt f.0 (DRIVER_FRAMES + 40)) (Some client) None
+owner f = cond (nat_le DRIVER_FRAMES f.0 && nat_lt f.0 (DRIVER_FRAMES + 100)) (Some client) None
 
 -- frames of zeros, and disks of 200 zero sectors
 abbrev pub empty : Machine
@@ -99,15 +99,15 @@ filled_starts memory = record {
   few = omega arith;
   rows = differ;
   configured = λ r h. ⊎_elim (λ p. subst IsRow (sym p) (fits_row 0 (omega arith))) (λ p. subst IsRow (sym p) (fits_row 1 (omega arith))) (row_cases r h);
-  owned = λ f c e. within f (nat_le DRIVER_FRAMES f.0) (nat_lt f.0 (DRIVER_FRAMES + 40)) refl refl c e;
+  owned = λ f c e. within f (nat_le DRIVER_FRAMES f.0) (nat_lt f.0 (DRIVER_FRAMES + 100)) refl refl c e;
 }
   where
-    within : (f : Frame) (a b : Bool) → nat_le DRIVER_FRAMES f.0 ≡ a → nat_lt f.0 (DRIVER_FRAMES + 40) ≡ b → (c : ClientId) → cond (a && b) (Some client) None ≡ Some c → (1 ≤ c.0) × (c.0 ≤ 8) × (DRIVER_FRAMES ≤ f.0) × (f.0 < 1024)
+    within : (f : Frame) (a b : Bool) → nat_le DRIVER_FRAMES f.0 ≡ a → nat_lt f.0 (DRIVER_FRAMES + 100) ≡ b → (c : ClientId) → cond (a && b) (Some client) None ≡ Some c → (1 ≤ c.0) × (c.0 ≤ 8) × (DRIVER_FRAMES ≤ f.0) × (f.0 < 1024)
     within f true true low high c e =
         let is : client ≡ c = cc in
         let n : 1 ≡ c.0 = ap (λ (x : ClientId). x.0) is in
         let l : DRIVER_FRAMES ≤ f.0 = leb-true DRIVER_FRAMES f.0 low in
-        let h : f.0 < DRIVER_FRAMES + 40 = ltb-true f.0 (DRIVER_FRAMES + 40) high in
+        let h : f.0 < DRIVER_FRAMES + 100 = ltb-true f.0 (DRIVER_FRAMES + 100) high in
         (omega (arith, n), omega (arith, n), l, omega (arith, h))
     within f true false low high c e = absurd (none_some c e)
       where

@@ -15,7 +15,7 @@ use Rattle.ata_types.specs.declared.request.Outcome.{Outcome}
 use Rattle.ata_types.specs.declared.request.Outcome.TheVariants as outcome
 use Rattle.ata_types.specs.declared.refusal.Refusal.{Refusal}
 use Rattle.ata_types.specs.declared.refusal.MemFault.{MemFault}
-use Rattle.block_machine.specs.Rules.{HasRow, without_row}
+use Rattle.block_machine.specs.Rules.{HasRow, IsUnder, without_row}
 use Rattle.block_machine.specs.Refusals.{Situation, IsAcceptable, IsFirstRefusal, IsOpen, IsFirstMemFault}
 use Rattle.block_machine.specs.Due.{NoneDue}
 use Rattle.block_machine.specs.Ports.{Ports, AreFit, SamePort, SamePorts, SameDisk, Evidence, IsInterrupted, MayBecome, IsServiced, IsStuck}
@@ -140,10 +140,6 @@ transfers_of [] = []
 transfers_of (Store c f o bytes ∷ before) = bytes ∷ transfers_of before
 transfers_of (Load c f o bytes ∷ before) = bytes ∷ transfers_of before
 transfers_of (step ∷ before) = transfers_of before
-
--- the request was accepted under the client's grant of this number
-abbrev pub IsUnder : ClientId → ℕ → Accepted → Type 0
-IsUnder client number r = (r.asked.client ≡ client) × (r.asked.grant ≡ number)
 
 -- the step is a tick
 abbrev pub is_age : Step → Bool
@@ -431,10 +427,10 @@ pub record AnswersRevoke (client : ClientId) (number : ℕ) (old : Moment) (step
   pub there : HasRow client number old.machine.rows
   pub rows : new.machine.rows ≡ without_row client number old.machine.rows
   pub tells : Tells steps replies
-  pub all : (e : Pending) → Contains old.machine.book e → e.issued ≡ false → IsUnder client number e.request
-      → Contains steps (Answer e outcome.Revoked)
-  pub only : (e : Pending) (o : Outcome) → Contains steps (Answer e o)
-      → Contains old.machine.book e × (e.issued ≡ false) × IsUnder client number e.request
+  pub all : (e : Pending) → Contains old.machine.book e → e.issued ≡ false
+      → IsUnder client number e.request.asked.client e.request.asked.grant → Contains steps (Answer e outcome.Revoked)
+  pub only : (e : Pending) (o : Outcome) → Contains steps (Answer e o) → Contains old.machine.book e
+      × (e.issued ≡ false) × IsUnder client number e.request.asked.client e.request.asked.grant
   pub same : SamePorts old.ports new.ports
   pub issues : AllIssued new
 

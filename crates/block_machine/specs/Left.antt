@@ -144,8 +144,9 @@ pub record HoldsLeft (start : Machine) (history : List Step) (memory : Memory) (
       → block_of memory read.asked.frames.items i b ≡ read.held i b
 
 -- The bytes that a read moved are those of its disk. A disk that comes back has in each sector what it held there at
--- some moment since a flush was last ended on it, or else since it was first in: what its cache held may be lost (FLUSH
--- CACHE EXT, ACS-3). (A disk over a store that doesn't tell what it holds may move any bytes, and come back with any.)
+-- some moment since a flush was last ended on it, or, if none was, since it was first in: what its cache held may be
+-- lost (FLUSH CACHE EXT, ACS-3). (A disk over a store that doesn't tell what it holds may move any bytes, and come back
+-- with any.)
 abbrev pub IsTold : Machine → Step → Type 0
 IsTold old (Touch e i block) = e.request.asked.op ≡ Read
     → (b : ℕ) → b < 512 → block b ≡ old.disks e.request.port (sector_of e.request i) b

@@ -17,9 +17,17 @@ use Rattle.ata_types.specs.declared.refusal.Refusal.TheVariants as refused
 use Rattle.ata_types.specs.Grant.{Allows, Covers}
 use Rattle.ata_types.specs.declared.limits.TheConstants.{MOST_REQUEST_SECTORS}
 
+-- a client's number is the one of this grant, which is known by its client and number
+abbrev pub IsUnder : ClientId → ℕ → ClientId → ℕ → Type 0
+IsUnder client number its_client its_number = (its_client ≡ client) × (its_number ≡ number)
+
+-- so it is, as a test
+abbrev pub is_under : ClientId → ℕ → ClientId → ℕ → Bool
+is_under client number its_client its_number = its_client.0 == client.0 && its_number == number
+
 -- the row is the one of this client under this number
 abbrev pub Names : ClientId → ℕ → GrantRow → Type 0
-Names client number row = (row.client ≡ client) × (row.number ≡ number)
+Names client number row = IsUnder client number row.client row.number
 
 -- the rows don't stand under one client and number
 abbrev pub DifferInName : GrantRow → GrantRow → Type 0
@@ -33,13 +41,9 @@ IsNamed rows r row = Contains rows row × Names r.client r.grant row
 abbrev pub HasRow : ClientId → ℕ → List GrantRow → Type 0
 HasRow client number rows = (row : GrantRow) × Contains rows row × Names client number row
 
--- the row is the one of this client under this number, as a test
-abbrev pub has_name : ClientId → ℕ → GrantRow → Bool
-has_name client number row = row.client.0 == client.0 && row.number == number
-
 -- the rows but for the one of this client under this number
 abbrev pub without_row : ClientId → ℕ → List GrantRow → List GrantRow
-without_row client number rows = filter (λ row. not (has_name client number row)) rows
+without_row client number rows = filter (λ row. not (is_under client number row.client row.number)) rows
 
 -- the operation may have so many sectors
 abbrev pub IsCount : Op → ℕ → Type 0

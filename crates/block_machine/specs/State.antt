@@ -79,8 +79,8 @@ pub record Machine : Type 0 where
   pub disk_ids : Port → ℕ
   pub sizes : Port → ℕ
   pub disks : Port → Disk
-  -- by port and sector, what that disk held there, and holds no more, since a flush was last ended on it, or else since
-  -- it was first in
+  -- by port and sector, what that disk held there before, since a flush was last ended on it, or, if none was, since it
+  -- was first in
   pub aside : Port → ℕ → List Block
   -- the unanswered requests, in order of acceptance
   pub book : List Pending

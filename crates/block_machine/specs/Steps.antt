@@ -216,8 +216,8 @@ MovesOwn r i block = r.asked.op ≡ Write → (b : ℕ) → b < 512 → block b 
 abbrev pub SameBytes : Block → Block → Type 0
 SameBytes one other = (b : ℕ) → b < 512 → one b ≡ other b
 
--- the port's disk holds this block in its sector k, or held it since a flush was last ended on it, or else since it was
--- first in
+-- the port's disk holds this block in its sector k, or held it since a flush was last ended on it, or, if none was,
+-- since it was first in
 abbrev pub HasHeld : Machine → Port → ℕ → Block → Type 0
 HasHeld m port k block =
     SameBytes block (m.disks port k) ⊎ ((old : Block) × Contains (m.aside port k) old × SameBytes block old)

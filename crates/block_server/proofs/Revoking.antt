@@ -5,18 +5,18 @@ use Rattle.std.proofs.lemmas.List.{get_or_default}
 use Rattle.std.proofs.lemmas.List.Elements.{All-contains}
 use Rattle.ata_types.specs.declared.grant.GrantRow.{GrantRow}
 use Rattle.ata_types.specs.declared.request.ClientId.{ClientId}
+use Rattle.ata_types.specs.declared.request.Outcome.TheVariants.{Revoked}
 use Rattle.ata_types.specs.declared.request.Reply.{Reply}
 use Rattle.adapter.specs.Device.{Device}
-use Rattle.block_machine.specs.Due.{due_of}
 use Rattle.block_machine.specs.Left.{IsRow}
 use Rattle.block_machine.specs.Rules.{Names, without_row}
 use Rattle.block_machine.specs.declared.due.Mode.{Mode}
 use Rattle.dma_frames.specs.Loan.{Lending}
 use Rattle.dma_frames.specs.Table.{Table}
 use Rattle.host_boot.specs.declared.Found.TheVariants.{Unserved}
-use Rattle.request_queue.specs.Entries.{Held, all_marked_under, asks_of}
-use Rattle.request_queue.specs.Fates.{MeetFates}
-use Rattle.server_history.specs.Revoked.{RevokesAndIssues, RevokesGrant, ends_revoked, waiting_under}
+use Rattle.request_queue.specs.Entries.{Held, all_marked_under, waits_under}
+use Rattle.request_queue.specs.Fates.{AnswersAll}
+use Rattle.server_history.specs.Revoked.{RevokesGrant}
 use Rattle.server_history.specs.Served.{IssuesAll}
 use Rattle.server_history.specs.Server.{IsKept, Server, kept_at, mode_in, plain_mode}
 use Rattle.slots.specs.Uses.{Uses as PortSlots}
@@ -31,7 +31,7 @@ TakesRow rows client number row left = Contains rows row × Names client number 
 -- the requests that wait in this book were told so, by replies that came after these
 abbrev pub AreTold : ClientId → ℕ → List Held → Table → List Reply → List Held → Table → List Reply → Type 0
 AreTold client number book table before later then replies = (kept : List Lending) → (its : List Reply) × (replies ≡ before ++ its)
-    × MeetFates ends_revoked (waiting_under client number book) its (holding book table kept) (holding later then kept)
+    × AnswersAll (waits_under client number) Revoked its (holding book table kept) (holding later then kept)
 
 module _ (s : Server) (client : ClientId) (number : ℕ) (row : GrantRow) (grants : List GrantRow) (takes : TakesRow s.grants client number row grants)
     (marked : List Held) (marked_is : marked ≡ all_marked_under client number s.book) (table : Table) (table_is : table ≡ s.table) (before : List Reply) (none : before ≡ [])
@@ -40,26 +40,22 @@ module _ (s : Server) (client : ClientId) (number : ℕ) (row : GrantRow) (grant
   abbrev pub mid : Server
   mid = record s { grants = grants; table = then; book = book }
 
-  pub revokes : RevokesGrant client number replies s mid
+  abbrev kept : List Lending
+  kept = kept_at s.kept row.port.0
+
+  pub answered : AnswersAll (waits_under client number) Revoked replies (holding (all_marked_under client number s.book) s.table kept) (holding book then kept)
+  answered =
+      let its = told kept in
+      subst (λ (r : List Reply). AnswersAll (waits_under client number) Revoked r (holding (all_marked_under client number s.book) s.table kept) (holding book then kept)) (sym (its.1 ∙ ap (λ (b : List Reply). b ++ its.0) none))
+      (subst (λ (b : List Held). AnswersAll (waits_under client number) Revoked its.0 (holding b s.table kept) (holding book then kept)) marked_is
+      (subst (λ (t : Table). AnswersAll (waits_under client number) Revoked its.0 (holding marked t kept) (holding book then kept)) table_is its.2))
+
+  abbrev pub revokes : RevokesGrant client number replies s mid
   revokes = record {
-    row = row;
-    there = takes.0;
-    named = takes.1;
-    now = holding book then kept;
-    meets = subst (λ (r : List Reply). MeetFates ends_revoked (waiting_under client number (all_marked_under client number s.book)) r (holding (all_marked_under client number s.book) s.table kept) (holding book then kept)) (sym its_are)
-        (subst (λ (b : List Held). MeetFates ends_revoked (waiting_under client number b) its.0 (holding b s.table kept) (holding book then kept)) marked_is
-        (subst (λ (t : Table). MeetFates ends_revoked (waiting_under client number marked) its.0 (holding marked t kept) (holding book then kept)) table_is its.2));
+    has = (row, takes.0, takes.1);
+    answers = answered;
     server = λ i. record s { grants = takes.2 i; table = then; book = book };
   }
-    where
-      kept : List Lending
-      kept = kept_at s.kept row.port.0
-
-      its : (its : List Reply) × (replies ≡ before ++ its) × MeetFates ends_revoked (waiting_under client number marked) its (holding marked table kept) (holding book then kept)
-      its = told kept
-
-      its_are : replies ≡ its.0
-      its_are = its.1 ∙ ap (λ (b : List Reply). b ++ its.0) none
 
   module _ (k : IsKept s) (goes_on : IsKept mid) where
     low : row.port.0 < 4
@@ -85,17 +81,5 @@ module _ (s : Server) (client : ClientId) (number : ℕ) (row : GrantRow) (grant
 
     -- and then what is due was issued
     pub issued : (place : ℕ) → place ≡ row.port.0 → (new : Device) (later : List Held) (slots : PortSlots) → IssuesAll row.port mid (with_part mid new later slots row.port)
-        → RevokesAndIssues client number replies s (record mid { device = new; slots = set s.slots place slots; book = later })
-    unfolding revokes
-    issued place is new later slots issues = record {
-      mid = mid;
-      revokes = revokes;
-      issues = subst (λ (n : ℕ). IssuesAll row.port mid (record mid { device = new; slots = set s.slots n slots; book = later })) (sym is) issues;
-    }
-
-    -- what was due then is due by the port's mode, wherever that is said to be
-    pub due_said : (place : ℕ) (is : place ≡ row.port.0) (new : Device) (later : List Held) (slots : PortSlots) (issues : IssuesAll row.port mid (with_part mid new later slots row.port)) (mode : Mode) → mode_in s row.port ≡ mode
-        → due_of (mode_in s (issued place is new later slots issues).revokes.row.port) (issued place is new later slots issues).revokes.row.port (asks_of (issued place is new later slots issues).mid.book) ≡ []
-        → due_of mode row.port (asks_of book) ≡ []
-    unfolding issued revokes
-    due_said place is new later slots issues mode mode_is none = subst (λ (m : Mode). due_of m row.port (asks_of book) ≡ []) mode_is none
+        → IssuesAll row.port mid (record mid { device = new; slots = set s.slots place slots; book = later })
+    issued place is new later slots issues = subst (λ (n : ℕ). IssuesAll row.port mid (record mid { device = new; slots = set s.slots n slots; book = later })) (sym is) issues

@@ -1,5 +1,5 @@
 -- No call changes which disks are wanted.
-use Rattle.std.proofs.Common.{ℕ, Bool, true, false, ◌≡◌, ◌+◌, ◌∙◌, List, [], ◌∷◌, ap, ⊎_elim}
+use Rattle.std.proofs.Common.{ℕ, Bool, true, false, ◌≡◌, ◌+◌, ◌∙◌, List, [], ◌∷◌, ap, ⊎_elim, refl}
 use Rattle.std.specs.Prelude.{Ok, Err}
 use Rattle.std.specs.declared.result.Result.{Result}
 use Rattle.ata_types.specs.declared.Port.{Port}
@@ -20,7 +20,7 @@ use Rattle.server_history.specs.Server.{Server}
 use Rattle.server_history.specs.Turns.{ServesPort, TakeTurns, TicksPort, TriesUnready, a_tick_older}
 use Rattle.block_server.specs.Calls.{ServicesBy, Services, Submits, TicksBy, TicksServer}
 use Rattle.block_server.specs.Resetting.{DoesReset}
-use Rattle.block_server.specs.Revoking.{Revokes, RevokesBy}
+use Rattle.block_server.specs.Revoking.{Revokes, RevokesAndIssues}
 use Rattle.block_server.specs.View.{ServerView, server_of}
 use Rattle.block_server.specs.declared.types.NoRow.{NoRow}
 
@@ -89,9 +89,12 @@ module _ {A : Type 0} (device : A → Device) (old new : ServerView A) where
   reset_wants replies (Err why) stuck = ap (λ (s : Server). s.wanted) stuck.1.server
 
   pub revoke_wants : (client : ClientId) (number : ℕ) (replies : List Reply) (result : Result (Unit {0}) NoRow) → Revokes device old new client number replies result → new.wanted ≡ old.wanted
-  revoke_wants client number replies (Ok done) revokes = by old.stuck revokes.0
+  revoke_wants client number replies (Ok done) revokes = by old.stuck refl
     where
-      by : (stuck : Bool) → RevokesBy stuck device client number replies old new → new.wanted ≡ old.wanted
-      by false on = issues_each on.revokes.revokes.row.port _ on.revokes.mid (server_of device new) on.revokes.issues ∙ ap (λ (s : Server). s.wanted) on.revokes.revokes.server
-      by true off = ap (λ (s : Server). s.wanted) off.0.server
+      r : RevokesAndIssues device client number replies old new
+      r = revokes.0
+
+      by : (stuck : Bool) → old.stuck ≡ stuck → new.wanted ≡ old.wanted
+      by false on = issues_each r.revokes.has.0.port _ r.mid (server_of device new) (r.issues on) ∙ ap (λ (s : Server). s.wanted) r.revokes.server
+      by true off = ap (λ (s : Server). s.wanted) (r.stalled off ∙ r.revokes.server)
   revoke_wants client number replies (Err none) refused = ap (λ (s : ServerView A). s.wanted) refused.2

@@ -1,19 +1,20 @@
 // What becomes of the unanswered requests of a port that was stopped, or is dead, and of those that wait under a grant
 // that is revoked.
 ghost use Rattle.std.specs.Prelude.{ℕ, ◌≡◌, ◌≢◌, ◌≤◌, ◌+◌, ◌++◌, ◌∷◌, Contains, List, filter, length};
+ghost use Rattle.ata_types.specs.declared.request.Outcome.TheVariants.{Revoked};
 ghost use Rattle.ata_types.specs.declared.request.Reply.{Reply};
 ghost use Rattle.block_server.specs.Fates.{HasPlaces, HavePlaces, IsSound, holding};
 ghost use Rattle.dma_frames.specs.Loan.{Lending};
-ghost use Rattle.request_queue.specs.Entries.{Held, IsUnanswered, is_of};
-ghost use Rattle.request_queue.specs.Fates.{MeetFates, MeetsFate, fate_of};
-ghost use Rattle.server_history.specs.Revoked.{ends_revoked, waiting_under};
+ghost use Rattle.request_queue.specs.Entries.{Held, IsUnanswered, is_of, waits_under};
+ghost use Rattle.request_queue.specs.Fates.{AnswersAll, MeetFates, MeetsFate, fate_of};
+ghost use Rattle.request_queue.specs.declared.fate.Fate.TheVariants.{Ends};
 
 use super::kept::KeptLoans;
 use ata_types::{ClientId, MOST_UNANSWERED, Outcome, Port, Replies, Reply, RequestId};
 use dma_frames::FrameTable;
 use request_queue::laws::{
-    accepted_requests_stay, an_id_is_one_request, operations_change_one_request,
-    the_book_stays_in_order,
+    accepted_requests_stay, an_id_is_one_request, answers_of_one_outcome_are_one_change,
+    operations_change_one_request, the_book_stays_in_order,
 };
 use request_queue::{Book, Failed, Fate, Prospect};
 
@@ -72,7 +73,7 @@ fn answer_revoked(book: &mut Book, table: &mut FrameTable, id: RequestId, replie
     requires room { length replies.old.items + length book.old ≤ MOST_UNANSWERED }
     ensures meets { (request : Held) (kept : List Lending) → Contains book.old request → request.entry.id ≡ id
         → (its : List Reply) × (replies.new.items ≡ replies.old.items ++ its)
-        × MeetsFate request (ends_revoked request.entry) its (holding book.old table.old kept)
+        × MeetsFate request (Ends Revoked) its (holding book.old table.old kept)
         (holding book.new table.new kept) }
     ensures others { (e : Held) → Contains book.old e → e.entry.id ≢ id → Contains book.new e }
     ensures sound { IsSound table.new book.new }
@@ -105,9 +106,10 @@ pub(crate) fn answer_waiting(
     requires sound { IsSound table.old book.old }
     requires room { length replies.old.items + length book.old ≤ MOST_UNANSWERED }
     ensures { (kept : List Lending) → (its : List Reply) × (replies.new.items ≡ replies.old.items ++ its)
-        × MeetFates ends_revoked (waiting_under client number book.old) its (holding book.old table.old kept)
+        × AnswersAll (waits_under client number) Revoked its (holding book.old table.old kept)
         (holding book.new table.new kept) }
 {
+    answers_of_one_outcome_are_one_change();
     let waiting = book.waiting_of(client, number);
     for place in 0..waiting.len() {
         answer_revoked(book, table, waiting[place], replies);

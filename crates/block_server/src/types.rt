@@ -41,7 +41,7 @@ pub enum Event {
     Reset,
     Revoke {
         client: ClientId,
-        /// The client's own of the grant.
+        /// The number by which the client's requests name the grant.
         number: u8,
     },
     State(Port),

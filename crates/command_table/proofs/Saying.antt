@@ -1,5 +1,5 @@
 -- A table and a header that stand in memory say their command.
-use Rattle.ata_types.specs.declared.memory.TheConstants.{LONGEST_TABLE, PRD_BYTES, TABLE_HEAD}
+use Rattle.ata_types.specs.declared.memory.TheConstants.{PRD_BYTES, TABLE_HEAD}
 use Rattle.ata_types.specs.declared.limits.TheConstants.{MOST_REQUEST_FRAMES}
 use Rattle.std.proofs.Common.{ℕ, suc, ◌≡◌, ◌+◌, ◌*◌, ◌<◌, ◌≤◌, Bool, List, [], ◌∷◌, length, take, drop, refl, sym, ◌∙◌, ap, subst, arith, slice_index, slice_index_or, length-drop}
 use Rattle.std.proofs.lemmas.List.{get_or-take, get_or-drop, length-take}
@@ -41,14 +41,14 @@ prds_stand memory (e ∷ es) at each =
           rw next (each (suc i) d (omega arith))),
     )
 
--- a table of 640 bytes, of which memory holds the front with FIS and PRDs, and a header
-module _ (memory : ℕ → ℕ) (list slot at : ℕ) (prds : List Prd) (table header : List ℕ) (few : length prds ≤ MOST_REQUEST_FRAMES) (size : length table ≡ LONGEST_TABLE)
+-- a table at the head of some bytes, which memory holds with FIS and PRDs, and a header
+module _ (memory : ℕ → ℕ) (list slot at : ℕ) (prds : List Prd) (table header : List ℕ) (few : length prds ≤ MOST_REQUEST_FRAMES) (size : TABLE_HEAD + PRD_BYTES * length prds ≤ length table)
     (here : bytes_at memory at (TABLE_HEAD + PRD_BYTES * length prds) ≡ take (TABLE_HEAD + PRD_BYTES * length prds) table) (head : bytes_at memory (list + 32 * slot) 32 ≡ header)
     (writes : Bool) (command : Command) (direction : (o : Operation) (s first count : ℕ) → command ≡ command_of o s first count → writes ≡ reads_memory o) (fis : SpellsCommand (part table 0 20) command)
     (each : (i : ℕ) (d : Prd) → i < length prds → SpellsPrd (part table (TABLE_HEAD + PRD_BYTES * i) 16) (slice_index_or prds i d))
     (heads : SpellsHeader header writes (length prds) at) where
   part_here : (i k : ℕ) → i + k ≤ TABLE_HEAD + PRD_BYTES * length prds → bytes_at memory (at + i) k ≡ part table i k
-  part_here i k fits = part_at memory at (TABLE_HEAD + PRD_BYTES * length prds) table i k here (omega (arith, size, few)) fits
+  part_here i k fits = part_at memory at (TABLE_HEAD + PRD_BYTES * length prds) table i k here size fits
 
   fis_here : bytes_at memory at 20 ≡ part table 0 20
   fis_here = let same : at + 0 ≡ at = omega arith in ap (λ (a : ℕ). bytes_at memory a 20) (sym same) ∙ part_here 0 20 (omega arith)

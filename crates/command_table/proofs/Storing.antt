@@ -3,7 +3,7 @@ use Rattle.std.proofs.Common.{ℕ, ◌≡◌, ◌⊎◌, ◌+◌, ◌*◌, ◌%�
 use Rattle.byteorder.specs.Endian.{little_from}
 use Rattle.std.specs.List.{All}
 use Rattle.ata_types.specs.declared.Port.{Port}
-use Rattle.ata_types.specs.declared.memory.TheConstants.{DRIVER_BYTES, LONGEST_TABLE, PRD_BYTES, TABLE_BYTES, TABLE_HEAD}
+use Rattle.ata_types.specs.declared.memory.TheConstants.{DRIVER_BYTES, PORT_FRAMES, PRD_BYTES, SCRATCH_FRAME, TABLE_BYTES, TABLE_HEAD}
 use Rattle.ata_types.specs.declared.limits.TheConstants.{MOST_REQUEST_FRAMES}
 use Rattle.hba_regs.specs.declared.reg.Reg.{Reg}
 use Rattle.adapter.specs.Access.{Access, Stores}
@@ -89,7 +89,7 @@ module _ (port slot : ℕ) (below : port < 4) (small : slot < 32) (at : ℕ) (by
 -- ---- the table, and then the header
 
 module _ (port slot : ℕ) (below : port < 4) (small : slot < 32) (uses : Uses) (free : IsUnused port slot uses) (old mid new : Device) (on : IsOn old) (a : IsAgreed uses old)
-    (prds : List Prd) (table header : List ℕ) (few : length prds ≤ MOST_REQUEST_FRAMES) (size : length table ≡ LONGEST_TABLE) (front : length (take (TABLE_HEAD + PRD_BYTES * length prds) table) ≡ TABLE_HEAD + PRD_BYTES * length prds)
+    (prds : List Prd) (table header : List ℕ) (few : length prds ≤ MOST_REQUEST_FRAMES) (size : TABLE_HEAD + PRD_BYTES * length prds ≤ length table) (front : length (take (TABLE_HEAD + PRD_BYTES * length prds) table) ≡ TABLE_HEAD + PRD_BYTES * length prds)
     (first : Stores (table_of port slot) (take (TABLE_HEAD + PRD_BYTES * length prds) table) old mid) (second : Stores (list_of port + 32 * slot) header mid new)
     (writes : Bool) (command : Command) (direction : (o : Operation) (s first count : ℕ) → command ≡ command_of o s first count → writes ≡ reads_memory o) (fis : SpellsCommand (part table 0 20) command)
     (each : (i : ℕ) (d : Prd) → i < length prds → SpellsPrd (part table (TABLE_HEAD + PRD_BYTES * i) 16) (slice_index_or prds i d))
@@ -181,7 +181,7 @@ with_block port old mid new table block =
     (followed_as (IsTableStore port 0) (IsStoreWithBlock port 0) (IsUnused port 0) (IsUnused port 0) old mid (λ access here. inl here) (λ uses free. free) table) block
 
 -- the table of a command to which one block goes, from the port's scratch frame
-pub table_for_block : (m : Meaning) (command : Command) (prds : List Prd) (port frame : ℕ) → frame ≡ 10 * port + 9 → IsMeaning m → command ≡ command_of m.operation 0 m.first m.count →
+pub table_for_block : (m : Meaning) (command : Command) (prds : List Prd) (port frame : ℕ) → frame ≡ PORT_FRAMES * port + SCRATCH_FRAME → IsMeaning m → command ≡ command_of m.operation 0 m.first m.count →
     pieces_moved m.operation m.count ≡ 1 → All IsWhole prds → pieces prds ≡ places_of (record { 0 = frame } ∷ []) 1 → IsTableFor 0 command prds m (scratch_of port ∷ [])
 table_for_block m command prds port frame same meaning fields one whole places = record {
   meaning = meaning;

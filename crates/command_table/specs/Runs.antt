@@ -13,7 +13,7 @@ pub record IsLongestRun (frames : List Frame) (n : ℕ) : Type 0 where
   pub rising : (k : ℕ) → k < n → frame_number frames k ≡ frame_number frames 0 + k
   pub ends : n < length frames → frame_number frames n ≢ frame_number frames 0 + n
 
--- How many frames the PRD covers, the last of them perhaps in part. (A request has 32 frames at most, so a PRD has 128
+-- How many frames the PRD covers, the last of them perhaps in part. (A request has 128 frames at most, so a PRD has 512
 -- KiB at most: AHCI allows 4 MiB.)
 abbrev pub frames_in : Prd → ℕ
 frames_in e = (e.bytes + (FRAME_BYTES - 1)) / FRAME_BYTES

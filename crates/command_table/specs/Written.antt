@@ -1,9 +1,10 @@
 -- What is stored for a slot's command (AHCI 1.3.1, 4.2.2 and 4.2.3), and what the stores may touch.
-use Rattle.std.specs.Prelude.{ℕ, ◌≡◌, ◌+◌, ◌*◌, ◌≤◌, ◌<◌, ◌⊎◌, List, length, slice_index_or, All}
-use Rattle.ata_types.specs.declared.memory.TheConstants.{HEADER_BYTES, LONGEST_TABLE, PRD_BYTES, TABLE_BYTES, TABLE_HEAD}
+use Rattle.std.specs.Prelude.{ℕ, ◌≡◌, ◌+◌, ◌*◌, ◌≤◌, ◌<◌, ◌⊎◌, List, length, slice_index_or, take, All}
+use Rattle.ata_types.specs.declared.memory.TheConstants.{HEADER_BYTES, PRD_BYTES, TABLE_BYTES, TABLE_HEAD}
 use Rattle.byteorder.specs.Endian.{little_from}
-use Rattle.adapter.specs.Access.{Access}
+use Rattle.adapter.specs.Access.{Access, Stores}
 use Rattle.adapter.specs.Access.Access.{Storing}
+use Rattle.adapter.specs.Device.{Device}
 use Rattle.adapter.specs.Commands.{Meaning, IsMeaning, command_of, pieces_moved}
 use Rattle.adapter.specs.Says.{pieces, IsWhole}
 use Rattle.adapter.specs.Spelling.{AreZero, SpellsCommand, SpellsPrd}
@@ -13,15 +14,20 @@ use Rattle.agreement.specs.Places.{list_of, scratch_of, table_of}
 use Rattle.agreement.specs.Slots.{Free, Uses}
 use Rattle.command_table.specs.Bytes.{part}
 
--- A command table (AHCI 1.3.1, 4.2.3) with room for 32 PRDs: the FIS at 00h, the PRDs from 80h on, and zeros between
--- them, where ACMD stands at 40h, and behind them.
+-- A command table (AHCI 1.3.1, 4.2.3) at the head of some bytes: the FIS at 00h, the PRDs from 80h on, and zeros
+-- between them, where ACMD stands at 40h.
 pub record IsTable (bytes : List ℕ) (command : Command) (prds : List Prd) : Type 0 where
-  pub size : length bytes ≡ LONGEST_TABLE
+  pub size : TABLE_HEAD + PRD_BYTES * length prds ≤ length bytes
   pub fis : SpellsCommand (part bytes 0 20) command
   pub between : AreZero bytes 20 TABLE_HEAD
   pub entries : (i : ℕ) (d : Prd) → i < length prds
       → SpellsPrd (part bytes (TABLE_HEAD + PRD_BYTES * i) 16) (slice_index_or prds i d)
-  pub behind : AreZero bytes (TABLE_HEAD + PRD_BYTES * length prds) LONGEST_TABLE
+
+-- such a table was stored here at once, without what is behind its last PRD
+pub record StoresTable (at : ℕ) (command : Command) (prds : List Prd) (old new : Device) : Type 0 where
+  pub bytes : List ℕ
+  pub table : IsTable bytes command prds
+  pub stored : Stores at (take (TABLE_HEAD + PRD_BYTES * length prds) bytes) old new
 
 -- Command and PRDs are those of this meaning in the slot: the command has its fields, and the PRDs cut into its places,
 -- as many as it moves pieces.

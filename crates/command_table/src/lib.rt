@@ -11,13 +11,13 @@ ghost use Rattle.adapter.specs.Says.{pieces, IsWhole};
 ghost use Rattle.adapter.specs.Spelling.{AreZero, SpellsCommand, SpellsHeader, SpellsPrd, IsAllowed};
 ghost use Rattle.adapter.specs.Commands.{IsMeaning, Meaning, command_of, pieces_moved, reads_memory};
 ghost use Rattle.adapter.specs.Memory.{bytes_at};
-ghost use Rattle.adapter.specs.Rules.{IsOn};
+ghost use Rattle.adapter.specs.Rules.{IsFree, IsOn, Stays};
 ghost use Rattle.adapter.specs.declared.command.Operation.{Operation};
 ghost use Rattle.adapter.specs.declared.command.Prd.{Prd};
 ghost use Rattle.agreement.specs.Driven.{AgreesWith, IsFollowed};
 ghost use Rattle.agreement.specs.Places.{list_of, scratch_of};
 ghost use Rattle.agreement.specs.Slots.{Told};
-ghost use Rattle.command_table.specs.Written.{IsStoreWithBlock, IsTable, IsTableFor, IsTableStore, IsUnused};
+ghost use Rattle.command_table.specs.Written.{IsStoreWithBlock, IsTable, IsTableFor, IsTableStore, IsUnused, StoresTable};
 ghost use Rattle.command_table.specs.Places.{places_of};
 ghost use Rattle.command_table.specs.Runs.{AreJoined, IsLongestRun};
 ghost use Rattle.command_table.specs.Bytes.{Stores, part};
@@ -39,6 +39,9 @@ const FIS_DWORDS: u32 = 5;
 const WRITE_BIT: u32 = 1 << 6;
 
 const BLOCK_BYTES: u32 = 512;
+
+/// Bytes of a command table with eight PRDs.
+const SHORT_TABLE: usize = TABLE_HEAD as usize + 8 * PRD_BYTES as usize;
 
 /// Writes the bytes into the buffer, from a place on.
 fn store_at(buffer: &mut [u8], at: usize, bytes: &[u8])
@@ -79,7 +82,7 @@ fn prd_bytes(prd: &Prd) -> [u8; 16]
 }
 
 /// The PRDs that cover the first bytes of the frames, in order: one for each longest run of frames whose numbers rise
-/// by one, so of 128 KiB at most (AHCI 1.3.1, 4.2.3.3, allows 4 MiB). The last one covers the rest of the bytes.
+/// by one, so of 512 KiB at most (AHCI 1.3.1, 4.2.3.3, allows 4 MiB). The last one covers the rest of the bytes.
 pub fn prds(frames: &[Frame], bytes: u32) -> ArrayVec<Prd, MOST_REQUEST_FRAMES>
     requires room { length frames.now ≤ MOST_REQUEST_FRAMES }
     requires even { bytes % 2 ≡ 0 }
@@ -121,12 +124,12 @@ fn run_length(frames: &[Frame], from: usize) -> usize
     frames.len() - from
 }
 
-/// Turns zeros into a command table: the FIS at its head, the PRDs from byte 128 on, and zeros between and behind them.
-/// It is made where the caller has it, since it would be copied else.
-fn fill_table(bytes: &mut [u8; LONGEST_TABLE], command: &Command, prds: &[Prd])
-    requires zeros { AreZero bytes.old 0 LONGEST_TABLE }
+/// Turns zeros into a command table: the FIS at its head, the PRDs from byte 128 on, and zeros between them. It is made
+/// where the caller has it, since it would be copied else.
+fn fill_table(bytes: &mut [u8], command: &Command, prds: &[Prd])
+    requires zeros { AreZero bytes.old 0 TABLE_HEAD }
+    requires room { TABLE_HEAD + PRD_BYTES * length prds.now ≤ length bytes.old }
     requires lba { command.now.lba < 2 ^ 48 }
-    requires room { length prds.now ≤ MOST_REQUEST_FRAMES }
     requires allowed { All IsAllowed prds.now }
     ensures { IsTable bytes.new command.now prds.now }
 {
@@ -151,9 +154,30 @@ fn is_write(command: &Command) -> bool
     )
 }
 
+/// Stores a command table at a place that is free, in one store: what follows its last PRD isn't stored. Most tables
+/// have few PRDs, and for those no buffer is cleared that has room for as many as a request can have frames.
+fn store_table<A: Adapter>(adapter: &mut A, at: u32, command: &Command, prds: &[Prd])
+    requires free { Stays (IsFree at (TABLE_HEAD + PRD_BYTES * length prds.now)) (A.device adapter.old) }
+    requires lba { command.now.lba < 2 ^ 48 }
+    requires few { length prds.now ≤ MOST_REQUEST_FRAMES }
+    requires allowed { All IsAllowed prds.now }
+    ensures { StoresTable at command.now prds.now (A.device adapter.old) (A.device adapter.new) }
+{
+    let size = TABLE_HEAD as usize + PRD_BYTES as usize * prds.len();
+    if size <= SHORT_TABLE {
+        let mut bytes = [0; SHORT_TABLE];
+        fill_table(&mut bytes, command, prds);
+        adapter.store(at, &bytes[..size]);
+    } else {
+        let mut bytes = [0; LONGEST_TABLE];
+        fill_table(&mut bytes, command, prds);
+        adapter.store(at, &bytes[..size]);
+    }
+}
+
 /// Writes the table and then the header of an unused slot, so that they say the command that is meant, with its PRDs,
 /// and PRDBC tells that nothing was moved yet; no other byte is stored. The slot's places are this project's own: list
-/// and tables stand in the ten frames of the port.
+/// and tables stand in the nineteen frames of the port.
 pub fn write_table<A: Adapter>(
     adapter: &mut A,
     port: Port,
@@ -179,12 +203,7 @@ pub fn write_table<A: Adapter>(
 {
     let list = PORT_BYTES * u32::from(port.0);
     let table = list + TABLES + TABLE_BYTES * u32::from(slot.0);
-    let mut bytes = [0; LONGEST_TABLE];
-    fill_table(&mut bytes, command, prds);
-    adapter.store(
-        table,
-        &bytes[..TABLE_HEAD as usize + PRD_BYTES as usize * prds.len()],
-    );
+    store_table(adapter, table, command, prds);
     let head = header(is_write(command), prds.len() as u16, table);
     adapter.store(list + HEADER_BYTES * u32::from(slot.0), &head);
 }

@@ -4,7 +4,7 @@ use Rattle.std.proofs.lemmas.Bool.{true≢false}
 use Rattle.std.proofs.lemmas.List.{length-append}
 use Rattle.std.specs.List.{All}
 use Rattle.ata_types.specs.declared.Port.{Port}
-use Rattle.ata_types.specs.declared.memory.TheConstants.{DRIVER_BYTES}
+use Rattle.ata_types.specs.declared.memory.TheConstants.{DRIVER_BYTES, PORT_FRAMES, SCRATCH_FRAME}
 use Rattle.ata_types.specs.declared.limits.TheConstants.{READINGS}
 use Rattle.hba_regs.specs.Bits.{bit}
 use Rattle.hba_regs.specs.declared.reg.Reg.{Reg}
@@ -110,18 +110,18 @@ may_after port old new l may =
 
 -- one frame, of which the page takes the first 512 bytes
 pub table_for : (page : Page) (command : Command) (prds : List Prd) (port n : ℕ) → n ≡ port → command ≡ command_of (operation_of page) 0 0 0 → All IsWhole prds →
-    pieces prds ≡ places_of (record { 0 = 10 * n + 9 } ∷ []) 1 → IsTableFor 0 command prds (meaning_of page) (scratch_of port ∷ [])
+    pieces prds ≡ places_of (record { 0 = PORT_FRAMES * n + SCRATCH_FRAME } ∷ []) 1 → IsTableFor 0 command prds (meaning_of page) (scratch_of port ∷ [])
 table_for page command prds port n same is whole places = record {
   meaning = record { ranged = λ ranged. absurd (true≢false (sym ranged ∙ (unranged page))); not_ranged = λ _. (refl, refl) };
   fields = is;
   whole = whole;
-  in_order = (let at : 4096 * (10 * n + 9) + 512 * (0 % 8) ≡ scratch_of port = omega (arith, same) in ap (λ (a : ℕ). a ∷ []) (sym at)) ∙ sym places;
+  in_order = (let at : 4096 * (PORT_FRAMES * n + SCRATCH_FRAME) + 512 * (0 % 8) ≡ scratch_of port = omega (arith, same) in ap (λ (a : ℕ). a ∷ []) (sym at)) ∙ sym places;
   as_many = sym (one_piece page);
 }
 
 -- so they say the command
 pub page_is_told : (page : Page) (command : Command) (prds written : List Prd) (port n : ℕ) (memory : ℕ → ℕ) → n ≡ port → command ≡ command_of (operation_of page) 0 0 0 → All IsWhole prds →
-    pieces prds ≡ places_of (record { 0 = 10 * n + 9 } ∷ []) 1 → written ≡ prds →
+    pieces prds ≡ places_of (record { 0 = PORT_FRAMES * n + SCRATCH_FRAME } ∷ []) 1 → written ≡ prds →
     ((m : Meaning) (places : List ℕ) → IsTableFor 0 command written m places → Told memory (list_of port) port 0 m places) →
     Told memory (list_of port) port 0 (meaning_of page) (scratch_of port ∷ [])
 page_is_told page command prds written port n memory same is whole places value says =

@@ -22,7 +22,7 @@ use words::{BIT_WORDS, OWNER_WORDS};
 /// The number of frames of the largest memory.
 pub const FRAMES: usize = MOST_FRAMES as usize;
 
-/// Frames that are lent to one request, at most 32. A loan can't be dropped or copied: it ends in
+/// Frames that are lent to one request, at most 128. A loan can't be dropped or copied: it ends in
 /// `FrameTable::give_back` alone.
 pub struct Loan {
     frames: ArrayVec<Frame, MOST_REQUEST_FRAMES>,
@@ -155,7 +155,7 @@ impl FrameTable {
         Ok(())
     }
 
-    /// Lends frames of the client, at most 32, to a request. `check` says whether they can be lent.
+    /// Lends frames of the client, at most 128, to a request. `check` says whether they can be lent.
     pub fn lend(&mut self, client: ClientId, frames: &[Frame], request: RequestId) -> Loan
         requires clear { HasNoFault (owner_of self.old) (lent_to self.old) client frames.now }
         requires few { length frames.now ≤ MOST_REQUEST_FRAMES }

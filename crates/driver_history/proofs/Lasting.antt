@@ -58,7 +58,7 @@ module _ (port : Port) (m : Moment) (accesses : List Access) (old new : Device) 
   pub came_calmly : (ask : Ask DeviceStep) (said : Said) → CameBy m ask said accesses old new → IsNoReset ask → All (LeavesEngine port) accesses → Calm
   came_calmly (Told step) (Stepped true) c other leaves = inr (asked_steps step old new c.1)
   came_calmly (Submit r) (Submitted (Ok id)) c other leaves = inl ((λ i e small. issuing_leaves port c.1.0.port _ (c.1.2 i e small)), c.0)
-  came_calmly (RevokeOf client number) (WasRevoked (Some replies)) c other leaves = inl ((λ i e small. issuing_leaves port c.1.0.port _ (c.1.3 i e small)), c.0)
+  came_calmly (RevokeOf client number) (WasRevoked (Some replies)) c other leaves = inl ((λ i e small. issuing_leaves port c.1.0.0.port _ (c.1.1 i e small)), c.0)
   came_calmly (StoreAt client frame offset bytes) (Stored None) c other leaves =
       inl (subst (All (LeavesRunning port)) (sym c.1) (one_leaves port (Storing (FRAME_BYTES * frame.0 + offset) bytes) (tt, (tt, tt))), c.0)
   came_calmly (LoadAt client frame offset count) (Loaded (Ok bytes)) c other leaves =

@@ -26,7 +26,7 @@ use Rattle.block_machine.specs.Due.{IsDue}
 use Rattle.block_machine.specs.Histories.{Instant, Happening}
 use Rattle.block_machine.specs.Histories as histories
 use Rattle.block_machine.specs.Ports.{Ports, SamePort, Evidence, IsInterrupted}
-use Rattle.block_machine.specs.Rules.{IsNamed, Names}
+use Rattle.block_machine.specs.Rules.{HasRow, IsNamed}
 use Rattle.block_machine.specs.State.{Pending, Machine, unanswered}
 use Rattle.block_machine.specs.Steps.{Step, Answer}
 use Rattle.block_machine.specs.declared.due.Mode.{Mode}
@@ -73,8 +73,8 @@ CameBy now (Told step) (Stepped true) accesses old new = (accesses ≡ []) × As
 CameBy now (Submit r) (Submitted (Ok id)) accesses old new =
     DoesAll accesses old new × ((row : GrantRow) × IsNamed now.machine.rows r row × All (IssuesOn row.port) accesses)
 CameBy now (RevokeOf client number) (WasRevoked (Some replies)) accesses old new = DoesAll accesses old new
-    × ((row : GrantRow) × Contains now.machine.rows row × Names client number row × All (IssuesOn row.port) accesses
-    × (now.ports.state row.port ≢ Ready → accesses ≡ []))
+    × ((has : HasRow client number now.machine.rows) × All (IssuesOn has.0.port) accesses
+    × (now.ports.state has.0.port ≢ Ready → accesses ≡ []))
 CameBy now (StoreAt client frame offset bytes) (Stored None) accesses old new =
     DoesAll accesses old new × (accesses ≡ Storing (FRAME_BYTES * frame.0 + offset) bytes ∷ [])
 CameBy now (LoadAt client frame offset count) (Loaded (Ok bytes)) accesses old new =

@@ -493,7 +493,7 @@ flushed_lasts start (step ∷ past) w flush s legal whole back writes port op (i
 -- a disk that comes back has the writes that were flushed
 finds : (start : Machine) (past : List Step) (step : Step) → IsStart start → IsLegal start (step ∷ past) → AllWhole past → IsVolatile start (step ∷ past) → FindsFlushed start past step
 finds start past (Replace port id size disk) s legal whole back = λ same w flush here f i lt.
-    let lasts = flushed_lasts start past w flush s legal.0 whole back.0 (ap is_writer f.write) f.port f.flush_is f.answered i lt in
+    let lasts = flushed_lasts start past w flush s legal.0 whole back.0 f.writes f.port f.flush_is f.answered i lt in
     let inside : sector_of w i < (after start past).sizes port = subst (λ (p : Port). sector_of w i < (after start past).sizes p) here lasts.inside in
     let large = legal.1.1 same in
     lasts.since (disk (sector_of w i)) (subst (λ (p : Port). HeldSince start p (sector_of w i) (disk (sector_of w i)) past) (sym here) (back.1 same (sector_of w i) (omega (arith, inside, large))))

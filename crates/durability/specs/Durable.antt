@@ -1,7 +1,7 @@
 -- A disk with a volatile cache, and what a flush makes sure of (FLUSH CACHE EXT, ACS-3).
 use Rattle.std.specs.Prelude.{◌≡◌, ◌⊎◌, ℕ, ◌-◌, ◌<◌, ◌≤◌, Bool, true, false, not, ◌&&◌, ◌==◌, List, [], ◌∷◌}
 use Rattle.ata_types.specs.declared.Port.{Port}
-use Rattle.ata_types.specs.declared.request.Op.TheVariants.{Write, Flush}
+use Rattle.ata_types.specs.declared.request.Op.TheVariants.{Flush}
 use Rattle.ata_types.specs.declared.request.Outcome.TheVariants.{Ok}
 use Rattle.block_machine.specs.Due.{is_writer}
 use Rattle.block_machine.specs.State.{Block, Disk, Accepted, Machine, sector_of, written_by}
@@ -23,7 +23,7 @@ abbrev pub brings_other : Machine → Port → Step → Bool
 brings_other old port (Replace p id size disk) = p.0 == port.0 && not (id == old.disk_ids port)
 brings_other old port _ = false
 
--- the write was accepted, and no disk of its port was taken out since
+-- the write or trim was accepted, and no disk of its port was taken out since
 abbrev pub WriteAccepted : Accepted → List Step → Type 0
 WriteAccepted w [] = ⊥
 WriteAccepted w (step ∷ past) = IsAccept step w ⊎ ((takes_out w.port step ≡ false) × WriteAccepted w past)
@@ -47,16 +47,17 @@ FlushAnswered start w flush (step ∷ past) =
     (IsOk step flush × FlushAccepted w flush past)
     ⊎ ((brings_other (after start past) w.port step ≡ false) × FlushAnswered start w flush past)
 
--- the write was answered Ok before the flush of its port was accepted, and the flush was answered Ok, all on one disk
+-- the write or trim was answered Ok before the flush of its port was accepted, and the flush was answered Ok, all on
+-- one disk
 pub record IsFlushed (start : Machine) (w flush : Accepted) (history : List Step) : Type 0 where
-  pub write : w.asked.op ≡ Write
+  pub writes : is_writer w.asked.op ≡ true
   pub flush_is : flush.asked.op ≡ Flush
   pub port : flush.port ≡ w.port
   pub answered : FlushAnswered start w flush history
 
 -- The block is what w, or a write or trim of its port accepted later, put on sector k of the disk that was in,
--- whichever it was. (The law is on flushed writes. Since such a write was accepted one disk alone was in at its port,
--- maybe several times.)
+-- whichever it was. (The law is on flushed writes and trims. Since such a one was accepted one disk alone was in at its
+-- port, maybe several times.)
 pub record IsSince (w : Accepted) (k : ℕ) (history : List Step) (block : Block) : Type 0 where
   pub writer : Accepted
   pub writes : is_writer writer.asked.op ≡ true
@@ -66,11 +67,11 @@ pub record IsSince (w : Accepted) (k : ℕ) (history : List Step) (block : Block
   pub touched : HasTouched writer k disk history
   pub is : SameBytes block (written_by writer.asked.op writer.held (k - writer.asked.first.0))
 
--- each sector of the write has, on this disk, its bytes or those of a write or trim accepted later
+-- each sector of the write or trim has, on this disk, what it put there, or what one accepted later did
 abbrev pub HasWrite : Accepted → List Step → Disk → Type 0
 HasWrite w history disk = (i : ℕ) → i < w.asked.count → IsSince w (sector_of w i) history (disk (sector_of w i))
 
--- a disk that comes back with this step has the writes that were flushed
+-- a disk that comes back with this step has the writes and trims that were flushed
 abbrev pub FindsFlushed : Machine → List Step → Step → Type 0
 FindsFlushed start past (Replace port id size disk) = id ≡ (after start past).disk_ids port
     → (w flush : Accepted) → w.port ≡ port → IsFlushed start w flush past → HasWrite w past disk

@@ -50,7 +50,7 @@ first = instant_with plain_disks no_slots start [] zeros (running_port 0)
 
 -- a read of one sector
 abbrev pub asked : Request
-asked = reading 100 40
+asked = reading 100 100
 
 abbrev pub submission : Submission
 submission = record {
@@ -64,7 +64,7 @@ submission = record {
   port_then = issued;
   id = first_id;
   sector = 100;
-  frame_number = 40;
+  frame_number = 100;
   accesses = submit_accesses;
 }
 
@@ -75,7 +75,7 @@ abbrev pub issuing : Machine
 issuing = issuing_on.issuing submission
 
 abbrev pub waiting : Pending
-waiting = outstanding_as first_id 100 40 (issuing_on.accepted submission).held
+waiting = outstanding_as first_id 100 100 (issuing_on.accepted submission).held
 
 abbrev pub submitted_at : Instant Device
 submitted_at = issuing_on.submitted_at submission
@@ -101,11 +101,11 @@ in_book age e here = only (waiting_for age) e here
 
 -- ---- what holds
 
-serves_stage : (age : ℕ) → Stage read_memory issued 0 0 (waiting_for age) (read_of 100 1) (cut 0x28000 1)
+serves_stage : (age : ℕ) → Stage read_memory issued 0 0 (waiting_for age) (read_of 100 1) (cut 0x64000 1)
 serves_stage age = inl (record { started = refl; issued = refl; free = refl; sact = refl; block = tt; untouched = λ i. sym (le-ltb i 0 (omega arith)); unended = refl })
 
 pub serves : ServesRequest issuing read_memory issued 0 0 first_id
-serves = serves_one issuing read_memory issued 0 (read_of 100 1) first_id 100 40 waiting.request.held 0 refl (omega arith) (0, omega arith, refl) refl refl told (serves_stage 0)
+serves = serves_one issuing read_memory issued 0 (read_of 100 1) first_id 100 100 waiting.request.held 0 refl (omega arith) (0, omega arith, refl) refl refl told (serves_stage 0)
 
 pub serves_plain : is_queued serves.command.operation ≡ false
 unfolding serves serves_one
@@ -115,7 +115,7 @@ serves_plain = refl
 abbrev pub issued_under : List GrantRow → ℕ → Machine
 issued_under rows age = record (issued_for age) { rows = rows }
 
-has_one : (rows : List GrantRow) (age : ℕ) → HasOne plain_disks (issued_under rows age) [] read_memory issued (read_of 100 1) 100 40 waiting.request.held age
+has_one : (rows : List GrantRow) (age : ℕ) → HasOne plain_disks (issued_under rows age) [] read_memory issued (read_of 100 1) 100 100 waiting.request.held age
 has_one rows age = record {
   stands = stands;
   disks = (refl, refl, refl, refl);
@@ -133,7 +133,7 @@ has_one rows age = record {
 }
 
 pub issued_agrees : (rows : List GrantRow) (age : ℕ) → Agreeing plain_disks first_slots (issued_under rows age) [] read_memory issued
-issued_agrees rows age = agrees_one plain_disks (issued_under rows age) [] read_memory issued (read_of 100 1) 100 40 waiting.request.held age (has_one rows age)
+issued_agrees rows age = agrees_one plain_disks (issued_under rows age) [] read_memory issued (read_of 100 1) 100 100 waiting.request.held age (has_one rows age)
 
 pub holds_issued : (age : ℕ) → HoldsWith (Any ∷ Any ∷ []) first_slots (issued_at age)
 holds_issued age = holds plain_disks first_slots (issued_for age) [] read_memory issued (issued_agrees two_rows age)

@@ -68,6 +68,10 @@ ages_once later once = record { ready = two_served; is_ready = λ port. ready_is
 pub not_due : (age : ℕ) (port : Port) → NoneDue plain (unanswered (waiting_for age) ∷ []) port
 not_due age = none_due plain (unanswered (waiting_for age) ∷ []) (λ r here. ap (λ (x : Unanswered). x.issued) (only (unanswered (waiting_for age)) r here))
 
+-- nor does a port tell of trouble
+pub quiet : (n : ℕ) → both.state (port_at n) ≡ Ready → (ShowsLoss (port_at n) submitted submitted → ⊥) × (ShowsFailure (submitted.port n) → ⊥)
+quiet = calm submitted.tape read_memory issued refl refl refl (λ place from. refl) submitted
+
 -- ---- a tick that restarts nothing
 
 module _ (age : ℕ) where
@@ -93,9 +97,6 @@ module _ (age : ℕ) where
     told = λ _. (tt, tt);
     plugged = λ port. ([], sym (append-nil (submitted.port port).plugged), refl);
   }
-
-  quiet : (n : ℕ) → both.state (port_at n) ≡ Ready → (ShowsLoss (port_at n) submitted submitted → ⊥) × (ShowsFailure (submitted.port n) → ⊥)
-  quiet = calm submitted.tape read_memory issued refl refl refl (λ place from. refl) submitted
 
   pub evidenced : (n : ℕ) → IsEvidencedOf Tick (Served []) [] (issued_at age) both submitted nothing (port_at n)
   evidenced n = unnamed_evidenced Tick (Served []) [] (issued_at age) both submitted nothing (port_at n) (none_named (port_at n)) (quiet n) (All-nil (LeavesEngine (port_at n)))

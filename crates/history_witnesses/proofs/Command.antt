@@ -1,7 +1,9 @@
--- A read of one sector, as it stands in memory: into the first 512 bytes of frame 40.
+-- A read of one sector, as it stands in memory: into the first 512 bytes of frame 100.
 use Rattle.std.proofs.Common.{ℕ, zero, suc, ◌≡◌, ◌≤◌, ◌<◌, ◌+◌, ◌*◌, ◌%◌, false, List, [], ◌∷◌, ◌++◌, All, length, replicate, slice_index, refl, subst, sym, arith}
 use Rattle.std.proofs.lemmas.Bool.{true≢false}
 use Rattle.std.proofs.lemmas.List.{get_or-replicate}
+use Rattle.std.specs.Int.{to_le_bytes, w32}
+use Rattle.byteorder.specs.Endian.{little_from}
 use Rattle.adapter.specs.FirstRead.{header_bytes}
 use Rattle.adapter.specs.Memory.{bytes_at, patched}
 use Rattle.adapter.specs.ReadDone.{read_of}
@@ -13,16 +15,16 @@ use Rattle.adapter.specs.declared.command.Prd.{Prd}
 use Rattle.adapter.specs.declared.command.Operation.TheVariants.{ReadQueued}
 use Rattle.agreement.specs.Slots.{Told}
 
--- READ DMA EXT of sector 100 alone, and its PRD at 28000h
+-- READ DMA EXT of sector 100 alone
 abbrev pub read_bytes : List ℕ
 read_bytes = 0x27 ∷ 0x80 ∷ 0x25 ∷ 0 ∷ 0x64 ∷ 0 ∷ 0 ∷ 0x40 ∷ 0 ∷ 0 ∷ 0 ∷ 0 ∷ 1 ∷ 0 ∷ []
 
--- a place of 512 bytes that begins at 20000h and so many times 100h
-abbrev pub place_from : ℕ → List ℕ
-place_from n = 0 ∷ n ∷ 2 ∷ 0 ∷ 0 ∷ 0 ∷ 0 ∷ 0 ∷ 0 ∷ 0 ∷ 0 ∷ 0 ∷ 0xff ∷ 1 ∷ 0 ∷ 0 ∷ []
+-- the PRD of the first 512 bytes of this frame
+abbrev pub frame_head : ℕ → List ℕ
+frame_head frame = to_le_bytes w32 (4096 * frame) ++ replicate 8 0 ++ 0xff ∷ 1 ∷ 0 ∷ 0 ∷ []
 
 abbrev pub place_bytes : List ℕ
-place_bytes = place_from 0x80
+place_bytes = frame_head 100
 
 abbrev pub zeros : ℕ → ℕ
 zeros at = 0
@@ -61,9 +63,9 @@ told_one memory slot c address header fis meaning prd many = record {
   few = omega arith;
 }
 
-pub told : Told read_memory 0 0 0 (read_of 100 1) (cut 0x28000 1)
+pub told : Told read_memory 0 0 0 (read_of 100 1) (cut 0x64000 1)
 unfolding read_memory patched bytes_at
-told = told_one read_memory 0 (read_of 100 1) 0x28000
+told = told_one read_memory 0 (read_of 100 1) 0x64000
     (record { size = refl; first = refl; points = refl; aligned = refl; zeros = λ i low high. zeros_past header_bytes 20 i low high })
     (record {
       size = refl;
@@ -90,16 +92,17 @@ queued_read k = record { operation = ReadQueued; first = k; count = 1 }
 abbrev pub queued_bytes : ℕ → ℕ → List ℕ
 queued_bytes slot k = 0x27 ∷ 0x80 ∷ 0x60 ∷ 1 ∷ k ∷ 0 ∷ 0 ∷ 0x40 ∷ 0 ∷ 0 ∷ 0 ∷ 0 ∷ 8 * slot ∷ 0 ∷ []
 
--- its header, but for those: no W, one PRD, and a table at so many times 100h
+-- its header, but for those: no W, one PRD, and the address of the slot's table
 abbrev pub header_to : ℕ → List ℕ
-header_to n = 5 ∷ 0 ∷ 1 ∷ 0 ∷ 0 ∷ 0 ∷ 0 ∷ 0 ∷ 0 ∷ n ∷ 0 ∷ 0 ∷ []
+header_to slot = 5 ∷ 0 ∷ 1 ∷ replicate 5 0 ++ to_le_bytes w32 (table_of 0 slot)
 
-pub told_queued : (memory : ℕ → ℕ) (slot k table place : ℕ) → k < 256 → 256 * table ≡ table_of 0 slot → table_of 0 slot % 128 ≡ 0 → (0x20000 + 256 * place) % 2 ≡ 0
-    → bytes_at memory (0 + 32 * slot) 32 ≡ header_to table ++ replicate 20 0 → bytes_at memory (table_of 0 slot) 20 ≡ queued_bytes slot k ++ replicate 6 0
-    → bytes_at memory (table_of 0 slot + 128) 16 ≡ place_from place → Told memory 0 0 slot (queued_read k) (cut (0x20000 + 256 * place) 1)
-told_queued memory slot k table place low points aligned even header fis prd = told_one memory slot (queued_read k) (0x20000 + 256 * place)
+pub told_queued : (memory : ℕ → ℕ) (slot k frame : ℕ) → k < 256 → little_from 8 4 (header_to slot) ≡ table_of 0 slot → table_of 0 slot % 128 ≡ 0
+    → little_from 0 4 (frame_head frame) ≡ 4096 * frame → 4096 * frame % 2 ≡ 0
+    → bytes_at memory (0 + 32 * slot) 32 ≡ header_to slot ++ replicate 20 0 → bytes_at memory (table_of 0 slot) 20 ≡ queued_bytes slot k ++ replicate 6 0
+    → bytes_at memory (table_of 0 slot + 128) 16 ≡ frame_head frame → Told memory 0 0 slot (queued_read k) (cut (4096 * frame) 1)
+told_queued memory slot k frame low points aligned address even header fis prd = told_one memory slot (queued_read k) (4096 * frame)
     (subst (λ (bytes : List ℕ). SpellsHeader bytes false 1 (table_of 0 slot)) (sym header)
-    (record { size = refl; first = refl; points = omega (arith, points); aligned = aligned; zeros = λ i from to. zeros_past (header_to table) 20 i from to }))
+    (record { size = refl; first = refl; points = points; aligned = aligned; zeros = λ i from to. zeros_past (header_to slot) 20 i from to }))
     (subst (λ (bytes : List ℕ). SpellsCommand bytes (command_of ReadQueued slot k 1)) (sym fis)
     (record {
       size = refl;
@@ -113,6 +116,6 @@ told_queued memory slot k table place low points aligned even header fis prd = t
       zeros = λ i from to. zeros_past (queued_bytes slot k) 6 i from to;
     }))
     (record { ranged = λ _. (omega arith, omega arith, omega (arith, low)); not_ranged = λ h. absurd (true≢false h) })
-    (subst (λ (bytes : List ℕ). SpellsPrd bytes (record { address = 0x20000 + 256 * place; bytes = 512 })) (sym prd)
-    (record { size = refl; allowed = record { even_address = even; even_bytes = refl; some = omega arith; limit = omega arith }; address = omega arith; upper = refl; count = refl }))
+    (subst (λ (bytes : List ℕ). SpellsPrd bytes (record { address = 4096 * frame; bytes = 512 })) (sym prd)
+    (record { size = refl; allowed = record { even_address = even; even_bytes = refl; some = omega arith; limit = omega arith }; address = address; upper = refl; count = refl }))
     refl

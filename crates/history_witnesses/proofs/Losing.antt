@@ -38,7 +38,7 @@ abbrev pub tape_done : List Entry
 tape_done = tape_moved ++ done_entry 0 0 Read ∷ []
 
 unfoldable pub memory_done : ℕ → ℕ
-memory_done = patched read_memory 0x28000 (sector_of 100)
+memory_done = patched read_memory 0x64000 (sector_of 100)
 
 pub is_sector : (k : ℕ) → k < 256 → IsSector (sector_of k)
 unfolding sector_of

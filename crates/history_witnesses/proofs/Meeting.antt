@@ -73,7 +73,7 @@ no_fault (suc (suc n)) = refl
 
 -- the slot serves the request as before
 serves_still : ServesRequest issuing read_memory broken 0 0 first_id
-serves_still = serves_one issuing read_memory broken 0 (read_of 100 1) first_id 100 40 waiting.request.held 0 refl (omega arith) (0, omega arith, refl) refl refl told
+serves_still = serves_one issuing read_memory broken 0 (read_of 100 1) first_id 100 100 waiting.request.held 0 refl (omega arith) (0, omega arith, refl) refl refl told
     (inl (record { started = refl; issued = refl; free = refl; sact = refl; block = tt; untouched = λ i. sym (le-ltb i 0 (omega arith)); unended = refl }))
 
 slots : (n k : ℕ) → IsServedAs issuing read_memory tape_broken (having (broken ∷ second ∷ []) n) n k (uses_first n k)
@@ -94,7 +94,7 @@ knows = agreeing issuing first_slots tape_broken read_memory broken second
 kind_of : (e : Pending) → e ≡ waiting → IsOfKind plain (dev broken) 0 0 e
 kind_of e is = record {
   command = read_of 100 1;
-  places = cut 0x28000 1;
+  places = cut 0x64000 1;
   told = told;
   kind = subst (λ (x : Pending). is_queued (read_of 100 1).operation ≡ not (is_plain plain x.request.asked.op)) (sym is) refl;
 }

@@ -71,6 +71,6 @@ moved_alike memory frames n k alike f b from small = ⊎_elim
         ∙ sym (put_other (frame n) f 0 b 512 (slice_index (sector_of k)) frames (λ same low high. out (sym (ap (λ (x : Frame). x.0) same)) high))
 
 -- so it is when the read is done
-pub moved_in_place : (f : Frame) (b : ℕ) → DRIVER_FRAMES ≤ f.0 → b < 4096 → memory_done (4096 * f.0 + b) ≡ put_bytes (frame 40) 0 512 (slice_index (sector_of 100)) (λ f b. 0) f b
+pub moved_in_place : (f : Frame) (b : ℕ) → DRIVER_FRAMES ≤ f.0 → b < 4096 → memory_done (4096 * f.0 + b) ≡ put_bytes (frame 100) 0 512 (slice_index (sector_of 100)) (λ f b. 0) f b
 unfolding memory_done
-moved_in_place = moved_alike read_memory (λ f b. 0) 40 100 (λ f b from small. past_driver f b from)
+moved_in_place = moved_alike read_memory (λ f b. 0) 100 100 (λ f b from small. past_driver f b from)

@@ -19,7 +19,7 @@ use Rattle.agreement.specs.Places.{table_of}
 use Rattle.agreement.specs.Slots.{Told}
 use Rattle.driver_history.specs.Histories.{IssuesOn}
 use Rattle.history_witnesses.specs.Scene.{device_with, running_port}
-use Rattle.history_witnesses.proofs.Command.{header_to, place_from, queued_bytes, queued_read, told_queued, zeros}
+use Rattle.history_witnesses.proofs.Command.{header_to, frame_head, queued_bytes, queued_read, told_queued, zeros}
 use Rattle.history_witnesses.proofs.Devices.{but_first, other_bit, stores, writes}
 use Rattle.history_witnesses.proofs.Memory.{spares}
 use Rattle.history_witnesses.proofs.Submitting.{second}
@@ -27,41 +27,41 @@ use Rattle.history_witnesses.proofs.Submitting.{second}
 -- ---- memory
 
 -- header, FIS and PRD of a slot of port 0 are stored
-abbrev pub with_read : (ℕ → ℕ) → (slot k table place : ℕ) → ℕ → ℕ
-with_read memory slot k table place =
-    patched (patched (patched memory (32 * slot) (header_to table)) (table_of 0 slot) (queued_bytes slot k)) (table_of 0 slot + 128) (place_from place)
+abbrev pub with_read : (ℕ → ℕ) → (slot k frame : ℕ) → ℕ → ℕ
+with_read memory slot k frame =
+    patched (patched (patched memory (32 * slot) (header_to slot)) (table_of 0 slot) (queued_bytes slot k)) (table_of 0 slot + 128) (frame_head frame)
 
--- a read of sector 100 into frame 40; and then one of sector 101 into frame 41
+-- a read of sector 100 into frame 100; and then one of sector 101 into frame 101
 unfoldable pub one_memory : ℕ → ℕ
-one_memory = with_read zeros 0 100 0x10 0x80
+one_memory = with_read zeros 0 100 100
 
 unfoldable pub two_memory : ℕ → ℕ
-two_memory = with_read one_memory 1 101 0x14 0x90
+two_memory = with_read one_memory 1 101 101
 
-pub one_told : Told one_memory 0 0 0 (queued_read 100) (cut 0x28000 1)
+pub one_told : Told one_memory 0 0 0 (queued_read 100) (cut 0x64000 1)
 unfolding one_memory patched bytes_at
-one_told = told_queued one_memory 0 100 0x10 0x80 (omega arith) refl refl refl refl refl refl
+one_told = told_queued one_memory 0 100 100 (omega arith) refl refl refl refl refl refl refl
 
-pub first_told : Told two_memory 0 0 0 (queued_read 100) (cut 0x28000 1)
+pub first_told : Told two_memory 0 0 0 (queued_read 100) (cut 0x64000 1)
 unfolding two_memory one_memory patched bytes_at
-first_told = told_queued two_memory 0 100 0x10 0x80 (omega arith) refl refl refl refl refl refl
+first_told = told_queued two_memory 0 100 100 (omega arith) refl refl refl refl refl refl refl
 
-pub second_told : Told two_memory 0 0 1 (queued_read 101) (cut 0x29000 1)
+pub second_told : Told two_memory 0 0 1 (queued_read 101) (cut 0x65000 1)
 unfolding two_memory one_memory patched bytes_at
-second_told = told_queued two_memory 1 101 0x14 0x90 (omega arith) refl refl refl refl refl refl
+second_told = told_queued two_memory 1 101 101 (omega arith) refl refl refl refl refl refl refl
 
 -- frames of clients are zeros then
 pub one_zeros : (f : Frame) (b : ℕ) → DRIVER_FRAMES ≤ f.0 → one_memory (4096 * f.0 + b) ≡ 0
 unfolding one_memory
 one_zeros f b from =
-    spares (patched (patched zeros 0 (header_to 0x10)) 0x1000 (queued_bytes 0 100)) 0x1080 (place_from 0x80) (omega arith) f b from
-    ∙ (spares (patched zeros 0 (header_to 0x10)) 0x1000 (queued_bytes 0 100) (omega arith) f b from ∙ spares zeros 0 (header_to 0x10) (omega arith) f b from)
+    spares (patched (patched zeros 0 (header_to 0)) 0x1000 (queued_bytes 0 100)) 0x1080 (frame_head 100) (omega arith) f b from
+    ∙ (spares (patched zeros 0 (header_to 0)) 0x1000 (queued_bytes 0 100) (omega arith) f b from ∙ spares zeros 0 (header_to 0) (omega arith) f b from)
 
 pub two_zeros : (f : Frame) (b : ℕ) → DRIVER_FRAMES ≤ f.0 → two_memory (4096 * f.0 + b) ≡ 0
 unfolding two_memory
 two_zeros f b from =
-    spares (patched (patched one_memory 32 (header_to 0x14)) 0x1400 (queued_bytes 1 101)) 0x1480 (place_from 0x90) (omega arith) f b from
-    ∙ (spares (patched one_memory 32 (header_to 0x14)) 0x1400 (queued_bytes 1 101) (omega arith) f b from ∙ (spares one_memory 32 (header_to 0x14) (omega arith) f b from ∙ one_zeros f b from))
+    spares (patched (patched one_memory 32 (header_to 1)) (table_of 0 1) (queued_bytes 1 101)) (table_of 0 1 + 128) (frame_head 101) (omega arith) f b from
+    ∙ (spares (patched one_memory 32 (header_to 1)) (table_of 0 1) (queued_bytes 1 101) (omega arith) f b from ∙ (spares one_memory 32 (header_to 1) (omega arith) f b from ∙ one_zeros f b from))
 
 -- ---- accesses
 
@@ -69,28 +69,28 @@ two_zeros f b from =
 abbrev pub with_bits : ℕ → PortState → PortState
 with_bits v p = port_written Ci v 0 (port_written Sact v 0 p)
 
-abbrev pub queue_accesses : (slot k table place v : ℕ) → List Access
-queue_accesses slot k table place v =
-    Storing (32 * slot) (header_to table) ∷ Storing (table_of 0 slot) (queued_bytes slot k) ∷ Storing (table_of 0 slot + 128) (place_from place)
+abbrev pub queue_accesses : (slot k frame v : ℕ) → List Access
+queue_accesses slot k frame v =
+    Storing (32 * slot) (header_to slot) ∷ Storing (table_of 0 slot) (queued_bytes slot k) ∷ Storing (table_of 0 slot + 128) (frame_head frame)
     ∷ Writing (Px (port_at 0) Sact) v ∷ Writing (Px (port_at 0) Ci) v ∷ []
 
-pub queues : (tape : List Entry) (memory : ℕ → ℕ) (p : PortState) (slot k table place v : ℕ) → DoesAll (queue_accesses slot k table place v) (device_with tape memory (p ∷ second ∷ []))
-    (device_with tape (with_read memory slot k table place) (with_bits v p ∷ second ∷ []))
-queues tape memory p slot k table place v = (
-  device_with tape (patched memory (32 * slot) (header_to table)) (p ∷ second ∷ []),
-  stores (32 * slot) (header_to table) tape memory (p ∷ second ∷ []),
+pub queues : (tape : List Entry) (memory : ℕ → ℕ) (p : PortState) (slot k frame v : ℕ) → DoesAll (queue_accesses slot k frame v) (device_with tape memory (p ∷ second ∷ []))
+    (device_with tape (with_read memory slot k frame) (with_bits v p ∷ second ∷ []))
+queues tape memory p slot k frame v = (
+  device_with tape (patched memory (32 * slot) (header_to slot)) (p ∷ second ∷ []),
+  stores (32 * slot) (header_to slot) tape memory (p ∷ second ∷ []),
   (
-    device_with tape (patched (patched memory (32 * slot) (header_to table)) (table_of 0 slot) (queued_bytes slot k)) (p ∷ second ∷ []),
-    stores (table_of 0 slot) (queued_bytes slot k) tape (patched memory (32 * slot) (header_to table)) (p ∷ second ∷ []),
+    device_with tape (patched (patched memory (32 * slot) (header_to slot)) (table_of 0 slot) (queued_bytes slot k)) (p ∷ second ∷ []),
+    stores (table_of 0 slot) (queued_bytes slot k) tape (patched memory (32 * slot) (header_to slot)) (p ∷ second ∷ []),
     (
-      device_with tape (with_read memory slot k table place) (p ∷ second ∷ []),
-      stores (table_of 0 slot + 128) (place_from place) tape (patched (patched memory (32 * slot) (header_to table)) (table_of 0 slot) (queued_bytes slot k)) (p ∷ second ∷ []),
+      device_with tape (with_read memory slot k frame) (p ∷ second ∷ []),
+      stores (table_of 0 slot + 128) (frame_head frame) tape (patched (patched memory (32 * slot) (header_to slot)) (table_of 0 slot) (queued_bytes slot k)) (p ∷ second ∷ []),
       (
-        device_with tape (with_read memory slot k table place) (armed ∷ second ∷ []),
-        writes tape (with_read memory slot k table place) 0 (p ∷ second ∷ []) (armed ∷ second ∷ []) (but_first p armed (second ∷ [])) Sact v refl,
+        device_with tape (with_read memory slot k frame) (armed ∷ second ∷ []),
+        writes tape (with_read memory slot k frame) 0 (p ∷ second ∷ []) (armed ∷ second ∷ []) (but_first p armed (second ∷ [])) Sact v refl,
         (
-          device_with tape (with_read memory slot k table place) (with_bits v p ∷ second ∷ []),
-          writes tape (with_read memory slot k table place) 0 (armed ∷ second ∷ []) (with_bits v p ∷ second ∷ []) (but_first armed (with_bits v p) (second ∷ [])) Ci v refl,
+          device_with tape (with_read memory slot k frame) (with_bits v p ∷ second ∷ []),
+          writes tape (with_read memory slot k frame) 0 (armed ∷ second ∷ []) (with_bits v p ∷ second ∷ []) (but_first armed (with_bits v p) (second ∷ [])) Ci v refl,
           refl,
         ),
       ),
@@ -115,8 +115,8 @@ neither k =
     ap (λ (b : Bool). b || bit 2 (suc (suc k))) (other_bit (suc (suc k)) (omega arith))
     ∙ (ap (λ (b : ℕ). b == 1) (bit_at-suc 2 (suc k)) ∙ other_bit (suc k) (omega arith))
 
-pub one_submits : All (IssuesOn (port_at 0)) (queue_accesses 0 100 0x10 0x80 1)
-one_submits = All-from_recursion (IssuesOn (port_at 0)) (queue_accesses 0 100 0x10 0x80 1) (omega arith, (omega arith, (omega arith, (inl refl, (inr refl, tt)))))
+pub one_submits : All (IssuesOn (port_at 0)) (queue_accesses 0 100 100 1)
+one_submits = All-from_recursion (IssuesOn (port_at 0)) (queue_accesses 0 100 100 1) (omega arith, (omega arith, (omega arith, (inl refl, (inr refl, tt)))))
 
-pub two_submits : All (IssuesOn (port_at 0)) (queue_accesses 1 101 0x14 0x90 2)
-two_submits = All-from_recursion (IssuesOn (port_at 0)) (queue_accesses 1 101 0x14 0x90 2) (omega arith, (omega arith, (omega arith, (inl refl, (inr refl, tt)))))
+pub two_submits : All (IssuesOn (port_at 0)) (queue_accesses 1 101 101 2)
+two_submits = All-from_recursion (IssuesOn (port_at 0)) (queue_accesses 1 101 101 2) (omega arith, (omega arith, (omega arith, (inl refl, (inr refl, tt)))))

@@ -54,7 +54,7 @@ discovery_two = record {
   port_then = found;
   id = second_id;
   sector = 101;
-  frame_number = 41;
+  frame_number = 101;
   held = held_too;
   slot = 1;
   ci = 0;
@@ -67,13 +67,13 @@ discovery_one = record {
   machine = found_on.answered discovery_two;
   slots = first_slots;
   slots_then = no_slots;
-  more = ends 1 101 41;
+  more = ends 1 101 101;
   memory = swapped_memory;
   port = found;
   port_then = found_again;
   id = first_id;
   sector = 100;
-  frame_number = 40;
+  frame_number = 100;
   held = held;
   slot = 0;
   ci = 0;
@@ -149,28 +149,28 @@ in_slot e (suc (suc slot)) here s = absurd (no_third slot e.request.id s)
 -- ---- the second ends
 
 swapped_frames : SameMemory (found_on.answered discovery_two) swapped_memory
-swapped_frames = moved_alike two_memory both_issuing.memory 41 101 (λ f b from small. two_zeros f b from)
+swapped_frames = moved_alike two_memory both_issuing.memory 101 101 (λ f b from small. two_zeros f b from)
 
 -- no page came after those of the two ports
 unpaged : (slot k n port : ℕ) → All (λ e. IsMove port operation.Identify e → ⊥) (ends slot k n)
 unpaged slot k n port = All-from_recursion (λ e. IsMove port operation.Identify e → ⊥) (ends slot k n) (λ (x : _ × _). let same : operation.ReadQueued ≡ operation.Identify = x.1 in cc, (λ x. x, tt))
 
 -- the first is taken still
-has_left : HasOne queueing_disks (found_on.answered discovery_two) (ends 1 101 41) swapped_memory found (queued_read 100) 100 40 held 0
+has_left : HasOne queueing_disks (found_on.answered discovery_two) (ends 1 101 101) swapped_memory found (queued_read 100) 100 100 held 0
 unfolding two_memory one_memory patched bytes_at
 has_left = record {
   stands = found_stands;
   disks = (refl, refl, refl, refl);
   book = refl;
   unkept = refl;
-  unpaged = unpaged 1 101 41;
+  unpaged = unpaged 1 101 101;
   still = refl;
   op = refl;
   first = refl;
   kind = refl;
-  told = told_queued swapped_memory 0 100 0x10 0x80 (omega arith) refl refl refl refl refl refl;
+  told = told_queued swapped_memory 0 100 100 (omega arith) refl refl refl refl refl refl refl;
   stage = inr (inl (record {
-    command = reads_into 100 40;
+    command = reads_into 100 100;
     taken = found_taken;
     meaning = refl;
     places_are = refl;
@@ -184,8 +184,8 @@ has_left = record {
   frames = swapped_frames;
 }
 
-left_agrees : Agreeing queueing_disks first_slots (found_on.answered discovery_two) (ends 1 101 41) swapped_memory found
-left_agrees = agrees_one queueing_disks (found_on.answered discovery_two) (ends 1 101 41) swapped_memory found (queued_read 100) 100 40 held 0 has_left
+left_agrees : Agreeing queueing_disks first_slots (found_on.answered discovery_two) (ends 1 101 101) swapped_memory found
+left_agrees = agrees_one queueing_disks (found_on.answered discovery_two) (ends 1 101 101) swapped_memory found (queued_read 100) 100 100 held 0 has_left
 
 -- exactly the second is answered
 exact_two : (e : Pending) (slot : ℕ) → IsIssuedOn (port_at 0) both_issuing e → ServesRequest both_issuing two_memory two_issued 0 slot e.request.id
@@ -224,12 +224,12 @@ found_two = record {
 
 -- ---- and then the first
 
-none_left : Agreeing queueing_disks no_slots (found_on.answered discovery_one) (ends 1 101 41 ++ ends 0 100 40) (found_on.memory_then discovery_one) found_again
-none_left = agrees_none queueing_disks (found_on.answered discovery_one) (ends 1 101 41 ++ ends 0 100 40) (found_on.memory_then discovery_one) found_again
+none_left : Agreeing queueing_disks no_slots (found_on.answered discovery_one) (ends 1 101 101 ++ ends 0 100 100) (found_on.memory_then discovery_one) found_again
+none_left = agrees_none queueing_disks (found_on.answered discovery_one) (ends 1 101 101 ++ ends 0 100 100) (found_on.memory_then discovery_one) found_again
     again_stands (refl, refl, refl, refl) refl refl
-    (λ port. All-append (λ e. IsMove port operation.Identify e → ⊥) (ends 1 101 41) (ends 0 100 40) (unpaged 1 101 41 port) (unpaged 0 100 40 port)) refl
+    (λ port. All-append (λ e. IsMove port operation.Identify e → ⊥) (ends 1 101 101) (ends 0 100 100) (unpaged 1 101 101 port) (unpaged 0 100 100 port)) refl
     (λ slot. record { issued = found_waits slot; free = again_free slot; unarmed = none_active slot })
-    (moved_alike swapped_memory (found_on.answered discovery_two).memory 40 100 swapped_frames)
+    (moved_alike swapped_memory (found_on.answered discovery_two).memory 100 100 swapped_frames)
 
 found_one : IsFound discovery_one
 found_one = record {
@@ -282,10 +282,10 @@ order_is_free = record {
   first = first;
   queues = refl;
   submit_first = issued_on.submit submission_one;
-  asked_first = reading 100 40;
+  asked_first = reading 100 100;
   submits_first = (refl, refl);
   submit_second = issued_on.submit submission_two;
-  asked_second = reading 101 41;
+  asked_second = reading 101 101;
   submits_second = (refl, refl);
   read = (refl, refl);
   issued = (refl, refl);

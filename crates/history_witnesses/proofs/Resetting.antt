@@ -371,7 +371,7 @@ ties = record {
 -- ---- the history
 
 abbrev frame : Frame
-frame = record { 0 = 40 }
+frame = record { 0 = 100 }
 
 pub reset_is_a_history : ResetIsAHistory
 unfolding ties

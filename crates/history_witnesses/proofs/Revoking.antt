@@ -4,7 +4,6 @@ use Rattle.std.proofs.lemmas.Bool.{true≢false}
 use Rattle.std.proofs.lemmas.List.Elements.{All-nil}
 use Rattle.std.proofs.lemmas.List.Sorted.{IsPermutation-refl}
 use Rattle.std.specs.List.{Contains}
-use Rattle.ata_types.specs.declared.PortState.TheVariants.{Ready}
 use Rattle.ata_types.specs.declared.grant.GrantRow.{GrantRow}
 use Rattle.ata_types.specs.declared.request.Outcome.{Outcome}
 use Rattle.adapter.specs.Device.{Device}
@@ -16,18 +15,17 @@ use Rattle.block_machine.specs.Rules.{HasRow}
 use Rattle.block_machine.specs.State.{Pending}
 use Rattle.block_machine.specs.Steps.{Answer, Revoke, Step}
 use Rattle.identify.specs.declared.wanted.Wanted.TheVariants.{Any}
-use Rattle.driver_history.specs.Evidence.{ShowsFailure, ShowsLoss}
 use Rattle.driver_history.specs.Histories.{IssuesOn, Ties, TiesPort}
 use Rattle.driver_history.specs.Trace.{LeavesEngine}
 use Rattle.history_witnesses.specs.Revocation.{RevocationIsAHistory}
 use Rattle.history_witnesses.proofs.Accepting.{asked, both, first, in_book, issued_agrees, issued_at, issued_under, submit, submit_happens, submit_parts, submit_ties, waiting_for}
-use Rattle.history_witnesses.proofs.Aging.{not_due}
+use Rattle.history_witnesses.proofs.Aging.{not_due, quiet}
 use Rattle.history_witnesses.proofs.Command.{read_memory}
 use Rattle.history_witnesses.proofs.Holding.{IsCalm, first_slots, no_trouble, unnamed_evidenced}
 use Rattle.history_witnesses.proofs.Issuing.{none_named, nothing}
 use Rattle.history_witnesses.proofs.Members.{nowhere, only}
 use Rattle.history_witnesses.proofs.Pages.{plain_disks}
-use Rattle.history_witnesses.proofs.Ready.{begins, calm, client, fit_ready, granted, holds, row, served_ready, starts}
+use Rattle.history_witnesses.proofs.Ready.{begins, client, fit_ready, granted, holds, row, served_ready, starts}
 use Rattle.history_witnesses.proofs.Submitting.{issued, submitted}
 
 -- the row that is left
@@ -74,9 +72,6 @@ happens = record {
   heeds = λ port why. ⊎_elim (nowhere port) (nowhere port) why;
 }
 
-quiet : (n : ℕ) → both.state (port_at n) ≡ Ready → (ShowsLoss (port_at n) submitted submitted → ⊥) × (ShowsFailure (submitted.port n) → ⊥)
-quiet = calm submitted.tape read_memory issued refl refl refl (λ place from. refl) submitted
-
 part : (n : ℕ) → TiesPort (issued_at 0) revoke [] (port_at n)
 part n = record {
   finds = tt;
@@ -90,7 +85,7 @@ part n = record {
 unfoldable ties : Ties (Any ∷ Any ∷ []) (issued_at 0) revoke
 ties = record {
   accesses = [];
-  came = (refl, (row 0, (0, omega arith, refl), (refl, refl), All-nil (IssuesOn (port_at 0)), λ ready. refl));
+  came = (refl, ((row 0, (0, omega arith, refl), (refl, refl)), All-nil (IssuesOn (port_at 0)), λ ready. refl));
   backed = record {
     telling = refl;
     gained = [];

@@ -64,15 +64,15 @@ others_clear k = other_bit (suc k) (omega arith)
 -- ---- and taken by the device
 
 abbrev pub command : Taken
-command = begun (read_of 100 1) (cut 0x28000 1)
+command = begun (read_of 100 1) (cut 0x64000 1)
 
 abbrev pub taken : PortState
-taken = with_fetch issued 0 (read_of 100 1) (cut 0x28000 1)
+taken = with_fetch issued 0 (read_of 100 1) (cut 0x64000 1)
 
 -- and then the device does more
 pub fetches : (new : Device) → Steps (device_with pages read_memory (taken ∷ second ∷ [])) new → Steps submitted new
 unfolding changed
-fetches new = step_first (Fetch 0 0 (read_of 100 1) (cut 0x28000 1)) submitted (device_with pages read_memory (taken ∷ second ∷ [])) new
+fetches new = step_first (Fetch 0 0 (read_of 100 1) (cut 0x64000 1)) submitted (device_with pages read_memory (taken ∷ second ∷ [])) new
     (record {
       fetchable = record { st = refl; issued = refl; free = refl };
       working = record { running = refl; present = refl; fresh = refl; admitted = refl; whole = refl };

@@ -137,18 +137,18 @@ module _ (old : Device) (tape : List Entry) (memory : ℕ → ℕ) (p : PortStat
 -- ---- both are taken
 
 abbrev first_taken : PortState
-first_taken = with_fetch two_issued 0 (queued_read 100) (cut (4096 * 40) 1)
+first_taken = with_fetch two_issued 0 (queued_read 100) (cut (4096 * 100) 1)
 
 abbrev both_taken : PortState
-both_taken = with_fetch first_taken 1 (queued_read 101) (cut (4096 * 41) 1)
+both_taken = with_fetch first_taken 1 (queued_read 101) (cut (4096 * 101) 1)
 
 -- the first command is queued, so the second may be taken beside it
 beside : IsAlone first_taken ReadQueued
-beside zero t is = let same : reads_into 100 40 ≡ t = some_same (sym (changed_here two_issued.taken 0 (Some (reads_into 100 40))) ∙ is) in ap (λ (t : Taken). is_queued t.meaning.operation) (sym same)
+beside zero t is = let same : reads_into 100 100 ≡ t = some_same (sym (changed_here two_issued.taken 0 (Some (reads_into 100 100))) ∙ is) in ap (λ (t : Taken). is_queued t.meaning.operation) (sym same)
   where
-    some_same : {t : Taken} → Some (reads_into 100 40) ≡ Some t → reads_into 100 40 ≡ t
+    some_same : {t : Taken} → Some (reads_into 100 100) ≡ Some t → reads_into 100 100 ≡ t
     some_same e = cc
-beside (suc k) t is = absurd (let x : None ≡ Some t = sym (past_first two_issued.taken (Some (reads_into 100 40)) k) ∙ is in cc)
+beside (suc k) t is = absurd (let x : None ≡ Some t = sym (past_first two_issued.taken (Some (reads_into 100 100)) k) ∙ is in cc)
 
 -- no bit of PxCI is left
 none_waits : (k : ℕ) → both_taken.ci k ≡ false
@@ -160,7 +160,7 @@ none_waits (suc (suc k)) = past_second (changed two_issued.ci 0 false) false k �
 -- ---- the second ends
 
 abbrev second_done : PortState
-second_done = finished 1 101 41 both_taken
+second_done = finished 1 101 101 both_taken
 
 abbrev pub found : PortState
 found = seen 0 1 second_done
@@ -175,7 +175,7 @@ one_active (suc (suc k)) = past_second two_issued.sact false k ∙ neither k ∙
 pub found_waits : (k : ℕ) → found.ci k ≡ false
 found_waits = none_waits
 
-pub found_taken : found.taken 0 ≡ Some (reads_into 100 40)
+pub found_taken : found.taken 0 ≡ Some (reads_into 100 100)
 unfolding changed
 found_taken = refl
 
@@ -183,10 +183,10 @@ pub found_free : (k : ℕ) → found.taken (suc k) ≡ None
 unfolding changed
 found_free zero = refl
 found_free (suc k) =
-    past_second (changed both_taken.taken 1 (Some (record (reads_into 101 41) { moved = 1 }))) None k
-    ∙ past_second both_taken.taken (Some (record (reads_into 101 41) { moved = 1 })) k
-    ∙ past_second first_taken.taken (Some (reads_into 101 41)) k
-    ∙ past_first two_issued.taken (Some (reads_into 100 40)) (suc k)
+    past_second (changed both_taken.taken 1 (Some (record (reads_into 101 101) { moved = 1 }))) None k
+    ∙ past_second both_taken.taken (Some (record (reads_into 101 101) { moved = 1 })) k
+    ∙ past_second first_taken.taken (Some (reads_into 101 101)) k
+    ∙ past_first two_issued.taken (Some (reads_into 100 100)) (suc k)
 
 -- SDBS tells of no trouble
 undisturbed : (is : ℕ → Bool) → ((place : ℕ) → 27 ≤ place → is place ≡ false) → (place : ℕ) → 27 ≤ place → changed is 3 true place ≡ false
@@ -199,7 +199,7 @@ found_stands = record { same = refl; quiet = undisturbed both_taken.is (λ place
 -- ---- and then the first
 
 abbrev first_done : PortState
-first_done = finished 0 100 40 found
+first_done = finished 0 100 100 found
 
 abbrev pub found_again : PortState
 found_again = seen 0 0 first_done
@@ -212,7 +212,7 @@ none_active (suc k) = past_first found.sact false k ∙ one_active (suc k) ∙ o
 pub again_free : (k : ℕ) → found_again.taken k ≡ None
 unfolding changed
 again_free zero = refl
-again_free (suc k) = past_first (changed found.taken 0 (Some (record (reads_into 100 40) { moved = 1 }))) None k ∙ past_first found.taken (Some (record (reads_into 100 40) { moved = 1 })) k ∙ found_free k
+again_free (suc k) = past_first (changed found.taken 0 (Some (record (reads_into 100 100) { moved = 1 }))) None k ∙ past_first found.taken (Some (record (reads_into 100 100) { moved = 1 })) k ∙ found_free k
 
 pub again_stands : Stands found_again
 again_stands = record { same = refl; quiet = undisturbed found.is found_stands.quiet }
@@ -226,41 +226,41 @@ abbrev pub pages : List Entry
 pages = sent queueing_page
 
 abbrev pub swapped_memory : ℕ → ℕ
-swapped_memory = patched two_memory (4096 * 41) (sector_of 101)
+swapped_memory = patched two_memory (4096 * 101) (sector_of 101)
 
 abbrev pub swapped : Device
-swapped = device_with (pages ++ ends 1 101 41) swapped_memory (found ∷ second ∷ [])
+swapped = device_with (pages ++ ends 1 101 101) swapped_memory (found ∷ second ∷ [])
 
 abbrev pub ended : Device
-ended = device_with (pages ++ (ends 1 101 41 ++ ends 0 100 40)) (patched swapped_memory (4096 * 40) (sector_of 100)) (found_again ∷ second ∷ [])
+ended = device_with (pages ++ (ends 1 101 101 ++ ends 0 100 100)) (patched swapped_memory (4096 * 100) (sector_of 100)) (found_again ∷ second ∷ [])
 
 abbrev issued_device : Device
 issued_device = device_with pages two_memory (two_issued ∷ second ∷ [])
 
 abbrev second_ended : Device
-second_ended = device_with (pages ++ ends 1 101 41) swapped_memory (second_done ∷ second ∷ [])
+second_ended = device_with (pages ++ ends 1 101 101) swapped_memory (second_done ∷ second ∷ [])
 
 abbrev first_ended : Device
-first_ended = device_with (pages ++ (ends 1 101 41 ++ ends 0 100 40)) (patched swapped_memory (4096 * 40) (sector_of 100)) (first_done ∷ second ∷ [])
+first_ended = device_with (pages ++ (ends 1 101 101 ++ ends 0 100 100)) (patched swapped_memory (4096 * 100) (sector_of 100)) (first_done ∷ second ∷ [])
 
 stays : (d : Device) → Steps d d
 stays d = record { steps = []; lead = refl }
 
 second_ends : Steps issued_device second_ended
 second_ends =
-    fetches pages two_memory two_issued (record { same = refl; quiet = λ place from. refl }) 0 100 40
+    fetches pages two_memory two_issued (record { same = refl; quiet = λ place from. refl }) 0 100 100
     refl refl (λ slot t is. absurd (let x : None ≡ Some t = is in cc)) first_told second_ended
-    (fetches pages two_memory first_taken (record { same = refl; quiet = λ place from. refl }) 1 101 41
-    (past_first two_issued.ci false 0) (past_first two_issued.taken (Some (reads_into 100 40)) 0) beside second_told second_ended
-    (finishes pages two_memory both_taken (record { same = refl; quiet = λ place from. refl }) 1 101 41
-    (changed_here first_taken.taken 1 (Some (reads_into 101 41))) (omega arith) second_ended (stays second_ended)))
+    (fetches pages two_memory first_taken (record { same = refl; quiet = λ place from. refl }) 1 101 101
+    (past_first two_issued.ci false 0) (past_first two_issued.taken (Some (reads_into 100 100)) 0) beside second_told second_ended
+    (finishes pages two_memory both_taken (record { same = refl; quiet = λ place from. refl }) 1 101 101
+    (changed_here first_taken.taken 1 (Some (reads_into 101 101))) (omega arith) second_ended (stays second_ended)))
 
 first_ends : Steps swapped first_ended
-first_ends = finishes (pages ++ ends 1 101 41) swapped_memory found found_stands 0 100 40 found_taken (omega arith) first_ended (stays first_ended)
+first_ends = finishes (pages ++ ends 1 101 101) swapped_memory found found_stands 0 100 100 found_taken (omega arith) first_ended (stays first_ended)
 
 pub finds_second : (does : DoesAll second_found issued_device swapped) × AreAllowed second_found issued_device swapped does
-finds_second = finds issued_device (pages ++ ends 1 101 41) swapped_memory second_done 0 1 second_ends (λ k low. no_bit k ∙ sym (none_waits k)) (λ k low. sym (one_active k))
+finds_second = finds issued_device (pages ++ ends 1 101 101) swapped_memory second_done 0 1 second_ends (λ k low. no_bit k ∙ sym (none_waits k)) (λ k low. sym (one_active k))
 
 pub finds_first : (does : DoesAll first_found swapped ended) × AreAllowed first_found swapped ended does
-finds_first = finds swapped (pages ++ (ends 1 101 41 ++ ends 0 100 40)) (patched swapped_memory (4096 * 40) (sector_of 100)) first_done 0 0 first_ends
+finds_first = finds swapped (pages ++ (ends 1 101 101 ++ ends 0 100 100)) (patched swapped_memory (4096 * 100) (sector_of 100)) first_done 0 0 first_ends
     (λ k low. no_bit k ∙ sym (none_waits k)) (λ k low. no_bit k ∙ sym (none_active k))

@@ -50,8 +50,8 @@ submission_one = record {
   port_then = one_issued;
   id = first_id;
   sector = 100;
-  frame_number = 40;
-  accesses = queue_accesses 0 100 0x10 0x80 1;
+  frame_number = 100;
+  accesses = queue_accesses 0 100 100 1;
 }
 
 abbrev first_issuing : Machine
@@ -79,8 +79,8 @@ submission_two = record {
   port_then = two_issued;
   id = second_id;
   sector = 101;
-  frame_number = 41;
-  accesses = queue_accesses 1 101 0x14 0x90 2;
+  frame_number = 101;
+  accesses = queue_accesses 1 101 101 2;
 }
 
 abbrev pub both_issuing : Machine
@@ -93,17 +93,17 @@ abbrev pub held_too : ℕ → Block
 held_too = (issued_on.accepted submission_two).held
 
 abbrev pub outstanding_first : Pending
-outstanding_first = outstanding_as first_id 100 40 held
+outstanding_first = outstanding_as first_id 100 100 held
 
 abbrev pub outstanding_second : Pending
-outstanding_second = outstanding_as second_id 101 41 held_too
+outstanding_second = outstanding_as second_id 101 101 held_too
 
 -- ---- the first read is issued
 
 one_stands : Stands one_issued
 one_stands = record { same = refl; quiet = λ place from. refl }
 
-has_one : HasOne queueing_disks first_issuing [] one_memory one_issued (queued_read 100) 100 40 held 0
+has_one : HasOne queueing_disks first_issuing [] one_memory one_issued (queued_read 100) 100 100 held 0
 has_one = record {
   stands = one_stands;
   disks = (refl, refl, refl, refl);
@@ -121,7 +121,7 @@ has_one = record {
 }
 
 one_agrees : Agreeing queueing_disks first_slots first_issuing [] one_memory one_issued
-one_agrees = agrees_one queueing_disks first_issuing [] one_memory one_issued (queued_read 100) 100 40 held 0 has_one
+one_agrees = agrees_one queueing_disks first_issuing [] one_memory one_issued (queued_read 100) 100 100 held 0 has_one
 
 may_first : May (after start (Accept (issued_on.accepted submission_one) ∷ [])) (Issue queued (newly_accepted (issued_on.accepted submission_one)))
 may_first = ((0, omega arith, refl), record { here = (0, omega arith, refl); clear = refl; slot = λ _. omega arith }, λ e h. absurd (nowhere e h), granted 0 (0, omega arith, refl) refl)
@@ -135,7 +135,7 @@ issued_first = record {
   may = may_first;
   all_issued = λ port is. none_due queued (unanswered outstanding_first ∷ []) (λ r here. ap (λ (x : Unanswered). x.issued) (only (unanswered outstanding_first) r here)) port;
   due = issued_on.due_alone submission_one refl may_first.1 refl;
-  does = queues pages zeros (running_port 0) 0 100 0x10 0x80 1;
+  does = queues pages zeros (running_port 0) 0 100 100 1;
   only = one_submits;
 }
 
@@ -155,8 +155,8 @@ waits_in : (k n slot : ℕ) (id : RequestId) (block : ℕ → Block) → two_iss
 waits_in k n slot id block issued active = inl (record { started = refl; issued = issued; free = refl; sact = active; block = tt; untouched = λ i. sym (le-ltb i 0 (omega arith)); unended = refl })
 
 two_serve : (slot : ℕ) → IsServedAs both_issuing two_memory pages two_issued 0 slot (two_uses 0 slot)
-two_serve zero = serves_one both_issuing two_memory two_issued 0 (queued_read 100) first_id 100 40 held 0 refl (omega arith) (0, omega arith, refl) refl refl first_told (waits_in 100 40 0 first_id held refl refl)
-two_serve (suc zero) = serves_one both_issuing two_memory two_issued 1 (queued_read 101) second_id 101 41 held_too 0 refl (omega arith) (1, omega arith, refl) refl refl second_told (waits_in 101 41 1 second_id held_too refl refl)
+two_serve zero = serves_one both_issuing two_memory two_issued 0 (queued_read 100) first_id 100 100 held 0 refl (omega arith) (0, omega arith, refl) refl refl first_told (waits_in 100 100 0 first_id held refl refl)
+two_serve (suc zero) = serves_one both_issuing two_memory two_issued 1 (queued_read 101) second_id 101 101 held_too 0 refl (omega arith) (1, omega arith, refl) refl refl second_told (waits_in 101 101 1 second_id held_too refl refl)
 two_serve (suc (suc slot)) = record { issued = neither slot; free = refl; unarmed = neither slot }
 
 pub not_second : first_id ≡ second_id → ⊥
@@ -197,8 +197,8 @@ two_requests = record {
     kind_of = each_has (λ x. true ≡ not (is_plain queued x.request.asked.op)) refl refl
 
     kinds : (slot : ℕ) (e : Pending) → Contains both_issuing.book e → two_uses 0 slot ≡ Serves e.request.id → IsOfKind queued (issued_on.submitted_at submission_two).device 0 slot e
-    kinds zero e here u = record { command = queued_read 100; places = cut 0x28000 1; told = first_told; kind = kind_of e here }
-    kinds (suc zero) e here u = record { command = queued_read 101; places = cut 0x29000 1; told = second_told; kind = kind_of e here }
+    kinds zero e here u = record { command = queued_read 100; places = cut 0x64000 1; told = first_told; kind = kind_of e here }
+    kinds (suc zero) e here u = record { command = queued_read 101; places = cut 0x65000 1; told = second_told; kind = kind_of e here }
     kinds (suc (suc slot)) e here u = absurd (let x : Free ≡ Serves e.request.id = u in cc)
 
 pub two_agree : Agreeing queueing_disks two_slots both_issuing [] two_memory two_issued
@@ -242,7 +242,7 @@ issued_second = record {
   may = may_second;
   all_issued = λ port is. none_due queued (unanswered outstanding_first ∷ unanswered outstanding_second ∷ []) all_issued port;
   due = due_second;
-  does = queues pages one_memory one_issued 1 101 0x14 0x90 2;
+  does = queues pages one_memory one_issued 1 101 101 2;
   only = two_submits;
 }
   where

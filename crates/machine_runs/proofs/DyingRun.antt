@@ -22,7 +22,7 @@ use Rattle.machine_runs.proofs.ResetRun.{dead_not_ready, dead_here}
 
 -- a write of another sector
 abbrev other : Accepted
-other = one_sector 0 (moment_of first run1).machine 2 Write 101 41
+other = one_sector 0 (moment_of first run1).machine 2 Write 101 101
 
 abbrev submit : Event (Unit {0})
 submit = call (Submit other.asked) (Submitted (Ok (id 2))) (Issue mode (newly_accepted other) ∷ Accept other ∷ [])
@@ -57,13 +57,13 @@ second a b = contains_there a (b ∷ []) b (contains_here b [] b refl)
 
 happens2 : Happens (moment_of first run1) submit
 happens2 = record {
-  may = ((tt, new 0 (moment_of first run1) other quiet (write_at 0 (moment_of first run1) 101 41 quiet (omega arith) (omega arith) refl refl) refl refl refl), (second one (newly_accepted other), record { here = second (unanswered one) (unanswered (newly_accepted other)); clear = refl; slot = λ _. omega arith }, λ e h. absurd (contains_none e h), granted 0 row_zero refl));
+  may = ((tt, new 0 (moment_of first run1) other quiet (write_at 0 (moment_of first run1) 101 101 quiet (omega arith) (omega arith) refl refl) refl refl refl), (second one (newly_accepted other), record { here = second (unanswered one) (unanswered (newly_accepted other)); clear = refl; slot = λ _. omega arith }, λ e h. absurd (contains_none e h), granted 0 row_zero refl));
   belong = ((tt, inr refl), inr (refl, refl));
   last = ((tt, λ id h i. false≢true i), λ id h i. false≢true i);
   lawful = tt;
   fit = ports_fit Ready refl;
   disks = λ e o h i same. (refl, refl);
-  answered = (acceptable 0 (situation_of (moment_of first run1)) other.asked (write_at 0 (moment_of first run1) 101 41 quiet (omega arith) (omega arith) refl refl), (other, refl, refl), λ p. (refl, refl, refl, refl, refl, refl), λ p _. none_waits _ refl p);
+  answered = (acceptable 0 (situation_of (moment_of first run1)) other.asked (write_at 0 (moment_of first run1) 101 101 quiet (omega arith) (omega arith) refl refl), (other, refl, refl), λ p. (refl, refl, refl, refl, refl, refl), λ p _. none_waits _ refl p);
   heeds = spares_ports;
 }
 
@@ -138,7 +138,7 @@ dies_in_a_service = record {
   answers = refl;
   dies = refl;
   stay = refl;
-  frame = frame 41;
+  frame = frame 101;
   its = refl;
   lent = refl;
 }

@@ -29,9 +29,9 @@ start = record empty { memory = λ f b. f.0 }
 abbrev mode : Mode
 mode = record { queued = true; usable = 32 }
 
--- request number n, of one sector, has frame 40 + n
+-- request number n, of one sector, has frame 100 + n
 abbrev one_sector : ℕ → Op → Accepted
-one_sector n op = record { id = record { 0 = n }; port = port; asked = request 0 op 100 1 (frame (40 + n) ∷ []); held = block_of start.memory (frame (40 + n) ∷ []) }
+one_sector n op = record { id = record { 0 = n }; port = port; asked = request 0 op 100 1 (frame (100 + n) ∷ []); held = block_of start.memory (frame (100 + n) ∷ []) }
 
 abbrev one : Pending
 one = issue (newly_accepted (one_sector 1 Write))
@@ -49,18 +49,18 @@ first_part = Answer one outcome.PortDead ∷ Issue mode (newly_accepted (one_sec
 -- another is issued, touches the sector, and is answered Ok; the kept one touches it in between
 abbrev second_part : List Step
 second_part =
-    Answer (mark_ended (touch 0 two)) outcome.Ok ∷ End (touch 0 two) ∷ Touch one 0 (λ b. 41) ∷ Touch two 0 (λ b. 42)
+    Answer (mark_ended (touch 0 two)) outcome.Ok ∷ End (touch 0 two) ∷ Touch one 0 (λ b. 101) ∷ Touch two 0 (λ b. 102)
     ∷ Issue mode (newly_accepted (one_sector 2 Write)) ∷ Accept (one_sector 2 Write) ∷ first_part
 
 -- a read finds the kept one's bytes
 abbrev history : List Step
-history = Touch read 0 (λ b. 41) ∷ Issue mode (newly_accepted (one_sector 3 Read)) ∷ Accept (one_sector 3 Read) ∷ second_part
+history = Touch read 0 (λ b. 101) ∷ Issue mode (newly_accepted (one_sector 3 Read)) ∷ Accept (one_sector 3 Read) ∷ second_part
 
 -- what a request meets at a machine whose ports are ready
 abbrev meets : Machine → Situation
 meets m = record { rows = m.rows; owner = m.owner; lent = m.lent; state = λ p. Ready; sectors = λ p. 200; trims = λ p. true; unanswered = unanswered_of m.book; next = m.next }
 
-fit : (m : Machine) (n : ℕ) (op : Op) → m.rows ≡ two_rows → m.owner (frame (40 + n)) ≡ Some client → m.lent (frame (40 + n)) ≡ None → unanswered_of m.book client ≡ 0 → m.next < 2 ^ 64
+fit : (m : Machine) (n : ℕ) (op : Op) → m.rows ≡ two_rows → m.owner (frame (100 + n)) ≡ Some client → m.lent (frame (100 + n)) ≡ None → unanswered_of m.book client ≡ 0 → m.next < 2 ^ 64
     → op ≢ Trim → op ≢ Flush → frames_for op 1 ≡ 1 → IsCount op 1 → Allows (row 0).rights op → IsFit 0 (meets m) (one_sector n op).asked
 fit m n op same_rows own free none ids no_trim no_flush frames count allowed = record {
   rows = same_rows;
@@ -81,8 +81,8 @@ fit m n op same_rows own free none ids no_trim no_flush frames count allowed = r
   ids = ids;
 }
   where
-    same : (f : Frame) → slice_get (frame (40 + n) ∷ []) 0 ≡ Some f → f ≡ frame (40 + n)
-    same f e = sym (get_or_from_slice_get (frame (40 + n) ∷ []) 0 f f e)
+    same : (f : Frame) → slice_get (frame (100 + n) ∷ []) 0 ≡ Some f → f ≡ frame (100 + n)
+    same f e = sym (get_or_from_slice_get (frame (100 + n) ∷ []) 0 f f e)
 
 -- such a request is new to a machine whose frames hold what they held
 new : (m : Machine) (n : ℕ) (op : Op) → IsFit 0 (meets m) (one_sector n op).asked → m.rows ≡ two_rows → n ≡ m.next → m.memory ≡ start.memory → IsNew m (one_sector n op)
@@ -92,14 +92,14 @@ new m n op fits same_rows next memory = record {
   unbroken = λ rule h. acceptable 0 (meets m) (one_sector n op).asked fits (refused.Rule rule) h;
   port = λ r h. ap (λ (x : GrantRow). x.port) (sym (its_row r (subst (λ (xs : List GrantRow). Contains xs r) same_rows h.0) ∙ ap row h.1.1));
   few = fits.few;
-  held = ap (λ (x : Memory). block_of x (frame (40 + n) ∷ [])) (sym memory);
+  held = ap (λ (x : Memory). block_of x (frame (100 + n) ∷ [])) (sym memory);
 }
 
-write_fits : (m : Machine) (n : ℕ) → m.rows ≡ two_rows → m.owner (frame (40 + n)) ≡ Some client → m.lent (frame (40 + n)) ≡ None → unanswered_of m.book client ≡ 0 → m.next < 2 ^ 64
+write_fits : (m : Machine) (n : ℕ) → m.rows ≡ two_rows → m.owner (frame (100 + n)) ≡ Some client → m.lent (frame (100 + n)) ≡ None → unanswered_of m.book client ≡ 0 → m.next < 2 ^ 64
     → IsFit 0 (meets m) (one_sector n Write).asked
 write_fits m n same own free none ids = fit m n Write same own free none ids (λ e. false≢true (ap is_trim e)) (λ e. false≢true (ap is_flush e)) refl (omega arith, omega arith) refl
 
-read_fits : (m : Machine) (n : ℕ) → m.rows ≡ two_rows → m.owner (frame (40 + n)) ≡ Some client → m.lent (frame (40 + n)) ≡ None → unanswered_of m.book client ≡ 0 → m.next < 2 ^ 64
+read_fits : (m : Machine) (n : ℕ) → m.rows ≡ two_rows → m.owner (frame (100 + n)) ≡ Some client → m.lent (frame (100 + n)) ≡ None → unanswered_of m.book client ≡ 0 → m.next < 2 ^ 64
     → IsFit 0 (meets m) (one_sector n Read).asked
 read_fits m n same own free none ids = fit m n Read same own free none ids (λ e. false≢true (ap is_trim e)) (λ e. false≢true (ap is_flush e)) refl (omega arith, omega arith) refl
 
@@ -122,10 +122,10 @@ wrong h = go (h.sectors 0 (omega arith)).1
     block : Block
     block = (h.sectors 0 (omega arith)).0
 
-    finds : 41 ≡ block 0
+    finds : 101 ≡ block 0
     finds = (h.sectors 0 (omega arith)).2 0 (omega arith)
 
-    differ : ◌≡◌ {A = ℕ} 41 42 → ⊥
+    differ : ◌≡◌ {A = ℕ} 101 102 → ⊥
     differ e = omega (arith, e)
 
     last : (w : Accepted) → (w ≡ one_sector 2 Write) ⊎ (w ≡ one_sector 1 Write) → 2 ≤ w.id.0 → block ≡ written_by w.asked.op w.held (100 - w.asked.first.0) → ⊥

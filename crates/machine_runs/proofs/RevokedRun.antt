@@ -1,4 +1,4 @@
--- A run in which a grant is revoked while a write of it runs and a read of it waits.
+-- Runs in which a grant is revoked while a write of it runs and a read of it waits: then the write ends, or its port fails.
 use Rattle.std.proofs.Common.{◌≡◌, false, List, [], ◌∷◌, Some, inl, inr, ⊎_elim, refl, sym, ap, ◌∙◌, subst, arith, Contains}
 use Rattle.std.proofs.lemmas.Bool.{false≢true}
 use Rattle.ata_types.specs.declared.PortState.TheVariants.{Ready}
@@ -6,15 +6,16 @@ use Rattle.ata_types.specs.declared.grant.GrantRow.{GrantRow}
 use Rattle.ata_types.specs.declared.request.Outcome.{Outcome}
 use Rattle.ata_types.specs.declared.request.Outcome.TheVariants as outcome
 use Rattle.ata_types.specs.declared.request.Reply.{Reply}
-use Rattle.block_machine.specs.Rules.{HasRow}
-use Rattle.block_machine.specs.State.{Pending, unanswered}
+use Rattle.block_machine.specs.Rules.{HasRow, IsUnder}
+use Rattle.block_machine.specs.State.{Pending, frame_at, unanswered}
 use Rattle.block_machine.specs.Steps.{Step, Touch, End, Answer, Revoke, newly_accepted, issue, touch}
-use Rattle.block_machine.specs.Events.{RevokeOf, Service, Served, WasRevoked, Event, Happens, IsUnder, reply_of, moment_of}
+use Rattle.block_machine.specs.Events.{RevokeOf, Service, Served, WasRevoked, Event, Happens, reply_of, moment_of}
 use Rattle.machine_runs.specs.Revoked.{IsTakenBack}
 use Rattle.block_machine.proofs.Members.{contains_none, contains_here, contains_there, contains_cases}
-use Rattle.block_machine.proofs.Setting.{client, row, empty_starts, granted}
-use Rattle.machine_runs.proofs.Scene.{first, reply, call, done, served, row_zero, one_issued, none_there, one_told, one_touched, ports_fit, none_ended, all_calmly, plain_service, in_ready, spares_ports}
+use Rattle.block_machine.proofs.Setting.{client, row, empty_starts, granted, port}
+use Rattle.machine_runs.proofs.Scene.{first, reply, call, done, served, row_zero, one_issued, none_there, one_told, one_touched, ports_fit, none_ended, all_calmly, plain_service, in_ready, spares_ports, none_dead, none_unplugged, stay_ready, no_faults, ready_port}
 use Rattle.machine_runs.proofs.WaitingRun.{run2, write, read, happens1, happens2}
+use Rattle.block_machine.specs.Ports.{Evidence}
 
 abbrev revoked : Reply
 revoked = reply_of (newly_accepted read, outcome.Revoked)
@@ -62,7 +63,7 @@ happens3 = record {
   heeds = spares_ports;
 }
   where
-    all : (e : Pending) → Contains (moment_of first run2).machine.book e → e.issued ≡ false → IsUnder client 0 e.request → Contains event3.steps (Answer e outcome.Revoked)
+    all : (e : Pending) → Contains (moment_of first run2).machine.book e → e.issued ≡ false → IsUnder client 0 e.request.asked.client e.request.asked.grant → Contains event3.steps (Answer e outcome.Revoked)
     all e h waits under = ⊎_elim
         (λ (same : e ≡ issue (newly_accepted write)). absurd (false≢true (sym waits ∙ ap (λ (x : Pending). x.issued) same)))
         (λ i. ⊎_elim
@@ -71,13 +72,13 @@ happens3 = record {
         (contains_cases (newly_accepted read) [] e i))
         (contains_cases (issue (newly_accepted write)) (newly_accepted read ∷ []) e h)
 
-    only : (e : Pending) (o : Outcome) → Contains event3.steps (Answer e o) → Contains (moment_of first run2).machine.book e × (e.issued ≡ false) × IsUnder client 0 e.request
+    only : (e : Pending) (o : Outcome) → Contains event3.steps (Answer e o) → Contains (moment_of first run2).machine.book e × (e.issued ≡ false) × IsUnder client 0 e.request.asked.client e.request.asked.grant
     only e o h = ⊎_elim
         (λ (same : Answer e o ≡ Answer (newly_accepted read) outcome.Revoked).
         let its : e ≡ newly_accepted read = ap told_of same in (
           contains_there (issue (newly_accepted write)) (newly_accepted read ∷ []) e (contains_here (newly_accepted read) [] e its),
           ap (λ (x : Pending). x.issued) its,
-          subst (λ (x : Pending). IsUnder client 0 x.request) (sym its) (refl, refl),
+          subst (λ (x : Pending). IsUnder client 0 x.request.asked.client x.request.asked.grant) (sym its) (refl, refl),
         ))
         (λ i. ⊎_elim
         (λ (same : Answer e o ≡ Revoke client 0). let no : ⊥ = cc in absurd no)
@@ -96,6 +97,51 @@ happens4 = record {
   answered = plain_service (moment_of first run3).machine (moment_of first run4).machine event4.steps (reply 1 ∷ []) (one_told (done write) outcome.Ok event4.steps refl (reply 1) refl) refl tt (λ p. none_there p) (λ e h. absurd (contains_none e h));
   heeds = all_calmly (moment_of first run3) (moment_of first run4) event4.steps (in_ready (moment_of first run3).machine refl) (λ p. (refl, refl, refl, refl, refl, refl)) refl (none_ended (moment_of first run3).machine event4.steps refl);
 }
+
+-- ---- where the port fails first
+
+abbrev running : Pending
+running = issue (newly_accepted write)
+
+-- port 0 failed, and was stopped
+abbrev failure : Evidence
+failure = record { faults = []; lost = []; gone = []; failed = port ∷ []; fatal = []; stopped = port ∷ []; stuck = [] }
+
+abbrev failed : Event (Unit {0})
+failed = record (call Service (Served (reply_of (running, outcome.Revoked) ∷ [])) (Answer running outcome.Revoked ∷ [])) { evidence = failure }
+
+happens_failed : Happens (moment_of first run3) failed
+happens_failed = record {
+  may = (tt, (contains_here running [] running refl, no_row));
+  belong = (tt, inr tt);
+  last = (tt, λ id h i. false≢true i);
+  lawful = (tt, inr (refl, contains_here port [] port refl, (refl, refl)));
+  fit = ports_fit Ready refl;
+  disks = λ e o h i same. (refl, refl);
+  answered = record {
+    tells = one_told running outcome.Revoked failed.steps refl (reply_of (running, outcome.Revoked)) refl;
+    dead = λ e o i dead. none_dead e.request.port dead;
+    grounded = (tt, contains_here port [] port refl);
+    unplugs = none_unplugged failed.steps (moment_of first (failed ∷ run3)).machine refl;
+    issues = λ p _. none_there p;
+    emptied = λ p ne e h. absurd (contains_none e h);
+    becomes = λ p. (λ dead. none_dead p dead, λ _. (stay_ready failure refl p, inl (refl, refl, refl, refl, refl, refl)));
+    disk = λ p. inl (refl, refl, refl, refl, refl, refl);
+  };
+  heeds = λ p ready. record {
+    ended = none_ended (moment_of first run3).machine failed.steps refl p;
+    emptied = λ gone. absurd (contains_none p gone);
+    told = λ gone. absurd (contains_none p gone);
+    interrupts = λ _. inl (contains_here port [] p (ready_port p ready));
+    anew = λ _ e h. absurd (contains_none e h);
+    single = let zero = no_faults failed.steps refl p in omega (arith, zero);
+    fatal = λ h. absurd (contains_none p h);
+    disk = λ _. inl (in_ready (moment_of first run3).machine refl p ready);
+    calm = inl (inl (contains_here port [] p (ready_port p ready)));
+  };
+}
+
+-- ---- both
 
 pub is_taken_back : IsTakenBack
 is_taken_back = record {
@@ -123,4 +169,16 @@ is_taken_back = record {
   done = done write;
   its = refl;
   answers = contains_here (Answer (done write) outcome.Ok) (End (touch 0 (issue (newly_accepted write))) ∷ Touch (issue (newly_accepted write)) 0 (write.held 0) ∷ []) (Answer (done write) outcome.Ok) refl;
+  failing = failed;
+  runs_too = (((((empty_starts, ports_fit Ready refl), happens1), happens2), happens3), happens_failed);
+  told_too = ((((((tt, tt), tt), tt), tt), tt), tt);
+  serves_too = refl;
+  fails = contains_here port [] port refl;
+  ready = refl;
+  once = refl;
+  tells = refl;
+  none_left = refl;
+  frame = frame_at write.asked.frames.items 0;
+  its_frame = refl;
+  freed = refl;
 }

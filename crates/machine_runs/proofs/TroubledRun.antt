@@ -39,25 +39,25 @@ abbrev run0 : List (Event (Unit {0}))
 run0 = []
 
 abbrev lost : Accepted
-lost = one_sector 1 empty 1 Read 100 42
+lost = one_sector 1 empty 1 Read 100 102
 
 abbrev run1 : List (Event (Unit {0}))
 run1 = submit lost ∷ run0
 
 abbrev failed : Accepted
-failed = one_sector 0 empty 2 Write 100 40
+failed = one_sector 0 empty 2 Write 100 100
 
 abbrev run2 : List (Event (Unit {0}))
 run2 = submit failed ∷ run1
 
 abbrev again : Accepted
-again = one_sector 0 empty 3 Write 101 41
+again = one_sector 0 empty 3 Write 101 101
 
 abbrev run3 : List (Event (Unit {0}))
 run3 = submit again ∷ run2
 
 abbrev finished : Accepted
-finished = one_sector 0 empty 4 Write 102 43
+finished = one_sector 0 empty 4 Write 102 103
 
 abbrev run4 : List (Event (Unit {0}))
 run4 = submit finished ∷ run3
@@ -225,13 +225,13 @@ quiet3 = quiet 0 (moment_of first run3) row_zero refl refl refl (omega arith) (o
 
 happens1 : Happens (moment_of first run0) (submit lost)
 happens1 = record {
-  may = ((tt, new 1 (moment_of first run0) lost quiet0 (fit_read 1 (moment_of first run0) 42 quiet0 refl refl) refl refl refl), (contains_here (newly_accepted lost) [] (newly_accepted lost) refl, record { here = contains_here (unanswered (newly_accepted lost)) [] (unanswered (newly_accepted lost)) refl; clear = refl; slot = λ _. omega arith }, λ e h. absurd (contains_none e h), granted 1 quiet0.mine refl));
+  may = ((tt, new 1 (moment_of first run0) lost quiet0 (fit_read 1 (moment_of first run0) 102 quiet0 refl refl) refl refl refl), (contains_here (newly_accepted lost) [] (newly_accepted lost) refl, record { here = contains_here (unanswered (newly_accepted lost)) [] (unanswered (newly_accepted lost)) refl; clear = refl; slot = λ _. omega arith }, λ e h. absurd (contains_none e h), granted 1 quiet0.mine refl));
   belong = ((tt, inr refl), inr (refl, refl));
   last = ((tt, λ id h i. false≢true i), λ id h i. false≢true i);
   lawful = tt;
   fit = fit Ready Ready refl refl;
   disks = λ e o h i same. (refl, refl);
-  answered = (acceptable 1 (situation_of (moment_of first run0)) lost.asked (fit_read 1 (moment_of first run0) 42 quiet0 refl refl), (lost, refl, refl), λ p. (refl, refl, refl, refl, refl, refl), λ p _. none_waits _ refl p);
+  answered = (acceptable 1 (situation_of (moment_of first run0)) lost.asked (fit_read 1 (moment_of first run0) 102 quiet0 refl refl), (lost, refl, refl), λ p. (refl, refl, refl, refl, refl, refl), λ p _. none_waits _ refl p);
   heeds = spares_ports;
 }
 
@@ -247,37 +247,37 @@ fourth a b c d = contains_there a (b ∷ c ∷ d ∷ []) d (third b c d)
 
 happens2 : Happens (moment_of first run1) (submit failed)
 happens2 = record {
-  may = ((tt, new 0 (moment_of first run1) failed quiet1 (write_at 0 (moment_of first run1) 100 40 quiet1 (omega arith) (omega arith) refl refl) refl refl refl), (second losing (newly_accepted failed), record { here = second (unanswered losing) (unanswered (newly_accepted failed)); clear = refl; slot = λ _. omega arith }, λ e h. absurd (contains_none e h), granted 0 row_zero refl));
+  may = ((tt, new 0 (moment_of first run1) failed quiet1 (write_at 0 (moment_of first run1) 100 100 quiet1 (omega arith) (omega arith) refl refl) refl refl refl), (second losing (newly_accepted failed), record { here = second (unanswered losing) (unanswered (newly_accepted failed)); clear = refl; slot = λ _. omega arith }, λ e h. absurd (contains_none e h), granted 0 row_zero refl));
   belong = ((tt, inr refl), inr (refl, refl));
   last = ((tt, λ id h i. false≢true i), λ id h i. false≢true i);
   lawful = tt;
   fit = fit Ready Ready refl refl;
   disks = λ e o h i same. (refl, refl);
-  answered = (acceptable 0 (situation_of (moment_of first run1)) failed.asked (write_at 0 (moment_of first run1) 100 40 quiet1 (omega arith) (omega arith) refl refl), (failed, refl, refl), λ p. (refl, refl, refl, refl, refl, refl), λ p _. none_waits _ refl p);
+  answered = (acceptable 0 (situation_of (moment_of first run1)) failed.asked (write_at 0 (moment_of first run1) 100 100 quiet1 (omega arith) (omega arith) refl refl), (failed, refl, refl), λ p. (refl, refl, refl, refl, refl, refl), λ p _. none_waits _ refl p);
   heeds = spares_ports;
 }
 
 happens3 : Happens (moment_of first run2) (submit again)
 happens3 = record {
-  may = ((tt, new 0 (moment_of first run2) again quiet2 (write_at 0 (moment_of first run2) 101 41 quiet2 (omega arith) (omega arith) refl refl) refl refl refl), (third losing failing (newly_accepted again), record { here = third (unanswered losing) (unanswered failing) (unanswered (newly_accepted again)); clear = refl; slot = λ _. omega arith }, λ e h. absurd (contains_none e h), granted 0 row_zero refl));
+  may = ((tt, new 0 (moment_of first run2) again quiet2 (write_at 0 (moment_of first run2) 101 101 quiet2 (omega arith) (omega arith) refl refl) refl refl refl), (third losing failing (newly_accepted again), record { here = third (unanswered losing) (unanswered failing) (unanswered (newly_accepted again)); clear = refl; slot = λ _. omega arith }, λ e h. absurd (contains_none e h), granted 0 row_zero refl));
   belong = ((tt, inr refl), inr (refl, refl));
   last = ((tt, λ id h i. false≢true i), λ id h i. false≢true i);
   lawful = tt;
   fit = fit Ready Ready refl refl;
   disks = λ e o h i same. (refl, refl);
-  answered = (acceptable 0 (situation_of (moment_of first run2)) again.asked (write_at 0 (moment_of first run2) 101 41 quiet2 (omega arith) (omega arith) refl refl), (again, refl, refl), λ p. (refl, refl, refl, refl, refl, refl), λ p _. none_waits _ refl p);
+  answered = (acceptable 0 (situation_of (moment_of first run2)) again.asked (write_at 0 (moment_of first run2) 101 101 quiet2 (omega arith) (omega arith) refl refl), (again, refl, refl), λ p. (refl, refl, refl, refl, refl, refl), λ p _. none_waits _ refl p);
   heeds = spares_ports;
 }
 
 happens4 : Happens (moment_of first run3) (submit finished)
 happens4 = record {
-  may = ((tt, new 0 (moment_of first run3) finished quiet3 (write_at 0 (moment_of first run3) 102 43 quiet3 (omega arith) (omega arith) refl refl) refl refl refl), (fourth losing failing (tried 1) (newly_accepted finished), record { here = fourth (unanswered losing) (unanswered failing) (unanswered (tried 1)) (unanswered (newly_accepted finished)); clear = refl; slot = λ _. omega arith }, λ e h. absurd (contains_none e h), granted 0 row_zero refl));
+  may = ((tt, new 0 (moment_of first run3) finished quiet3 (write_at 0 (moment_of first run3) 102 103 quiet3 (omega arith) (omega arith) refl refl) refl refl refl), (fourth losing failing (tried 1) (newly_accepted finished), record { here = fourth (unanswered losing) (unanswered failing) (unanswered (tried 1)) (unanswered (newly_accepted finished)); clear = refl; slot = λ _. omega arith }, λ e h. absurd (contains_none e h), granted 0 row_zero refl));
   belong = ((tt, inr refl), inr (refl, refl));
   last = ((tt, λ id h i. false≢true i), λ id h i. false≢true i);
   lawful = tt;
   fit = fit Ready Ready refl refl;
   disks = λ e o h i same. (refl, refl);
-  answered = (acceptable 0 (situation_of (moment_of first run3)) finished.asked (write_at 0 (moment_of first run3) 102 43 quiet3 (omega arith) (omega arith) refl refl), (finished, refl, refl), λ p. (refl, refl, refl, refl, refl, refl), λ p _. none_waits _ refl p);
+  answered = (acceptable 0 (situation_of (moment_of first run3)) finished.asked (write_at 0 (moment_of first run3) 102 103 quiet3 (omega arith) (omega arith) refl refl), (finished, refl, refl), λ p. (refl, refl, refl, refl, refl, refl), λ p _. none_waits _ refl p);
   heeds = spares_ports;
 }
 
@@ -546,7 +546,7 @@ meets_trouble = record {
   four = (refl, refl, refl);
   ends = refl;
   none_left = refl;
-  frame = frame 41;
+  frame = frame 101;
   its = refl;
   freed = refl;
 }

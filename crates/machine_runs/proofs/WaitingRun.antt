@@ -20,7 +20,7 @@ abbrev pub run0 : List (Event (Unit {0}))
 run0 = []
 
 abbrev pub write : Accepted
-write = sector_request (moment_of first run0).machine 1 Write 40
+write = sector_request (moment_of first run0).machine 1 Write 100
 
 abbrev pub event1 : Event (Unit {0})
 event1 = call (Submit write.asked) (Submitted (Ok (id 1))) (Issue mode (newly_accepted write) ∷ Accept write ∷ [])
@@ -29,7 +29,7 @@ abbrev pub run1 : List (Event (Unit {0}))
 run1 = event1 ∷ run0
 
 abbrev pub read : Accepted
-read = sector_request (moment_of first run1).machine 2 Read 41
+read = sector_request (moment_of first run1).machine 2 Read 101
 
 abbrev event2 : Event (Unit {0})
 event2 = call (Submit read.asked) (Submitted (Ok (id 2))) (Accept read ∷ [])
@@ -68,13 +68,13 @@ quiet1 = record { rows = refl; mine = row_zero; ready = refl; size = refl; room 
 
 pub happens1 : Happens (moment_of first run0) event1
 happens1 = record {
-  may = ((tt, new 0 (moment_of first run0) write quiet0 (fit_write (moment_of first run0) 40 quiet0 refl refl) refl refl refl), (contains_here (newly_accepted write) [] (newly_accepted write) refl, record { here = contains_here (unanswered (newly_accepted write)) [] (unanswered (newly_accepted write)) refl; clear = refl; slot = λ _. omega arith }, λ e h. absurd (contains_none e h), granted 0 row_zero refl));
+  may = ((tt, new 0 (moment_of first run0) write quiet0 (fit_write (moment_of first run0) 100 quiet0 refl refl) refl refl refl), (contains_here (newly_accepted write) [] (newly_accepted write) refl, record { here = contains_here (unanswered (newly_accepted write)) [] (unanswered (newly_accepted write)) refl; clear = refl; slot = λ _. omega arith }, λ e h. absurd (contains_none e h), granted 0 row_zero refl));
   belong = ((tt, inr refl), inr (refl, refl));
   last = ((tt, λ id h i. false≢true i), λ id h i. false≢true i);
   lawful = tt;
   fit = ports_fit Ready refl;
   disks = λ e o h i same. (refl, refl);
-  answered = (acceptable 0 (situation_of (moment_of first run0)) write.asked (fit_write (moment_of first run0) 40 quiet0 refl refl), (write, refl, refl), λ p. (refl, refl, refl, refl, refl, refl), λ p _. one_issued (unanswered (issue (newly_accepted write))) refl p);
+  answered = (acceptable 0 (situation_of (moment_of first run0)) write.asked (fit_write (moment_of first run0) 100 quiet0 refl refl), (write, refl, refl), λ p. (refl, refl, refl, refl, refl, refl), λ p _. one_issued (unanswered (issue (newly_accepted write))) refl p);
   heeds = spares_ports;
 }
 
@@ -94,13 +94,13 @@ none_due p r here due = ⊎_elim
 
 pub happens2 : Happens (moment_of first run1) event2
 happens2 = record {
-  may = (tt, new 0 (moment_of first run1) read quiet1 (fit_read 0 (moment_of first run1) 41 quiet1 refl refl) refl refl refl);
+  may = (tt, new 0 (moment_of first run1) read quiet1 (fit_read 0 (moment_of first run1) 101 quiet1 refl refl) refl refl refl);
   belong = (tt, inr refl);
   last = (tt, λ id h i. false≢true i);
   lawful = tt;
   fit = ports_fit Ready refl;
   disks = λ e o h i same. (refl, refl);
-  answered = (acceptable 0 (situation_of (moment_of first run1)) read.asked (fit_read 0 (moment_of first run1) 41 quiet1 refl refl), (read, refl, refl), λ p. (refl, refl, refl, refl, refl, refl), λ p _. none_due p);
+  answered = (acceptable 0 (situation_of (moment_of first run1)) read.asked (fit_read 0 (moment_of first run1) 101 quiet1 refl refl), (read, refl, refl), λ p. (refl, refl, refl, refl, refl, refl), λ p _. none_due p);
   heeds = spares_ports;
 }
 

@@ -14,7 +14,7 @@ use Rattle.block_machine.specs.Steps.{Step, Accept, Issue, Touch, End, Answer, U
 use Rattle.block_machine.specs.Events.{Submit, StoreAt, LoadAt, Service, Device, Submitted, Stored, Loaded, Served, Stepped, Event, Happens, IsRun, ServesReady, moment_of, situation_of, steps_of, ShowsDisk}
 use Rattle.machine_runs.specs.Worked.{FindsTheFlushed, MayComeBack, ReadsOneOf}
 use Rattle.block_machine.proofs.Members.{contains_none, contains_here, contains_there, contains_cases}
-use Rattle.block_machine.proofs.Setting.{client, port, frame, request, empty, empty_starts, acceptable, granted}
+use Rattle.block_machine.proofs.Setting.{client, port, frame, request, empty_starts, acceptable, granted}
 use Rattle.machine_runs.proofs.Scene.{mode, first, at_port, ports_in, id, call, reply, sector_request, done, served, is_open, IsQuiet, row_zero, fit_write, fit_read, fit_flush, new, one_issued, none_there, one_told, none_told, one_touched, ports_fit, none_dead, none_ended, none_unplugged, all_calmly, plain_service, ready_port, in_ready, shows_none, changed_here, spares_ports, absent_not_ready, absent_not_dead}
 use Rattle.block_machine.proofs.Calm.{none}
 
@@ -22,13 +22,13 @@ abbrev run0 : List (Event (Unit {0}))
 run0 = []
 
 abbrev event1 : Event (Unit {0})
-event1 = call (StoreAt client (frame 40) 0 (90 ∷ [])) (Stored None) (Store client (frame 40) 0 (90 ∷ []) ∷ [])
+event1 = call (StoreAt client (frame 100) 0 (90 ∷ [])) (Stored None) (Store client (frame 100) 0 (90 ∷ []) ∷ [])
 
 abbrev run1 : List (Event (Unit {0}))
 run1 = event1 ∷ []
 
 abbrev write : Accepted
-write = sector_request (moment_of first run1).machine 1 Write 40
+write = sector_request (moment_of first run1).machine 1 Write 100
 
 abbrev event2 : Event (Unit {0})
 event2 = call (Submit write.asked) (Submitted (Ok (id 1))) (Issue mode (newly_accepted write) ∷ Accept write ∷ [])
@@ -58,13 +58,13 @@ abbrev run5 : List (Event (Unit {0}))
 run5 = event5 ∷ run4
 
 abbrev event6 : Event (Unit {0})
-event6 = call (StoreAt client (frame 40) 0 (91 ∷ [])) (Stored None) (Store client (frame 40) 0 (91 ∷ []) ∷ [])
+event6 = call (StoreAt client (frame 100) 0 (91 ∷ [])) (Stored None) (Store client (frame 100) 0 (91 ∷ []) ∷ [])
 
 abbrev run6 : List (Event (Unit {0}))
 run6 = event6 ∷ run5
 
 abbrev later : Accepted
-later = sector_request (moment_of first run6).machine 3 Write 40
+later = sector_request (moment_of first run6).machine 3 Write 100
 
 abbrev event7 : Event (Unit {0})
 event7 = call (Submit later.asked) (Submitted (Ok (id 3))) (Issue mode (newly_accepted later) ∷ Accept later ∷ [])
@@ -118,7 +118,7 @@ abbrev run12 : Disk → List (Event (Unit {0}))
 run12 disk = event12 ∷ run11 disk
 
 abbrev read : Disk → Accepted
-read disk = sector_request (moment_of first (run12 disk)).machine 4 Read 41
+read disk = sector_request (moment_of first (run12 disk)).machine 4 Read 101
 
 abbrev event13 : Disk → Event (Unit {0})
 event13 disk = call (Submit (read disk).asked) (Submitted (Ok (id 4))) (Issue mode (newly_accepted (read disk)) ∷ Accept (read disk) ∷ [])
@@ -137,7 +137,7 @@ run14 disk = event14 disk ∷ run13 disk
 
 -- the client is told the first byte
 abbrev event15 : Disk → Event (Unit {0})
-event15 disk = call (LoadAt client (frame 41) 0 1) (Loaded (Ok (disk 100 0 ∷ []))) (Load client (frame 41) 0 (disk 100 0 ∷ []) ∷ [])
+event15 disk = call (LoadAt client (frame 101) 0 1) (Loaded (Ok (disk 100 0 ∷ []))) (Load client (frame 101) 0 (disk 100 0 ∷ []) ∷ [])
 
 abbrev run15 : Disk → List (Event (Unit {0}))
 run15 disk = event15 disk ∷ run14 disk
@@ -156,25 +156,25 @@ quiet12 disk = record { rows = refl; mine = row_zero; ready = refl; size = refl;
 
 happens1 : Happens (moment_of first run0) event1
 happens1 = record {
-  may = (tt, is_open (moment_of first run0).machine 40 0 1 refl refl (omega arith));
+  may = (tt, is_open (moment_of first run0).machine 100 0 1 refl refl (omega arith));
   belong = (tt, inr (refl, refl, refl, refl));
   last = (tt, λ id h i. false≢true i);
   lawful = tt;
   fit = ports_fit Ready refl;
   disks = λ e o h i same. (refl, refl);
-  answered = (is_open (moment_of first run0).machine 40 0 1 refl refl (omega arith), refl, λ p. (refl, refl, refl, refl, refl, refl));
+  answered = (is_open (moment_of first run0).machine 100 0 1 refl refl (omega arith), refl, λ p. (refl, refl, refl, refl, refl, refl));
   heeds = spares_ports;
 }
 
 happens2 : Happens (moment_of first run1) event2
 happens2 = record {
-  may = ((tt, new 0 (moment_of first run1) write quiet1 (fit_write (moment_of first run1) 40 quiet1 refl refl) refl refl refl), (contains_here (newly_accepted write) [] (newly_accepted write) refl, record { here = contains_here (unanswered (newly_accepted write)) [] (unanswered (newly_accepted write)) refl; clear = refl; slot = λ _. omega arith }, λ e h. absurd (contains_none e h), granted 0 row_zero refl));
+  may = ((tt, new 0 (moment_of first run1) write quiet1 (fit_write (moment_of first run1) 100 quiet1 refl refl) refl refl refl), (contains_here (newly_accepted write) [] (newly_accepted write) refl, record { here = contains_here (unanswered (newly_accepted write)) [] (unanswered (newly_accepted write)) refl; clear = refl; slot = λ _. omega arith }, λ e h. absurd (contains_none e h), granted 0 row_zero refl));
   belong = ((tt, inr refl), inr (refl, refl));
   last = ((tt, λ id h i. false≢true i), λ id h i. false≢true i);
   lawful = tt;
   fit = ports_fit Ready refl;
   disks = λ e o h i same. (refl, refl);
-  answered = (acceptable 0 (situation_of (moment_of first run1)) write.asked (fit_write (moment_of first run1) 40 quiet1 refl refl), (write, refl, refl), λ p. (refl, refl, refl, refl, refl, refl), λ p _. one_issued (unanswered (issue (newly_accepted write))) refl p);
+  answered = (acceptable 0 (situation_of (moment_of first run1)) write.asked (fit_write (moment_of first run1) 100 quiet1 refl refl), (write, refl, refl), λ p. (refl, refl, refl, refl, refl, refl), λ p _. one_issued (unanswered (issue (newly_accepted write))) refl p);
   heeds = spares_ports;
 }
 
@@ -216,25 +216,25 @@ happens5 = record {
 
 happens6 : Happens (moment_of first run5) event6
 happens6 = record {
-  may = (tt, is_open (moment_of first run5).machine 40 0 1 refl refl (omega arith));
+  may = (tt, is_open (moment_of first run5).machine 100 0 1 refl refl (omega arith));
   belong = (tt, inr (refl, refl, refl, refl));
   last = (tt, λ id h i. false≢true i);
   lawful = tt;
   fit = ports_fit Ready refl;
   disks = λ e o h i same. (refl, refl);
-  answered = (is_open (moment_of first run5).machine 40 0 1 refl refl (omega arith), refl, λ p. (refl, refl, refl, refl, refl, refl));
+  answered = (is_open (moment_of first run5).machine 100 0 1 refl refl (omega arith), refl, λ p. (refl, refl, refl, refl, refl, refl));
   heeds = spares_ports;
 }
 
 happens7 : Happens (moment_of first run6) event7
 happens7 = record {
-  may = ((tt, new 0 (moment_of first run6) later quiet6 (fit_write (moment_of first run6) 40 quiet6 refl refl) refl refl refl), (contains_here (newly_accepted later) [] (newly_accepted later) refl, record { here = contains_here (unanswered (newly_accepted later)) [] (unanswered (newly_accepted later)) refl; clear = refl; slot = λ _. omega arith }, λ e h. absurd (contains_none e h), granted 0 row_zero refl));
+  may = ((tt, new 0 (moment_of first run6) later quiet6 (fit_write (moment_of first run6) 100 quiet6 refl refl) refl refl refl), (contains_here (newly_accepted later) [] (newly_accepted later) refl, record { here = contains_here (unanswered (newly_accepted later)) [] (unanswered (newly_accepted later)) refl; clear = refl; slot = λ _. omega arith }, λ e h. absurd (contains_none e h), granted 0 row_zero refl));
   belong = ((tt, inr refl), inr (refl, refl));
   last = ((tt, λ id h i. false≢true i), λ id h i. false≢true i);
   lawful = tt;
   fit = ports_fit Ready refl;
   disks = λ e o h i same. (refl, refl);
-  answered = (acceptable 0 (situation_of (moment_of first run6)) later.asked (fit_write (moment_of first run6) 40 quiet6 refl refl), (later, refl, refl), λ p. (refl, refl, refl, refl, refl, refl), λ p _. one_issued (unanswered (issue (newly_accepted later))) refl p);
+  answered = (acceptable 0 (situation_of (moment_of first run6)) later.asked (fit_write (moment_of first run6) 100 quiet6 refl refl), (later, refl, refl), λ p. (refl, refl, refl, refl, refl, refl), λ p _. one_issued (unanswered (issue (newly_accepted later))) refl p);
   heeds = spares_ports;
 }
 
@@ -343,13 +343,13 @@ happens12 disk = record {
 
 happens13 : (disk : Disk) → Happens (moment_of first (run12 disk)) (event13 disk)
 happens13 disk = record {
-  may = ((tt, new 0 (moment_of first (run12 disk)) (read disk) (quiet12 disk) (fit_read 0 (moment_of first (run12 disk)) 41 (quiet12 disk) refl refl) refl refl refl), (contains_here (newly_accepted (read disk)) [] (newly_accepted (read disk)) refl, record { here = contains_here (unanswered (newly_accepted (read disk))) [] (unanswered (newly_accepted (read disk))) refl; clear = refl; slot = λ _. omega arith }, λ e h. absurd (contains_none e h), granted 0 row_zero refl));
+  may = ((tt, new 0 (moment_of first (run12 disk)) (read disk) (quiet12 disk) (fit_read 0 (moment_of first (run12 disk)) 101 (quiet12 disk) refl refl) refl refl refl), (contains_here (newly_accepted (read disk)) [] (newly_accepted (read disk)) refl, record { here = contains_here (unanswered (newly_accepted (read disk))) [] (unanswered (newly_accepted (read disk))) refl; clear = refl; slot = λ _. omega arith }, λ e h. absurd (contains_none e h), granted 0 row_zero refl));
   belong = ((tt, inr refl), inr (refl, refl));
   last = ((tt, λ id h i. false≢true i), λ id h i. false≢true i);
   lawful = tt;
   fit = ports_fit Ready refl;
   disks = λ e o h i same. (refl, refl);
-  answered = (acceptable 0 (situation_of (moment_of first (run12 disk))) (read disk).asked (fit_read 0 (moment_of first (run12 disk)) 41 (quiet12 disk) refl refl), (read disk, refl, refl), λ p. (refl, refl, refl, refl, refl, refl), λ p _. one_issued (unanswered (issue (newly_accepted (read disk)))) refl p);
+  answered = (acceptable 0 (situation_of (moment_of first (run12 disk))) (read disk).asked (fit_read 0 (moment_of first (run12 disk)) 101 (quiet12 disk) refl refl), (read disk, refl, refl), λ p. (refl, refl, refl, refl, refl, refl), λ p _. one_issued (unanswered (issue (newly_accepted (read disk)))) refl p);
   heeds = spares_ports;
 }
 
@@ -365,18 +365,18 @@ happens14 disk = record {
   heeds = all_calmly (moment_of first (run13 disk)) (moment_of first (run14 disk)) (event14 disk).steps (in_ready (moment_of first (run13 disk)).machine refl) (λ p. (refl, refl, refl, refl, refl, refl)) refl (none_ended (moment_of first (run13 disk)).machine (event14 disk).steps refl);
 }
 
-loaded : (disk : Disk) (b : ℕ) → b < 1 → slice_index (disk 100 0 ∷ []) b ≡ (moment_of first (run14 disk)).machine.memory (frame 41) (0 + b)
-loaded disk b lt = let z : b ≡ 0 = omega arith in subst (λ k. slice_index (disk 100 0 ∷ []) k ≡ (moment_of first (run14 disk)).machine.memory (frame 41) (0 + k)) (sym z) refl
+loaded : (disk : Disk) (b : ℕ) → b < 1 → slice_index (disk 100 0 ∷ []) b ≡ (moment_of first (run14 disk)).machine.memory (frame 101) (0 + b)
+loaded disk b lt = let z : b ≡ 0 = omega arith in subst (λ k. slice_index (disk 100 0 ∷ []) k ≡ (moment_of first (run14 disk)).machine.memory (frame 101) (0 + k)) (sym z) refl
 
 happens15 : (disk : Disk) → Happens (moment_of first (run14 disk)) (event15 disk)
 happens15 disk = record {
-  may = (tt, (is_open (moment_of first (run14 disk)).machine 41 0 1 refl refl (omega arith), loaded disk));
+  may = (tt, (is_open (moment_of first (run14 disk)).machine 101 0 1 refl refl (omega arith), loaded disk));
   belong = (tt, inr (refl, refl, refl, refl));
   last = (tt, λ id h i. false≢true i);
   lawful = tt;
   fit = ports_fit Ready refl;
   disks = λ e o h i same. (refl, refl);
-  answered = (is_open (moment_of first (run14 disk)).machine 41 0 1 refl refl (omega arith), refl, λ p. (refl, refl, refl, refl, refl, refl));
+  answered = (is_open (moment_of first (run14 disk)).machine 101 0 1 refl refl (omega arith), refl, λ p. (refl, refl, refl, refl, refl, refl));
   heeds = spares_ports;
 }
 
@@ -406,16 +406,16 @@ finds disk back = record {
   there = refl;
   sector = refl;
   single = refl;
-  answered = contains_there (Load client (frame 41) 0 (disk 100 0 ∷ [])) (read_served disk ++ (event13 disk).steps) (Answer (done (read disk)) outcome.Ok)
+  answered = contains_there (Load client (frame 101) 0 (disk 100 0 ∷ [])) (read_served disk ++ (event13 disk).steps) (Answer (done (read disk)) outcome.Ok)
       (contains_here (Answer (done (read disk)) outcome.Ok) (End (touch 0 (issue (newly_accepted (read disk)))) ∷ Touch (issue (newly_accepted (read disk))) 0 (disk 100) ∷ (event13 disk).steps) (Answer (done (read disk)) outcome.Ok) refl);
   memory = (moment_of first (run15 disk)).machine.memory;
   at_last = refl;
   found = ⊎_elim (λ p. inl (has (write.held 0) p)) (λ p. inr (has (later.held 0) p)) (since_flush (disk 100) (back refl 100 (omega arith)));
 }
   where
-    has : (block : Block) → SameBytes (disk 100) block → SameBytes (block_of (moment_of first (run15 disk)).machine.memory (frame 41 ∷ []) 0) block
+    has : (block : Block) → SameBytes (disk 100) block → SameBytes (block_of (moment_of first (run15 disk)).machine.memory (frame 101 ∷ []) 0) block
     has block same b lt = let all : (0 + b) - 0 ≡ b = omega arith in
-        cond-true (nat_le 0 (0 + b) && nat_lt (0 + b) 512) (disk 100 ((0 + b) - 0)) ((moment_of first (run12 disk)).machine.memory (frame 41) (0 + b))
+        cond-true (nat_le 0 (0 + b) && nat_lt (0 + b) 512) (disk 100 ((0 + b) - 0)) ((moment_of first (run12 disk)).machine.memory (frame 101) (0 + b))
         (and_from _ _ (le-leb 0 (0 + b) (omega arith)) (lt-ltb (0 + b) 512 (omega (arith, lt)))) ∙ ap (disk 100) all ∙ same b lt
 
 pub finds_the_flushed : FindsTheFlushed
@@ -428,8 +428,9 @@ finds_the_flushed = record {
   write = write;
   flush = flush;
   later = later;
+  writes = refl;
   single = refl;
-  flushed = record { write = refl; flush_is = refl; port = refl; answered = inr (refl, inr (refl, inr (refl, inr (refl, inr (refl, inr (refl, inl (refl, inr (refl, inr (refl, inl (refl, inl (refl, inr (refl, inr (refl, inr (refl, inl refl)))))))))))))) };
+  flushed = record { writes = refl; flush_is = refl; port = refl; answered = inr (refl, inr (refl, inr (refl, inr (refl, inr (refl, inr (refl, inl (refl, inr (refl, inr (refl, inl (refl, inl (refl, inr (refl, inr (refl, inr (refl, inl refl)))))))))))))) };
   over = (refl, refl);
   differs = λ e. differ e;
   done = done later;

@@ -1,15 +1,20 @@
--- A run in which a grant is revoked.
-use Rattle.std.specs.Prelude.{◌≡◌, ℕ, true, false, List, [], ◌∷◌, Contains, Some}
+-- Runs in which a grant is revoked.
+use Rattle.std.specs.Prelude.{◌≡◌, ℕ, true, false, List, [], ◌∷◌, Contains, None, Some}
+use Rattle.ata_types.specs.declared.PortState.TheVariants.{Ready}
 use Rattle.ata_types.specs.declared.request.ClientId.{ClientId}
+use Rattle.ata_types.specs.declared.request.Frame.{Frame}
 use Rattle.ata_types.specs.declared.request.Outcome.TheVariants.{Ok, Revoked}
+use Rattle.block_machine.specs.Rules.{IsUnder}
 use Rattle.block_machine.specs.State.{Pending}
 use Rattle.block_machine.specs.Steps.{Answer, HasGrant}
 use Rattle.block_machine.specs.Left.{AllTold}
-use Rattle.block_machine.specs.Events.{Moment, Event, RevokeOf, Service, WasRevoked, IsUnder, IsRun, reply_of, steps_of, moment_of}
+use Rattle.block_machine.specs.Events.{Moment, Event, RevokeOf, Service, Served, WasRevoked, IsRun, reply_of, steps_of, moment_of}
 
 -- In a run of calls two requests of one grant are unanswered at once: one is issued, and the other waits for it. Then
 -- the client's grant is revoked: the one that waits is answered Revoked, and the row is gone. The issued one stays,
--- and the service that finds it ended answers it Ok, though its row isn't there.
+-- and the service that finds it ended answers it Ok, though its row isn't there. Or else its port fails first: the
+-- service that finds that stops the port, and has it ready again with the disk that it had. So the request would go
+-- again, but for its grant: it is told Revoked, and its frames are given back.
 pub record IsTakenBack : Type 0 where
   pub first : Moment
   pub run : List (Event (Unit {0}))
@@ -26,7 +31,8 @@ pub record IsTakenBack : Type 0 where
   pub issued : Pending
   pub waits : Pending
   pub both : (moment_of first early).machine.book ≡ issued ∷ waits ∷ []
-  pub under : IsUnder client number issued.request × IsUnder client number waits.request
+  pub under : IsUnder client number issued.request.asked.client issued.request.asked.grant
+      × IsUnder client number waits.request.asked.client waits.request.asked.grant
   pub is_issued : issued.issued ≡ true
   pub is_waiting : waits.issued ≡ false
   pub replies : call.said ≡ WasRevoked (Some (reply_of (waits, Revoked) ∷ []))
@@ -36,3 +42,16 @@ pub record IsTakenBack : Type 0 where
   pub done : Pending
   pub its : done.request ≡ issued.request
   pub answers : Contains service.steps (Answer done Ok)
+  -- or else the port fails first
+  pub failing : Event (Unit {0})
+  pub runs_too : IsRun first (failing ∷ call ∷ early)
+  pub told_too : AllTold first.machine (steps_of (failing ∷ call ∷ early))
+  pub serves_too : failing.ask ≡ Service
+  pub fails : Contains failing.evidence.failed issued.request.port
+  pub ready : failing.ports.state issued.request.port ≡ Ready
+  pub once : issued.issues ≡ 1
+  pub tells : failing.said ≡ Served (reply_of (issued, Revoked) ∷ [])
+  pub none_left : (moment_of first (failing ∷ call ∷ early)).machine.book ≡ []
+  pub frame : Frame
+  pub its_frame : issued.request.asked.frames.items ≡ frame ∷ []
+  pub freed : (moment_of first (failing ∷ call ∷ early)).machine.lent frame ≡ None

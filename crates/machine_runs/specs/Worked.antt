@@ -3,7 +3,7 @@ use Rattle.std.specs.Prelude.{◌≡◌, ◌≢◌, ◌⊎◌, ◌<◌, true, fa
 use Rattle.ata_types.specs.declared.Port.{Port}
 use Rattle.ata_types.specs.declared.PortState.TheVariants.{Absent, Ready, Dead}
 use Rattle.ata_types.specs.declared.request.Frame.{Frame}
-use Rattle.ata_types.specs.declared.request.Op.TheVariants.{Read, Flush}
+use Rattle.ata_types.specs.declared.request.Op.TheVariants.{Read, Write, Flush}
 use Rattle.ata_types.specs.declared.request.Outcome.TheVariants.{Ok, DeviceError, Aborted, Unplugged, PortDead}
 use Rattle.block_machine.specs.declared.due.Mode.{Mode}
 use Rattle.block_machine.specs.State.{Disk, Memory, Accepted, Pending, Machine, block_of, sector_of, unanswered}
@@ -58,6 +58,7 @@ pub record FindsTheFlushed : Type 0 where
   pub write : Accepted
   pub flush : Accepted
   pub later : Accepted
+  pub writes : write.asked.op ≡ Write
   pub single : write.asked.count ≡ 1
   pub flushed : IsFlushed first.machine write flush (steps_of early)
   pub over : (later.port ≡ write.port) × (later.asked ≡ write.asked)

@@ -273,7 +273,7 @@ pub fn what_waits_has_its_grant<D>()
 {}
 
 /// A run exists in which a grant is revoked while a request of it is issued and another waits: this one is answered
-/// Revoked, and that one Ok.
+/// Revoked, and that one Ok; and one in which that one, whose port fails, is told Revoked in place of going again.
 pub fn a_revoking_run_exists()
     ensures { IsTakenBack }
 {}

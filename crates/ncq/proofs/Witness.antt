@@ -34,7 +34,7 @@ frames_fit start (step ∷ past) r was = ⊎_elim
 
 -- given what the laws say of the first read, and of requests that are issued
 module _ (known : PreparedIsKnown) (one : (memory : ℕ → ℕ) (list slot : ℕ) (m n : Meaning) (xs ys : List ℕ) → Says memory list slot m xs → Says memory list slot n ys → (m ≡ n) × (xs ≡ ys))
-    (says : Says first_read.memory 0 0 (read_of 100 8) (cut 0x28000 8))
+    (says : Says first_read.memory 0 0 (read_of 100 8) (cut 0x64000 8))
     (issued : (start : Machine) (history : List Step) (mode : Mode) (e : Pending) → IsStart start → IsLegal start history → May (after start history) (Issue mode e) → WasAccepted start history e.request) where
   prepared : IsPrepared (idle prepared_read).uses known.machine prepared_read 0 0 known.mode known.request 1
   prepared = known.prepared
@@ -43,9 +43,9 @@ module _ (known : PreparedIsKnown) (one : (memory : ℕ → ℕ) (list slot : �
   request = known.request.request
 
   -- memory says the first read, so the request is that read
-  same : (prepared.command ≡ read_of 100 8) × (prepared.places ≡ cut 0x28000 8)
+  same : (prepared.command ≡ read_of 100 8) × (prepared.places ≡ cut 0x64000 8)
   unfolding changed
-  same = one first_read.memory 0 0 prepared.command (read_of 100 8) prepared.places (cut 0x28000 8) prepared.told.says says
+  same = one first_read.memory 0 0 prepared.command (read_of 100 8) prepared.places (cut 0x64000 8) prepared.told.says says
 
   read_is : request.asked.op ≡ Read
   read_is = some_read (sym prepared.means.op ∙ ap (λ (m : Meaning). op_of m.operation) same.0)

@@ -37,7 +37,7 @@ use Rattle.ncq.specs.declared.Task.{Task}
 abbrev pub IsTransfer : Op → Type 0
 IsTransfer op = (op ≡ Read) ⊎ (op ≡ Write)
 
--- A read or a write of 1 to 256 sectors, the first of them below 2^48, and the frames that they need, eight sectors to
+-- A read or a write of 1 to 1024 sectors, the first of them below 2^48, and the frames that they need, eight sectors to
 -- a frame.
 pub record IsFit (r : Task) (frames : List Frame) : Type 0 where
   pub transfers : IsTransfer r.op

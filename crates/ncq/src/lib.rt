@@ -48,7 +48,7 @@ const SECTOR_BYTES: u32 = 512;
 #[derive(Clone, Copy, Debug, PartialEq, Eq)]
 pub struct Task {
     pub op: Op,
-    /// Of a transfer, 1 to 256 sectors, the first of them below 2^48.
+    /// Of a transfer, 1 to 1024 sectors, the first of them below 2^48.
     pub range: Range,
     /// Whether its command is queued: that of a transfer may be.
     pub queued: bool,

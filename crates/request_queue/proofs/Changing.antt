@@ -16,6 +16,7 @@ use Rattle.block_machine.specs.Due as machine
 use Rattle.request_queue.specs.Entries.{Held, asks, asks_of, has_id, at, without, issue, requeued, older, marked_under, unanswered_of, IsEarlier, IsInOrder, HasFewIssues, IsFresh}
 use Rattle.request_queue.specs.declared.Entry.{Entry}
 use Rattle.request_queue.proofs.Members.{count_cons, count_append, count_map, contains_here, contains_there, contains_cases}
+use Rattle.block_machine.specs.Rules.{is_under}
 
 -- ---- by place
 
@@ -238,7 +239,7 @@ older_spares ports r = either_way (Spares r) (r.issued && ports r.port) (record 
     (record { asked = refl; client = refl; issues = refl }) (record { asked = refl; client = refl; issues = refl })
 
 pub revoked_spares : (client : ClientId) (grant : ℕ) (r : Entry) → Spares r (marked_under client grant r)
-revoked_spares client grant r = either_way (Spares r) (r.client.0 == client.0 && r.grant == grant) (record r { revoked = true }) r
+revoked_spares client grant r = either_way (Spares r) (is_under client grant r.client r.grant) (record r { revoked = true }) r
     (record { asked = refl; client = refl; issues = refl }) (record { asked = refl; client = refl; issues = refl })
 
 pub all_in_order : (f : Entry → Entry) → ((r : Entry) → Spares r (f r)) → (es : List Held) → IsInOrder es → IsInOrder (all_changed f es)

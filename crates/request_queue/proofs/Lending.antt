@@ -1,5 +1,5 @@
 -- Accepted requests, as frames change hands.
-use Rattle.std.proofs.Common.{min, ℕ, ◌≡◌, ◌≢◌, ◌==◌, ◌&&◌, Bool, true, false, suc, List, get_or, map, Option, Some, None, sym, ap, ◌∙◌, subst, refl}
+use Rattle.std.proofs.Common.{min, ℕ, ◌≡◌, ◌≢◌, ◌&&◌, Bool, true, false, suc, List, get_or, map, Option, Some, None, sym, ap, ◌∙◌, subst, refl}
 use Rattle.std.specs.List.{All, Contains}
 use Rattle.std.proofs.lemmas.Bool.{cond-true, cond-false}
 use Rattle.std.proofs.lemmas.List.{get_or_default}
@@ -15,6 +15,7 @@ use Rattle.request_queue.specs.declared.Entry.{Entry}
 use Rattle.request_queue.proofs.Members.{map_in}
 use Rattle.request_queue.proofs.Changing.{either_way, without_in}
 use Rattle.request_queue.proofs.Finding.{without_other}
+use Rattle.block_machine.specs.Rules.{is_under}
 
 pub still_accepted : (old new : Table) (frames : List Frame) (to : Option RequestId) (e : Held) → LendsOnly old new frames to → IsAccepted old e
     → ((f : Frame) → Contains e.frames f → Contains frames f → ⊥) → IsAccepted new e
@@ -101,7 +102,7 @@ all_aged table es ports all = all_changed table es (λ (e : Held). record e { en
 
 pub all_revoked : (table : Table) (es : List Held) (client : ClientId) (grant : ℕ) → All (IsAccepted table) es → All (IsAccepted table) (all_marked_under client grant es)
 all_revoked table es client grant all = all_changed table es (λ (e : Held). record e { entry = marked_under client grant e.entry })
-    (λ e a. either_way (λ (r : Entry). IsAccepted table (record e { entry = r })) (e.entry.client.0 == client.0 && e.entry.grant == grant) (record (e.entry) { revoked = true }) e.entry
+    (λ e a. either_way (λ (r : Entry). IsAccepted table (record e { entry = r })) (is_under client grant e.entry.client e.entry.grant) (record (e.entry) { revoked = true }) e.entry
     (further table e e.entry.issued e.entry.issues e.entry.age true a) a) all
 
 pub all_stand : (table : Table) (es : List Held) → All (IsAccepted table) es → All (Stands table) es

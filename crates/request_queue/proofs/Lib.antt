@@ -17,3 +17,4 @@ pub mod Flushing
 pub mod InTheWay
 pub mod Unheld
 pub mod Holding
+pub mod AnsweringAll

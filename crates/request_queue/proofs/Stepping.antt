@@ -16,6 +16,7 @@ use Rattle.request_queue.specs.Machine.{IsEntry, IsBook}
 use Rattle.request_queue.specs.declared.Entry.{Entry}
 use Rattle.request_queue.proofs.Members.{contains_none, contains_here, contains_there, contains_cases, count_cons, map_in, into_map}
 use Rattle.request_queue.proofs.Changing.{either_way}
+use Rattle.block_machine.specs.Rules.{is_under}
 
 -- ---- two lists, place by place
 
@@ -124,7 +125,7 @@ at_right id g step e p s = go (p.request.id.0 == id.0) refl
     go false here = subst (λ (y : machine.Pending). IsEntry e y) (sym (cond-false (p.request.id.0 == id.0) (g p) p here)) s
 
 one_revoked : (client : ClientId) (grant : ℕ) (e : Held) (p : machine.Pending) → IsEntry e p → IsEntry (record e { entry = marked_under client grant e.entry }) p
-one_revoked client grant e p s = either_way (λ (r : Entry). IsEntry (record e { entry = r }) p) (e.entry.client.0 == client.0 && e.entry.grant == grant) (record (e.entry) { revoked = true }) e.entry
+one_revoked client grant e p s = either_way (λ (r : Entry). IsEntry (record e { entry = r }) p) (is_under client grant e.entry.client e.entry.grant) (record (e.entry) { revoked = true }) e.entry
     (record { id = s.id; client = s.client; grant = s.grant; port = s.port; op = s.op; range = s.range; frames = s.frames; issued = s.issued; issues = s.issues; age = s.age }) s
 
 one_older : (ports : Port → Bool) (e : Held) (p : machine.Pending) → IsEntry e p → IsEntry (record e { entry = older ports e.entry }) (steps.older ports p)

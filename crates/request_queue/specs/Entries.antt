@@ -10,7 +10,7 @@ use Rattle.ata_types.specs.declared.request.RequestId.{RequestId}
 use Rattle.block_machine.specs.declared.due.Mode.{Mode}
 use Rattle.block_machine.specs.declared.due.Unanswered.{Unanswered}
 use Rattle.block_machine.specs.Due.{due_of}
-use Rattle.block_machine.specs.Rules.{IsCount, frames_for}
+use Rattle.block_machine.specs.Rules.{IsCount, frames_for, is_under}
 use Rattle.dma_frames.specs.Table.{Table, owner_of, lent_to}
 use Rattle.request_queue.specs.declared.Entry.{Entry}
 
@@ -66,7 +66,7 @@ aged ports entries = map (λ (e : Held). record e { entry = older ports e.entry 
 
 -- the request is marked, if it was accepted under this grant of the client: the grant is revoked
 abbrev pub marked_under : ClientId → ℕ → Entry → Entry
-marked_under client grant r = if r.client.0 == client.0 && r.grant == grant then record r { revoked = true } else r
+marked_under client grant r = if is_under client grant r.client r.grant then record r { revoked = true } else r
 
 -- each request marked that was accepted under this grant of the client
 abbrev pub all_marked_under : ClientId → ℕ → List Held → List Held
@@ -83,7 +83,7 @@ is_of port r = r.port.0 == port.0
 
 -- the request waits, and was accepted under this grant of the client
 abbrev pub waits_under : ClientId → ℕ → Entry → Bool
-waits_under client grant r = not r.issued && (r.client.0 == client.0 && r.grant == grant)
+waits_under client grant r = not r.issued && is_under client grant r.client r.grant
 
 -- how many of the requests are a client's
 abbrev pub unanswered_of : List Held → ℕ → ℕ

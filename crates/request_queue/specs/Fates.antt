@@ -1,11 +1,11 @@
 -- What becomes of the unanswered requests of a port that was stopped (this project's own).
-use Rattle.std.specs.Prelude.{◌≡◌, ◌==◌, ◌++◌, Bool, true, false, List, [], ◌∷◌, Option, None, Some, map, if◌then◌else◌}
+use Rattle.std.specs.Prelude.{◌≡◌, ◌==◌, ◌++◌, Bool, true, false, List, [], ◌∷◌, Option, None, Some, filter, map, not, if◌then◌else◌}
 use Rattle.ata_types.specs.declared.request.Outcome.{Outcome}
 use Rattle.ata_types.specs.declared.request.Outcome.TheVariants.{Aborted, DeviceError, PortDead, Revoked, Unplugged}
 use Rattle.ata_types.specs.declared.request.Reply.{Reply}
 use Rattle.dma_frames.specs.Loan.{Lending}
 use Rattle.dma_frames.specs.Table.{Table, LendsOnly}
-use Rattle.request_queue.specs.Entries.{Held, at, requeued, without}
+use Rattle.request_queue.specs.Entries.{Held, GivesBack, at, requeued, without}
 use Rattle.request_queue.specs.declared.Entry.{Entry}
 use Rattle.request_queue.specs.declared.fate.Failed.{Failed}
 use Rattle.request_queue.specs.declared.fate.Fate.{Fate}
@@ -68,3 +68,12 @@ MeetFates fate [] replies old new = (replies ≡ []) × (new ≡ old)
 MeetFates fate (request ∷ requests) replies old new =
     (mid : Holdings) × (its later : List Reply) × (replies ≡ its ++ later)
     × MeetsFate request (fate request.entry) its old mid × MeetFates fate requests later mid new
+
+-- The requests of the book that pass were answered, all with this outcome: the replies tell them so, oldest first, the
+-- others are left, and what was lent to those is given back.
+pub record AnswersAll (passes : Entry → Bool) (outcome : Outcome) (replies : List Reply)
+    (old new : Holdings) : Type 0 where
+  pub told : replies ≡ map (λ e. reply_to e outcome) (filter (λ e. passes e.entry) old.book)
+  pub left : new.book ≡ filter (λ e. not (passes e.entry)) old.book
+  pub given : GivesBack old.table new.table (filter (λ e. passes e.entry) old.book)
+  pub kept : new.kept ≡ old.kept

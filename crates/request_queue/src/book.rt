@@ -1,5 +1,6 @@
 // The book.
 ghost use Rattle.std.specs.Prelude.{◌≡◌, ◌↔◌, ◌<◌, ◌≤◌, ◌++◌, ◌∷◌, [], length, map, All, AllPairs, Contains, IfOk, IsTrue, Some, slice_get};
+ghost use Rattle.block_machine.specs.Rules.{is_under};
 ghost use Rattle.request_queue.specs.Entries.{due_ids};
 ghost use Rattle.request_queue.specs.Entries.{Held, GivesBack, IsEarlier, IsFresh, IsInOrder, IsUnanswered, IsWaiting, MayGoAgain, Stands, IsOverdue, IsOverdueOn, aged, asks_of, at, ids_where, is_among, is_of, issue, older, requeued, all_marked_under, marked_under, unanswered_of, waits_under, without};
 
@@ -97,7 +98,9 @@ impl Book {
         }
     }
 
-    /// Puts a request last, with its loan.
+    /// Puts a request last, with its loan. It stands in its caller's code: a loan has room for the frames of the
+    /// longest request, and is copied once less there.
+    #[inline(always)]
     pub fn accept(&mut self, request: Entry, loan: Loan)
         requires newest { All (λ e. e.entry.id.0 < request.id.0) self.old }
         requires fresh { IsFresh request }
@@ -224,7 +227,8 @@ impl Book {
         false
     }
 
-    /// Takes a request out; the others stay in their order.
+    /// Takes a request out; the others stay in their order. It stands in its callers' code, as `accept` does.
+    #[inline(always)]
     pub fn answer(&mut self, id: RequestId) -> (Entry, Loan)
         requires { IsUnanswered id self.old }
         ensures entry { Contains self.old (record { entry = result.0; frames = result.1.frames }) }
@@ -314,7 +318,14 @@ fn waiting_of(store: &Store, client: ClientId, grant: u8) -> ArrayVec<RequestId,
 fn waits_under(request: Entry, client: ClientId, grant: u8) -> bool
     ensures { result ≡ waits_under client grant request }
 {
-    !request.issued && request.client.0 == client.0 && request.grant == grant
+    !request.issued && is_under(request, client, grant)
+}
+
+/// Whether the request was accepted under this grant of the client.
+fn is_under(request: Entry, client: ClientId, grant: u8) -> bool
+    ensures { result ≡ is_under client grant request.client request.grant }
+{
+    request.client.0 == client.0 && request.grant == grant
 }
 
 /// Makes the issued requests of these ports a tick older.
@@ -341,7 +352,7 @@ fn mark(store: &mut Store, client: ClientId, grant: u8)
 fn revoked(request: Entry, client: ClientId, grant: u8) -> Entry
     ensures { result ≡ marked_under client grant request }
 {
-    if request.client.0 == client.0 && request.grant == grant {
+    if is_under(request, client, grant) {
         Entry {
             revoked: true,
             ..request

@@ -1,9 +1,10 @@
 //! Laws of the definitions, for callers: the clause is the theorem. These functions do nothing.
-ghost use Rattle.std.specs.Prelude.{◌≡◌, ◌≢◌, ◌↔◌, ◌++◌, ◌∷◌, ◌<◌, ◌≤◌, [], ℕ, Bool, List, Option, None, Some, All, Contains, length, map};
+ghost use Rattle.std.specs.Prelude.{◌≡◌, ◌≢◌, ◌↔◌, ◌++◌, ◌∷◌, ◌<◌, ◌≤◌, [], ℕ, Bool, false, List, Option, None, Some, All, Contains, filter, length, map};
 ghost use Rattle.ata_types.specs.declared.Port.{Port};
 ghost use Rattle.ata_types.specs.declared.request.ClientId.{ClientId};
 ghost use Rattle.ata_types.specs.declared.request.Frame.{Frame};
 ghost use Rattle.ata_types.specs.declared.request.Outcome.{Outcome};
+ghost use Rattle.ata_types.specs.declared.request.Reply.{Reply};
 ghost use Rattle.ata_types.specs.declared.request.RequestId.{RequestId};
 ghost use Rattle.block_machine.specs.Due.{AreDueInTurn, IsDue, IsInOrder as machine_in_order, with_issued, with_none, with_waiting};
 ghost use Rattle.block_machine.specs.State.{Machine, unanswered};
@@ -13,8 +14,10 @@ ghost use Rattle.block_machine.specs.declared.due.Mode.{Mode};
 ghost use Rattle.block_machine.specs.declared.due.Unanswered.{Unanswered};
 ghost use Rattle.dma_frames.specs.Table.{Table, LendsOnly, lent_to};
 ghost use Rattle.request_queue.specs.Entries.{Held, IsAccepted, IsEarlier, IsFresh, IsInOrder, IsUnanswered, IsWaiting, MayGoAgain, Stands, aged, asks_of, at, due_ids, held_of, issue, requeued, all_marked_under, unanswered_of, without};
+ghost use Rattle.request_queue.specs.Fates.{AnswersAll, Holdings, MeetFates, keeps_loan};
 ghost use Rattle.request_queue.specs.Machine.{IsBook, IsEntry};
 ghost use Rattle.request_queue.specs.declared.Entry.{Entry};
+ghost use Rattle.request_queue.specs.declared.fate.Fate.TheVariants.{Ends};
 
 use ata_types::MOST_UNANSWERED;
 use block_machine::laws::{due_in_turn, due_is_exact};
@@ -163,4 +166,19 @@ pub fn accepted_requests_stay()
         → All (IsAccepted table) entries → All (IsAccepted table) (all_marked_under client grant entries) }
     ensures stand { (table : Table) (entries : List Held) → All (IsAccepted table) entries
         → All (Stands table) entries }
+{}
+
+/// Where the requests of a book that pass a test are answered one after another, all with one outcome at which no loan
+/// is kept, the others are left, and what was lent to those is given back. And where that is so, it may have come about
+/// so, to a table that has the same lent.
+pub fn answers_of_one_outcome_are_one_change()
+    ensures at_once { (passes : Entry → Bool) (outcome : Outcome) → ((e : Entry) → keeps_loan outcome e ≡ false)
+        → (old : Holdings) → IsInOrder old.book → All (IsAccepted old.table) old.book → (replies : List Reply)
+        (new : Holdings) → MeetFates (λ e. Ends outcome) (filter (λ e. passes e.entry) old.book) replies old new
+        → AnswersAll passes outcome replies old new }
+    ensures one_by_one { (passes : Entry → Bool) (outcome : Outcome) → ((e : Entry) → keeps_loan outcome e ≡ false)
+        → (old : Holdings) → IsInOrder old.book → All (IsAccepted old.table) old.book → (replies : List Reply)
+        (new : Holdings) → AnswersAll passes outcome replies old new
+        → (now : Holdings) × MeetFates (λ e. Ends outcome) (filter (λ e. passes e.entry) old.book) replies old now
+        × (now.book ≡ new.book) × (now.kept ≡ new.kept) × LendsOnly now.table new.table [] None }
 {}

@@ -74,7 +74,8 @@ impl Store {
         }
     }
 
-    /// Puts a request last, with its loan.
+    /// Puts a request last, with its loan. It stands in its caller's code, as `Book::accept` does.
+    #[inline(always)]
     pub fn push(&mut self, request: Entry, loan: Loan)
         requires room { length self.old < MOST_UNANSWERED }
         requires id { loan.request ≡ request.id }
@@ -88,7 +89,8 @@ impl Store {
         self.order.push_reserved(key);
     }
 
-    /// Takes out the request at this place, with its loan.
+    /// Takes out the request at this place, with its loan. It stands in its callers' code, as `Book::accept` does.
+    #[inline(always)]
     pub fn remove(&mut self, place: usize) -> (Entry, Loan)
         requires { place < length self.old }
         ensures entry { slice_get self.old place ≡ Some (record { entry = result.0; frames = result.1.frames }) }

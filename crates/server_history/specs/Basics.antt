@@ -2,6 +2,7 @@
 use Rattle.std.specs.Prelude.{ℕ, Bool, true, false, ◌≡◌, ◌≢◌, ◌<◌, List, ◌++◌, All, Contains, length}
 use Rattle.ata_types.specs.declared.Port.{Port}
 use Rattle.ata_types.specs.declared.grant.GrantRow.{GrantRow}
+use Rattle.ata_types.specs.declared.request.ClientId.{ClientId}
 use Rattle.ata_types.specs.declared.request.Frame.{Frame}
 use Rattle.ata_types.specs.declared.request.Outcome.{Outcome}
 use Rattle.ata_types.specs.declared.request.RequestId.{RequestId}
@@ -28,7 +29,7 @@ use Rattle.agreement.specs.GivingUp.{parking_all, served_ids}
 use Rattle.agreement.specs.Slots.{Armed, Free, IsOver, Own, Serves, Use, Uses, put}
 use Rattle.block_machine.specs.Due.{is_plain}
 use Rattle.block_machine.specs.State.{Accepted, Machine, Pending}
-use Rattle.block_machine.specs.Steps.{Step, Accept, Age, Again, Issue, Answer, IsLiving, IsNew, May, MayMove, after_step, stays}
+use Rattle.block_machine.specs.Steps.{Step, Accept, Age, Again, Issue, Answer, IsLiving, IsNew, May, MayMove, after_step, stays, Revoke}
 use Rattle.block_machine.specs.declared.due.Mode.{Mode}
 use Rattle.agreement.specs.Facts.{EndedIn, IsClear, ShowsFault}
 use Rattle.dma_frames.specs.Table.{Table}
@@ -71,6 +72,8 @@ pub record BasicLaws : Type 0 where
 pub record SlotLaws : Type 0 where
   -- a request is accepted
   pub accepted_agrees : (k : Known) (m : Machine) (r : Accepted) → Knows m k → Knows (after_step m (Accept r)) k
+  pub revoked_agrees : (k : Known) (m : Machine) (client : ClientId) (number : ℕ) → Knows m k
+      → Knows (after_step m (Revoke client number)) k
   -- a request is taken from its slot, once its command is over
   pub parked_agrees : (k : Known) (m : Machine) → Knows m k → (port slot : ℕ) → IsOver (k.device.port port) slot
       → (id : RequestId) → k.uses port slot ≡ Serves id → Knows m (parking k port slot id)

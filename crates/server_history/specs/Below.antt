@@ -1,10 +1,11 @@
 -- What laws of the crates below say of requests, of transfers, and of accesses that serve ports: the laws of this crate
 -- rest on them.
-use Rattle.std.specs.Prelude.{ℕ, true, false, ◌≡◌, ◌≢◌, ◌+◌, ◌*◌, ◌%◌, ◌≤◌, ◌<◌, ◌↔◌, List, [], ◌∷◌, ◌++◌, map, Option, None, All, Contains, length}
+use Rattle.std.specs.Prelude.{ℕ, true, false, ◌≡◌, ◌≢◌, ◌+◌, ◌*◌, ◌%◌, ◌≤◌, ◌<◌, ◌↔◌, List, [], ◌∷◌, ◌++◌, map, Option, None, All, Contains, length, Bool, filter}
 use Rattle.ata_types.specs.declared.Port.{Port}
 use Rattle.ata_types.specs.declared.memory.TheConstants.{DRIVER_BYTES, FRAME_BYTES}
 use Rattle.ata_types.specs.declared.request.Frame.{Frame}
 use Rattle.ata_types.specs.declared.request.Outcome.{Outcome}
+use Rattle.ata_types.specs.declared.request.Reply.{Reply}
 use Rattle.ata_types.specs.declared.request.RequestId.{RequestId}
 use Rattle.adapter.specs.Device.{Device}
 use Rattle.adapter.specs.declared.command.Operation.{Operation}
@@ -52,7 +53,9 @@ use Rattle.ncq.specs.declared.Task.{Task}
 use Rattle.port_look.specs.Laws.{Laws}
 use Rattle.request_queue.specs.Entries.{Held, IsAccepted, IsEarlier, IsFresh, IsInOrder, IsWaiting, MayGoAgain, all_marked_under, asks_of, at, issue, requeued as requeued_entry, unanswered_of, without}
 use Rattle.request_queue.specs.declared.Entry.{Entry}
+use Rattle.request_queue.specs.Fates.{AnswersAll, Holdings, MeetFates, keeps_loan}
 use Rattle.request_queue.specs.Machine.{IsBook, IsEntry}
+use Rattle.request_queue.specs.declared.fate.Fate.TheVariants.{Ends}
 use Rattle.server_history.specs.After.{RecoveryLaws, TroubleLaws}
 use Rattle.server_history.specs.Basics.{AgeLaws, BasicLaws, SlotLaws, LivingLaws}
 use Rattle.server_history.specs.Calls.{CallLaws, LookLaws}
@@ -105,6 +108,12 @@ pub record LawsBelow : Type 0 where
       → All (IsAccepted table) (map (at id requeued_entry) entries)
   pub still_marked : (table : Table) (entries : List Held) (client : ClientId) (grant : ℕ)
       → All (IsAccepted table) entries → All (IsAccepted table) (all_marked_under client grant entries)
+  -- requests that are answered with one outcome
+  pub answered_each : (passes : Entry → Bool) (outcome : Outcome) → ((e : Entry) → keeps_loan outcome e ≡ false)
+      → (old : Holdings) → IsInOrder old.book → All (IsAccepted old.table) old.book → (replies : List Reply)
+      (new : Holdings) → AnswersAll passes outcome replies old new
+      → (now : Holdings) × MeetFates (λ e. Ends outcome) (filter (λ e. passes e.entry) old.book) replies old now
+      × (now.book ≡ new.book) × (now.kept ≡ new.kept) × LendsOnly now.table new.table [] None
   -- what becomes of slots, and of the requests in them
   pub slots : SlotLaws
   -- requests that get older

@@ -19,8 +19,8 @@ use agreement::laws::{
     accepting_agrees, answering_agrees, backing_composes, client_bytes_are_free,
     client_load_is_followed, client_store_is_followed, disks_are_told, due_finds_free_slot,
     going_again_agrees, going_composes, keeping_agrees, own_steps_are_backed, parking_agrees,
-    parking_frees, putting_is_of_one_slot, slots_are_counted, steps_spare_the_book, ticking_agrees,
-    waiting_has_no_slot,
+    parking_frees, putting_is_of_one_slot, revoking_agrees, slots_are_counted,
+    steps_spare_the_book, ticking_agrees, waiting_has_no_slot,
 };
 use agreement::readying::{readied_stays, stored_stays_over_acts};
 use agreement::recovering::halts_are_of_taken_commands;
@@ -48,9 +48,9 @@ use port_look::laws::{
     trouble_is_heeded, trouble_is_seen,
 };
 use request_queue::laws::{
-    accepted_requests_stay, an_id_is_one_request, clients_have_as_many,
-    operations_change_one_request, operations_change_what_is_due, steps_change_the_book,
-    the_book_stays_in_order,
+    accepted_requests_stay, an_id_is_one_request, answers_of_one_outcome_are_one_change,
+    clients_have_as_many, operations_change_one_request, operations_change_what_is_due,
+    steps_change_the_book, the_book_stays_in_order,
 };
 
 /// What steps and accesses do, one after another.
@@ -84,6 +84,7 @@ fn slot_laws_hold()
     ensures { SlotLaws }
 {
     accepting_agrees();
+    revoking_agrees();
     parking_agrees();
     parking_frees();
     ended_is_clear();
@@ -183,6 +184,7 @@ pub fn the_laws_below_hold()
     the_book_stays_in_order();
     operations_change_one_request();
     accepted_requests_stay();
+    answers_of_one_outcome_are_one_change();
     backing_composes();
     own_steps_are_backed();
     operations_change_what_is_due();

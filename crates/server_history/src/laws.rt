@@ -35,8 +35,8 @@ ghost use Rattle.hba_regs.specs.Bits.{bit};
 ghost use Rattle.ncq.specs.Masks.{ReadsDone, SeesClear};
 ghost use Rattle.request_queue.specs.Entries.{Held, asks, asks_of, due_ids};
 ghost use Rattle.server_history.specs.Histories.{Adds, AddsBy, AddsEvent, HasBegun, HoldsBy, load_said, store_said};
-ghost use Rattle.server_history.specs.Revoked.{RevokesAndIssues, RevokesGrant};
-ghost use Rattle.server_history.specs.Served.{Accepts, AnswersDone, AnswersOne, HasNone, IsMaskOf, IssuesOne, accepting};
+ghost use Rattle.server_history.specs.Revoked.{RevokesGrant};
+ghost use Rattle.server_history.specs.Served.{Accepts, AnswersDone, AnswersOne, HasNone, IsMaskOf, IssuesOne, accepting, IssuesAll};
 ghost use Rattle.server_history.specs.Stalled.{KeepsBooks};
 ghost use Rattle.server_history.specs.Tried.{TriesPort};
 ghost use Rattle.server_history.specs.Turns.{HasPart, InRestart, ServePorts, ServesPort, Ticks, TriesUnready, a_tick_older};
@@ -295,8 +295,8 @@ pub fn acceptances_add()
 /// A client's grant that is revoked adds an event: the requests that waited under it are answered, and what is due on
 /// its port is issued.
 pub fn revocations_add()
-    ensures { (s new : Server) (client : ClientId) (number : ℕ) (replies : List Reply) → IsSettled s
-        → RevokesAndIssues client number replies s new
+    ensures { (s mid new : Server) (client : ClientId) (number : ℕ) (replies : List Reply) → IsSettled s
+        → (revokes : RevokesGrant client number replies s mid) → IssuesAll revokes.has.0.port mid new
         → Adds s new (RevokeOf client number) (WasRevoked (Some replies)) }
 {
     the_laws_below_hold();

@@ -16,7 +16,7 @@ use Rattle.adapter.specs.Memory.{changed}
 use Rattle.adapter.proofs.Changed.{changed_same}
 use Rattle.block_machine.specs.State.{Accepted, Pending, Machine, Disk, Memory}
 use Rattle.block_machine.specs.Histories.{IsReached}
-use Rattle.block_machine.specs.Steps.{Accept, Answer, Again, Age, Release, MayMove, after_step, at, without, newly_accepted, older, requeued, stays}
+use Rattle.block_machine.specs.Steps.{Accept, Answer, Again, Age, Release, MayMove, after_step, at, without, newly_accepted, older, requeued, stays, Revoke}
 use Rattle.block_machine.proofs.Keeps.{same_id}
 use Rattle.block_machine.proofs.Members.{map_in, into_map, at_cases, without_in, contains_here, contains_there, contains_cases, contains_none, append_in}
 use Rattle.block_machine.proofs.Sound.{Sound}
@@ -31,6 +31,7 @@ use Rattle.agreement.proofs.driver.PutSlot.{SameWorld, put_agrees, put_cases, pu
 use Rattle.agreement.proofs.relation.TouchesAndEnds.{into_other}
 use Rattle.agreement.proofs.relation.OtherSlots.{true_false}
 use Rattle.agreement.proofs.relation.SlotRelation.{SameSlot-refl}
+use Rattle.ata_types.specs.declared.request.ClientId.{ClientId}
 
 -- ---- the relation of a slot over a machine that has the request still
 
@@ -146,6 +147,14 @@ tick_knows k m ready x = record {
           moves = inl (subst (λ (y : Pending). Contains (map (older ready) m.book) y) (older_is ready e) (into_map (older ready) m.book e z.0), z.1);
         })
         (λ (z : Contains m.kept e). goes_on_same m (after_step m (Age ready)) e (inr z)) may
+
+-- the row of a grant goes, of which the relation says nothing
+pub revoke_knows : (k : Known) (m : Machine) (client : ClientId) (number : ℕ) → Knows m k → Knows (after_step m (Revoke client number)) k
+revoke_knows k m client number x = record {
+  agrees = agrees_on k.uses m (after_step m (Revoke client number)) k.device x.agrees (record { present = refl; ids = refl; sizes = refl; disks = refl; aside = refl; memory = refl })
+      (λ q s id u e is may. goes_on_same m (after_step m (Revoke client number)) e may);
+  have = x.have;
+}
 
 -- ---- a request is decided
 

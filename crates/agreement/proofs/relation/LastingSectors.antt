@@ -2,7 +2,7 @@
 use Rattle.std.proofs.Common.{ℕ, zero, suc, ◌≡◌, ◌≢◌, ◌⊎◌, ◌<◌, ◌≤◌, ◌+◌, ◌==◌, ◌&&◌, Bool, true, false, cond, List, [], ◌∷◌, ◌++◌, length, get_or, drop, replicate, slice_index, Option, Some, None, nat_eq, nat_le, nat_lt, inl, inr, ⊎_elim, refl, sym, ◌∙◌, ap, subst, arith, eqb-true, ne_eqb, leb-true, ltb-true}
 use Rattle.std.specs.Prelude.{option_map}
 use Rattle.std.specs.List.{Contains}
-use Rattle.std.proofs.lemmas.Bool.{cond-true, cond-false, and_parts, eqb-false, false≢true, both_ways}
+use Rattle.std.proofs.lemmas.Bool.{cond-true, cond-false, and_parts, false≢true}
 use Rattle.std.proofs.lemmas.List.Elements.{Contains-append_cases}
 use Rattle.std.proofs.lemmas.Option.{same_Some}
 use Rattle.ata_types.specs.declared.Port.{Port}

@@ -60,7 +60,7 @@ running : ((first_read.port 0).st ≡ true) × ((first_read.port 0).sact 0 ≡ f
 unfolding changed
 running = (refl, refl)
 
-read_is_known : (new : Device) (done : IsRead first_read new 0 0 100 8 (cut 0x28000 8) sector_of) → EndedIsKnown
+read_is_known : (new : Device) (done : IsRead first_read new 0 0 100 8 (cut 0x64000 8) sector_of) → EndedIsKnown
 read_is_known new done =
     done_is_known first_known issued reached first_knows first_id (put_same (λ port slot. Free) 0 0 (Serves first_id)) refl new done.steps refl running.0 done.free.ci
     (((steps_keep done.steps).port 0).sact 0 running.1)

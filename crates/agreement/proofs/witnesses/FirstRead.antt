@@ -61,10 +61,10 @@ abbrev start : Machine
 start = start_with first_memory
 
 abbrev accepted : Accepted
-accepted = accepted_of start (read_into 100 40)
+accepted = accepted_of start (read_into 100 100)
 
 is_new : IsNew start accepted
-is_new = read_is_new start 100 40 refl refl refl (omega arith) (omega arith) (omega arith) (omega arith)
+is_new = read_is_new start 100 100 refl refl refl (omega arith) (omega arith) (omega arith) (omega arith)
 
 abbrev pub plain : Mode
 plain = record { queued = false; usable = 1 }
@@ -101,7 +101,7 @@ entries : little_from 0 4 (bytes_at first_memory 0 32) ≡ 65541
 unfolding first_memory patched bytes_at
 entries = refl
 
-told : Told first_memory 0 0 0 (read_of 100 8) (cut 0x28000 8)
+told : Told first_memory 0 0 0 (read_of 100 8) (cut 0x64000 8)
 told = record {
   says = first_says;
   table_is = sym first_says.header.points ∙ points;
@@ -168,9 +168,9 @@ prepared = record {
   started = refl;
   placed = record { port_below = omega arith; slot_below = omega arith; list = refl };
   command = read_of 100 8;
-  places = cut 0x28000 8;
+  places = cut 0x64000 8;
   told = told;
-  means = record { op = refl; first = λ _. refl; places_are = (cut_length 0x28000 8, places_in 40); head = λ e. absurd (read_no_trim e) };
+  means = record { op = refl; first = λ _. refl; places_are = (cut_length 0x64000 8, places_in 100); head = λ e. absurd (read_no_trim e) };
   kind = refl;
   block = tt;
   here = refl;

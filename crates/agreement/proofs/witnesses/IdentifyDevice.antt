@@ -18,6 +18,7 @@ use Rattle.block_machine.specs.Histories.{IsReached}
 use Rattle.block_machine.specs.State.{Machine}
 use Rattle.agreement.specs.Agrees.{port_at}
 use Rattle.agreement.specs.Driver.{Knows, IsOwnPrepared, idle}
+use Rattle.agreement.specs.Places.{scratch_of}
 use Rattle.agreement.specs.Slots.{Free, Own, Serves, Told}
 use Rattle.agreement.specs.Witness.{identify_memory, prepared_identify, issued_identify, own_known, OwnIsKnown}
 use Rattle.agreement.proofs.relation.OneSlot.{changed_at}
@@ -32,7 +33,7 @@ use Rattle.agreement.proofs.witnesses.FirstRead.{start_with, starts_with, ready_
 abbrev identify : Meaning
 identify = record { operation = Identify; first = 0; count = 0 }
 
-told : Told identify_memory 0 0 0 identify (0x9000 ∷ [])
+told : Told identify_memory 0 0 0 identify (scratch_of 0 ∷ [])
 unfolding identify_memory first_memory patched bytes_at zeros_from
 told = page_told identify_memory Identify refl refl (refl, refl, refl) (refl, refl, refl, refl, refl, refl, refl, refl) (refl, refl, refl)
 
@@ -71,13 +72,13 @@ knows = record {
 -- ---- and its page comes
 
 abbrev taken : Taken
-taken = begun identify (0x9000 ∷ [])
+taken = begun identify (scratch_of 0 ∷ [])
 
 abbrev brought : Taken
 brought = record taken { moved = 1 }
 
 abbrev fetched : Device
-fetched = after (Fetch 0 0 identify (0x9000 ∷ [])) issued_identify
+fetched = after (Fetch 0 0 identify (scratch_of 0 ∷ [])) issued_identify
 
 abbrev moved : Device
 moved = after (Move 0 0 taken (sector_of 0)) fetched
@@ -89,8 +90,8 @@ page_is_sector : IsSector (sector_of 0)
 unfolding changed
 page_is_sector = first_sane.disk 0 sector_of refl 0 (omega arith)
 
-can_fetch : Can (Fetch 0 0 identify (0x9000 ∷ [])) issued_identify
-can_fetch = can_take identify_memory identify (0x9000 ∷ []) told.says
+can_fetch : Can (Fetch 0 0 identify (scratch_of 0 ∷ [])) issued_identify
+can_fetch = can_take identify_memory identify (scratch_of 0 ∷ []) told.says
 
 can_move : Can (Move 0 0 taken (sector_of 0)) fetched
 unfolding changed
@@ -111,7 +112,7 @@ can_end = record {
 
 comes : Steps issued_identify ended
 comes = record {
-  steps = Fetch 0 0 identify (0x9000 ∷ []) ∷ Move 0 0 taken (sector_of 0) ∷ Done 0 0 0 brought ∷ [];
+  steps = Fetch 0 0 identify (scratch_of 0 ∷ []) ∷ Move 0 0 taken (sector_of 0) ∷ Done 0 0 0 brought ∷ [];
   lead = (can_fetch, (can_move, (can_end, refl)));
 }
 

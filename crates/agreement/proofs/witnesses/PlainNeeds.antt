@@ -55,7 +55,7 @@ abbrev stopping : Device
 stopping = written (Px (port_at 0) Cmd) 0x10 one_taken
 
 abbrev queued_taken : Taken
-queued_taken = begun (queued_read 100) (cut 0x28000 8)
+queued_taken = begun (queued_read 100) (cut 0x64000 8)
 
 may_stop : MayWrite (Px (port_at 0) Cmd) 0x10 one_taken
 unfolding changed
@@ -116,15 +116,15 @@ queued_spelt memory slot first n small aligned even header fis prd = record {
   as_many = refl;
 }
 
-first_told : Told two_memory 0 0 0 (queued_read 100) (cut 0x28000 8)
+first_told : Told two_memory 0 0 0 (queued_read 100) (cut 0x64000 8)
 unfolding two_memory first_memory patched bytes_at zeros_from
-first_told = spelt_told two_memory 0 (queued_read 100) (frame_prd 40)
-    (queued_spelt two_memory 0 100 40 (omega arith) refl refl (refl, refl, refl) (refl, refl, refl, refl, refl, refl, refl, refl) (refl, refl, refl))
+first_told = spelt_told two_memory 0 (queued_read 100) (frame_prd 100)
+    (queued_spelt two_memory 0 100 100 (omega arith) refl refl (refl, refl, refl) (refl, refl, refl, refl, refl, refl, refl, refl) (refl, refl, refl))
 
 abbrev unarmed : Device
 unarmed = written (Px (port_at 0) Ci) 1 (ready_with two_memory)
 
-can_fetch : Can (Fetch 0 0 (queued_read 100) (cut 0x28000 8)) unarmed
+can_fetch : Can (Fetch 0 0 (queued_read 100) (cut 0x64000 8)) unarmed
 unfolding changed
 can_fetch = record {
   fetchable = record { st = refl; issued = refl; free = refl };
@@ -137,11 +137,11 @@ unarmed_works : WorksPlainly (unarmed.port 0)
 unfolding changed
 unarmed_works = record { restarts = refl; unarmed = λ slot. refl; plain = λ slot t is. absurd (none-some _ is) }
 
-taken_then : ((after (Fetch 0 0 (queued_read 100) (cut 0x28000 8)) unarmed).port 0).taken 0 ≡ Some queued_taken
+taken_then : ((after (Fetch 0 0 (queued_read 100) (cut 0x64000 8)) unarmed).port 0).taken 0 ≡ Some queued_taken
 unfolding changed
 taken_then = refl
 
 pub needs_agreed : ((port : ℕ) (old new : Device) → Steps old new → WorksPlainly (old.port port) → WorksPlainly (new.port port)) → ⊥
 needs_agreed law =
-    absurd (true≢false ((law 0 unarmed (after (Fetch 0 0 (queued_read 100) (cut 0x28000 8)) unarmed)
-    (Steps-one (Fetch 0 0 (queued_read 100) (cut 0x28000 8)) unarmed (after (Fetch 0 0 (queued_read 100) (cut 0x28000 8)) unarmed) can_fetch refl) unarmed_works).plain 0 queued_taken taken_then))
+    absurd (true≢false ((law 0 unarmed (after (Fetch 0 0 (queued_read 100) (cut 0x64000 8)) unarmed)
+    (Steps-one (Fetch 0 0 (queued_read 100) (cut 0x64000 8)) unarmed (after (Fetch 0 0 (queued_read 100) (cut 0x64000 8)) unarmed) can_fetch refl) unarmed_works).plain 0 queued_taken taken_then))

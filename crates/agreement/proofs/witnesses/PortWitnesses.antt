@@ -30,15 +30,15 @@ second_quiet = record { unflagged = (refl, refl); linked = refl; no_comreset = �
 
 -- the read is taken, and fails
 abbrev taken_read : Taken
-taken_read = begun (read_of 100 8) (cut 0x28000 8)
+taken_read = begun (read_of 100 8) (cut 0x64000 8)
 
 abbrev fetched : Device
-fetched = after (Fetch 0 0 (read_of 100 8) (cut 0x28000 8)) first_read
+fetched = after (Fetch 0 0 (read_of 100 8) (cut 0x64000 8)) first_read
 
 abbrev failed : Device
 failed = after (Fault 0 0 0x40 0 taken_read) fetched
 
-first_fetch : Can (Fetch 0 0 (read_of 100 8) (cut 0x28000 8)) first_read
+first_fetch : Can (Fetch 0 0 (read_of 100 8) (cut 0x64000 8)) first_read
 unfolding changed
 first_fetch = record {
   fetchable = record { st = refl; issued = refl; free = refl };
@@ -52,7 +52,7 @@ unfolding changed
 first_fault = record { taken = refl; running = refl; is_byte = omega arith; kept = refl }
 
 failing : Steps first_read failed
-failing = record { steps = Fetch 0 0 (read_of 100 8) (cut 0x28000 8) ∷ Fault 0 0 0x40 0 taken_read ∷ []; lead = (first_fetch, (first_fault, refl)) }
+failing = record { steps = Fetch 0 0 (read_of 100 8) (cut 0x64000 8) ∷ Fault 0 0 0x40 0 taken_read ∷ []; lead = (first_fetch, (first_fault, refl)) }
 
 failed_halted : ((failed.port 0).halt ≡ HaltedPlain) × ((failed.port 0).st ≡ true)
 unfolding changed

@@ -64,15 +64,15 @@ queued_spelt memory slot first n small aligned even header fis prd = record {
   as_many = refl;
 }
 
-first_told : Told two_memory 0 0 0 (queued_read 100) (cut 0x28000 8)
+first_told : Told two_memory 0 0 0 (queued_read 100) (cut 0x64000 8)
 unfolding two_memory first_memory patched bytes_at zeros_from
-first_told = spelt_told two_memory 0 (queued_read 100) (frame_prd 40)
-    (queued_spelt two_memory 0 100 40 (omega arith) refl refl (refl, refl, refl) (refl, refl, refl, refl, refl, refl, refl, refl) (refl, refl, refl))
+first_told = spelt_told two_memory 0 (queued_read 100) (frame_prd 100)
+    (queued_spelt two_memory 0 100 100 (omega arith) refl refl (refl, refl, refl) (refl, refl, refl, refl, refl, refl, refl, refl) (refl, refl, refl))
 
-pub second_told : Told two_memory 0 0 1 (queued_read 108) (cut 0x29000 8)
+pub second_told : Told two_memory 0 0 1 (queued_read 108) (cut 0x65000 8)
 unfolding two_memory first_memory patched bytes_at zeros_from
-second_told = spelt_told two_memory 1 (queued_read 108) (frame_prd 41)
-    (queued_spelt two_memory 1 108 41 (omega arith) refl refl (refl, refl, refl) (refl, refl, refl, refl, refl, refl, refl, refl) (refl, refl, refl))
+second_told = spelt_told two_memory 1 (queued_read 108) (frame_prd 101)
+    (queued_spelt two_memory 1 108 101 (omega arith) refl refl (refl, refl, refl) (refl, refl, refl, refl, refl, refl, refl, refl) (refl, refl, refl))
 
 -- ---- the machine
 
@@ -80,13 +80,13 @@ abbrev start : Machine
 start = start_with two_memory
 
 abbrev first_request : Accepted
-first_request = accepted_of start (read_into 100 40)
+first_request = accepted_of start (read_into 100 100)
 
 abbrev one_accepted : Machine
 one_accepted = after_step start (Accept first_request)
 
 abbrev second_request : Accepted
-second_request = accepted_of one_accepted (read_into 108 41)
+second_request = accepted_of one_accepted (read_into 108 101)
 
 abbrev accepted : Machine
 accepted = after_step one_accepted (Accept second_request)
@@ -97,8 +97,8 @@ accepted_reached = record {
   past = Accept second_request ∷ Accept first_request ∷ [];
   starts = starts_with two_memory;
   legal = (
-    (tt, read_is_new start 100 40 refl refl refl (omega arith) (omega arith) (omega arith) (omega arith)),
-    read_is_new one_accepted 108 41 refl refl refl (omega arith) (omega arith) (omega arith) (omega arith),
+    (tt, read_is_new start 100 100 refl refl refl (omega arith) (omega arith) (omega arith) (omega arith)),
+    read_is_new one_accepted 108 101 refl refl refl (omega arith) (omega arith) (omega arith) (omega arith),
   );
   is = refl;
 }
@@ -199,7 +199,7 @@ one_uses = put armed_uses 0 0 (Serves first_id)
 
 first_prepared : IsPrepared armed_uses accepted two_armed 0 0 queued first_waits 1
 unfolding changed
-first_prepared = read_prepared armed_uses accepted start two_armed 0 100 40 may_first refl (omega arith) refl refl first_told
+first_prepared = read_prepared armed_uses accepted start two_armed 0 100 100 may_first refl (omega arith) refl refl first_told
 
 one_agrees : Agrees one_uses issuing one_issued
 one_agrees = issue_agrees armed_uses accepted two_armed accepted_reached two_armed_agrees 0 0 queued first_waits 1 first_prepared
@@ -209,7 +209,7 @@ one_have q = issue_have armed_uses accepted two_armed accepted_reached two_armed
 
 second_prepared : IsPrepared one_uses issuing one_issued 0 1 queued second_waits 2
 unfolding changed
-second_prepared = read_prepared one_uses issuing one_accepted one_issued 1 108 41 may_second refl (omega arith) refl refl second_told
+second_prepared = read_prepared one_uses issuing one_accepted one_issued 1 108 101 may_second refl (omega arith) refl refl second_told
 
 two_knows : Knows machine (two_known two_issued)
 two_knows = record {
@@ -219,7 +219,7 @@ two_knows = record {
 
 -- ---- and the one is taken
 
-can_fetch : Can (Fetch 0 0 (queued_read 100) (cut 0x28000 8)) two_issued
+can_fetch : Can (Fetch 0 0 (queued_read 100) (cut 0x64000 8)) two_issued
 unfolding changed
 can_fetch = record {
   fetchable = record { st = refl; issued = refl; free = refl };
@@ -230,18 +230,18 @@ can_fetch = record {
 
 taken_agrees : Agrees (two_known one_taken).uses machine one_taken
 taken_agrees = silent_agrees (two_known one_taken).uses machine two_issued one_taken
-    (fetch_follows (two_known one_taken).uses machine two_issued two_knows.agrees 0 0 (queued_read 100) (cut 0x28000 8) can_fetch) refl
+    (fetch_follows (two_known one_taken).uses machine two_issued two_knows.agrees 0 0 (queued_read 100) (cut 0x64000 8) can_fetch) refl
 
-bits : ((one_taken.port 0).taken 0 ≡ Some (begun (queued_read 100) (cut 0x28000 8))) × ((one_taken.port 0).ci 1 ≡ true)
+bits : ((one_taken.port 0).taken 0 ≡ Some (begun (queued_read 100) (cut 0x64000 8))) × ((one_taken.port 0).ci 1 ≡ true)
 unfolding changed
 bits = (refl, refl)
 
--- frames 40 and 41 are two
-frames_apart : (f : Frame) → Contains (frame 40 ∷ []) f → Contains (frame 41 ∷ []) f → ⊥
+-- frames 100 and 101 are two
+frames_apart : (f : Frame) → Contains (frame 100 ∷ []) f → Contains (frame 101 ∷ []) f → ⊥
 frames_apart f a b = ⊎_elim
-    (λ (x : f ≡ frame 40). ⊎_elim (λ (y : f ≡ frame 41). let z : 40 ≡ 41 = ap (λ (g : Frame). g.0) (sym x ∙ y) in omega (arith, z)) (λ y. contains_none f y) (contains_cases (frame 41) [] f b))
+    (λ (x : f ≡ frame 100). ⊎_elim (λ (y : f ≡ frame 101). let z : 100 ≡ 101 = ap (λ (g : Frame). g.0) (sym x ∙ y) in omega (arith, z)) (λ y. contains_none f y) (contains_cases (frame 101) [] f b))
     (λ x. contains_none f x)
-    (contains_cases (frame 40) [] f a)
+    (contains_cases (frame 100) [] f a)
 
 pub two_are_known : TwoAreKnown
 two_are_known = record {
@@ -263,9 +263,9 @@ two_are_known = record {
   second_permitted = issue_is_permitted one_uses issuing one_issued issuing_reached one_agrees (port_at 0) 1 queued second_waits 2
       (record { ae = refl; no_reset = refl }) (omega arith, refl) (omega arith) second_prepared;
   issued = two_knows;
-  takes = Steps-one (Fetch 0 0 (queued_read 100) (cut 0x28000 8)) two_issued one_taken can_fetch refl;
+  takes = Steps-one (Fetch 0 0 (queued_read 100) (cut 0x64000 8)) two_issued one_taken can_fetch refl;
   knows = record { agrees = taken_agrees; have = two_knows.have };
-  command = begun (queued_read 100) (cut 0x28000 8);
+  command = begun (queued_read 100) (cut 0x64000 8);
   taken = bits.0;
   queued = refl;
   waits = bits.1;

@@ -24,6 +24,7 @@ use Rattle.block_machine.specs.State.{Machine}
 use Rattle.agreement.specs.Agrees.{Agrees, port_at}
 use Rattle.agreement.specs.Driver.{Knows, IsOwnPrepared, idle}
 use Rattle.agreement.specs.Facts.{TellsNoTrouble}
+use Rattle.agreement.specs.Places.{scratch_of}
 use Rattle.agreement.specs.Slots.{Free, Own, Told}
 use Rattle.agreement.specs.Witness.{ready_with}
 use Rattle.agreement.proofs.relation.OneSlot.{changed_at}
@@ -43,7 +44,7 @@ use Rattle.agreement.proofs.driver.EndedHalt.{issued_ends, ended_well}
 abbrev read_log : Meaning
 read_log = record { operation = ReadLog; first = 0; count = 0 }
 
-told : Told log_memory 0 0 0 read_log (0x9000 ∷ [])
+told : Told log_memory 0 0 0 read_log (scratch_of 0 ∷ [])
 unfolding log_memory first_memory patched bytes_at zeros_from
 told = page_told log_memory ReadLog refl refl (refl, refl, refl) (refl, refl, refl, refl, refl, refl, refl, refl) (refl, refl, refl)
 
@@ -112,13 +113,13 @@ issued_runs = record { st = refl; cr = refl; det = refl; present = refl; fresh =
 -- ---- and its page comes
 
 abbrev taken : Taken
-taken = begun read_log (0x9000 ∷ [])
+taken = begun read_log (scratch_of 0 ∷ [])
 
 abbrev brought : Taken
 brought = record taken { moved = 1 }
 
 abbrev fetched : Device
-fetched = after (Fetch 0 0 read_log (0x9000 ∷ [])) issued
+fetched = after (Fetch 0 0 read_log (scratch_of 0 ∷ [])) issued
 
 abbrev moved : Device
 moved = after (Move 0 0 taken (sector_of 0)) fetched
@@ -130,7 +131,7 @@ page_is_sector : IsSector (sector_of 0)
 unfolding changed
 page_is_sector = first_sane.disk 0 sector_of refl 0 (omega arith)
 
-can_fetch : Can (Fetch 0 0 read_log (0x9000 ∷ [])) issued
+can_fetch : Can (Fetch 0 0 read_log (scratch_of 0 ∷ [])) issued
 unfolding changed
 can_fetch = record {
   fetchable = record { st = refl; issued = refl; free = refl };
@@ -158,7 +159,7 @@ can_end = record {
 
 comes : Steps issued ended
 comes = record {
-  steps = Fetch 0 0 read_log (0x9000 ∷ []) ∷ Move 0 0 taken (sector_of 0) ∷ Done 0 0 0 brought ∷ [];
+  steps = Fetch 0 0 read_log (scratch_of 0 ∷ []) ∷ Move 0 0 taken (sector_of 0) ∷ Done 0 0 0 brought ∷ [];
   lead = (can_fetch, (can_move, (can_end, refl)));
 }
 

@@ -39,10 +39,10 @@ abbrev port_reg : PortReg → Reg
 port_reg r = Px (port_at 0) r
 
 abbrev taken_read : Taken
-taken_read = begun (read_of 100 8) (cut 0x28000 8)
+taken_read = begun (read_of 100 8) (cut 0x64000 8)
 
 abbrev fetched : Device
-fetched = after (Fetch 0 0 (read_of 100 8) (cut 0x28000 8)) first_read
+fetched = after (Fetch 0 0 (read_of 100 8) (cut 0x64000 8)) first_read
 
 abbrev failed : Device
 failed = after (Fault 0 0 0x40 0 taken_read) fetched
@@ -73,7 +73,7 @@ found = noted (port_reg Is) 0 started
 
 -- ---- the device's steps
 
-first_fetch : Can (Fetch 0 0 (read_of 100 8) (cut 0x28000 8)) first_read
+first_fetch : Can (Fetch 0 0 (read_of 100 8) (cut 0x64000 8)) first_read
 unfolding changed
 first_fetch = record {
   fetchable = record { st = refl; issued = refl; free = refl };
@@ -87,7 +87,7 @@ unfolding changed
 first_fault = record { taken = refl; running = refl; is_byte = omega arith; kept = refl }
 
 fails : Steps first_read failed
-fails = record { steps = Fetch 0 0 (read_of 100 8) (cut 0x28000 8) ∷ Fault 0 0 0x40 0 taken_read ∷ []; lead = (first_fetch, (first_fault, refl)) }
+fails = record { steps = Fetch 0 0 (read_of 100 8) (cut 0x64000 8) ∷ Fault 0 0 0x40 0 taken_read ∷ []; lead = (first_fetch, (first_fault, refl)) }
 
 can_fall : Can (Fall 0) stopping
 unfolding changed
@@ -248,15 +248,15 @@ fault_is_seen = record {
 
 -- of two queued reads that are issued the second may be taken first, and fail
 abbrev second_read : Taken
-second_read = begun (queued_read 108) (cut 0x29000 8)
+second_read = begun (queued_read 108) (cut 0x65000 8)
 
 abbrev second_taken : Device
-second_taken = after (Fetch 0 1 (queued_read 108) (cut 0x29000 8)) two_issued
+second_taken = after (Fetch 0 1 (queued_read 108) (cut 0x65000 8)) two_issued
 
 abbrev second_failed : Device
 second_failed = after (Fault 0 1 0x40 0 second_read) second_taken
 
-second_fetch : Can (Fetch 0 1 (queued_read 108) (cut 0x29000 8)) two_issued
+second_fetch : Can (Fetch 0 1 (queued_read 108) (cut 0x65000 8)) two_issued
 unfolding changed
 second_fetch = record {
   fetchable = record { st = refl; issued = refl; free = refl };
@@ -270,7 +270,7 @@ unfolding changed
 second_fault = record { taken = refl; running = refl; is_byte = omega arith; kept = refl }
 
 second_fails : Steps two_issued second_failed
-second_fails = record { steps = Fetch 0 1 (queued_read 108) (cut 0x29000 8) ∷ Fault 0 1 0x40 0 second_read ∷ []; lead = (second_fetch, (second_fault, refl)) }
+second_fails = record { steps = Fetch 0 1 (queued_read 108) (cut 0x65000 8) ∷ Fault 0 1 0x40 0 second_read ∷ []; lead = (second_fetch, (second_fault, refl)) }
 
 pub queued_fault_is_seen : FaultIsSeen two_issued 1 HaltedQueued
 unfolding changed

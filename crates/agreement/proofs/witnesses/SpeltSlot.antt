@@ -12,7 +12,7 @@ use Rattle.adapter.specs.declared.command.Command.{Command}
 use Rattle.adapter.specs.declared.command.Prd.{Prd}
 use Rattle.adapter.proofs.MemoryLemmas.{bytes_length}
 use Rattle.adapter.proofs.SaysLemmas.{cut_length}
-use Rattle.agreement.specs.Places.{table_of}
+use Rattle.agreement.specs.Places.{scratch_of, table_of}
 use Rattle.agreement.specs.Slots.{Told}
 
 -- the bytes from a place on are zero, as a test
@@ -100,10 +100,10 @@ module _ (memory : ℕ → ℕ) (slot : ℕ) (c : Meaning) (e : Prd) (s : IsSpel
 
 -- a command of slot 0 that names no sectors and has its page or block in the scratch frame
 abbrev page_prd : Prd
-page_prd = record { address = 0x9000; bytes = 512 }
+page_prd = record { address = scratch_of 0; bytes = 512 }
 
 pub page_told : (memory : ℕ → ℕ) (o : Operation) → is_ranged o ≡ false → pieces_moved o 0 ≡ 1 → IsSpeltHeader (bytes_at memory 0 32) (reads_memory o) 0x1000 →
-    IsSpeltCommand (bytes_at memory 0x1000 20) (command_of o 0 0 0) → IsSpeltPrd (bytes_at memory 0x1080 16) page_prd → Told memory 0 0 0 (record { operation = o; first = 0; count = 0 }) (0x9000 ∷ [])
+    IsSpeltCommand (bytes_at memory 0x1000 20) (command_of o 0 0 0) → IsSpeltPrd (bytes_at memory 0x1080 16) page_prd → Told memory 0 0 0 (record { operation = o; first = 0; count = 0 }) (scratch_of 0 ∷ [])
 page_told memory o unranged one header fis prd = spelt_told memory 0 (record { operation = o; first = 0; count = 0 }) page_prd (record {
   header = header;
   aligned = refl;

@@ -19,6 +19,7 @@ use Rattle.block_machine.proofs.HistoryLemmas.{reached_more}
 use Rattle.block_machine.proofs.Members.{contains_here, contains_none, into_map}
 use Rattle.agreement.specs.Agrees.{port_at}
 use Rattle.agreement.specs.Driver.{Knows, IsPrepared, idle}
+use Rattle.agreement.specs.Places.{scratch_of}
 use Rattle.agreement.specs.Slots.{Free, Serves, Told}
 use Rattle.agreement.specs.Trimmed.{trim, trim_block, trim_memory, prepared_trim, issued_trim, taken_trim, trim_known, TrimIsKnown}
 use Rattle.agreement.specs.Witness.{first_id, first_uses}
@@ -34,14 +35,14 @@ use Rattle.agreement.proofs.witnesses.FirstRead.{start_with, starts_with, plain,
 
 -- ---- what the bytes say
 
-told : Told trim_memory 0 0 0 trim (0x9000 ∷ [])
+told : Told trim_memory 0 0 0 trim (scratch_of 0 ∷ [])
 unfolding trim_memory first_memory patched bytes_at zeros_from
 told = page_told trim_memory Trim refl refl (refl, refl, refl) (refl, refl, refl, refl, refl, refl, refl, refl) (refl, refl, refl)
 
 -- the block stands in the scratch frame, and names eight sectors
-block_is : bytes_at trim_memory 0x9000 512 ≡ trim_block
+block_is : bytes_at trim_memory (scratch_of 0) 512 ≡ trim_block
 unfolding trim_memory
-block_is = patched_bytes _ 0x9000 trim_block
+block_is = patched_bytes _ (scratch_of 0) trim_block
 
 block_means : trim_sectors trim_block ≡ consecutive 100 8
 block_means = refl
@@ -97,7 +98,7 @@ prepared = record {
   started = refl;
   placed = record { port_below = omega arith; slot_below = omega arith; list = refl };
   command = trim;
-  places = 0x9000 ∷ [];
+  places = scratch_of 0 ∷ [];
   told = told;
   means = record { op = refl; first = λ h. absurd (false≢true h); places_are = refl; head = λ _. refl };
   kind = refl;
@@ -112,19 +113,19 @@ issued_knows = record {
   have = λ q. issue_have (idle prepared_trim).uses accepted prepared_trim accepted_reached accepted_knows.agrees 0 0 plain waits 1 prepared q [] (accepted_knows.have q);
 }
 
-can_fetch : Can (Fetch 0 0 trim (0x9000 ∷ [])) issued_trim
-can_fetch = can_take trim_memory trim (0x9000 ∷ []) told.says
+can_fetch : Can (Fetch 0 0 trim (scratch_of 0 ∷ [])) issued_trim
+can_fetch = can_take trim_memory trim (scratch_of 0 ∷ []) told.says
 
 -- ---- and done
 
 abbrev brought : Taken
-brought = record (begun trim (0x9000 ∷ [])) { moved = 1; block = trim_block }
+brought = record (begun trim (scratch_of 0 ∷ [])) { moved = 1; block = trim_block }
 
 abbrev cleared : Taken
 cleared = record brought { cleared = 8 }
 
 abbrev moved : Device
-moved = after (Move 0 0 (begun trim (0x9000 ∷ [])) trim_block) taken_trim
+moved = after (Move 0 0 (begun trim (scratch_of 0 ∷ [])) trim_block) taken_trim
 
 abbrev zeroed : Device
 zeroed = after (Clear 0 0 brought 100 8) moved
@@ -146,7 +147,7 @@ small : All (λ b. b < 256) trim_block
 unfolding are_small
 small = all_small trim_block refl
 
-can_move : Can (Move 0 0 (begun trim (0x9000 ∷ [])) trim_block) taken_trim
+can_move : Can (Move 0 0 (begun trim (scratch_of 0 ∷ [])) trim_block) taken_trim
 unfolding changed
 can_move = record {
   works = record { taken = refl; working = record { running = refl; present = refl; fresh = refl; admitted = refl; whole = refl } };
@@ -176,11 +177,11 @@ can_end = record {
 
 comes : Steps issued_trim ended
 comes = record {
-  steps = Fetch 0 0 trim (0x9000 ∷ []) ∷ Move 0 0 (begun trim (0x9000 ∷ [])) trim_block ∷ Clear 0 0 brought 100 8 ∷ Done 0 0 0 cleared ∷ [];
+  steps = Fetch 0 0 trim (scratch_of 0 ∷ []) ∷ Move 0 0 (begun trim (scratch_of 0 ∷ [])) trim_block ∷ Clear 0 0 brought 100 8 ∷ Done 0 0 0 cleared ∷ [];
   lead = (can_fetch, (can_move, (can_clear, (can_end, refl))));
 }
 
-bits : ((issued_trim.port 0).st ≡ true) × ((ended.port 0).ci 0 ≡ false) × ((ended.port 0).sact 0 ≡ false) × ((taken_trim.port 0).taken 0 ≡ Some (begun trim (0x9000 ∷ [])))
+bits : ((issued_trim.port 0).st ≡ true) × ((ended.port 0).ci 0 ≡ false) × ((ended.port 0).sact 0 ≡ false) × ((taken_trim.port 0).taken 0 ≡ Some (begun trim (scratch_of 0 ∷ [])))
 unfolding changed
 bits = (refl, refl, refl, refl)
 
@@ -195,10 +196,10 @@ trim_is_known = record {
   permitted = issue_is_permitted (idle prepared_trim).uses accepted prepared_trim accepted_reached accepted_knows.agrees (port_at 0) 0 plain waits 1
       (record { ae = refl; no_reset = refl }) (omega arith, refl) (omega arith) prepared;
   issued = issued_knows;
-  takes = Steps-one (Fetch 0 0 trim (0x9000 ∷ [])) issued_trim taken_trim can_fetch refl;
+  takes = Steps-one (Fetch 0 0 trim (scratch_of 0 ∷ [])) issued_trim taken_trim can_fetch refl;
   taken = bits.3;
   knows = record {
-    agrees = silent_agrees first_uses issued issued_trim taken_trim (fetch_follows first_uses issued issued_trim issued_knows.agrees 0 0 trim (0x9000 ∷ []) can_fetch) refl;
+    agrees = silent_agrees first_uses issued issued_trim taken_trim (fetch_follows first_uses issued issued_trim issued_knows.agrees 0 0 trim (scratch_of 0 ∷ []) can_fetch) refl;
     have = issued_knows.have;
   };
   done = done_is_known trim_known issued reached issued_knows first_id (put_same (λ _ _. Free) 0 0 (Serves first_id)) refl ended comes refl bits.0 bits.1 bits.2;

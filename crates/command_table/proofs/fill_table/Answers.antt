@@ -1,4 +1,4 @@
-use Rattle.ata_types.specs.declared.memory.TheConstants.{LONGEST_TABLE, PRD_BYTES, TABLE_HEAD}
+use Rattle.ata_types.specs.declared.memory.TheConstants.{PRD_BYTES, TABLE_HEAD}
 use Rattle.std.proofs.Common.{◌≡◌, ℕ, ◌+◌, ◌*◌, ◌<◌, ◌≤◌, List, length, slice_index, slice_index_or, sym, subst, ap, ◌∙◌, arith, below_more}
 use Rattle.std.proofs.lemmas.List.{get_or_default}
 use Rattle.command_table.specs.Bytes.{part}
@@ -13,13 +13,12 @@ loop-i-init c =
     let n : length c.encode_h2d.result ≡ 20 = c.encode_h2d.ensures.size in
     let stored : part c.store_at.new.buffer 0 20 ≡ c.encode_h2d.result =
     ap (part c.store_at.new.buffer 0) (sym n) ∙ part_whole _ _ _ _ c.store_at.ensures (omega arith) in
-    let zero_at : (k : ℕ) → 20 ≤ k → k < LONGEST_TABLE → slice_index c.store_at.new.buffer k ≡ 0 = λ k low high. c.store_at.ensures.after k (omega (arith, n)) ∙ c.requires.zeros k (omega arith) high in
+    let zero_at : (k : ℕ) → 20 ≤ k → k < TABLE_HEAD → slice_index c.store_at.new.buffer k ≡ 0 = λ k low high. c.store_at.ensures.after k (omega (arith, n)) ∙ c.requires.zeros k (omega arith) high in
     record {
       size = omega (arith, c.store_at.ensures.size);
       fis = subst (λ (b : List ℕ). SpellsCommand b c.args.command.now) (sym stored) c.encode_h2d.ensures;
-      between = λ k low high. zero_at k (omega arith) (omega arith);
+      between = λ k low high. zero_at k low high;
       entries = λ k d lt. absurd (omega arith);
-      behind = λ k low high. zero_at k (omega arith) high;
     }
 
 pub loop-i-preserved : goal.loop-i-preserved
@@ -42,7 +41,6 @@ loop-i-preserved c =
       fis = subst (λ (b : List ℕ). SpellsCommand b c.args.command.now) (sym fis_stays) c.loop-i.invariant.fis;
       between = λ k low high. s.before k (omega arith) ∙ c.loop-i.invariant.between k low high;
       entries = λ k d lt. below_more Here c.loop-i.i below here k lt d;
-      behind = λ k low high. s.after k (omega (arith, n)) ∙ c.loop-i.invariant.behind k (omega (arith, n)) high;
     }
 
 pub returns : goal.returns
@@ -53,5 +51,4 @@ returns c =
       fis = v.fis;
       between = v.between;
       entries = λ k d lt. v.entries k d (omega arith);
-      behind = λ k low high. v.behind k (omega arith) high;
     }

@@ -1,5 +1,5 @@
-use Rattle.ata_types.specs.declared.memory.TheConstants.{LONGEST_TABLE, PRD_BYTES, TABLE_HEAD}
-use Rattle.std.proofs.Common.{◌≡◌, ℕ, ◌+◌, ◌*◌, ◌<◌, length, slice_index_or}
+use Rattle.ata_types.specs.declared.memory.TheConstants.{PRD_BYTES, TABLE_HEAD}
+use Rattle.std.proofs.Common.{◌≡◌, ℕ, ◌+◌, ◌*◌, ◌<◌, ◌≤◌, length, slice_index_or}
 use Rattle.command_table.specs.Bytes.{part}
 use Rattle.adapter.specs.Spelling.{AreZero, SpellsCommand}
 use Rattle.adapter.specs.declared.command.Prd.{Prd}
@@ -8,9 +8,8 @@ use Rattle.command_table.proofs.fill_table.Given as goal
 
 abbrev pub invariant-loop-i : goal.invariant-loop-i
 invariant-loop-i l = record {
-  size : length l.bytes ≡ LONGEST_TABLE;
+  size : TABLE_HEAD + PRD_BYTES * length l.prds ≤ length l.bytes;
   fis : SpellsCommand (part l.bytes 0 20) l.command;
-  between : AreZero l.bytes 20 128;
+  between : AreZero l.bytes 20 TABLE_HEAD;
   entries : (k : ℕ) (d : Prd) → k < l.i → SpellsPrd (part l.bytes (TABLE_HEAD + PRD_BYTES * k) 16) (slice_index_or l.prds k d);
-  behind : AreZero l.bytes (TABLE_HEAD + PRD_BYTES * l.i) LONGEST_TABLE;
 }

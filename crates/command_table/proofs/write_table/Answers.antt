@@ -1,8 +1,8 @@
-use Rattle.ata_types.specs.declared.memory.TheConstants.{DRIVER_BYTES, LONGEST_TABLE, PORT_BYTES, PRD_BYTES, TABLES, TABLE_BYTES, TABLE_HEAD}
+use Rattle.ata_types.specs.declared.memory.TheConstants.{DRIVER_BYTES, PORT_BYTES, PRD_BYTES, TABLES, TABLE_BYTES, TABLE_HEAD}
 use Rattle.ata_types.specs.declared.limits.TheConstants.{MOST_REQUEST_FRAMES}
-use Rattle.std.proofs.Common.{ℕ, List, ◌≡◌, ◌+◌, ◌*◌, ◌≤◌, refl, ap, ◌∙◌, subst, sym, inl, inr, arith, length, take}
+use Rattle.std.proofs.Common.{ℕ, List, ◌≡◌, ◌+◌, ◌*◌, ◌≤◌, refl, ap, ◌∙◌, subst, sym, inl, inr, arith, length, replicate, take}
 use Rattle.byteorder.specs.Endian.{little_from}
-use Rattle.std.proofs.lemmas.List.{length-take}
+use Rattle.std.proofs.lemmas.List.{length-replicate, length-take}
 use Rattle.adapter.specs.Access.{Stores}
 use Rattle.adapter.specs.Access.Access.{Storing}
 use Rattle.adapter.specs.Device.{Device}
@@ -11,7 +11,6 @@ use Rattle.adapter.specs.Rules.{IsFree, Stays}
 use Rattle.adapter.specs.Spelling.{SpellsHeader}
 use Rattle.agreement.specs.Places.{list_of, table_of}
 use Rattle.command_table.specs.Written.{IsTableStore, IsUnused}
-use Rattle.command_table.proofs.Zeros.{zero_of}
 use Rattle.command_table.proofs.Storing.{store_free, store_followed, store_on, store_size, store_there, store_agrees, stored_says}
 use Rattle.agreement.proofs.driver.Stretches.{followed_then}
 use Rattle.command_table.proofs.write_table.Goals as goal
@@ -33,21 +32,28 @@ table_bounds port slot n table few = let size = length-take (TABLE_HEAD + PRD_BY
 header_bounds : (port slot : ℕ) (header : List ℕ) → length header ≡ 32 → little_from 4 4 header ≡ 0 → IsTableStore port slot (Storing (list_of port + 32 * slot) header)
 header_bounds port slot header size none = inl (refl, size, none)
 
+-- a slot's place has room for a table
+table_room : (port slot n : ℕ) → n ≤ MOST_REQUEST_FRAMES → IsTableStore port slot (Storing (table_of port slot) (replicate (TABLE_HEAD + PRD_BYTES * n) 0))
+table_room port slot n few = let size = length-replicate {A = ℕ} (TABLE_HEAD + PRD_BYTES * n) 0 in inr (omega arith, omega (arith, few, size))
+
+pub store_table-requires-clause-free : goal.store_table-requires-clause-free
+store_table-requires-clause-free g c =
+    let r = c.requires in
+    let n : ℕ = length c.args.prds.now in
+    let F : ℕ → ℕ → Type 0 = λ p s. Stays (IsFree (PORT_BYTES * p + TABLES + TABLE_BYTES * s) (TABLE_HEAD + PRD_BYTES * length c.args.prds.now)) (g.A.Adapter.device c.args.adapter.now) in
+    let Free : ℕ → Type 0 = λ k. Stays (IsFree (table_of c.args.port.0 c.args.slot.0) k) (g.A.Adapter.device c.args.adapter.now) in
+    at_places F c.from-list.result c.from.result c.args.port.0 c.args.slot.0 (sym c.from-list.ensures) (sym c.from.ensures)
+    (subst Free (length-replicate {A = ℕ} (TABLE_HEAD + PRD_BYTES * n) 0)
+    (store_free r.agreed.0 _ c.args.port.0 c.args.slot.0 _ _ r.agreed.2 r.room r.port r.slot r.agreed.1 (table_room c.args.port.0 c.args.slot.0 n r.few)))
+
 pub store-requires : goal.store-requires
 store-requires g c =
     let r = c.requires in
-    let F : ℕ → ℕ → Type 0 = λ p s. Stays (IsFree (PORT_BYTES * p + TABLES + TABLE_BYTES * s) (length (take (TABLE_HEAD + PRD_BYTES * length c.args.prds.now) c.fill_table.new.bytes))) (g.A.Adapter.device c.args.adapter.now) in
-    at_places F c.from-list.result c.from.result c.args.port.0 c.args.slot.0 (sym c.from-list.ensures) (sym c.from.ensures)
-    (store_free r.agreed.0 _ c.args.port.0 c.args.slot.0 _ _ r.agreed.2 r.room r.port r.slot r.agreed.1 (table_bounds c.args.port.0 c.args.slot.0 (length c.args.prds.now) c.fill_table.new.bytes r.few))
-
-pub store-requires-2 : goal.store-requires-2
-store-requires-2 g c =
-    let r = c.requires in
-    let first = table_stored _ _ _ _ _ _ _ c.from-list.ensures c.from.ensures c.store.ensures in
-    let here = table_bounds c.args.port.0 c.args.slot.0 (length c.args.prds.now) c.fill_table.new.bytes r.few in
+    let first = table_stored _ _ _ _ _ _ _ c.from-list.ensures c.from.ensures c.store_table.ensures.stored in
+    let here = table_bounds c.args.port.0 c.args.slot.0 (length c.args.prds.now) c.store_table.ensures.bytes r.few in
     let size = store_size c.args.port.0 c.args.slot.0 r.port r.slot _ _ _ _ here first in
-    let room : DRIVER_BYTES ≤ (g.A.Adapter.device c.store.new.self).size = let had = r.room in omega (arith, size, had) in
-    let F : ℕ → ℕ → Type 0 = λ p s. Stays (IsFree (PORT_BYTES * p + 32 * s) (length c.header-head.result)) (g.A.Adapter.device c.store.new.self) in
+    let room : DRIVER_BYTES ≤ (g.A.Adapter.device c.store_table.new.adapter).size = let had = r.room in omega (arith, size, had) in
+    let F : ℕ → ℕ → Type 0 = λ p s. Stays (IsFree (PORT_BYTES * p + 32 * s) (length c.header-head.result)) (g.A.Adapter.device c.store_table.new.adapter) in
     at_places F c.from-list.result c.from-2.result c.args.port.0 c.args.slot.0 (sym c.from-list.ensures) (sym c.from-2.ensures)
     (store_free r.agreed.0 _ c.args.port.0 c.args.slot.0 _ _ (store_agrees c.args.port.0 c.args.slot.0 r.port r.slot _ _ _ _ here first r.on r.agreed.0 r.agreed.1 r.agreed.2) room r.port r.slot r.agreed.1
     (header_bounds c.args.port.0 c.args.slot.0 c.header-head.result c.header-head.ensures.says.size c.header-head.ensures.none_moved))
@@ -55,18 +61,18 @@ store-requires-2 g c =
 pub returns-clause-on : goal.returns-clause-on
 returns-clause-on g c =
     let r = c.requires in
-    let first = table_stored _ _ _ _ _ _ _ c.from-list.ensures c.from.ensures c.store.ensures in
-    let second = header_stored _ _ _ _ _ _ _ c.from-list.ensures c.from-2.ensures c.store-2.ensures in
-    let here = table_bounds c.args.port.0 c.args.slot.0 (length c.args.prds.now) c.fill_table.new.bytes r.few in
+    let first = table_stored _ _ _ _ _ _ _ c.from-list.ensures c.from.ensures c.store_table.ensures.stored in
+    let second = header_stored _ _ _ _ _ _ _ c.from-list.ensures c.from-2.ensures c.store.ensures in
+    let here = table_bounds c.args.port.0 c.args.slot.0 (length c.args.prds.now) c.store_table.ensures.bytes r.few in
     let there = header_bounds c.args.port.0 c.args.slot.0 c.header-head.result c.header-head.ensures.says.size c.header-head.ensures.none_moved in
     store_on c.args.port.0 c.args.slot.0 r.port r.slot _ _ _ _ there second (store_on c.args.port.0 c.args.slot.0 r.port r.slot _ _ _ _ here first r.on)
 
 pub returns-clause-followed : goal.returns-clause-followed
 returns-clause-followed g c =
     let r = c.requires in
-    let first = table_stored _ _ _ _ _ _ _ c.from-list.ensures c.from.ensures c.store.ensures in
-    let second = header_stored _ _ _ _ _ _ _ c.from-list.ensures c.from-2.ensures c.store-2.ensures in
-    let here = table_bounds c.args.port.0 c.args.slot.0 (length c.args.prds.now) c.fill_table.new.bytes r.few in
+    let first = table_stored _ _ _ _ _ _ _ c.from-list.ensures c.from.ensures c.store_table.ensures.stored in
+    let second = header_stored _ _ _ _ _ _ _ c.from-list.ensures c.from-2.ensures c.store.ensures in
+    let here = table_bounds c.args.port.0 c.args.slot.0 (length c.args.prds.now) c.store_table.ensures.bytes r.few in
     let there = header_bounds c.args.port.0 c.args.slot.0 c.header-head.result c.header-head.ensures.says.size c.header-head.ensures.none_moved in
     followed_then (IsTableStore c.args.port.0 c.args.slot.0) (IsUnused c.args.port.0 c.args.slot.0) _ _ _
     (store_followed c.args.port.0 c.args.slot.0 r.port r.slot _ _ _ _ here first)
@@ -76,26 +82,23 @@ pub returns-clause-says : goal.returns-clause-says
 returns-clause-says g c =
     let r = c.requires in
     let few = r.few in
-    let first = table_stored _ _ _ _ _ _ _ c.from-list.ensures c.from.ensures c.store.ensures in
-    let second = header_stored _ _ _ _ _ _ _ c.from-list.ensures c.from-2.ensures c.store-2.ensures in
-    let size = c.fill_table.ensures.size in
-    let cut = length-take (TABLE_HEAD + PRD_BYTES * length c.args.prds.now) c.fill_table.new.bytes in
+    let first = table_stored _ _ _ _ _ _ _ c.from-list.ensures c.from.ensures c.store_table.ensures.stored in
+    let second = header_stored _ _ _ _ _ _ _ c.from-list.ensures c.from-2.ensures c.store.ensures in
+    let size = c.store_table.ensures.table.size in
+    let cut = length-take (TABLE_HEAD + PRD_BYTES * length c.args.prds.now) c.store_table.ensures.bytes in
     let H : ℕ → ℕ → Type 0 = λ p s. SpellsHeader c.header-head.result c.is_write.result (length c.args.prds.now) (PORT_BYTES * p + TABLES + TABLE_BYTES * s) in
     let heads : SpellsHeader c.header-head.result c.is_write.result (length c.args.prds.now) (table_of c.args.port.0 c.args.slot.0) =
     at_places H c.args.port.0 c.args.slot.0 _ _ c.from-list.ensures c.from.ensures c.header-head.ensures.says in
-    stored_says c.args.port.0 c.args.slot.0 r.port r.slot r.agreed.0 r.agreed.1 _ _ _ r.on r.agreed.2 c.args.prds.now c.fill_table.new.bytes c.header-head.result few size
-    (omega (arith, cut, size, few)) first second c.is_write.result c.args.command.now c.is_write.ensures c.fill_table.ensures.fis c.fill_table.ensures.entries heads c.header-head.ensures.none_moved
+    stored_says c.args.port.0 c.args.slot.0 r.port r.slot r.agreed.0 r.agreed.1 _ _ _ r.on r.agreed.2 c.args.prds.now c.store_table.ensures.bytes c.header-head.result few size
+    (omega (arith, cut, size, few)) first second c.is_write.result c.args.command.now c.is_write.ensures c.store_table.ensures.table.fis c.store_table.ensures.table.entries heads c.header-head.ensures.none_moved
 
 pub returns-clause-none_moved : goal.returns-clause-none_moved
 returns-clause-none_moved g c =
     let r = c.requires in
     let heads = c.header-head.ensures in
-    let second = header_stored _ _ _ _ _ _ _ c.from-list.ensures c.from-2.ensures c.store-2.ensures in
+    let second = header_stored _ _ _ _ _ _ _ c.from-list.ensures c.from-2.ensures c.store.ensures in
     let there = header_bounds c.args.port.0 c.args.slot.0 c.header-head.result heads.says.size heads.none_moved in
     let at : ℕ = list_of c.args.port.0 + 32 * c.args.slot.0 in
-    let P : ℕ → Type 0 = λ n. bytes_at (g.A.Adapter.device c.store-2.new.self).memory at n ≡ c.header-head.result in
+    let P : ℕ → Type 0 = λ n. bytes_at (g.A.Adapter.device c.store.new.self).memory at n ≡ c.header-head.result in
     let same = subst P heads.says.size (store_there c.args.port.0 c.args.slot.0 r.port r.slot _ _ _ _ there second) in
     ap (little_from 4 4) same ∙ heads.none_moved
-
-pub fill_table-requires-clause-zeros : goal.fill_table-requires-clause-zeros
-fill_table-requires-clause-zeros g c = λ k _ _. zero_of LONGEST_TABLE k

@@ -1,4 +1,4 @@
-use Rattle.ata_types.specs.declared.memory.TheConstants.{DRIVER_BYTES}
+use Rattle.ata_types.specs.declared.memory.TheConstants.{DRIVER_BYTES, PORT_FRAMES, SCRATCH_FRAME}
 use Rattle.std.proofs.Common.{ℕ, List, [], ◌∷◌, ◌≡◌, ◌+◌, ◌*◌, ◌≤◌, refl, subst, sym, arith}
 use Rattle.adapter.specs.declared.command.Prd.{Prd}
 use Rattle.agreement.specs.Places.{scratch_of}
@@ -7,7 +7,7 @@ use Rattle.command_table.proofs.Storing.{block_followed, block_free, block_on, b
 use Rattle.command_table.proofs.write_table_with_block.Goals as goal
 
 -- the address at which the block is stored
-at_scratch : (port first frame : ℕ) → first ≡ port → frame ≡ 10 * first + 9 → 4096 * frame ≡ scratch_of port
+at_scratch : (port first frame : ℕ) → first ≡ port → frame ≡ PORT_FRAMES * first + SCRATCH_FRAME → 4096 * frame ≡ scratch_of port
 at_scratch port first frame a b = omega (arith, a, b)
 
 pub store-requires : goal.store-requires

@@ -32,7 +32,7 @@ use Rattle.host_boot.specs.Taken.{found_of}
 use Rattle.request_queue.specs.Entries.{asks_of, due_ids}
 use Rattle.server_history.specs.Below.{LawsBelow}
 use Rattle.server_history.specs.Histories.{Adds, AddsEvent}
-use Rattle.server_history.specs.Revoked.{RevokesAndIssues, RevokesGrant, with_revoked}
+use Rattle.server_history.specs.Revoked.{RevokesGrant}
 use Rattle.server_history.specs.Served.{IssuesAll, IssuesEach, IssuesIn}
 use Rattle.server_history.specs.Server.{IsKept, IsMachineOf, IsSettled, Server, mode_in, ports_of, state_of}
 use Rattle.server_history.proofs.any_turn.JoinedParts.{ready_or_not}
@@ -40,6 +40,7 @@ use Rattle.server_history.proofs.plain_calls.Acceptances.{issuing_clears_none, i
 use Rattle.server_history.proofs.plain_calls.IssueRounds.{AreIssued, any_append, belong_on, dues, dues_carried, each_driven, each_issued, each_settings, last_on, lawful_on, or_none, settled}
 use Rattle.server_history.proofs.plain_calls.RefusalsAndBytes.{GoesTo, reached, stays}
 use Rattle.server_history.proofs.recovery_turn.CallPart.{unready_undue}
+use Rattle.server_history.proofs.revoke_call.RevokedEach.{RevokesEach, revokes_each, with_revoked}
 use Rattle.server_history.proofs.revoke_call.RevokedMachine as revoked
 use Rattle.server_history.proofs.revoke_call.RevokedMachine.{MayRevoke}
 use Rattle.server_history.proofs.revoke_call.RevokedServer.{none_other, revoked_kept}
@@ -50,13 +51,13 @@ use Rattle.server_history.proofs.state.FirstMembers.{nowhere}
 use Rattle.server_history.proofs.state.HistorySteps.{IsHolding, holding, lead_by, ports_same, with_device}
 use Rattle.server_history.proofs.state.TurnAccesses.{issuing_is, issuing_leaves}
 
-module _ (laws : LawsBelow) (s : Server) (client : ClientId) (number : ℕ) (replies : List Reply) (mid : Server) (r : RevokesGrant client number replies s mid) where
+module _ (laws : LawsBelow) (s : Server) (client : ClientId) (number : ℕ) (replies : List Reply) (mid : Server) (r : RevokesEach client number replies s mid) where
   abbrev port : Port
-  port = r.row.port
+  port = r.has.0.port
 
   -- the server once those that waited are answered
   abbrev then_is : Server
-  then_is = with_revoked client number r.now s
+  then_is = with_revoked client number mid.table r.now.book s
 
   -- ---- what is said of it
 
@@ -95,7 +96,7 @@ module _ (laws : LawsBelow) (s : Server) (client : ClientId) (number : ℕ) (rep
         (revoked.lawful laws s client number replies mid r m h old.moment no_evidence (ports_of s))
         (answers then_is refl refl old.moment leads.stands.ports_are h [] (λ e o here. nowhere (Answer e o) here) refl stands issued)
         []
-        (refl, (r.row, revoked.row_there laws s client number replies mid r m h, r.named, All-nil (IssuesOn port), λ other. refl))
+        (refl, (revoked.has_row laws s client number replies mid r m h, All-nil (IssuesOn port), λ other. refl))
         (λ q. All-nil (LeavesEngine q))
         (λ q ready. none_issued then_is (after m steps) stands steps (revoked.issue_none laws s client number replies mid r m h) (mode_in s q) q (issued q ready))
         (λ q. record { ties = record { finds = tt; faults = tt; tries = tt; boots = tt; trouble = goes.trouble old.moment leads.stands.ports_are q; well = λ i. absurd (uninterrupted s.device old.moment.ports q i) }; heeds = uninterrupted s.device old.moment.ports q })
@@ -133,7 +134,7 @@ module _ (laws : LawsBelow) (s : Server) (client : ClientId) (number : ℕ) (rep
     apart = none_other laws s client number replies mid r k t.issued
 
     port_low : port.0 < 4
-    port_low = let low = (All-contains IsRow s.grants r.row k.rows r.there).port in omega (arith, low)
+    port_low = let low = (All-contains IsRow s.grants r.has.0 k.rows r.has.1).port in omega (arith, low)
 
     module _ (new : Server) (issues : IssuesAll port then_is new) where
       settles : IsSettled new
@@ -169,7 +170,7 @@ module _ (laws : LawsBelow) (s : Server) (client : ClientId) (number : ℕ) (rep
             (lawful_on mode port old.moment no_evidence (ports_of new) x.steps early x.only (revoked.lawful laws s client number replies mid r m h old.moment no_evidence (ports_of new)))
             (answers new (ap ports_of same) (ap (λ (n : Server). n.grants) same) old.moment leads.stands.ports_are h x.steps (no_answer_issuing mode port x.steps x.only) (issuing_answers mode port x.steps early x.only) stands (λ q on. settles.issued q))
             driven.accesses
-            (driven.all, (r.row, revoked.row_there laws s client number replies mid r m h, r.named, All-weaker (IssuesIn port) (IssuesOn port) (λ access here. issuing_is port port_low access here) driven.accesses driven.only, λ other. absurd (other its_state)))
+            (driven.all, (revoked.has_row laws s client number replies mid r m h, All-weaker (IssuesIn port) (IssuesOn port) (λ access here. issuing_is port port_low access here) driven.accesses driven.only, λ other. absurd (other its_state)))
             (λ q. All-weaker (IssuesIn port) (LeavesEngine q) (issuing_leaves port q) driven.accesses driven.only)
             (λ q is_ready. due_now q)
             (λ q. record {
@@ -231,9 +232,13 @@ module _ (laws : LawsBelow) (s : Server) (client : ClientId) (number : ℕ) (rep
       pub adds : AddsEvent s new (RevokeOf client number) (WasRevoked (Some replies))
       adds = ⊎_elim event quiet (ready_or_not (state_of (found_of s.ports port.0)))
 
-pub revocation : LawsBelow → (s new : Server) (client : ClientId) (number : ℕ) (replies : List Reply) → IsSettled s → RevokesAndIssues client number replies s new
+revocation_by : (laws : LawsBelow) (s mid new : Server) (client : ClientId) (number : ℕ) (replies : List Reply) → IsSettled s → (each : RevokesEach client number replies s mid) → IssuesAll each.has.0.port mid new
     → Adds s new (RevokeOf client number) (WasRevoked (Some replies))
-revocation laws s new client number replies t a = record { settled = settles laws s client number replies a.mid a.revokes t new issues; adds = adds laws s client number replies a.mid a.revokes t new issues }
+revocation_by laws s mid new client number replies t each i = record { settled = settles laws s client number replies mid each t new issues; adds = adds laws s client number replies mid each t new issues }
   where
-    issues : IssuesAll a.revokes.row.port (with_revoked client number a.revokes.now s) new
-    issues = subst (λ (n : Server). IssuesAll a.revokes.row.port n new) a.revokes.server a.issues
+    issues : IssuesAll each.has.0.port (with_revoked client number mid.table each.now.book s) new
+    issues = subst (λ (n : Server). IssuesAll each.has.0.port n new) each.server i
+
+pub revocation : LawsBelow → (s mid new : Server) (client : ClientId) (number : ℕ) (replies : List Reply) → IsSettled s → (r : RevokesGrant client number replies s mid) → IssuesAll r.has.0.port mid new
+    → Adds s new (RevokeOf client number) (WasRevoked (Some replies))
+revocation laws s mid new client number replies t r i = revocation_by laws s mid new client number replies t (revokes_each laws s mid client number replies t.kept.ordered t.kept.accepted r) i

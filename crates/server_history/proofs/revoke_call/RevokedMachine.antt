@@ -13,17 +13,14 @@ use Rattle.ata_types.specs.declared.request.Outcome.{Outcome}
 use Rattle.ata_types.specs.declared.request.Outcome.TheVariants.{Revoked}
 use Rattle.ata_types.specs.declared.request.Reply.{Reply}
 use Rattle.ata_types.specs.declared.request.RequestId.{RequestId}
-use Rattle.adapter.specs.Device.{PortState}
 use Rattle.adapter.specs.declared.access.DeviceStep.{DeviceStep}
-use Rattle.adapter.specs.declared.tape.Entry.{Entry as TapeEntry}
 use Rattle.agreement.specs.Driven.{known}
-use Rattle.agreement.specs.Driver.{HasNoSlot, IsBacked, Known, Knows}
-use Rattle.agreement.specs.Slots.{Armed, Free, IsServed, Own, Serves, Use}
-use Rattle.block_machine.specs.Events.{AllLawful, AllMay, Belong, IsLawful, IsUnder, IssuesLast, Moment, RevokeOf, Tells, answers_of, issues_it}
+use Rattle.agreement.specs.Driver.{HasNoSlot, IsBacked, Known}
+use Rattle.block_machine.specs.Events.{AllLawful, AllMay, Belong, IsLawful, IssuesLast, Moment, RevokeOf, Tells, answers_of, issues_it}
 use Rattle.block_machine.specs.Histories.{IsReached}
 use Rattle.block_machine.specs.Left.{after}
 use Rattle.block_machine.specs.Ports.{Evidence, Ports}
-use Rattle.block_machine.specs.Rules.{HasRow, without_row}
+use Rattle.block_machine.specs.Rules.{HasRow, IsUnder, without_row}
 use Rattle.block_machine.specs.State.{Machine, Pending}
 use Rattle.block_machine.specs.Steps.{Step, Again, Answer, Revoke, after_step}
 use Rattle.host_boot.specs.Taken.{found_of}
@@ -33,7 +30,7 @@ use Rattle.request_queue.specs.declared.fate.Fate.TheVariants.{Ends, GoesAgain}
 use Rattle.server_history.specs.Below.{LawsBelow}
 use Rattle.server_history.specs.Fates.{DecidesOn, MayMeet, MeetsInMachine}
 use Rattle.server_history.specs.Mended.{holdings_of}
-use Rattle.server_history.specs.Revoked.{RevokesGrant, ends_revoked, waiting_under, with_revoked, without_grant}
+use Rattle.server_history.specs.Revoked.{without_grant}
 use Rattle.server_history.specs.Server.{AreKept, HasTrueMark, IsMachineOf, Server}
 use Rattle.server_history.proofs.any_turn.JoinedParts.{answers_append}
 use Rattle.server_history.proofs.any_turn.TurnsInOrder.{belong_join, lawful_join}
@@ -45,46 +42,12 @@ use Rattle.server_history.proofs.plain_calls.IssueRounds.{any_append, or_none}
 use Rattle.server_history.proofs.recovery_turn.MendedMachine.{deciding_leaves, fates_owners}
 use Rattle.server_history.proofs.recovery_turn.SparedPorts.{IsNoneOf, fates_apart, none_of_one}
 use Rattle.block_machine.specs.Due.{of_port}
+use Rattle.server_history.proofs.revoke_call.RevokedEach.{RevokesEach, ends_revoked, waiting_under, with_revoked}
 use Rattle.server_history.proofs.revoke_call.RevokedBook.{WaitsUnder, earlier, fit, in_requests, mark_is, of_requests, tells, true_mark, was_there}
 use Rattle.server_history.proofs.state.AnswerSteps.{IsAnswerOf, answer_told, answered_or_left, answered_stood, answers_belong, answers_issue_none, answers_lawful}
 use Rattle.server_history.proofs.state.FirstMembers.{nowhere}
 use Rattle.server_history.proofs.state.PairedLists.{at_left, at_right}
 use Rattle.server_history.proofs.state.RevokedMarks.{tells_of}
-
--- ---- what the driver knows
-
--- it speaks of no grant
-served_then : (client : ClientId) (number : ℕ) (m : Machine) (memory : ℕ → ℕ) (tape : List TapeEntry) (p : PortState) (port slot : ℕ) (u : Use) → IsServed m memory tape p port slot u
-    → IsServed (after_step m (Revoke client number)) memory tape p port slot u
-served_then client number m memory tape p port slot Free is = is
-served_then client number m memory tape p port slot Armed is = is
-served_then client number m memory tape p port slot (Own o) is = is
-served_then client number m memory tape p port slot (Serves id) is = record {
-  pending = is.pending;
-  moves = is.moves;
-  id_is = is.id_is;
-  port_is = is.port_is;
-  placed = is.placed;
-  command = is.command;
-  places = is.places;
-  told = is.told;
-  means = is.means;
-  stage = is.stage;
-}
-
-knows_then : (client : ClientId) (number : ℕ) (m : Machine) (k : Known) → Knows m k → Knows (after_step m (Revoke client number)) k
-knows_then client number m k knows = record {
-  agrees = record {
-    slot = λ port slot. served_then client number m k.device.memory k.device.tape (k.device.port port) port slot (k.uses port slot) (knows.agrees.slot port slot);
-    apart = knows.agrees.apart;
-    received = knows.agrees.received;
-    disk = λ port. let d = knows.agrees.disk port in record { present = d.present; id = d.id; size = d.size };
-    memory = knows.agrees.memory;
-    sectors = λ telling port. let d = knows.agrees.sectors telling port in record { told = d.told; tells = d.tells; same = d.same };
-    lasting = knows.agrees.lasting;
-  };
-  have = knows.have;
-}
 
 -- ---- its steps
 
@@ -100,7 +63,7 @@ pub record MayRevoke (s : Server) (m : Machine) : Type 0 where
   pub reached : IsReached m
   pub stands : IsMachineOf s m
 
-module _ (laws : LawsBelow) (s : Server) (client : ClientId) (number : ℕ) (replies : List Reply) (mid : Server) (r : RevokesGrant client number replies s mid) (m : Machine) (may_revoke : MayRevoke s m) where
+module _ (laws : LawsBelow) (s : Server) (client : ClientId) (number : ℕ) (replies : List Reply) (mid : Server) (r : RevokesEach client number replies s mid) (m : Machine) (may_revoke : MayRevoke s m) where
   abbrev is : IsMachineOf s m
   is = may_revoke.stands
 
@@ -120,24 +83,24 @@ module _ (laws : LawsBelow) (s : Server) (client : ClientId) (number : ℕ) (rep
   old = without_grant client number s
 
   abbrev port : Port
-  port = r.row.port
+  port = r.has.0.port
 
   abbrev requests : List Held
   requests = waiting_under client number old.book
 
   -- the server then
   abbrev new : Server
-  new = with_revoked client number r.now s
+  new = with_revoked client number mid.table r.now.book s
 
   -- once the row is gone
   abbrev n : Machine
   n = after_step m (Revoke client number)
 
-  pub row_there : Contains m.rows r.row
-  row_there = subst (λ (rows : List GrantRow). Contains rows r.row) (sym is.rows) r.there
+  pub row_there : Contains m.rows r.has.0
+  row_there = subst (λ (rows : List GrantRow). Contains rows r.has.0) (sym is.rows) r.has.1
 
   abbrev pub has_row : HasRow client number m.rows
-  has_row = (r.row, row_there, r.named)
+  has_row = (r.has.0, row_there, r.has.2)
 
   n_reached : IsReached n
   n_reached = laws.basic.reached m (Revoke client number ∷ []) reached (tt, has_row)
@@ -156,7 +119,7 @@ module _ (laws : LawsBelow) (s : Server) (client : ClientId) (number : ℕ) (rep
   its_port e there =
       let w = of_requests client number s e there in
       let p = at_left IsEntry old.book n.book n_book e w.0 in
-      sym p.2.port ∙ on_its_port laws.living m reached p.0 p.1 r.row row_there (r.named.0 ∙ sym w.1.client_is ∙ sym p.2.client, r.named.1 ∙ sym w.1.grant_is ∙ sym p.2.grant)
+      sym p.2.port ∙ on_its_port laws.living m reached p.0 p.1 r.has.0 row_there (r.has.2.0 ∙ sym w.1.client_is ∙ sym p.2.client, r.has.2.1 ∙ sym w.1.grant_is ∙ sym p.2.grant)
 
   pub here : (e : Held) → Contains requests e → Contains old.book e × (e.entry.port ≡ port)
   here e there = ((of_requests client number s e there).0, its_port e there)
@@ -176,7 +139,7 @@ module _ (laws : LawsBelow) (s : Server) (client : ClientId) (number : ℕ) (rep
   may_meet : MayMeet port ends_revoked requests (holdings_of port old) k n
   may_meet = record {
     reached = n_reached;
-    knows = knows_then client number m k is.knows;
+    knows = laws.slots.revoked_agrees k m client number is.knows;
     book = n_book;
     lent = is.lent;
     ordered = old_ordered;
@@ -246,8 +209,8 @@ module _ (laws : LawsBelow) (s : Server) (client : ClientId) (number : ℕ) (rep
     book = met.book;
     kept = subst (AreKept s.ports s.kept) (sym same_kept) is.kept;
     rows = leaves.0 ∙ n_rows;
-    owner = λ frame. leaves.1 frame ∙ is.owner frame ∙ ap (λ (owners : List (Option ClientId)). get_or owners frame.0 None) (sym (fates_owners ends_revoked requests replies (holdings_of port old) r.now r.meets));
-    lent = met.lent;
+    owner = λ frame. leaves.1 frame ∙ is.owner frame ∙ ap (λ (owners : List (Option ClientId)). get_or owners frame.0 None) (sym (r.lends.owners ∙ fates_owners ends_revoked requests replies (holdings_of port old) r.now r.meets));
+    lent = λ frame. met.lent frame ∙ sym (r.lends.others frame (nowhere frame));
     next = leaves.2 ∙ is.next;
   }
 
@@ -321,7 +284,7 @@ module _ (laws : LawsBelow) (s : Server) (client : ClientId) (number : ℕ) (rep
       (contains_cases (Revoke client number) [] (Answer e o) revoke))
       (Contains-append_cases met.steps (Revoke client number ∷ []) (Answer e o) there)
 
-  pub only : (e : Pending) (o : Outcome) → Contains steps (Answer e o) → Contains m.book e × (e.issued ≡ false) × IsUnder client number e.request
+  pub only : (e : Pending) (o : Outcome) → Contains steps (Answer e o) → Contains m.book e × (e.issued ≡ false) × IsUnder client number e.request.asked.client e.request.asked.grant
   only e o there =
       let first = answered_first e o there in
       let x = met.answered e o first in
@@ -331,7 +294,7 @@ module _ (laws : LawsBelow) (s : Server) (client : ClientId) (number : ℕ) (rep
         (x.2.client ∙ w.client_is, x.2.grant ∙ w.grant_is),
       )
 
-  pub all : (e : Pending) → Contains m.book e → e.issued ≡ false → IsUnder client number e.request → Contains steps (Answer e Revoked)
+  pub all : (e : Pending) → Contains m.book e → e.issued ≡ false → IsUnder client number e.request.asked.client e.request.asked.grant → Contains steps (Answer e Revoked)
   all e there waits its = Contains-append_left met.steps (Revoke client number ∷ []) (Answer e Revoked) (⊎_elim told never (answered_or_left IsRevoked n met.steps all_answers e there))
     where
       told : (x : Pending) × (o : Outcome) × Contains met.steps (Answer x o) × (x.request.id.0 ≡ e.request.id.0) → Contains met.steps (Answer e Revoked)

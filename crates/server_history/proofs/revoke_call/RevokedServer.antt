@@ -1,7 +1,7 @@
 -- What a server keeps once a grant is revoked, whether or not its adapter is on.
-use Rattle.std.proofs.Common.{refl, ℕ, true, ◌≡◌, ◌≢◌, ◌+◌, ◌≤◌, List, length, not, sym, ap, ◌∙◌, arith}
+use Rattle.std.proofs.Common.{refl, ℕ, true, ◌≡◌, ◌≢◌, ◌+◌, ◌≤◌, List, length, not, sym, ap, ◌∙◌, arith, [], None}
 use Rattle.std.specs.List.{All, Contains}
-use Rattle.std.proofs.lemmas.List.Elements.{All-contains, All-filter}
+use Rattle.std.proofs.lemmas.List.Elements.{All-contains, All-filter, All-nil}
 use Rattle.ata_types.specs.declared.Port.{Port}
 use Rattle.ata_types.specs.declared.PortState.TheVariants.{Ready as ReadyState}
 use Rattle.ata_types.specs.declared.grant.GrantRow.{GrantRow}
@@ -11,25 +11,32 @@ use Rattle.ata_types.specs.declared.request.Reply.{Reply}
 use Rattle.ata_types.specs.declared.request.RequestId.{RequestId}
 use Rattle.block_machine.specs.Due.{NoneDue, is_plain}
 use Rattle.block_machine.specs.Left.{IsRow, after}
-use Rattle.block_machine.specs.Rules.{has_name, without_row}
+use Rattle.block_machine.specs.Rules.{is_under, without_row}
 use Rattle.host_boot.specs.Taken.{found_of}
-use Rattle.request_queue.specs.Entries.{Held, all_marked_under, asks_of}
+use Rattle.request_queue.specs.Entries.{Held, all_marked_under, asks_of, IsAccepted}
 use Rattle.server_history.specs.Below.{LawsBelow}
 use Rattle.server_history.specs.Mended.{holdings_of}
-use Rattle.server_history.specs.Revoked.{RevokesGrant, ends_revoked, waiting_under, with_revoked, without_grant}
+use Rattle.server_history.specs.Revoked.{without_grant}
 use Rattle.server_history.specs.Server.{IsKept, Server, is_served, kept_at, mode_in, state_of}
 use Rattle.server_history.specs.Stalled.{IsStalled, KeepsBooks}
 use Rattle.server_history.proofs.failed_reset.StalledInstant.{booked_then}
 use Rattle.server_history.proofs.fates.RemainingBook.{IsLeft}
+use Rattle.server_history.proofs.revoke_call.RevokedEach.{RevokesEach, ends_revoked, waiting_under, with_revoked}
 use Rattle.server_history.proofs.revoke_call.RevokedMachine as revoked
 use Rattle.server_history.proofs.revoke_call.RevokedMachine.{MayRevoke}
 use Rattle.server_history.proofs.state.HistorySteps.{kept_then}
 use Rattle.server_history.proofs.state.LoanCounts.{issued_of, marked_issued}
+use Rattle.dma_frames.specs.Table.{lent_to}
+use Rattle.ata_types.specs.declared.request.Frame.{Frame}
 
-module _ (laws : LawsBelow) (s : Server) (client : ClientId) (number : ℕ) (replies : List Reply) (mid : Server) (r : RevokesGrant client number replies s mid) where
+module _ (laws : LawsBelow) (s : Server) (client : ClientId) (number : ℕ) (replies : List Reply) (mid : Server) (r : RevokesEach client number replies s mid) where
   -- grants are as a configuration may give them still
   rows_then : All IsRow s.grants → All IsRow (without_row client number s.grants)
-  rows_then rows = All-filter (λ (row : GrantRow). not (has_name client number row)) IsRow s.grants rows
+  rows_then rows = All-filter (λ (row : GrantRow). not (is_under client number row.client row.number)) IsRow s.grants rows
+
+  -- and requests as they were accepted
+  still_accepted : All (IsAccepted r.now.table) r.now.book → All (IsAccepted mid.table) r.now.book
+  still_accepted accepted = laws.still_lent r.now.table mid.table r.now.book [] None r.lends (All-nil (λ (f : Frame). lent_to r.now.table f ≡ None)) accepted
 
   -- ---- a server whose adapter is on
 
@@ -43,12 +50,12 @@ module _ (laws : LawsBelow) (s : Server) (client : ClientId) (number : ℕ) (rep
     before : Left
     before = revoked.before laws s client number replies mid r k.machine may_revoke
 
-    pub revoked_kept : IsKept (with_revoked client number r.now s)
-    revoked_kept = kept_then s s.device (without_row client number s.grants) r.now.table s.slots r.now.book s.last k (rows_then k.rows) k.on (record { telling = refl; size = refl; cap = refl; pi = refl }) k.behind left.owners k.four k.slots
+    pub revoked_kept : IsKept (with_revoked client number mid.table r.now.book s)
+    revoked_kept = kept_then s s.device (without_row client number s.grants) mid.table s.slots r.now.book s.last k (rows_then k.rows) k.on (record { telling = refl; size = refl; cap = refl; pi = refl }) k.behind (r.lends.owners ∙ left.owners) k.four k.slots
         (λ q slot used e its here same.
         let b = before e here in
         k.kinds q slot used b.0 its b.1 (sym b.2 ∙ same) ∙ ap (λ (o : Op). not (is_plain (mode_in s q) o)) (sym b.4))
-        k.commands k.alone left.accepted left.ordered (revoked.marked_then laws s client number replies mid r k.machine may_revoke)
+        k.commands k.alone (still_accepted left.accepted) left.ordered (revoked.marked_then laws s client number replies mid r k.machine may_revoke)
         (revoked.each_left laws s client number replies mid r k.machine may_revoke (λ e. e.entry.id.0 ≤ s.last) (λ e here.
         let b = before e here in
         let low = All-contains (λ (x : Held). x.entry.id.0 ≤ s.last) s.book b.0 k.handed_out b.1 in
@@ -59,10 +66,10 @@ module _ (laws : LawsBelow) (s : Server) (client : ClientId) (number : ℕ) (rep
         (after k.machine (revoked.steps laws s client number replies mid r k.machine may_revoke)) (revoked.reached_then laws s client number replies mid r k.machine may_revoke)
         (revoked.stands laws s client number replies mid r k.machine may_revoke)
       where
-        left : IsLeft r.row.port ends_revoked (waiting_under client number (without_grant client number s).book) (holdings_of r.row.port (without_grant client number s)) r.now
+        left : IsLeft r.has.0.port ends_revoked (waiting_under client number (without_grant client number s).book) (holdings_of r.has.0.port (without_grant client number s)) r.now
         left = revoked.left laws s client number replies mid r k.machine may_revoke
 
-    pub none_other : ((q : Port) → NoneDue (mode_in s q) (asks_of s.book) q) → (q : Port) → q ≢ r.row.port → NoneDue (mode_in s q) (asks_of r.now.book) q
+    pub none_other : ((q : Port) → NoneDue (mode_in s q) (asks_of s.book) q) → (q : Port) → q ≢ r.has.0.port → NoneDue (mode_in s q) (asks_of r.now.book) q
     none_other none q ne u own due =
         none q u own ((laws.same_due (mode_in s q) q (asks_of r.now.book) (asks_of s.book) u (revoked.apart laws s client number replies mid r k.machine may_revoke q ne) own).0 due)
 
@@ -75,15 +82,15 @@ module _ (laws : LawsBelow) (s : Server) (client : ClientId) (number : ℕ) (rep
     pub may_revoke_off : MayRevoke s b.machine
     may_revoke_off = record { ordered = b.ordered; accepted = b.accepted; marked = b.marked; reached = b.reached; stands = b.stands }
 
-    pub revoked_stalled : IsStalled (with_revoked client number r.now s)
+    pub revoked_stalled : IsStalled (with_revoked client number mid.table r.now.book s)
     revoked_stalled = record {
-      booked = booked_then s (without_row client number s.grants) r.now.table s.kept r.now.book b (rows_then b.rows) left.owners b.four_kept
+      booked = booked_then s (without_row client number s.grants) mid.table s.kept r.now.book b (rows_then b.rows) (r.lends.owners ∙ left.owners) b.four_kept
           (λ q.
           let fewer : issued_of q r.now.book ≤ issued_of q (all_marked_under client number s.book) = left.fewer q in
           let same = marked_issued q client number s.book in
           let were : length (kept_at s.kept q.0) + issued_of q s.book ≤ 32 = b.places q in
           omega (arith, fewer, same, were))
-          left.accepted left.ordered (revoked.marked_then laws s client number replies mid r b.machine may_revoke_off)
+          (still_accepted left.accepted) left.ordered (revoked.marked_then laws s client number replies mid r b.machine may_revoke_off)
           (revoked.each_left laws s client number replies mid r b.machine may_revoke_off (λ e. e.entry.id.0 ≤ s.last) (λ e here.
           let x = revoked.before laws s client number replies mid r b.machine may_revoke_off e here in
           let low = All-contains (λ (y : Held). y.entry.id.0 ≤ s.last) s.book x.0 b.handed_out x.1 in
@@ -97,5 +104,5 @@ module _ (laws : LawsBelow) (s : Server) (client : ClientId) (number : ℕ) (rep
       dead = t.dead;
     }
       where
-        left : IsLeft r.row.port ends_revoked (waiting_under client number (without_grant client number s).book) (holdings_of r.row.port (without_grant client number s)) r.now
+        left : IsLeft r.has.0.port ends_revoked (waiting_under client number (without_grant client number s).book) (holdings_of r.has.0.port (without_grant client number s)) r.now
         left = revoked.left laws s client number replies mid r b.machine may_revoke_off

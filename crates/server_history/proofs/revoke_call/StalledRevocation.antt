@@ -5,25 +5,29 @@ use Rattle.ata_types.specs.declared.request.Reply.{Reply}
 use Rattle.block_machine.specs.Events.{RevokeOf, WasRevoked}
 use Rattle.server_history.specs.Below.{LawsBelow}
 use Rattle.server_history.specs.Histories.{AddsStalled}
-use Rattle.server_history.specs.Revoked.{RevokesGrant, with_revoked}
+use Rattle.server_history.specs.Revoked.{RevokesGrant}
 use Rattle.server_history.specs.Server.{Server}
 use Rattle.server_history.specs.Stalled.{IsStalled}
 use Rattle.server_history.proofs.failed_reset.StalledCalls.{goes}
 use Rattle.server_history.proofs.failed_reset.StalledInstant.{holds_off, never_ready}
 use Rattle.server_history.proofs.revoke_call.Revocation.{quiet_event}
+use Rattle.server_history.proofs.revoke_call.RevokedEach.{RevokesEach, revokes_each, with_revoked}
 use Rattle.server_history.proofs.revoke_call.RevokedServer.{revoked_stalled}
 
 pub stalled_revocation : LawsBelow → (s new : Server) (client : ClientId) (number : ℕ) (replies : List Reply) → IsStalled s → RevokesGrant client number replies s new
     → AddsStalled s new (RevokeOf client number) (WasRevoked (Some replies))
-stalled_revocation laws s new client number replies t r = subst (λ (n : Server). AddsStalled s n (RevokeOf client number) (WasRevoked (Some replies))) (sym r.server) (record {
+stalled_revocation laws s new client number replies t r = subst (λ (n : Server). AddsStalled s n (RevokeOf client number) (WasRevoked (Some replies))) (sym each.server) (record {
   stalled = off;
-  adds = quiet_event laws s client number replies new r
-      (holds_off (with_revoked client number r.now s) off.booked off.dead off.off)
+  adds = quiet_event laws s client number replies new each
+      (holds_off (with_revoked client number new.table each.now.book s) off.booked off.dead off.off)
       (goes laws s t s.device t)
-      (never_ready s t.dead r.row.port.0)
+      (never_ready s t.dead each.has.0.port.0)
       (λ q ready. absurd (never_ready s t.dead q.0 ready))
       (λ m was is. record { ordered = t.booked.ordered; accepted = t.booked.accepted; marked = t.booked.marked; reached = was; stands = is });
 })
   where
-    off : IsStalled (with_revoked client number r.now s)
-    off = revoked_stalled laws s client number replies new r t
+    each : RevokesEach client number replies s new
+    each = revokes_each laws s new client number replies t.booked.ordered t.booked.accepted r
+
+    off : IsStalled (with_revoked client number new.table each.now.book s)
+    off = revoked_stalled laws s client number replies new each t

@@ -1,5 +1,5 @@
 -- How many loans of a port may be kept: one of each of its requests that is issued, beside those that are.
-use Rattle.std.proofs.Common.{ℕ, ◌≡◌, ◌≤◌, ◌+◌, ◌==◌, ◌&&◌, Bool, true, false, cond, if◌then◌else◌, List, [], ◌∷◌, map, refl, sym, ap, ◌∙◌, subst, arith, le_refl, ⊎_elim}
+use Rattle.std.proofs.Common.{ℕ, ◌≡◌, ◌≤◌, ◌+◌, Bool, true, false, cond, if◌then◌else◌, List, [], ◌∷◌, map, refl, sym, ap, ◌∙◌, subst, arith, le_refl, ⊎_elim}
 use Rattle.std.specs.Prelude.{count_by, filter}
 use Rattle.std.specs.List.{Contains}
 use Rattle.std.proofs.lemmas.Bool.{cond-false, false≢true}
@@ -15,6 +15,7 @@ use Rattle.request_queue.specs.Fates.{keeps_loan}
 use Rattle.request_queue.specs.declared.Entry.{Entry}
 use Rattle.server_history.specs.Mended.{requests_of}
 use Rattle.server_history.proofs.state.FirstMembers.{nowhere}
+use Rattle.block_machine.specs.Rules.{is_under}
 
 -- how many requests of the port are issued
 abbrev pub issued_of : Port → List Held → ℕ
@@ -85,7 +86,7 @@ pub marked_issued : (port : Port) (client : ClientId) (grant : ℕ) (book : List
 marked_issued port client grant [] = refl
 marked_issued port client grant (x ∷ book) =
     let rest = marked_issued port client grant book in
-    let one = by (x.entry.client.0 == client.0 && x.entry.grant == grant) in
+    let one = by (is_under client grant x.entry.client x.entry.grant) in
     let left = issued_first port (record x { entry = marked_under client grant x.entry }) (all_marked_under client grant book) in
     let right = issued_first port x book in
     omega (arith, rest, one, left, right)

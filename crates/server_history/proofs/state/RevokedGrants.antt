@@ -3,28 +3,24 @@ use Rattle.std.proofs.Common.{ℕ, ◌≡◌, ◌∙◌, ◌&&◌, ◌==◌, Boo
 use Rattle.std.proofs.lemmas.Bool.{false≢true}
 use Rattle.ata_types.specs.declared.grant.GrantRow.{GrantRow}
 use Rattle.ata_types.specs.declared.request.ClientId.{ClientId}
-use Rattle.block_machine.specs.Rules.{Names, has_name, without_row}
+use Rattle.block_machine.specs.Rules.{Names, is_under, without_row}
 use Rattle.request_queue.specs.Entries.{Held, marked_under, waits_under}
 use Rattle.request_queue.specs.declared.Entry.{Entry}
 use Rattle.server_history.specs.Server.{HasTrueMark, TellsGrant}
 use Rattle.server_history.proofs.state.ListMembers.{filter_in, in_filter}
 
--- the request was accepted under this grant, as a test
-abbrev pub under : ClientId → ℕ → Entry → Bool
-under client number r = r.client.0 == client.0 && r.grant == number
-
 module _ (rows : List GrantRow) (client : ClientId) (number : ℕ) where
   abbrev stays : GrantRow → Bool
-  stays row = not (has_name client number row)
+  stays row = not (is_under client number row.client row.number)
 
   -- a row is the one that goes just if a request is under that grant that names it
-  row_under : (r : Entry) (row : GrantRow) → Names r.client r.grant row → has_name client number row ≡ under client number r
+  row_under : (r : Entry) (row : GrantRow) → Names r.client r.grant row → is_under client number row.client row.number ≡ is_under client number r.client r.grant
   row_under r row named = λ i. (named.0 i).0 == client.0 && named.1 i == number
 
   pub tells_then : (r : Entry) → TellsGrant rows r → TellsGrant (without_row client number rows) (marked_under client number r)
-  tells_then r tells = by (under client number r) refl
+  tells_then r tells = by (is_under client number r.client r.grant) refl
     where
-      by : (b : Bool) → under client number r ≡ b → TellsGrant (without_row client number rows) (cond b (record r { revoked = true }) r)
+      by : (b : Bool) → is_under client number r.client r.grant ≡ b → TellsGrant (without_row client number rows) (cond b (record r { revoked = true }) r)
       by true is = (
         λ plain. absurd (false≢true (sym plain)),
         λ has. absurd (false≢true (sym (ap not (row_under r has.0 has.2 ∙ is)) ∙ (filter_in stays rows has.0 has.1).1)),
@@ -36,9 +32,9 @@ module _ (rows : List GrantRow) (client : ClientId) (number : ℕ) where
 
   -- one that isn't answered, and waits, isn't under it
   waits_then : (r : Entry) → waits_under client number r ≡ false → (r.issued ≡ false → r.revoked ≡ false) → (marked_under client number r).issued ≡ false → (marked_under client number r).revoked ≡ false
-  waits_then r left waiting = by (under client number r) refl
+  waits_then r left waiting = by (is_under client number r.client r.grant) refl
     where
-      by : (b : Bool) → under client number r ≡ b → (cond b (record r { revoked = true }) r).issued ≡ false → (cond b (record r { revoked = true }) r).revoked ≡ false
+      by : (b : Bool) → is_under client number r.client r.grant ≡ b → (cond b (record r { revoked = true }) r).issued ≡ false → (cond b (record r { revoked = true }) r).revoked ≡ false
       by true is waits = absurd (false≢true (sym left ∙ (λ i. not (waits i) && is i)))
       by false is waits = waiting waits
 

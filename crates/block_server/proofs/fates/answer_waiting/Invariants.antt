@@ -1,11 +1,13 @@
-use Rattle.std.proofs.Common.{drop}
+use Rattle.std.proofs.Common.{drop, filter}
 use Rattle.block_server.specs.Fates.{holding}
 use Rattle.block_server.proofs.Settling.{SoFar}
-use Rattle.server_history.specs.Revoked.{ends_revoked, waiting_under}
+use Rattle.ata_types.specs.declared.request.Outcome.TheVariants.{Revoked}
+use Rattle.request_queue.specs.Entries.{Held, waits_under}
+use Rattle.request_queue.specs.declared.fate.Fate.TheVariants.{Ends}
 use Rattle.dma_frames.specs.Loan.{Lending}
 use Rattle.std.proofs.Common.{List}
 use Rattle.block_server.proofs.fates.answer_waiting.Given as goal
 
 abbrev pub invariant-loop-place : goal.invariant-loop-place
-invariant-loop-place l = (kept : List Lending) → SoFar ends_revoked (waiting_under l.fn.client l.fn.number l.fn.book) (holding l.fn.book l.fn.table kept) l.fn.replies.items
-    (drop l.place (waiting_under l.fn.client l.fn.number l.fn.book)) (holding l.book l.table kept) l.replies.items
+invariant-loop-place l = (kept : List Lending) → SoFar (λ e. Ends Revoked) (filter (λ (e : Held). waits_under l.fn.client l.fn.number e.entry) l.fn.book) (holding l.fn.book l.fn.table kept) l.fn.replies.items
+    (drop l.place (filter (λ (e : Held). waits_under l.fn.client l.fn.number e.entry) l.fn.book)) (holding l.book l.table kept) l.replies.items

@@ -3,6 +3,7 @@ use Rattle.server_history.proofs.lawful.slot_laws_hold.Goals as goal
 pub returns : goal.returns
 returns c = record {
   accepted_agrees = c.accepting_agrees.ensures;
+  revoked_agrees = c.revoking_agrees.ensures;
   parked_agrees = c.parking_agrees.ensures;
   parked_frees = c.parking_frees.ensures.frees;
   ended_clear = c.ended_is_clear.ensures.clears;

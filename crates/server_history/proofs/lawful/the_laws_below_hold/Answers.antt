@@ -30,6 +30,7 @@ returns c = record {
   still_issued = c.accepted_requests_stay.ensures.issued;
   still_requeued = c.accepted_requests_stay.ensures.requeued;
   still_marked = c.accepted_requests_stay.ensures.revoked;
+  answered_each = c.answers_of_one_outcome_are_one_change.ensures.one_by_one;
   backed_none = c.backing_composes.ensures.none;
   backed_own = c.own_steps_are_backed.ensures;
   backed_parts = c.backing_composes.ensures.parts;

@@ -2,6 +2,7 @@ use Rattle.std.proofs.Common.{sym, subst}
 use Rattle.server_history.proofs.plain_calls.Acceptances.{accept_kept}
 use Rattle.server_history.proofs.healthy_turn.OneAnswer.{answer_kept}
 use Rattle.server_history.proofs.plain_calls.OneIssue.{issue_kept}
+use Rattle.server_history.proofs.revoke_call.RevokedEach.{revokes_each}
 use Rattle.server_history.proofs.revoke_call.RevokedServer.{revoked_kept}
 use Rattle.server_history.specs.Server.{IsKept}
 use Rattle.server_history.proofs.laws.requests_keep.Goals as goal
@@ -16,4 +17,6 @@ pub returns-clause-issued : goal.returns-clause-issued
 returns-clause-issued c s new port id k one = issue_kept c.the_laws_below_hold.ensures s new port id k one
 
 pub returns-clause-revoked : goal.returns-clause-revoked
-returns-clause-revoked c s new client number replies k r = subst IsKept (sym r.server) (revoked_kept c.the_laws_below_hold.ensures s client number replies new r k)
+returns-clause-revoked c s new client number replies k r =
+    let each = revokes_each c.the_laws_below_hold.ensures s new client number replies k.ordered k.accepted r in
+    subst IsKept (sym each.server) (revoked_kept c.the_laws_below_hold.ensures s client number replies new each k)

@@ -1,23 +1,26 @@
-use Rattle.std.proofs.Common.{Bool, true, false, ◌≡◌, List, None, Some, refl, sym, ap, ◌∙◌, subst, slice_index_or, slice_set}
+use Rattle.std.proofs.Common.{Bool, true, false, ◌≡◌, List, None, Some, refl, sym, ap, ◌∙◌, subst, slice_index_or, slice_set, [], ⊎_elim}
 use Rattle.ata_types.specs.declared.grant.GrantRow.{GrantRow}
 use Rattle.block_machine.specs.Events.{RevokeOf, WasRevoked}
 use Rattle.dma_frames.specs.Table.{Table}
-use Rattle.request_queue.specs.Entries.{Held, all_marked_under}
+use Rattle.block_machine.specs.Due.{due_of}
+use Rattle.block_machine.specs.declared.due.Mode.{Mode}
+use Rattle.request_queue.specs.Entries.{Held, all_marked_under, asks_of}
 use Rattle.server_history.specs.Histories.{Adds, AddsEvent, AddsStalled, HoldsBy}
-use Rattle.server_history.specs.Revoked.{RevokesAndIssues, RevokesGrant}
+use Rattle.server_history.specs.Revoked.{RevokesGrant}
+use Rattle.server_history.specs.Served.{IssuesAll}
 use Rattle.server_history.specs.Server.{IsKept, IsSettled, Server}
 use Rattle.host_boot.specs.declared.Found.TheVariants.{Unserved}
 use Rattle.block_server.specs.Ports.{LendsFound}
 use Rattle.server_history.specs.Stalled.{IsStalled, KeepsBooks}
 use Rattle.block_server.specs.Fates.{IsSound}
-use Rattle.block_server.specs.Revoking.{RevokesBy, RevokesOn}
+use Rattle.block_server.specs.Revoking.{RevokesAndIssues}
 use Rattle.block_server.specs.Seen.{seen}
 use Rattle.block_server.specs.View.{ServerView, server_of}
 use Rattle.block_server.proofs.Revoking as revoking
 use Rattle.block_server.proofs.Standing.{holds_either}
 use Rattle.block_server.proofs.server.Server.revoke_into.Given.{Over}
 use Rattle.block_server.proofs.server.Server.revoke_into.Goals as goal
-use Rattle.block_server.proofs.server.Server.revoke_into.Goals.{After-found-2-1, After-issue_where_ready, Then-self}
+use Rattle.block_server.proofs.server.Server.revoke_into.Goals.{After-index-self-place, After-issue_where_ready, Then-self}
 
 pub returns-in_default-clause-adds : goal.returns-in_default-clause-adds
 returns-in_default-clause-adds g c =
@@ -45,7 +48,7 @@ answer_waiting-requires-clause-sound g c =
 abbrev after_off : (g : Over) (c : Then-self g) → ServerView g.row.A.Denot
 after_off g c = record (seen c.self.inside) { grants = c.revoke.new.self; table = c.answer_waiting.new.table; book = c.answer_waiting.new.book }
 
-revoked_off : (g : Over) (c : Then-self g) → RevokesGrant c.args.client c.args.number c.answer_waiting.new.replies.items (server_of g.A.Adapter.device (seen c.self.inside)) (server_of g.A.Adapter.device (after_off g c))
+abbrev revoked_off : (g : Over) (c : Then-self g) → RevokesGrant c.args.client c.args.number c.answer_waiting.new.replies.items (server_of g.A.Adapter.device (seen c.self.inside)) (server_of g.A.Adapter.device (after_off g c))
 revoked_off g c =
     revoking.revokes (server_of g.A.Adapter.device (seen c.self.inside)) c.args.client c.args.number c.in-Some.row c.revoke.new.self c.in-Some.ensures.found c.revoke-2.new.self c.revoke-2.ensures
     c.deref_mut.result.now c.deref_mut.ensures.value c.clear.new.self.items c.clear.ensures c.answer_waiting.new.book c.answer_waiting.new.table c.answer_waiting.new.replies.items c.answer_waiting.ensures
@@ -63,9 +66,16 @@ invariant_of-self-then-self g c = subst (λ (b : Bool). HoldsBy b (server_of g.A
 pub returns-then-self-clause-revokes : goal.returns-then-self-clause-revokes
 returns-then-self-clause-revokes g c =
     let device = g.A.Adapter.device in
-    let P : ServerView g.row.A.Denot → Type 0 = λ v. RevokesBy v.stuck device c.args.client c.args.number c.answer_waiting.new.replies.items v (after_off g c) in
-    let Q : Bool → Type 0 = λ b. RevokesBy b device c.args.client c.args.number c.answer_waiting.new.replies.items (seen c.self.inside) (after_off g c) in
-    (subst P c.self.view_is (subst Q (sym c.if-self.true) (revoked_off g c, refl)), ap (λ (v : ServerView g.row.A.Denot). v.stuck) c.self.view_is)
+    let P : ServerView g.row.A.Denot → Type 0 = λ v. RevokesAndIssues device c.args.client c.args.number c.answer_waiting.new.replies.items v (after_off g c) in (
+      subst P c.self.view_is (record {
+        mid = server_of device (after_off g c);
+        revokes = revoked_off g c;
+        issues = λ on. absurd (let z : true ≡ false = sym c.if-self.true ∙ on in cc);
+        stalled = λ _. refl;
+        quiet = λ _. refl;
+      }),
+      ap (λ (v : ServerView g.row.A.Denot). v.stuck) c.self.view_is,
+    )
 
 pub returns-then-self-clause-adds : goal.returns-then-self-clause-adds
 returns-then-self-clause-adds g c =
@@ -76,22 +86,22 @@ returns-then-self-clause-adds g c =
 -- ---- while the adapter is on
 
 -- the server once those that waited are told
-abbrev mid_on : (g : Over) (c : After-found-2-1 g) → Server
+abbrev mid_on : (g : Over) (c : After-index-self-place g) → Server
 mid_on g c = record (server_of g.A.Adapter.device (seen c.self.inside)) { grants = c.revoke.new.self; table = c.answer_waiting.new.table; book = c.answer_waiting.new.book }
 
-is_on : (g : Over) (c : After-found-2-1 g) → IsSettled (server_of g.A.Adapter.device (seen c.self.inside))
+is_on : (g : Over) (c : After-index-self-place g) → IsSettled (server_of g.A.Adapter.device (seen c.self.inside))
 is_on g c = holds_either c.self.inside.stuck c.self.invariant (λ _ settled. settled) (λ off _. absurd (let z : true ≡ false = sym off ∙ c.if-self.false in cc))
 
-revoked_on : (g : Over) (c : After-found-2-1 g) → RevokesGrant c.args.client c.args.number c.answer_waiting.new.replies.items (server_of g.A.Adapter.device (seen c.self.inside)) (mid_on g c)
+abbrev revoked_on : (g : Over) (c : After-index-self-place g) → RevokesGrant c.args.client c.args.number c.answer_waiting.new.replies.items (server_of g.A.Adapter.device (seen c.self.inside)) (mid_on g c)
 revoked_on g c =
     revoking.revokes (server_of g.A.Adapter.device (seen c.self.inside)) c.args.client c.args.number c.in-Some.row c.revoke.new.self c.in-Some.ensures.found c.revoke-2.new.self c.revoke-2.ensures
     c.deref_mut.result.now c.deref_mut.ensures.value c.clear.new.self.items c.clear.ensures c.answer_waiting.new.book c.answer_waiting.new.table c.answer_waiting.new.replies.items c.answer_waiting.ensures
 
 -- it goes on
-keeps_on : (g : Over) (c : After-found-2-1 g) → IsKept (mid_on g c)
+keeps_on : (g : Over) (c : After-index-self-place g) → IsKept (mid_on g c)
 keeps_on g c = c.requests_keep.ensures.revoked (server_of g.A.Adapter.device (seen c.self.inside)) (mid_on g c) c.args.client c.args.number c.answer_waiting.new.replies.items (is_on g c).kept (revoked_on g c)
 
-lends_on : (g : Over) (c : After-found-2-1 g)
+lends_on : (g : Over) (c : After-index-self-place g)
     → LendsFound (mid_on g c) (g.A.Adapter.device c.self.inside.adapter) c.answer_waiting.new.book (slice_index_or c.self.inside.slots c.from-place.result c.index-self-place.result) c.in-Some.row.port
     (slice_index_or c.self.inside.modes c.from-place.result (record { queued = false; usable = 0 })) (slice_index_or c.self.inside.ports c.from-place.result Unserved)
 lends_on g c =
@@ -100,7 +110,9 @@ lends_on g c =
     (is_on g c).kept (keeps_on g c) c.from-place.result c.from-place.ensures c.index-self-place.result (record { queued = false; usable = 0 })
 
 pub issue_where_ready-requires : goal.issue_where_ready-requires
-issue_where_ready-requires g c = record { lends = (mid_on g c, lends_on g c) }
+issue_where_ready-requires g c =
+    let it = (goal.at.issue_where_ready-requires g c).After-index-self-place in
+    record { lends = (mid_on g it, lends_on g it) }
 
 -- the server then
 abbrev after_on : (g : Over) (c : After-issue_where_ready g) → ServerView g.row.A.Denot
@@ -113,10 +125,10 @@ after_on g c = record (seen c.self.inside) {
 }
 
 -- the moment before that
-abbrev before : (g : Over) (c : After-issue_where_ready g) → After-found-2-1 g
-before g c = (goal.at.returns-clause-revokes g c).After-found-2-1
+abbrev before : (g : Over) (c : After-issue_where_ready g) → After-index-self-place g
+before g c = (goal.at.returns-clause-revokes g c).After-index-self-place
 
-abbrev issued_on : (g : Over) (c : After-issue_where_ready g) → RevokesAndIssues c.args.client c.args.number c.answer_waiting.new.replies.items (server_of g.A.Adapter.device (seen c.self.inside)) (server_of g.A.Adapter.device (after_on g c))
+issued_on : (g : Over) (c : After-issue_where_ready g) → IssuesAll c.in-Some.row.port (mid_on g (before g c)) (server_of g.A.Adapter.device (after_on g c))
 issued_on g c =
     revoking.issued (server_of g.A.Adapter.device (seen c.self.inside)) c.args.client c.args.number c.in-Some.row c.revoke.new.self c.in-Some.ensures.found c.revoke-2.new.self c.revoke-2.ensures
     c.deref_mut.result.now c.deref_mut.ensures.value c.clear.new.self.items c.clear.ensures c.answer_waiting.new.book c.answer_waiting.new.table c.answer_waiting.new.replies.items c.answer_waiting.ensures
@@ -125,28 +137,28 @@ issued_on g c =
 
 -- it adds an event
 added_on : (g : Over) (c : After-issue_where_ready g) → Adds (server_of g.A.Adapter.device (seen c.self.inside)) (server_of g.A.Adapter.device (after_on g c)) (RevokeOf c.args.client c.args.number) (WasRevoked (Some c.answer_waiting.new.replies.items))
-added_on g c = c.revocations_add.ensures (server_of g.A.Adapter.device (seen c.self.inside)) (server_of g.A.Adapter.device (after_on g c)) c.args.client c.args.number c.answer_waiting.new.replies.items (is_on g (before g c)) (issued_on g c)
+added_on g c = c.revocations_add.ensures (server_of g.A.Adapter.device (seen c.self.inside)) (mid_on g (before g c)) (server_of g.A.Adapter.device (after_on g c)) c.args.client c.args.number c.answer_waiting.new.replies.items (is_on g (before g c)) (revoked_on g (before g c)) (issued_on g c)
 
 pub invariant_of-self-2 : goal.invariant_of-self-2
 invariant_of-self-2 g c = subst (λ (b : Bool). HoldsBy b (server_of g.A.Adapter.device (after_on g c))) (sym c.if-self.false) (added_on g c).settled
 
 -- and no access was made where nothing was due
-revokes_on : (g : Over) (c : After-issue_where_ready g) → RevokesOn g.A.Adapter.device c.args.client c.args.number c.answer_waiting.new.replies.items (seen c.self.inside) (after_on g c)
+revokes_on : (g : Over) (c : After-issue_where_ready g) → RevokesAndIssues g.A.Adapter.device c.args.client c.args.number c.answer_waiting.new.replies.items (seen c.self.inside) (after_on g c)
 revokes_on g c = record {
-  revokes = issued_on g c;
-  same = λ none. c.issue_where_ready.ensures.none (
-      revoking.due_said (server_of g.A.Adapter.device (seen c.self.inside)) c.args.client c.args.number c.in-Some.row c.revoke.new.self c.in-Some.ensures.found c.revoke-2.new.self c.revoke-2.ensures
-      c.deref_mut.result.now c.deref_mut.ensures.value c.clear.new.self.items c.clear.ensures c.answer_waiting.new.book c.answer_waiting.new.table c.answer_waiting.new.replies.items c.answer_waiting.ensures
-      (is_on g (before g c)).kept (keeps_on g (before g c)) c.from-place.result c.from-place.ensures (g.A.Adapter.device c.issue_where_ready.new.adapter) c.issue_where_ready.new.book c.issue_where_ready.new.slots
-      (c.issue_where_ready.ensures.issues (mid_on g (before g c)) (lends_on g (before g c))) (slice_index_or c.self.inside.modes c.from-place.result (record { queued = false; usable = 0 })) (lends_on g (before g c)).mode_is none);
+  mid = mid_on g (before g c);
+  revokes = revoked_on g (before g c);
+  issues = λ _. issued_on g c;
+  stalled = λ off. absurd (let z : true ≡ false = sym off ∙ c.if-self.false in cc);
+  quiet = λ why. ⊎_elim
+      (λ off. absurd (let z : true ≡ false = sym off ∙ c.if-self.false in cc))
+      (λ none. c.issue_where_ready.ensures.none (subst (λ (m : Mode). due_of m c.in-Some.row.port (asks_of c.answer_waiting.new.book) ≡ []) (lends_on g (before g c)).mode_is none))
+      why;
 }
 
 pub returns-clause-revokes : goal.returns-clause-revokes
 returns-clause-revokes g c =
-    let device = g.A.Adapter.device in
-    let P : ServerView g.row.A.Denot → Type 0 = λ v. RevokesBy v.stuck device c.args.client c.args.number c.answer_waiting.new.replies.items v (after_on g c) in
-    let Q : Bool → Type 0 = λ b. RevokesBy b device c.args.client c.args.number c.answer_waiting.new.replies.items (seen c.self.inside) (after_on g c) in
-    (subst P c.self.view_is (subst Q (sym c.if-self.false) (revokes_on g c)), ap (λ (v : ServerView g.row.A.Denot). v.stuck) c.self.view_is)
+    let P : ServerView g.row.A.Denot → Type 0 = λ v. RevokesAndIssues g.A.Adapter.device c.args.client c.args.number c.answer_waiting.new.replies.items v (after_on g c) in
+    (subst P c.self.view_is (revokes_on g c), ap (λ (v : ServerView g.row.A.Denot). v.stuck) c.self.view_is)
 
 pub returns-clause-adds : goal.returns-clause-adds
 returns-clause-adds g c =

@@ -1,0 +1,219 @@
+-- Requests of a book that are answered one after another, all with one outcome: what comes of it at once, and that it may come.
+use Rattle.std.proofs.Common.{ℕ, zero, suc, ◌≡◌, ◌≢◌, ◌<◌, Bool, true, false, not, filter, get_or, List, [], ◌∷◌, ◌++◌, map, set, Option, None, refl, sym, ap, ◌∙◌, subst, arith, inl, inr, ◌⊎◌, ⊎_elim, eq-eqb}
+use Rattle.std.specs.List.{All, AllPairs, Contains}
+use Rattle.std.proofs.lemmas.Bool.{cases_eq, cond-false, cond-true, ne_eqb}
+use Rattle.std.proofs.lemmas.List.{get_or-set_other}
+use Rattle.std.proofs.lemmas.List.Elements.{All-contains, All-cons, All-filter, All-contains_itself, All-nil}
+use Rattle.std.proofs.lemmas.List.Kept.{AllPairs-filter}
+use Rattle.ata_types.specs.declared.request.Frame.{Frame}
+use Rattle.ata_types.specs.declared.request.Outcome.{Outcome}
+use Rattle.ata_types.specs.declared.request.Reply.{Reply}
+use Rattle.ata_types.specs.declared.request.RequestId.{RequestId}
+use Rattle.dma_frames.specs.Table.{LendsOnly, Table, lent_to}
+use Rattle.request_queue.specs.Entries.{GivesBack, Held, IsAccepted, IsEarlier, IsInOrder, Stands, has_id, without}
+use Rattle.request_queue.specs.Fates.{AnswersAll, EndsLoan, Holdings, MeetFates, keeps_loan, reply_to}
+use Rattle.request_queue.specs.declared.Entry.{Entry}
+use Rattle.request_queue.specs.declared.fate.Fate.TheVariants.{Ends}
+use Rattle.request_queue.proofs.Ending.{more_given, none_given, ordered_rest, stand_still}
+use Rattle.request_queue.proofs.Members.{contains_cases, contains_here, contains_none, contains_there}
+
+-- ---- the book
+
+-- the requests but for these
+abbrev withouts : List Held → List Held → List Held
+withouts [] book = book
+withouts (e ∷ es) book = withouts es (without e.entry.id book)
+
+-- one that is none of these stays first
+stays_first : (es : List Held) (x : Held) (xs : List Held) → ((e : Held) → Contains es e → x.entry.id.0 ≢ e.entry.id.0) → withouts es (x ∷ xs) ≡ x ∷ withouts es xs
+stays_first [] x xs other = refl
+stays_first (e ∷ es) x xs other =
+    ap (withouts es) (cond-true (not (has_id e.entry.id x)) (x ∷ without e.entry.id xs) (without e.entry.id xs) (ap not (ne_eqb x.entry.id.0 e.entry.id.0 (other e (contains_here e es e refl)))))
+    ∙ stays_first es x (without e.entry.id xs) (λ y there. other y (contains_there e es y there))
+
+-- none has the id
+none_without : (id : RequestId) (xs : List Held) → ((x : Held) → Contains xs x → x.entry.id.0 ≢ id.0) → without id xs ≡ xs
+none_without id [] other = refl
+none_without id (x ∷ xs) other =
+    cond-true (not (has_id id x)) (x ∷ without id xs) (without id xs) (ap not (ne_eqb x.entry.id.0 id.0 (other x (contains_here x xs x refl))))
+    ∙ ap (λ (ys : List Held). x ∷ ys) (none_without id xs (λ y there. other y (contains_there x xs y there)))
+
+first_goes : (x : Held) (xs : List Held) → ((y : Held) → Contains xs y → y.entry.id.0 ≢ x.entry.id.0) → without x.entry.id (x ∷ xs) ≡ xs
+first_goes x xs other =
+    cond-false (not (has_id x.entry.id x)) (x ∷ without x.entry.id xs) (without x.entry.id xs) (ap not (eq-eqb x.entry.id.0 x.entry.id.0 refl))
+    ∙ none_without x.entry.id xs other
+
+module _ (passes : Entry → Bool) where
+  abbrev those : List Held → List Held
+  those book = filter (λ (e : Held). passes e.entry) book
+
+  abbrev others : List Held → List Held
+  others book = filter (λ (e : Held). not (passes e.entry)) book
+
+  those_in : (book : List Held) (e : Held) → Contains (those book) e → Contains book e
+  those_in book e there = All-contains (Contains book) (those book) e (All-filter (λ (x : Held). passes x.entry) (Contains book) book (All-contains_itself book)) there
+
+  later_differs : (x : Held) (xs : List Held) → AllPairs IsEarlier (x ∷ xs) → (y : Held) → Contains xs y → x.entry.id.0 < y.entry.id.0
+  later_differs x xs ordered y there = All-contains (IsEarlier x) xs y (λ i d small. ordered 0 (suc i) d (omega arith) (omega (arith, small))) there
+
+  -- but for those that pass, the others are left
+  left_over : (book : List Held) → AllPairs IsEarlier book → withouts (those book) book ≡ others book
+  left_over [] ordered = refl
+  left_over (x ∷ xs) ordered = by (passes x.entry) refl (left_over xs (ordered_rest x xs ordered))
+    where
+      by : (b : Bool) → passes x.entry ≡ b → withouts (those xs) xs ≡ others xs → withouts (those (x ∷ xs)) (x ∷ xs) ≡ others (x ∷ xs)
+      by true is rest =
+          ap (λ (es : List Held). withouts es (x ∷ xs)) (cond-true (passes x.entry) (x ∷ those xs) (those xs) is)
+          ∙ (ap (withouts (those xs)) (first_goes x xs (λ y there. let late = later_differs x xs ordered y there in λ same. omega (arith, late, same)))
+          ∙ (rest ∙ sym (cond-false (not (passes x.entry)) (x ∷ others xs) (others xs) (ap not is))))
+      by false is rest =
+          ap (λ (es : List Held). withouts es (x ∷ xs)) (cond-false (passes x.entry) (x ∷ those xs) (those xs) is)
+          ∙ (stays_first (those xs) x xs (λ y there. let late = later_differs x xs ordered y (those_in xs y there) in λ same. omega (arith, late, same))
+          ∙ (ap (λ (ys : List Held). x ∷ ys) rest ∙ sym (cond-true (not (passes x.entry)) (x ∷ others xs) (others xs) (ap not is))))
+
+-- ---- what came of it
+
+module _ (o : Outcome) (back : (e : Entry) → keeps_loan o e ≡ false) where
+  abbrev replies_to : List Held → List Reply
+  replies_to es = map (λ (e : Held). reply_to e o) es
+
+  -- what comes of these, one after another
+  record AllMet (es : List Held) (replies : List Reply) (old new : Holdings) : Type 0 where
+    told : replies ≡ replies_to es
+    left : new.book ≡ withouts es old.book
+    given : GivesBack old.table new.table es
+    kept : new.kept ≡ old.kept
+
+  all_met : (es : List Held) (replies : List Reply) (old new : Holdings) → AllPairs IsEarlier es → All (Stands old.table) es → MeetFates (λ e. Ends o) es replies old new → AllMet es replies old new
+  all_met [] replies old new ordered stands (none, same) = record {
+    told = none;
+    left = ap (λ (h : Holdings). h.book) same;
+    given = subst (λ (h : Holdings). GivesBack old.table h.table []) (sym same) (none_given old.table);
+    kept = ap (λ (h : Holdings). h.kept) same;
+  }
+  all_met (e ∷ es) replies old new ordered stands (mid, its, later, split, meets, rest) =
+      let ends : EndsLoan false e old mid = subst (λ (b : Bool). EndsLoan b e old mid) (back e.entry) meets.2 in
+      let still = stand_still old.table mid.table e es ends.1 stands ordered in
+      let r = all_met es later mid new (ordered_rest e es ordered) still rest in
+      record {
+        told = split ∙ (λ i. meets.0 i ++ r.told i);
+        left = r.left ∙ ap (withouts es) meets.1;
+        given = more_given old.table mid.table new.table e es ends.1 still r.given;
+        kept = r.kept ∙ ends.0;
+      }
+
+  -- ---- that it may come
+
+  -- these frames lent to none
+  abbrev give : List Frame → Table → Table
+  give [] t = t
+  give (f ∷ fs) t = give fs (record t { lent = set t.lent f.0 None })
+
+  given_one : (t : Table) (f : Frame) → lent_to (record t { lent = set t.lent f.0 None }) f ≡ None
+  given_one t f = slice_none t.lent f.0
+    where
+      slice_none : (lent : List (Option RequestId)) (i : ℕ) → get_or (set lent i None) i None ≡ None
+      slice_none [] i = refl
+      slice_none (x ∷ lent) zero = refl
+      slice_none (x ∷ lent) (suc i) = slice_none lent i
+
+  given_other : (t : Table) (f g : Frame) → g.0 ≢ f.0 → lent_to (record t { lent = set t.lent f.0 None }) g ≡ lent_to t g
+  given_other t f g other = get_or-set_other t.lent f.0 g.0 None None other
+
+  stays_given : (fs : List Frame) (t : Table) (g : Frame) → lent_to t g ≡ None → lent_to (give fs t) g ≡ None
+  stays_given [] t g none = none
+  stays_given (f ∷ fs) t g none =
+      stays_given fs (record t { lent = set t.lent f.0 None }) g
+      (⊎_elim
+      (λ (same : g.0 ≡ f.0). ap (λ (n : ℕ). get_or (set t.lent f.0 None) n None) same ∙ given_one t f)
+      (λ (other : g.0 ≢ f.0). given_other t f g other ∙ none)
+      (cases_eq g.0 f.0))
+
+  all_given : (fs : List Frame) (t : Table) → All (λ (f : Frame). lent_to (give fs t) f ≡ None) fs
+  all_given [] t = All-nil (λ (f : Frame). lent_to t f ≡ None)
+  all_given (f ∷ fs) t = All-cons (λ (g : Frame). lent_to (give (f ∷ fs) t) g ≡ None) f fs (stays_given fs (record t { lent = set t.lent f.0 None }) f (given_one t f)) (all_given fs (record t { lent = set t.lent f.0 None }))
+
+  others_left : (fs : List Frame) (t : Table) (g : Frame) → (Contains fs g → ⊥) → lent_to (give fs t) g ≡ lent_to t g
+  others_left [] t g apart = refl
+  others_left (f ∷ fs) t g apart =
+      others_left fs (record t { lent = set t.lent f.0 None }) g (λ there. apart (contains_there f fs g there))
+      ∙ given_other t f g (λ same. apart (contains_here f fs g (ap (λ (n : ℕ). record { 0 = n }) same)))
+
+  owners_left : (fs : List Frame) (t : Table) → (give fs t).owners ≡ t.owners
+  owners_left [] t = refl
+  owners_left (f ∷ fs) t = owners_left fs (record t { lent = set t.lent f.0 None })
+
+  gives : (fs : List Frame) (t : Table) → LendsOnly t (give fs t) fs None
+  gives fs t = record { owners = owners_left fs t; these = all_given fs t; others = others_left fs t }
+
+  may_come : (es : List Held) (old : Holdings) → (new : Holdings) × MeetFates (λ e. Ends o) es (replies_to es) old new
+  may_come [] old = (old, (refl, refl))
+  may_come (e ∷ es) old =
+      let mid : Holdings = record { book = without e.entry.id old.book; table = give e.frames old.table; kept = old.kept } in
+      let r = may_come es mid in
+      (r.0, (mid, reply_to e o ∷ [], replies_to es, refl, (refl, refl, subst (λ (b : Bool). EndsLoan b e old mid) (sym (back e.entry)) (refl, gives e.frames old.table)), r.1))
+
+-- ---- what is given back is told by what it is
+
+-- whether a frame is one of a request's, and of one of these
+has_it : (f : Frame) (fs : List Frame) → Contains fs f ⊎ (Contains fs f → ⊥)
+has_it f [] = inr (contains_none f)
+has_it f (g ∷ fs) = ⊎_elim
+    (λ (same : f.0 ≡ g.0). inl (contains_here g fs f (ap (λ (n : ℕ). record { 0 = n }) same)))
+    (λ (other : f.0 ≢ g.0). ⊎_elim
+    (λ there. inl (contains_there g fs f there))
+    (λ none. inr (λ here. ⊎_elim (λ (same : f ≡ g). other (ap (λ (x : Frame). x.0) same)) none (contains_cases g fs f here)))
+    (has_it f fs))
+    (cases_eq f.0 g.0)
+
+have_it : (f : Frame) (es : List Held) → ((e : Held) × Contains es e × Contains e.frames f) ⊎ ((e : Held) → Contains es e → Contains e.frames f → ⊥)
+have_it f [] = inr (λ e here. absurd (contains_none e here))
+have_it f (x ∷ es) = ⊎_elim
+    (λ its. inl (x, contains_here x es x refl, its))
+    (λ (none : Contains x.frames f → ⊥). ⊎_elim
+    (λ (r : (e : Held) × Contains es e × Contains e.frames f). inl (r.0, contains_there x es r.0 r.1, r.2))
+    (λ (rest : (e : Held) → Contains es e → Contains e.frames f → ⊥). inr (λ e here its. ⊎_elim
+    (λ (same : e ≡ x). none (subst (λ (y : Held). Contains y.frames f) same its))
+    (λ (later : Contains es e). rest e later its)
+    (contains_cases x es e here)))
+    (have_it f es))
+    (has_it f x.frames)
+
+same_given : (old one other : Table) (es : List Held) → GivesBack old one es → GivesBack old other es → LendsOnly one other [] None
+same_given old one other es a b = record {
+  owners = b.owners ∙ sym a.owners;
+  these = All-nil (λ (f : Frame). lent_to other f ≡ None);
+  others = λ f _. ⊎_elim
+      (λ (r : (e : Held) × Contains es e × Contains e.frames f). b.none r.0 f r.1 r.2 ∙ sym (a.none r.0 f r.1 r.2))
+      (λ (apart : (e : Held) → Contains es e → Contains e.frames f → ⊥). b.others f apart ∙ sym (a.others f apart))
+      (have_it f es);
+}
+
+-- ---- both ways
+
+module _ (passes : Entry → Bool) (o : Outcome) (back : (e : Entry) → keeps_loan o e ≡ false) (old : Holdings) (order : IsInOrder old.book) (accepted : All (IsAccepted old.table) old.book) where
+  abbrev es : List Held
+  es = filter (λ (e : Held). passes e.entry) old.book
+
+  ordered : AllPairs IsEarlier es
+  ordered = AllPairs-filter IsEarlier (λ (e : Held). passes e.entry) old.book order.ordered
+
+  stand : All (Stands old.table) es
+  stand = All-filter (λ (e : Held). passes e.entry) (Stands old.table) old.book (λ i d small. (accepted i d small).lent)
+
+  pub at_once : (replies : List Reply) (new : Holdings) → MeetFates (λ e. Ends o) es replies old new → AnswersAll passes o replies old new
+  at_once replies new meets =
+      let m = all_met o back es replies old new ordered stand meets in
+      record { told = m.told; left = m.left ∙ left_over passes old.book order.ordered; given = m.given; kept = m.kept }
+
+  pub one_by_one : (replies : List Reply) (new : Holdings) → AnswersAll passes o replies old new
+      → (now : Holdings) × MeetFates (λ e. Ends o) es replies old now × (now.book ≡ new.book) × (now.kept ≡ new.kept) × LendsOnly now.table new.table [] None
+  one_by_one replies new answers =
+      let r = may_come o back es old in
+      let m = at_once (replies_to o back es) r.0 r.1 in (
+        r.0,
+        subst (λ (list : List Reply). MeetFates (λ e. Ends o) es list old r.0) (sym answers.told) r.1,
+        m.left ∙ sym answers.left,
+        m.kept ∙ sym answers.kept,
+        same_given old.table r.0.table new.table es m.given answers.given,
+      )
