@@ -22,8 +22,8 @@ optional name value_type = record { name = name; value_type = value_type; is_req
 -- isn't looked into; so is an array with something else in it, of which the keys of the tables are looked at, too.
 abbrev pub document_keys : List KeyRule
 document_keys = required (codes "frames") Integer ∷ required (codes "slots") Integer ∷ required (codes "ncq") Boolean
-    ∷ required (codes "depth") Integer ∷ required (codes "trim") Text ∷ optional (codes "port") Tables
-    ∷ optional (codes "client") Tables ∷ optional (codes "grant") Tables ∷ []
+    ∷ required (codes "depth") Integer ∷ required (codes "trim") Text ∷ optional (codes "cache") Boolean
+    ∷ optional (codes "port") Tables ∷ optional (codes "client") Tables ∷ optional (codes "grant") Tables ∷ []
 
 abbrev pub port_keys : List KeyRule
 port_keys = required (codes "number") Integer ∷ optional (codes "serial") Text ∷ []

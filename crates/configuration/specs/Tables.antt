@@ -1,5 +1,5 @@
 -- What stands in a TOML document, and which values it spells.
-use Rattle.std.specs.Prelude.{◌≡◌, ℕ, pos, List, [], ◌∷◌, Option, Some, None, codes, option_map, string_bytes}
+use Rattle.std.specs.Prelude.{◌≡◌, ◌⊎◌, ℕ, Bool, false, pos, List, [], ◌∷◌, Option, Some, None, codes, option_map, string_bytes}
 use Rattle.std.specs.List.{AllZip, cons_option}
 use Rattle.toml.specs.Data.{Data, Items, Members, no_items, item, no_members, member, array, integer, boolean, string, as_table, get_member}
 use Rattle.configuration.specs.declared.Config.{Config}
@@ -38,6 +38,11 @@ abbrev pub MayHaveText : Members → List ℕ → Option (List ℕ) → Type 0
 MayHaveText members name None = get_member name members ≡ None
 MayHaveText members name (Some text) = HasText members name text
 
+-- the key is set so; where there is no such key it isn't
+abbrev pub MayBeSet : Members → List ℕ → Bool → Type 0
+MayBeSet members name is_set =
+    (get_member name members ≡ Some (boolean is_set)) ⊎ ((get_member name members ≡ None) × (is_set ≡ false))
+
 pub record SpellsPort (members : Members) (p : PortConfig) : Type 0 where
   pub number : HasNumber members (codes "number") p.number
   pub serial : MayHaveText members (codes "serial") (option_map string_bytes p.serial)
@@ -62,6 +67,7 @@ pub record Spells (document : Members) (c : Config) : Type 0 where
   pub ncq : get_member (codes "ncq") document ≡ Some (boolean c.ncq)
   pub depth : HasNumber document (codes "depth") c.depth
   pub trim : HasText document (codes "trim") (string_bytes c.trim)
+  pub cache : MayBeSet document (codes "cache") c.cache
   pub ports : AllZip SpellsPort (tables_at (codes "port") document) c.port.items
   pub clients : AllZip SpellsClient (tables_at (codes "client") document) c.client.items
   pub grants : AllZip SpellsGrant (tables_at (codes "grant") document) c.grant.items

@@ -69,6 +69,8 @@ pub struct Config {
     pub depth: u64,
     /// The disk's promise on trims: `full`, `weak` or `none`.
     pub trim: String,
+    /// Whether the disks have a volatile write cache; no where the document has no such key.
+    pub cache: bool,
     /// The ports, each once.
     pub port: Vec<PortConfig>,
     /// The clients, each once, and no frame of two of them.

@@ -12,7 +12,7 @@ use super::{Config, ConfigFault, Kind};
 use std::alloc::Global;
 use toml::Table;
 
-const DOCUMENT_KEYS: [Key; 8] = [
+const DOCUMENT_KEYS: [Key; 9] = [
     Key {
         name: "frames",
         value_type: ValueType::Integer,
@@ -37,6 +37,11 @@ const DOCUMENT_KEYS: [Key; 8] = [
         name: "trim",
         value_type: ValueType::Text,
         is_required: true,
+    },
+    Key {
+        name: "cache",
+        value_type: ValueType::Boolean,
+        is_required: false,
     },
     Key {
         name: "port",

@@ -1,10 +1,10 @@
 //! The values of a configuration, read from the tables of a document.
 
-ghost use Rattle.std.specs.Prelude.{◌≡◌, ℕ, List, Option, Some, None, IfOk, option_map, string_bytes};
+ghost use Rattle.std.specs.Prelude.{◌≡◌, ℕ, Bool, List, Option, Some, None, IfOk, option_map, string_bytes};
 ghost use Rattle.std.specs.List.{AllZip};
 ghost use Rattle.toml.specs.Data.{Members};
 ghost use Rattle.toml.specs.View.{table_view, items_view};
-ghost use Rattle.configuration.specs.Tables.{HasNumber, HasText, MayHaveText, tables_of};
+ghost use Rattle.configuration.specs.Tables.{HasNumber, HasText, MayBeSet, MayHaveText, tables_of};
 
 use super::table::{find, items_at};
 use super::{ClientConfig, Config, GrantConfig, PortConfig};
@@ -68,6 +68,18 @@ fn optional_text(alloc: Global, table: &Table, name: &str) -> Result<Option<Stri
     match find(table, name) {
         Some(_) => Ok(Some(text(alloc, table, name)?)),
         None => Ok(None),
+    }
+}
+
+/// Whether a key is set; where there is none it isn't.
+fn is_set(table: &Table, name: &str) -> Result<bool, ReadFault>
+    ensures ok { IfOk result (MayBeSet (table_view table.now) name.now) }
+    ensures none { result ≡ Err ReadFault.NoValue
+        → (is_set : Bool) → MayBeSet (table_view table.now) name.now is_set → ⊥ }
+{
+    match find(table, name) {
+        Some(value) => value.as_bool().ok_or(ReadFault::NoValue),
+        None => Ok(false),
     }
 }
 
@@ -159,6 +171,7 @@ impl Config {
             ncq,
             depth: number(table, "depth")?,
             trim: text(alloc, table, "trim")?,
+            cache: is_set(table, "cache")?,
             port: each_from_table(alloc, items_at(table, "port"))?,
             client: each_from_table(alloc, items_at(table, "client"))?,
             grant: each_from_table(alloc, items_at(table, "grant"))?,

@@ -13,7 +13,7 @@ use Rattle.adapter.specs.declared.command.Operation.TheVariants.{Trim}
 use Rattle.ata_types.specs.declared.Port.{Port}
 use Rattle.ata_types.specs.declared.Slot.{Slot}
 use Rattle.sector_store.specs.declared.store.Failures.{Failures}
-use Rattle.device_model.specs.Disks.{bay_of, disk_over, failing, failures_of, says_of}
+use Rattle.device_model.specs.Disks.{bay_of, caches, disk_over, failing, failures_of, has_cache, lasting_of, says_of}
 use Rattle.device_model.specs.Does.{ClearsFewer, HasCleared, HasFailed, IsCause}
 use Rattle.device_model.specs.Modelled.{device_at, media_of, outside_at}
 use Rattle.device_model.specs.Paged.{GainsPages, naming}
@@ -125,7 +125,7 @@ pub record IsPart {S : Type 0} (size : S → ℕ) (told : S → Option (ℕ → 
   pub pages : GainsPages size old new
 
 module _ {S : Type 0} (size : S → ℕ) (told : S → Option (ℕ → List ℕ)) (failures : S → Option Failures) (p : Port) (slot : Slot) (most : ℕ) (m then_model : Model S)
-    (a b : Bay S) (was : bay_of m p.0 ≡ Some a) (items : then_model.bays.items ≡ slice_set m.bays.items p.0 (Some b)) (rest : b ≡ with_store a b.disk.store)
+    (a b : Bay S) (was : bay_of m p.0 ≡ Some a) (items : then_model.bays.items ≡ slice_set m.bays.items p.0 (Some b)) (rest : b ≡ with_store a b.disk.store b.cache) (lasts : lasting_of told b ≡ lasting_of told a)
     (h : Hardware) (first count : ℕ) (r : TakenCommand) (same : (o : Outside) → device_of h o ≡ device_of m.hardware o) where
   abbrev old_device : Device
   old_device = device_at size told m
@@ -144,7 +144,7 @@ module _ {S : Type 0} (size : S → ℕ) (told : S → Option (ℕ → List ℕ)
     clear_effect : device_at size told then_model ≡ after (Clear p.0 slot.0 (taken_of r) first count) old_device
     clear_effect =
         let o : Outside = outside_at size told m in
-        ap (λ (x : Outside). device_of then_model.hardware x) (outside_zeros m then_model p.0 a b was items rest size told first count zeros)
+        ap (λ (x : Outside). device_of then_model.hardware x) (outside_zeros m then_model p.0 a b was items rest size told first count lasts zeros)
         ∙ (cleared o ∙ ap (λ (d : Device). after (Clear p.0 slot.0 (taken_of r) first count) d) (same o))
 
     some_part : HasClear old_device p.0 slot.0 most (taken_of r) → first ≡ next_uncleared (taken_of r) → 1 ≤ count → count ≤ span most (taken_of r) →
@@ -174,7 +174,7 @@ module _ {S : Type 0} (size : S → ℕ) (told : S → Option (ℕ → List ℕ)
   none_part : count ≡ 0 → then_model.hardware ≡ h → told b.disk.store ≡ told a.disk.store → size b.disk.store ≡ size a.disk.store →
       HasClear old_device p.0 slot.0 most (taken_of r) → IsPart size told p slot most first count (taken_of r) m then_model
   none_part none left tells sizes has =
-      let around : outside_at size told then_model ≡ outside_at size told m = outside_kept m then_model p.0 a b was items rest size told sizes tells in
+      let around : outside_at size told then_model ≡ outside_at size told m = outside_kept m then_model p.0 a b was items rest size told sizes tells lasts in
       let kept : device_at size told then_model ≡ old_device = (λ i. device_of (left i) (around i)) ∙ same (outside_at size told m) in
       let t : Taken = taken_of r in
       let here : t ≡ record t { cleared = t.cleared + count } =
@@ -224,7 +224,7 @@ module _ {S : Type 0} (size : S → ℕ) (told : S → Option (ℕ → List ℕ)
   -- the next one can't be: its command fails on it
   pub part_fails : (small : slot.0 < 32) → HasClear old_device p.0 slot.0 most (taken_of r) → IsPart size told p slot most first count (taken_of r) m then_model →
       count < span most (taken_of r) → (error : ℕ) → (last : Model S) → failures_of failures last p.0 ≡ failures b.disk.store →
-      IsCause true (first + count) (size a.disk.store) error (failures a.disk.store) (failures b.disk.store) → first ≡ next_uncleared (taken_of r) →
+      IsCause a.cache.is_on true (first + count) (size a.disk.store) error (failures a.disk.store) (failures b.disk.store) → first ≡ next_uncleared (taken_of r) →
       IsFailed size told failures p slot error (record (taken_of r) { cleared = r.cleared + count }) then_model last →
       HasFailed size told failures (asked.Clear p slot most) m last
   part_fails small has part fewer error last fine cause start failed =
@@ -234,9 +234,10 @@ module _ {S : Type 0} (size : S → ℕ) (told : S → Option (ℕ → List ℕ)
       let sector : first + count ≡ next_uncleared t = (let same : first + count ≡ next_uncleared (taken_of r) + count = ap (λ (k : ℕ). k + count) start in same) ∙ sym next in
       let sizes : size a.disk.store ≡ ((device_at size told then_model).port p.0).disk.size = sym size_is ∙ sym part.disk_size in
       let then_size : ℕ = ((device_at size told then_model).port p.0).disk.size in
-      let P : Option Failures → Option Failures → Type 0 = λ before now. IsCause true (next_uncleared t) then_size error before now in
-      let Q : ℕ → Type 0 = λ n. IsCause true (next_uncleared t) n error (failures a.disk.store) (failures b.disk.store) in
-      let R : ℕ → Type 0 = λ k. IsCause true k (size a.disk.store) error (failures a.disk.store) (failures b.disk.store) in
+      let P : Option Failures → Option Failures → Type 0 = λ before now. IsCause (caches m p.0) true (next_uncleared t) then_size error before now in
+      let Q : ℕ → Type 0 = λ n. IsCause (caches m p.0) true (next_uncleared t) n error (failures a.disk.store) (failures b.disk.store) in
+      let R : ℕ → Type 0 = λ k. IsCause (caches m p.0) true k (size a.disk.store) error (failures a.disk.store) (failures b.disk.store) in
+      let O : Bool → Type 0 = λ on. IsCause on true (first + count) (size a.disk.store) error (failures a.disk.store) (failures b.disk.store) in
       let before : failures a.disk.store ≡ failures_of failures m p.0 = sym (ap (failing failures) was) in
       let plain : is_queued t.meaning.operation ≡ false = ap is_queued has.trim in
       let one : failed.fails.fault.t ≡ t = failed.same in
@@ -247,7 +248,7 @@ module _ {S : Type 0} (size : S → ℕ) (told : S → Option (ℕ → List ℕ)
           t = t;
           clear = more;
           error = error;
-          cause = subst (λ x. P x (failures_of failures last p.0)) before (subst (P (failures a.disk.store)) (sym fine) (subst Q sizes (subst R sector cause)));
+          cause = subst (λ x. P x (failures_of failures last p.0)) before (subst (P (failures a.disk.store)) (sym fine) (subst Q sizes (subst R sector (subst O (sym (ap has_cache was)) cause))));
           can = subst (λ (x : Taken). Can (Fault p.0 slot.0 error 0 x) (device_at size told then_model)) one failed.fails.fault.can;
           sends = subst (T t) (failed.fails.fault.effect ∙ ap (λ (x : Taken). after (Fault p.0 slot.0 error 0 x) (device_at size told then_model)) one)
               (subst (λ (x : Taken). T x failed.fails.mid) one failed.fails.posts);

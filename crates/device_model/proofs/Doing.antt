@@ -13,13 +13,13 @@ use Rattle.adapter.specs.Steps.{Can, Steps}
 use Rattle.adapter.specs.Steps.Step.{Fault}
 use Rattle.sector_store.specs.declared.store.Failures.{Failures}
 use Rattle.device_model.specs.Does.{AnswersStep, AsksStore, ClearsFewer, Completes, Did, FailsToClear, FailsToMove, GoesOnSo, HasFailed, IsLeftOut, LacksMemory, NeedsAddresses, NoneFails, StepKeeps, Possible, asked_port, says_failed}
-use Rattle.device_model.specs.Disks.{bay_of, disk_in, disk_of, failures_of, identity_of, says_of, which_of}
+use Rattle.device_model.specs.Disks.{bay_of, caches, disk_in, disk_of, failures_of, identity_of, says_of, which_of}
 use Rattle.device_model.specs.Modelled.{device_at}
 use Rattle.device_model.specs.Paged.{GainsPages}
 use Rattle.device_model.proofs.TwoDisks.{each_port, failures_kept, identity_kept}
 use Rattle.device_model.specs.Sent.{SendsEnd, SendsFailed}
 use Rattle.device_model.proofs.Posting.{did_may}
-use Rattle.device_model.proofs.Absurd.{some_one}
+use Rattle.device_model.proofs.Absurd.{some_one, true-false}
 use Rattle.device_model.specs.Finishing.{HasRoom}
 use Rattle.device_model.proofs.Telling.{gains_none, gains_on}
 use Rattle.device_model.specs.declared.bay.Bay.{Bay}
@@ -47,12 +47,13 @@ same_flag false false forth back = refl
 
 module _ {S : Type 0} (size : S → ℕ) (told : S → Option (ℕ → List ℕ)) (failures : S → Option Failures) where
   pub keeps_same : (m : Model S) → StepKeeps size m m
-  keeps_same m = record { identities = λ _ _. refl; out = λ _ _ _. refl; queue = refl; accesses = refl }
+  keeps_same m = record { identities = λ _ _. refl; out = λ _ _ _. refl; caches = λ _. refl; queue = refl; accesses = refl }
 
   pub keeps_on : (a b c : Model S) → ((q : ℕ) → which_of b q ≡ which_of a q) → StepKeeps size a b → StepKeeps size b c → StepKeeps size a c
   keeps_on a b c same first then = record {
     out = λ q w ne. then.out q w (λ is. ne (sym (same q) ∙ is)) ∙ first.out q w ne;
     identities = λ q w. then.identities q w ∙ first.identities q w;
+    caches = λ q. then.caches q ∙ first.caches q;
     queue = then.queue ∙ first.queue;
     accesses = then.accesses ∙ first.accesses;
   }
@@ -128,7 +129,7 @@ module _ {S : Type 0} (size : S → ℕ) (told : S → Option (ℕ → List ℕ)
 
   -- the same, whatever is queued
   keeps_queued : (old new : Model S) (q : Vec Queued) → StepKeeps size old new → StepKeeps size (record old { queue = q }) (record new { queue = q })
-  keeps_queued old new q k = record { out = k.out; identities = k.identities; queue = refl; accesses = k.accesses }
+  keeps_queued old new q k = record { out = k.out; identities = k.identities; caches = k.caches; queue = refl; accesses = k.accesses }
 
   pub answers_queued : (s : DeviceStep) (answer : Bool) (old new : Model S) (q : Vec Queued) → AnswersStep size told failures s answer old new →
       AnswersStep size told failures s answer (record old { queue = q }) (record new { queue = q })
@@ -136,7 +137,7 @@ module _ {S : Type 0} (size : S → ℕ) (told : S → Option (ℕ → List ℕ)
     a.0,
     record {
       came = elim a.1.came [
-        | inl whole ↦ inl (record { asked = whole.asked; fine = whole.fine; says = whole.says; ends = whole.ends })
+        | inl whole ↦ inl (record { asked = whole.asked; fine = whole.fine; says = whole.says; ends = whole.ends; loses = whole.loses })
         | inr failed ↦ inr failed
       ];
       held = a.1.held;
@@ -167,7 +168,7 @@ module _ {S : Type 0} (size : S → ℕ) (told : S → Option (ℕ → List ℕ)
       Meanwhile size p.0 old mid → ((AsksStore (asked.Finish p slot) (device_at size told old) → ⊥) → (which : Which) → disk_of mid p.0 which ≡ disk_of old p.0 which) →
       (did ≡ false → (which : Which) → disk_of mid p.0 which ≡ disk_of old p.0 which) → NoneFails failures old mid → asked_port s ≡ p.0 → IsLeftOut size told failures s mid new →
       ((device_at size told old).size ≤ 2 ^ 32 → NeedsAddresses s (device_at size told mid)) → Possible s (device_at size told mid) →
-      (LacksMemory s (device_at size told mid) mid.hardware → ⊥) → (t : Taken) → ((device_at size told mid).port p.0).taken slot.0 ≡ Some t →
+      (LacksMemory s (device_at size told mid) mid.hardware mid.bays.items → ⊥) → (t : Taken) → ((device_at size told mid).port p.0).taken slot.0 ≡ Some t →
       AnswersStep size told failures (asked.Finish p slot) did old new
   cut_short s p slot did old mid new may went stayed meanwhile same untouched none at step needs possible room t taken = by did went stayed untouched
     where
@@ -206,9 +207,10 @@ module _ {S : Type 0} (size : S → ℕ) (told : S → Option (ℕ → List ℕ)
         record {
           came = inl (record {
             asked = subst (λ (d : Device). GoesOn (SendsEnd slot.0) p.0 slot.0 (device_at size told old) d) (sym step.device) (on refl);
-            fine = λ q which. ap (option_map (λ (x : ModelDisk S). failures x.store)) (disks q which) ∙ none q which;
+            fine = λ _ q which. ap (option_map (λ (x : ModelDisk S). failures x.store)) (disks q which) ∙ none q which;
             says = all.says;
             ends = λ small_enough. absurd (unserved small_enough);
+            loses = λ yes. true-false yes refl;
           });
           held = all.held;
           which = all.which;
@@ -271,8 +273,9 @@ module _ {S : Type 0} (size : S → ℕ) (told : S → Option (ℕ → List ℕ)
         fails_finish step.held step.which step.others step.pages step.keeps step.starved (
           device_at size told mid,
           before_it p slot did _ _ went stayed,
-          inl (subst (λ was. FailsToMove p.0 slot.0 was (failures_of failures new p.0) (says_of old p.0) (says_of new p.0) (device_at size told mid) (device_at size told new)) fine
-              (subst (λ says. FailsToMove p.0 slot.0 (failures_of failures mid p.0) (failures_of failures new p.0) says (says_of new p.0) (device_at size told mid) (device_at size told new)) meanwhile.says f)),
+          inl (subst (λ on. FailsToMove on p.0 slot.0 (failures_of failures old p.0) (failures_of failures new p.0) (says_of old p.0) (says_of new p.0) (device_at size told mid) (device_at size told new)) (meanwhile.keeps.caches p.0)
+              (subst (λ was. FailsToMove (caches mid p.0) p.0 slot.0 was (failures_of failures new p.0) (says_of old p.0) (says_of new p.0) (device_at size told mid) (device_at size told new)) fine
+              (subst (λ says. FailsToMove (caches mid p.0) p.0 slot.0 (failures_of failures mid p.0) (failures_of failures new p.0) says (says_of new p.0) (device_at size told mid) (device_at size told new)) meanwhile.says f))),
         )
 
     pub clear_fails : (most : ℕ) → Did size told failures (asked.Clear p slot most) mid new → HasFailed size told failures (asked.Clear p slot most) mid new →
@@ -281,8 +284,9 @@ module _ {S : Type 0} (size : S → ℕ) (told : S → Option (ℕ → List ℕ)
         fails_finish step.held step.which step.others step.pages step.keeps step.starved (
           last,
           on cleared,
-          inr (subst (λ was. FailsToClear p.0 slot.0 was (failures_of failures new p.0) (says_of old p.0) (says_of new p.0) last (device_at size told new)) fine
-              (subst (λ says. FailsToClear p.0 slot.0 (failures_of failures mid p.0) (failures_of failures new p.0) says (says_of new p.0) last (device_at size told new)) meanwhile.says f)),
+          inr (subst (λ on. FailsToClear on p.0 slot.0 (failures_of failures old p.0) (failures_of failures new p.0) (says_of old p.0) (says_of new p.0) last (device_at size told new)) (meanwhile.keeps.caches p.0)
+              (subst (λ was. FailsToClear (caches mid p.0) p.0 slot.0 was (failures_of failures new p.0) (says_of old p.0) (says_of new p.0) last (device_at size told new)) fine
+              (subst (λ says. FailsToClear (caches mid p.0) p.0 slot.0 (failures_of failures mid p.0) (failures_of failures new p.0) says (says_of new p.0) last (device_at size told new)) meanwhile.says f))),
         )
       where
         on : (last ≡ device_at size told mid) ⊎ ClearsFewer p.0 slot.0 most (device_at size told mid) last →

@@ -10,7 +10,7 @@ use Rattle.adapter.specs.declared.access.DeviceStep.TheVariants as asked
 use Rattle.ata_types.specs.declared.Port.{Port}
 use Rattle.ata_types.specs.declared.Slot.{Slot}
 use Rattle.sector_store.specs.declared.store.Failures.{Failures}
-use Rattle.device_model.specs.Disks.{bay_of, failures_of, says_of, which_of}
+use Rattle.device_model.specs.Disks.{bay_of, caches, failures_of, says_of, which_of}
 use Rattle.device_model.specs.Does.{AsksStore, Did, HasFailed, IsCause, StepKeeps, asked_port, says_failed, which_after}
 use Rattle.device_model.specs.Finishing.{HasMove}
 use Rattle.device_model.specs.Held.{held_after}
@@ -33,11 +33,11 @@ module _ {S : Type 0} (size : S → ℕ) (told : S → Option (ℕ → List ℕ)
   -- as the next sector was to be moved
   pub fails_to_move : device_at size told mid ≡ device_at size told m → says_of mid p.0 ≡ says_of m p.0 → HasMove (device_at size told m) p.0 slot.0 t →
       is_ranged t.meaning.operation ≡ true →
-      IsCause (reads_memory t.meaning.operation) (next_sector t) ((device_at size told m).port p.0).disk.size error (failures_of failures m p.0) (failures_of failures mid p.0) →
+      IsCause (caches m p.0) (reads_memory t.meaning.operation) (next_sector t) ((device_at size told m).port p.0).disk.size error (failures_of failures m p.0) (failures_of failures mid p.0) →
       HasFailed size told failures (asked.Move p slot) m last
   fails_to_move same says move ranged cause =
       let P : Option Failures → Type 0 = λ now.
-      IsCause (reads_memory t.meaning.operation) (next_sector t) ((device_at size told m).port p.0).disk.size error (failures_of failures m p.0) now in
+      IsCause (caches m p.0) (reads_memory t.meaning.operation) (next_sector t) ((device_at size told m).port p.0).disk.size error (failures_of failures m p.0) now in
       let Q : Taken → Device → Type 0 = λ x d. Can (Fault p.0 slot.0 error 0 x) d in
       let R : Taken → Device → Type 0 = λ x d. SendsFault (is_queued x.meaning.operation) p.0 d (device_at size told last) in
       record {

@@ -1,7 +1,9 @@
 pub mod Places
+pub mod OldSectors
 pub mod Absurd
 pub mod Runs
 pub mod Cleared
+pub mod Caching
 pub mod Trimming
 pub mod Transfers
 pub mod BitLemmas
@@ -25,6 +27,7 @@ pub mod Telling
 pub mod TwoDisks
 pub mod Doing
 pub mod Faults
+pub mod Growing
 pub mod Clears
 pub mod Told
 pub mod Paging

@@ -1,72 +1,152 @@
--- The disk that was last in is put in again.
-use Rattle.std.proofs.Common.{ℕ, Bool, true, false, Option, Some, List, ◌≡◌, ◌<◌, ◌∙◌, ⊎_elim, ap, sym, subst, inl, inr, arith}
-use Rattle.std.specs.Prelude.{if◌then◌else◌, nat_eq, option_map}
-use Rattle.ata_types.specs.declared.Port.{Port}
+-- The disk that was last in is put in again, and what was in its cache is lost.
+use Rattle.std.proofs.Common.{ℕ, Bool, true, false, Option, Some, List, [], ◌∷◌, ◌++◌, ◌≡◌, ◌≢◌, ◌<◌, ◌⊎◌, ◌&&◌, ◌∙◌, refl, ap, sym, subst, inl, inr}
+use Rattle.std.specs.Prelude.{if◌then◌else◌, is_some, nat_eq, option_map, slice_set}
 use Rattle.adapter.specs.Asked.{DoesPlug}
+use Rattle.adapter.specs.Device.{Device, Disk}
+use Rattle.adapter.specs.Steps.{after}
+use Rattle.adapter.specs.Steps.Step.{Plug}
 use Rattle.adapter.specs.declared.access.DeviceStep.TheVariants as asked
-use Rattle.adapter.specs.declared.access.DiskNumber.{DiskNumber}
-use Rattle.sector_store.specs.declared.Failures.{Failures}
-use Rattle.device_model.specs.Disks.{bay_of, disk_number, which_of}
-use Rattle.device_model.specs.Does.{AnswersStep, Completes, Possible}
-use Rattle.device_model.specs.Modelled.{device_at, media_of}
+use Rattle.ata_types.specs.declared.Port.{Port}
+use Rattle.sector_store.specs.Stores.{AreSectors}
+use Rattle.sector_store.specs.declared.store.Failures.{Failures}
+use Rattle.std.proofs.lemmas.Option.{same_Some}
+use Rattle.device_model.specs.Cached.{lasting_in}
+use Rattle.device_model.specs.Disks.{IsLost, bay_of, disk_in, disk_number, identity, is_same, lasting_of, plugged_as}
+use Rattle.device_model.specs.Does.{AreLost, Did, IsLeftOut, LacksMemory, Possible}
+use Rattle.device_model.specs.Modelled.{device_at, media_of, outside_at, tells}
+use Rattle.device_model.specs.OldSectors.{with_old}
+use Rattle.device_model.specs.Whole.{Outside, device_of, outside_plugged}
 use Rattle.device_model.specs.declared.bay.Bay.{Bay}
+use Rattle.device_model.specs.declared.disks.ModelDisk.{ModelDisk}
 use Rattle.device_model.specs.declared.disks.Which.{Which}
-use Rattle.device_model.specs.declared.disks.Which.TheVariants.{Disk0, Disk1}
 use Rattle.device_model.specs.declared.model.Model.{Model}
-use Rattle.device_model.proofs.TwoDisks.{number_small}
+use Rattle.device_model.specs.declared.old_sectors.OldSector.{OldSector}
+use Rattle.device_model.proofs.Absurd.{true-false}
+use Rattle.device_model.proofs.Caching.{back_holds, back_lasts, back_size, back_some, back_tells}
+use Rattle.device_model.proofs.Plugging.{plug_noted, plugged_so}
+use Rattle.device_model.proofs.TwoDisks.{has_disks, kept_in, kept_out, not_same, same_self, seated_behind, seated_here, seated_keeps, seated_others, seated_same}
 
-same_which : (w : Which) (n : ℕ) → n ≡ disk_number w → (if nat_eq n 0 then Disk0 else Disk1) ≡ w
-same_which Disk0 n is = ap (λ k. if nat_eq k 0 then Disk0 else Disk1) is
-same_which Disk1 n is = ap (λ k. if nat_eq k 0 then Disk0 else Disk1) is
+-- a disk with its old sectors written back, in place of the one that was last in
+abbrev pub with_back : {S : Type 0} → Bay S → S → Bay S
+with_back b store = record b { disk = record b.disk { store = store } }
 
-module _ {S : Type 0} (size : S → ℕ) (told : S → Option (ℕ → List ℕ)) (failures : S → Option Failures) (old new : Model S) (p : Port) (number : DiskNumber) (a : Bay S)
-    (was : bay_of old p.0 ≡ Some a) (its : number.0 ≡ disk_number a.which) where
-  last_name : number.0 ≡ ((device_at size told old).port p.0).disk.name
-  last_name = its ∙ sym (ap (λ x. (media_of size told x).disk.name) was)
+module _ {S : Type 0} (size : S → ℕ) (told : S → Option (ℕ → List ℕ)) (failures : S → Option Failures) (a b : Bay S) (lost : IsLost size told failures a b) where
+  -- ---- what such a disk tells, with a cache or without
 
-  few : number.0 < 2
-  few = let small = number_small a.which in omega (arith, its, small)
+  abbrev olds : List OldSector
+  olds = a.cache.kept.sectors.items
 
-  may : Possible (asked.Plug p number) (device_at size told old) → Possible (asked.LosePlug p) (device_at size told old)
-  may able = (able.0, able.1, able.3)
+  lost_size : (on : Bool) → a.cache.is_on ≡ on → size b.disk.store ≡ size a.disk.store
+  lost_size true e = back_size size told failures olds olds a.disk.store b.disk.store (lost.back e)
+  lost_size false e = ap size (lost.as_it_was e)
 
-  might : Possible (asked.LosePlug p) (device_at size told old) → Possible (asked.Plug p number) (device_at size told old)
-  might able = (able.0, able.1, few, able.2)
+  lost_tells : (on : Bool) → a.cache.is_on ≡ on → is_some (told b.disk.store) ≡ is_some (told a.disk.store)
+  lost_tells true e = back_some olds (told a.disk.store) (told b.disk.store) (back_tells size told failures olds a.cache.kept.rising a.disk.store b.disk.store (lost.back e))
+  lost_tells false e = ap (λ (s : S). is_some (told s)) (lost.as_it_was e)
 
-  came : Completes size told failures (asked.Plug p number) old new → Completes size told failures (asked.LosePlug p) old new
-  came c = record {
-    asked = let P : ℕ → Type 0 = λ n. DoesPlug p.0 n (device_at size told old) (device_at size told new) in subst P last_name c.asked;
-    fine = c.fine;
-    says = c.says;
-    ends = λ _. tt;
-  }
+  lost_lasts : (on : Bool) → a.cache.is_on ≡ on → lasting_in a.cache (told b.disk.store) (told a.lasting.value) ≡ lasting_of told a
+  lost_lasts true e =
+      let Q : Option (ℕ → List ℕ) → Bool → Option (ℕ → List ℕ) = λ x on. if on then option_map (with_old olds) x else told a.lasting.value in
+      ap (Q (told b.disk.store)) e
+      ∙ (back_lasts olds (told a.disk.store) (told b.disk.store) (back_tells size told failures olds a.cache.kept.rising a.disk.store b.disk.store (lost.back e)) ∙ sym (ap (Q (told a.disk.store)) e))
+  lost_lasts false e = ap (λ (s : S). lasting_in a.cache (told s) (told a.lasting.value)) (lost.as_it_was e)
 
-  pub loses : (answer : Bool) → AnswersStep size told failures (asked.Plug p number) answer old new → AnswersStep size told failures (asked.LosePlug p) answer old new
-  loses true (able, d) = (
-    may able,
-    record {
-      came = ⊎_elim (λ c. inl (came c)) (λ f. absurd f) d.came;
-      held = d.held;
-      which = d.which ∙ (ap (option_map (λ (_ : Which). if nat_eq number.0 0 then Disk0 else Disk1)) last ∙ (ap Some (same_which a.which number.0 its) ∙ sym last));
-      others = d.others;
-      pages = d.pages;
-      disks = d.disks;
-      keeps = d.keeps;
-      starved = d.starved;
-    },
-  )
-    where
-      last : which_of old p.0 ≡ Some a.which
-      last = ap (option_map (λ (x : Bay S). x.which)) was
-  loses false l = record {
-    device = l.device;
-    held = l.held;
-    says = l.says;
-    which = l.which;
-    others = l.others;
-    disks = l.disks;
-    why = λ needs able. l.why needs (might able);
-    keeps = l.keeps;
-    starved_on = l.starved_on;
-    starved_since = λ starved. ⊎_elim (λ before. inl before) (λ lacks. inr (may lacks.0, lacks.1)) (l.starved_since starved);
-  }
+  lost_holds : (on : Bool) → a.cache.is_on ≡ on → (last comes : ℕ → List ℕ) → told a.disk.store ≡ Some last → told b.disk.store ≡ Some comes → (k : ℕ) →
+      (comes k ≡ last k) ⊎ (option_map (λ (f : ℕ → List ℕ). f k) (lasting_of told a) ≡ Some (comes k))
+  lost_holds true e last comes is at k =
+      elim (back_holds olds (told a.disk.store) (told b.disk.store) last comes (back_tells size told failures olds a.cache.kept.rising a.disk.store b.disk.store (lost.back e)) is at k) [
+        | inl same ↦ inl same
+        | inr held ↦
+            let now : lasting_of told a ≡ option_map (with_old olds) (told a.disk.store) = ap (λ on. if on then option_map (with_old olds) (told a.disk.store) else told a.lasting.value) e in
+            inr (ap (option_map (λ (f : ℕ → List ℕ). f k)) now ∙ held)
+      ]
+  lost_holds false e last comes is at k =
+      inl (ap (λ (f : ℕ → List ℕ). f k) (same_Some comes last (sym at ∙ (ap told (lost.as_it_was e) ∙ is))))
+
+module _ {S : Type 0} (size : S → ℕ) (told : S → Option (ℕ → List ℕ)) (failures : S → Option Failures) (m new : Model S) (p : Port)
+    (held : new.held ≡ m.held) (queue : new.queue ≡ m.queue) (accesses : new.accesses ≡ m.accesses) (a b : Bay S) (was : bay_of m p.0 ≡ Some a)
+    (items : new.bays.items ≡ slice_set m.bays.items p.0 (Some b)) where
+  -- the tape had no room, and no disk is put in
+  pub lose_left : b ≡ a → ((o : Outside) → device_of new.hardware o ≡ device_of m.hardware o) → Possible (asked.LosePlug p) (device_at size told m) →
+      LacksMemory (asked.LosePlug p) (device_at size told m) m.hardware m.bays.items → new.hardware.starved ≡ true → IsLeftOut size told failures (asked.LosePlug p) m new
+  lose_left rest same may lacks starved =
+      let kept : (w : Which) → disk_in b w ≡ disk_in a w = λ (w : Which). ap (λ (x : Bay S). disk_in x w) rest in
+      record {
+        device = ap (λ (o : Outside). device_of new.hardware o) (seated_behind m new p.0 a b was items size told (ap (λ (x : Bay S). media_of size told (Some x)) rest)
+            (ap (λ (x : Bay S). tells told (Some x)) rest))
+            ∙ same (outside_at size told m);
+        held = held;
+        says = seated_same m new p.0 a b was items (option_map (λ (x : Bay S). x.says)) (ap (λ (x : Bay S). Some x.says) rest) p.0;
+        which = seated_same m new p.0 a b was items (option_map (λ (x : Bay S). x.which)) (ap (λ (x : Bay S). Some x.which) rest) p.0;
+        others = seated_others m new p.0 a b was items;
+        disks = λ w. seated_same m new p.0 a b was items (option_map (λ (x : Bay S). disk_in x w)) (ap Some (kept w)) p.0;
+        why = λ _ _. (lacks, starved);
+        keeps = seated_keeps m new p.0 a b was items size (λ w _. kept w) (λ w. ap (identity size) (kept w)) (ap (λ (x : Bay S). x.cache.is_on) rest) queue accesses;
+        starved_on = λ _. starved;
+        starved_since = λ _. inr (may, lacks);
+      }
+
+  module _ (lost : IsLost size told failures a b) (rest : b ≡ record (with_back a b.disk.store) { later = b.later })
+      (later : (disk : Which → S → Disk) → plugged_as disk b.later ≡ plugged_as disk a.later ++ disk a.which b.disk.store ∷ []) where
+    which_is : b.which ≡ a.which
+    which_is = ap (λ (x : Bay S). x.which) rest
+
+    tells_so : tells told (Some b) ≡ tells told (Some a)
+    tells_so = ap (λ (x : Bay S). is_some (told b.disk.store) && is_some (told x.other.store)) rest ∙ ap (λ x. x && is_some (told a.other.store)) (lost_tells size told failures a b lost a.cache.is_on refl)
+
+    lasts : lasting_of told b ≡ (if is_same b.which a.which then lasting_of told a else told b.disk.store)
+    lasts =
+        ap (λ (x : Bay S). lasting_in x.cache (told b.disk.store) (told x.lasting.value)) rest
+        ∙ (lost_lasts size told failures a b lost a.cache.is_on refl
+        ∙ ap (λ x. if x then lasting_of told a else told b.disk.store) (sym (ap (λ (w : Which). is_same w a.which) which_is ∙ same_self a.which)))
+
+    later_so : (disk : Which → S → Disk) → plugged_as disk b.later ≡ plugged_as disk a.later ++ disk b.which b.disk.store ∷ []
+    later_so disk = later disk ∙ ap (λ (w : Which). plugged_as disk a.later ++ disk w b.disk.store ∷ []) (sym which_is)
+
+    that : b.which ≡ a.which → (size b.disk.store ≡ size a.disk.store)
+        × ((last comes : ℕ → List ℕ) → told a.disk.store ≡ Some last → told b.disk.store ≡ Some comes → (k : ℕ) →
+        (comes k ≡ last k) ⊎ (option_map (λ (f : ℕ → List ℕ). f k) (lasting_of told a) ≡ Some (comes k)))
+    that _ = (lost_size size told failures a b lost a.cache.is_on refl, lost_holds size told failures a b lost a.cache.is_on refl)
+
+    first : b.first ≡ a.first
+    first = ap (λ (x : Bay S). x.first) rest
+
+    lost_out : (w : Which) → w ≢ a.which → disk_in b w ≡ disk_in a w
+    lost_out w ne = ap (λ (x : Bay S). disk_in x w) rest ∙ kept_out (is_same w a.which) (record a.disk { store = b.disk.store }) a.disk a.other (not_same w a.which ne)
+
+    lost_kept : {X : Type 0} (f : ModelDisk S → X) → f (record a.disk { store = b.disk.store }) ≡ f a.disk → (w : Which) → f (disk_in b w) ≡ f (disk_in a w)
+    lost_kept f same w = ap (λ (x : Bay S). f (disk_in x w)) rest ∙ kept_in f (is_same w a.which) (record a.disk { store = b.disk.store }) a.disk a.other same
+
+    pub did_lose : p.0 < 4 → ((d : Device) → d ≡ device_at size told m → ((d.port p.0).present ≡ false)) → ((s : S) → AreSectors (size s) (told s)) →
+        ((o : Outside) (disk : Disk) → disk.name ≡ disk_number a.which → true ≡ nat_eq disk.name (o.media p.0).disk.name → device_of new.hardware (outside_plugged o p.0 disk) ≡ after (Plug p.0 disk) (device_of m.hardware o)) →
+        new.hardware.starved ≡ m.hardware.starved →
+        Possible (asked.LosePlug p) (device_at size told m) × Did size told failures (asked.LosePlug p) m new
+    did_lose small free are did starved =
+        let may : Possible (asked.LosePlug p) (device_at size told m) = (small, has_disks size told m p.0 a was, free _ refl) in
+        let name : disk_number a.which ≡ ((device_at size told m).port p.0).disk.name = sym (ap (λ x. (media_of size told x).disk.name) was) in
+        let so : (o : Outside) (disk : Disk) → disk.name ≡ disk_number a.which → is_same b.which a.which ≡ nat_eq disk.name (o.media p.0).disk.name →
+        device_of new.hardware (outside_plugged o p.0 disk) ≡ after (Plug p.0 disk) (device_of m.hardware o) =
+        λ o disk named same. did o disk named (sym (ap (λ (w : Which). is_same w a.which) which_is ∙ same_self a.which) ∙ same) in
+        let P : ℕ → Type 0 = λ n. DoesPlug p.0 n (device_at size told m) (device_at size told new) in
+        let both : Option (Bay S) → Option (Bay S) → Type 0 = λ x y. AreLost size told failures x y in (
+          may,
+          record {
+            came = inl (record {
+              asked = subst P name
+                  (plugged_so size told failures m new p held queue accesses a b was items tells_so first later_so lasts that (disk_number a.which) (ap disk_number which_is) free are so);
+              fine = λ no. true-false refl no;
+              says = seated_same m new p.0 a b was items (option_map (λ (x : Bay S). x.says)) (ap (λ (x : Bay S). Some x.says) rest) p.0;
+              ends = λ _. tt;
+              loses = λ _. subst (λ x. both x (bay_of new p.0)) (sym was) (subst (both (Some a)) (sym (seated_here m new p.0 a b was items)) lost);
+            });
+            held = held;
+            which = seated_same m new p.0 a b was items (option_map (λ (x : Bay S). x.which)) (ap Some which_is) p.0;
+            others = seated_others m new p.0 a b was items;
+            pages = plug_noted size told failures m new p held queue accesses a b was items tells_so first later_so lasts that (disk_number a.which) (ap disk_number which_is) so;
+            disks = λ never. absurd (never may);
+            keeps = seated_keeps m new p.0 a b was items size lost_out
+                (lost_kept (identity size) (ap (λ (n : ℕ). record { serial = a.disk.serial; size = n }) (lost_size size told failures a b lost a.cache.is_on refl)))
+                (ap (λ (x : Bay S). x.cache.is_on) rest) queue accesses;
+            starved = starved;
+          },
+        )

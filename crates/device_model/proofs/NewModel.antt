@@ -72,10 +72,10 @@ all_told told all (Some b ∷ bays) =
     ap (λ x. x && all_tell told bays) (both_tell (told b.disk.store) (told b.other.store) (all b.disk.store) (all b.other.store)) ∙ all_told told all bays
 
 -- a new port has in it what is given for it
-pub new_port : {S : Type 0} (size : S → ℕ) (told : S → Option (ℕ → List ℕ)) (given : Option (PortDisks S)) (p : PortModel) (m : Media) → p.present ≡ is_some given →
+pub new_port : {S : Type 0} (size : S → ℕ) (told : S → Option (ℕ → List ℕ)) (given : Option (PortDisks S)) (p : PortModel) (m : Media) → p.present ≡ is_some given → p.lasting_at ≡ 0 →
     IsNewMedia size told given m → IsNewPort size told given (port_of p m)
-new_port size told None p m present is = (present, ap (λ (x : Media). x.plugged) is)
-new_port size told (Some disks) p m present is = (present, is.0, is.1)
+new_port size told None p m present since is = (present, ap (λ (x : Media). x.plugged) is)
+new_port size told (Some disks) p m present since is = (present, is.0, is.1, λ i. record { sectors = is.2 i; since = since i })
 
 -- for a port past the last one none is given
 pub past_given : {S : Type 0} (d : Disks S) (k : ℕ) → 4 ≤ k → given_for d k ≡ None

@@ -113,16 +113,16 @@ page_asks_none d port slot left clears has may asks = by asks
         let none = page_cleared t.meaning.operation d.memory t clears (kind may.begins) may.clearing in absurd (omega (arith, some, none))
 
 -- so it comes to no sector on which it fails
-page_whole : (p : Port) (s : Slot) (was now : Option Failures) (says later : Option Description) (old new : Device) → HasPage old p.0 s.0 →
-    StepFails (asked.Finish p s) was now says later old new → ⊥
-page_whole p s was now says later old new has (mid, before, fails) = by before fails
+page_whole : (p : Port) (s : Slot) (cached : Bool) (was now : Option Failures) (says later : Option Description) (old new : Device) → HasPage old p.0 s.0 →
+    StepFails (asked.Finish p s) cached was now says later old new → ⊥
+page_whole p s cached was now says later old new has (mid, before, fails) = by before fails
   where
     page : (mid ≡ old) ⊎ GoesOn (SendsEnd s.0) p.0 s.0 old mid → (t : Taken) → (mid.port p.0).taken s.0 ≡ Some t → IsPage t.meaning.operation t.places
     page (inl same) = page_taken p.0 s.0 false old mid (λ never. absurd (let no : false ≡ true = never in cc)) (λ _. same) has
     page (inr went) = page_taken p.0 s.0 true old mid (λ _. went) (λ never. absurd (let no : true ≡ false = never in cc)) has
 
     by : (mid ≡ old) ⊎ GoesOn (SendsEnd s.0) p.0 s.0 old mid →
-        FailsToMove p.0 s.0 was now says later mid new ⊎ FailsToClear p.0 s.0 was now says later mid new → ⊥
+        FailsToMove cached p.0 s.0 was now says later mid new ⊎ FailsToClear cached p.0 s.0 was now says later mid new → ⊥
     by gone (inl moves) = true-false moves.ranged (page_unranged _ (page gone moves.t moves.move.works.taken).0)
     by gone (inr clears) = true-false (page gone clears.t clears.clear.works.taken).0 (ap sends_page clears.clear.trim)
 
@@ -131,7 +131,7 @@ pub page_completes : {S : Type 0} (size : S → ℕ) (told : S → Option (ℕ �
 page_completes size told failures old new p s did has =
     elim did.came [
       | inl whole ↦ whole
-      | inr failed ↦ absurd (page_whole p s _ _ _ _ _ _ has failed)
+      | inr failed ↦ absurd (page_whole p s _ _ _ _ _ _ _ has failed)
     ]
 
 -- each disk stays as it is

@@ -1,5 +1,5 @@
 -- A disk is put into a port, or isn't.
-use Rattle.std.proofs.Common.{ℕ, true, false, ◌≡◌, ◌<◌, ◌∙◌, ◌++◌, ◌∷◌, [], List, Option, Some, refl, sym, ap, inl, inr, arith}
+use Rattle.std.proofs.Common.{ℕ, true, false, ◌⊎◌, ◌≡◌, ◌<◌, ◌∙◌, ◌++◌, ◌∷◌, [], List, Option, Some, refl, sym, ap, inl, inr, arith}
 use Rattle.std.specs.Prelude.{if◌then◌else◌, is_some, nat_eq, option_map, slice_set}
 use Rattle.adapter.specs.Asked.{DoesPlug}
 use Rattle.adapter.specs.Device.{Device, Disk}
@@ -12,7 +12,7 @@ use Rattle.adapter.specs.declared.tape.Entry.TheVariants as entry
 use Rattle.ata_types.specs.declared.Port.{Port}
 use Rattle.sector_store.specs.Stores.{AreSectors}
 use Rattle.sector_store.specs.declared.store.Failures.{Failures}
-use Rattle.device_model.specs.Disks.{bay_of, disk_in, disk_number, disk_over, identity, is_same, plugged_as}
+use Rattle.device_model.specs.Disks.{bay_of, disk_in, disk_number, disk_over, identity, is_same, lasting_of, plugged_as}
 use Rattle.device_model.specs.Does.{Did, IsLeftOut, LacksMemory, Possible}
 use Rattle.device_model.specs.Modelled.{device_at, media_of, outside_at, tells}
 use Rattle.device_model.specs.Tells.{bay_told, each_tells}
@@ -22,6 +22,8 @@ use Rattle.device_model.specs.declared.disks.ModelDisk.{ModelDisk}
 use Rattle.device_model.specs.declared.disks.Which.{Which}
 use Rattle.device_model.specs.declared.disks.Which.TheVariants.{Disk0, Disk1}
 use Rattle.device_model.specs.declared.model.Model.{Model}
+use Rattle.device_model.specs.Paged.{GainsPages}
+use Rattle.device_model.proofs.Absurd.{true-false}
 use Rattle.device_model.proofs.NewModel.{disks_are}
 use Rattle.device_model.proofs.Telling.{gains_one}
 use Rattle.device_model.proofs.TwoDisks.{both_turned, has_disks, in_kept, number_small, of_number, one_number, seated_behind, seated_here, seated_keeps, seated_others, seated_outside, seated_same}
@@ -32,22 +34,18 @@ same_number Disk0 Disk1 = refl
 same_number Disk1 Disk0 = refl
 same_number Disk1 Disk1 = refl
 
--- what is lasting of a disk that is put in
-lasting_of : {S : Type 0} (told : S → Option (ℕ → List ℕ)) (w v : Which) (was comes now : S) → now ≡ (if is_same w v then was else comes) →
-    told now ≡ (if nat_eq (disk_number w) (disk_number v) then told was else told comes)
-lasting_of told Disk0 Disk0 was comes now e = ap told e
-lasting_of told Disk0 Disk1 was comes now e = ap told e
-lasting_of told Disk1 Disk0 was comes now e = ap told e
-lasting_of told Disk1 Disk1 was comes now e = ap told e
+-- whichever it is, by its name
+by_name : (w v : Which) (was comes : Option (ℕ → List ℕ)) → (if is_same w v then was else comes) ≡ (if nat_eq (disk_number w) (disk_number v) then was else comes)
+by_name w v was comes = ap (λ x. if x then was else comes) (same_number w v)
 
-module _ {S : Type 0} (size : S → ℕ) (told : S → Option (ℕ → List ℕ)) (failures : S → Option Failures) (m new : Model S) (p : Port) (number : DiskNumber)
+module _ {S : Type 0} (size : S → ℕ) (told : S → Option (ℕ → List ℕ)) (failures : S → Option Failures) (m new : Model S) (p : Port)
     (held : new.held ≡ m.held) (queue : new.queue ≡ m.queue) (accesses : new.accesses ≡ m.accesses) (a b : Bay S) (was : bay_of m p.0 ≡ Some a)
     (items : new.bays.items ≡ slice_set m.bays.items p.0 (Some b)) where
   -- the tape had no room, and no disk is put in
-  pub plug_left : b ≡ a → ((o : Outside) → device_of new.hardware o ≡ device_of m.hardware o) →
-      Possible (asked.Plug p number) (device_at size told m) → LacksMemory (asked.Plug p number) (device_at size told m) m.hardware →
+  pub plug_left : (number : DiskNumber) → b ≡ a → ((o : Outside) → device_of new.hardware o ≡ device_of m.hardware o) →
+      Possible (asked.Plug p number) (device_at size told m) → LacksMemory (asked.Plug p number) (device_at size told m) m.hardware m.bays.items →
       new.hardware.starved ≡ true → IsLeftOut size told failures (asked.Plug p number) m new
-  plug_left rest same may lacks starved =
+  plug_left number rest same may lacks starved =
       let kept : (w : Which) → disk_in b w ≡ disk_in a w = λ (w : Which). ap (λ (x : Bay S). disk_in x w) rest in
       record {
         device = ap (λ (o : Outside). device_of new.hardware o) (seated_behind m new p.0 a b was items size told (ap (λ (x : Bay S). media_of size told (Some x)) rest)
@@ -59,43 +57,40 @@ module _ {S : Type 0} (size : S → ℕ) (told : S → Option (ℕ → List ℕ)
         others = seated_others m new p.0 a b was items;
         disks = λ w. seated_same m new p.0 a b was items (option_map (λ (x : Bay S). disk_in x w)) (ap Some (kept w)) p.0;
         why = λ _ _. (lacks, starved);
-        keeps = seated_keeps m new p.0 a b was items size (λ w _. kept w) (λ w. ap (identity size) (kept w)) queue accesses;
+        keeps = seated_keeps m new p.0 a b was items size (λ w _. kept w) (λ w. ap (identity size) (kept w)) (ap (λ (x : Bay S). x.cache.is_on) rest) queue accesses;
         starved_on = λ _. starved;
         starved_since = λ _. inr (may, lacks);
       }
 
-  -- a disk is put in
-  module _ (which : Which) (found : disk_number which ≡ number.0) (which_is : b.which ≡ which) (kept : (w : Which) → disk_in b w ≡ disk_in a w)
-      (later : (disk : Which → S → Disk) → plugged_as disk b.later ≡ plugged_as disk a.later ++ disk which b.disk.store ∷ [])
-      (says : b.says ≡ a.says) (first : b.first ≡ a.first) (lasting : b.lasting.value ≡ (if is_same which a.which then a.lasting.value else b.disk.store)) where
+  -- a disk is put in, as it is then
+  module _ (tells_so : tells told (Some b) ≡ tells told (Some a)) (first : b.first ≡ a.first)
+      (later : (disk : Which → S → Disk) → plugged_as disk b.later ≡ plugged_as disk a.later ++ disk b.which b.disk.store ∷ [])
+      (lasts : lasting_of told b ≡ (if is_same b.which a.which then lasting_of told a else told b.disk.store))
+      (that : b.which ≡ a.which → (size b.disk.store ≡ size a.disk.store)
+      × ((last comes : ℕ → List ℕ) → told a.disk.store ≡ Some last → told b.disk.store ≡ Some comes → (k : ℕ) →
+      (comes k ≡ last k) ⊎ (option_map (λ (f : ℕ → List ℕ). f k) (lasting_of told a) ≡ Some (comes k)))) where
     abbrev put_disk : Disk
     put_disk = disk_over b.which (size b.disk.store) (told b.disk.store)
 
     media : media_of size told (Some b) ≡ media_plugged (media_of size told (bay_of m p.0)) put_disk
     media =
-        let was_put : List Disk = plugged_as (λ w s. disk_over w (size s) (told s)) a.later in
-        let more = later (λ w s. disk_over w (size s) (told s)) ∙ ap (λ (w : Which). was_put ++ disk_over w (size b.disk.store) (told b.disk.store) ∷ []) (sym which_is) in
-        let lasts = lasting_of told which a.which a.lasting.value b.disk.store b.lasting.value lasting
-        ∙ ap (λ (w : Which). if nat_eq (disk_number w) (disk_number a.which) then told a.lasting.value else told b.disk.store) (sym which_is) in
-        (λ i. record { disk = put_disk; plugged = disk_over Disk0 (size (first i).value) (told (first i).value) ∷ more i; lasting = lasts i })
+        let more = later (λ w s. disk_over w (size s) (told s)) in
+        let named = lasts ∙ by_name b.which a.which (lasting_of told a) (told b.disk.store) in
+        (λ i. record { disk = put_disk; plugged = disk_over Disk0 (size (first i).value) (told (first i).value) ∷ more i; lasting = named i })
         ∙ ap (λ x. media_plugged (media_of size told x) put_disk) (sym was)
 
-    tells_so : tells told (Some b) ≡ tells told (Some a)
-    tells_so = both_turned (λ (x : ModelDisk S). is_some (told x.store)) a b kept
+    disk_is : (media_of size told (bay_of m p.0)).disk ≡ disk_over a.which (size a.disk.store) (told a.disk.store)
+    disk_is = ap (λ x. (media_of size told x).disk) was
 
     -- whether it is the one that was in last
-    same_named : (media_of size told (bay_of m p.0)).disk ≡ (media_of size told (Some a)).disk → is_same which a.which ≡ nat_eq put_disk.name (media_of size told (bay_of m p.0)).disk.name
-    same_named at =
-        same_number which a.which
-        ∙ (ap (λ (w : Which). nat_eq (disk_number w) (disk_number a.which)) (sym which_is) ∙ ap (λ (d : Disk). nat_eq (disk_number b.which) d.name) (sym at))
+    same_named : is_same b.which a.which ≡ nat_eq put_disk.name (media_of size told (bay_of m p.0)).disk.name
+    same_named = same_number b.which a.which ∙ ap (λ (d : Disk). nat_eq (disk_number b.which) d.name) (sym disk_is)
 
-    pub does_plug : ((d : Device) → d ≡ device_at size told m → ((d.port p.0).present ≡ false)) → ((s : S) → AreSectors (size s) (told s)) →
-        ((o : Outside) (disk : Disk) → disk.name ≡ number.0 → is_same which a.which ≡ nat_eq disk.name (o.media p.0).disk.name → device_of new.hardware (outside_plugged o p.0 disk) ≡ after (Plug p.0 disk) (device_of m.hardware o)) →
-        DoesPlug p.0 number.0 (device_at size told m) (device_at size told new)
-    does_plug free are did =
-        let name : disk_number b.which ≡ number.0 = ap disk_number which_is ∙ found in
+    pub plugged_so : (number : ℕ) → disk_number b.which ≡ number → ((d : Device) → d ≡ device_at size told m → ((d.port p.0).present ≡ false)) → ((s : S) → AreSectors (size s) (told s)) →
+        ((o : Outside) (disk : Disk) → disk.name ≡ number → is_same b.which a.which ≡ nat_eq disk.name (o.media p.0).disk.name → device_of new.hardware (outside_plugged o p.0 disk) ≡ after (Plug p.0 disk) (device_of m.hardware o)) →
+        DoesPlug p.0 number (device_at size told m) (device_at size told new)
+    plugged_so number name free are did =
         let o : Outside = outside_at size told m in
-        let at : (media_of size told (bay_of m p.0)).disk ≡ (media_of size told (Some a)).disk = ap (λ x. (media_of size told x).disk) was in
         record {
           disk = put_disk;
           name = name;
@@ -104,16 +99,49 @@ module _ {S : Type 0} (size : S → ℕ) (told : S → Option (ℕ → List ℕ)
             disks_are size told are (Some b),
             λ telling. bay_told size told (Some b) (tells_so ∙ (ap (tells told) (sym was) ∙ each_tells size told m.bays.items telling p.0)),
             λ same.
-                let which_same : b.which ≡ a.which = one_number b.which a.which (same ∙ ap (λ (d : Disk). d.name) at) in
+                let which_same : b.which ≡ a.which = one_number b.which a.which (same ∙ ap (λ (d : Disk). d.name) disk_is) in
+                let so = that which_same in
                 record {
-                  size = in_kept (λ (x : ModelDisk S). size x.store) a b which_same (λ w. ap (λ (x : ModelDisk S). size x.store) (kept w)) ∙ sym (ap (λ (d : Disk). d.size) at);
+                  size = so.0 ∙ sym (ap (λ (d : Disk). d.size) disk_is);
                   holds = λ last comes is_last is_comes k lt.
-                      let told_same : told b.disk.store ≡ told a.disk.store = in_kept (λ (x : ModelDisk S). told x.store) a b which_same (λ w. ap (λ (x : ModelDisk S). told x.store) (kept w)) in
-                      inl (ap (λ (f : ℕ → List ℕ). f k) (same_Some comes last (sym is_comes ∙ (told_same ∙ (sym (ap (λ (d : Disk). d.sectors) at) ∙ is_last)))));
+                      elim (so.1 last comes (sym (ap (λ (d : Disk). d.sectors) disk_is) ∙ is_last) is_comes k) [
+                        | inl kept ↦ inl kept
+                        | inr lost ↦ inr (inl (ap (λ x. option_map (λ (f : ℕ → List ℕ). f k) (media_of size told x).lasting) was ∙ lost))
+                      ];
                 },
           );
-          effect = ap (λ (x : Outside). device_of new.hardware x) (seated_outside m new p.0 a b was items size told _ tells_so media) ∙ did o put_disk name (same_named at);
+          effect = ap (λ (x : Outside). device_of new.hardware x) (seated_outside m new p.0 a b was items size told _ tells_so media) ∙ did o put_disk name same_named;
         }
+
+    pub plug_noted : (number : ℕ) → disk_number b.which ≡ number →
+        ((o : Outside) (disk : Disk) → disk.name ≡ number → is_same b.which a.which ≡ nat_eq disk.name (o.media p.0).disk.name → device_of new.hardware (outside_plugged o p.0 disk) ≡ after (Plug p.0 disk) (device_of m.hardware o)) →
+        GainsPages size m new
+    plug_noted number name did =
+        gains_one size m new (entry.Plug p (disk_number b.which)) (ap (λ (d : Device). d.tape) (did (outside_at size told m) put_disk name same_named)) (λ x e. absurd (cc e))
+
+  -- one of the two is put in by its number, with the sectors that it had
+  module _ (number : DiskNumber) (which : Which) (found : disk_number which ≡ number.0) (which_is : b.which ≡ which) (kept : (w : Which) → disk_in b w ≡ disk_in a w)
+      (later : (disk : Which → S → Disk) → plugged_as disk b.later ≡ plugged_as disk a.later ++ disk which b.disk.store ∷ [])
+      (says : b.says ≡ a.says) (first : b.first ≡ a.first) (cached : b.cache.is_on ≡ a.cache.is_on)
+      (lasting : lasting_of told b ≡ (if is_same which a.which then lasting_of told a else told b.disk.store)) where
+    tells_so : tells told (Some b) ≡ tells told (Some a)
+    tells_so = both_turned (λ (x : ModelDisk S). is_some (told x.store)) a b kept
+
+    later_so : (disk : Which → S → Disk) → plugged_as disk b.later ≡ plugged_as disk a.later ++ disk b.which b.disk.store ∷ []
+    later_so disk = later disk ∙ ap (λ (w : Which). plugged_as disk a.later ++ disk w b.disk.store ∷ []) (sym which_is)
+
+    lasts_so : lasting_of told b ≡ (if is_same b.which a.which then lasting_of told a else told b.disk.store)
+    lasts_so = lasting ∙ ap (λ (w : Which). if is_same w a.which then lasting_of told a else told b.disk.store) (sym which_is)
+
+    that_so : b.which ≡ a.which → (size b.disk.store ≡ size a.disk.store)
+        × ((last comes : ℕ → List ℕ) → told a.disk.store ≡ Some last → told b.disk.store ≡ Some comes → (k : ℕ) →
+        (comes k ≡ last k) ⊎ (option_map (λ (f : ℕ → List ℕ). f k) (lasting_of told a) ≡ Some (comes k)))
+    that_so same = (
+      in_kept (λ (x : ModelDisk S). size x.store) a b same (λ w. ap (λ (x : ModelDisk S). size x.store) (kept w)),
+      λ last comes is_last is_comes k.
+          let told_same : told b.disk.store ≡ told a.disk.store = in_kept (λ (x : ModelDisk S). told x.store) a b same (λ w. ap (λ (x : ModelDisk S). told x.store) (kept w)) in
+          inl (ap (λ (f : ℕ → List ℕ). f k) (same_Some comes last (sym is_comes ∙ (told_same ∙ is_last)))),
+    )
 
     pub did_plug : p.0 < 4 → ((d : Device) → d ≡ device_at size told m → ((d.port p.0).present ≡ false)) → ((s : S) → AreSectors (size s) (told s)) →
         ((o : Outside) (disk : Disk) → disk.name ≡ number.0 → is_same which a.which ≡ nat_eq disk.name (o.media p.0).disk.name → device_of new.hardware (outside_plugged o p.0 disk) ≡ after (Plug p.0 disk) (device_of m.hardware o)) →
@@ -121,25 +149,27 @@ module _ {S : Type 0} (size : S → ℕ) (told : S → Option (ℕ → List ℕ)
         Possible (asked.Plug p number) (device_at size told m) × Did size told failures (asked.Plug p number) m new
     did_plug small free are did starved =
         let few = number_small which in
-        let plug = does_plug free are did in (
+        let name : disk_number b.which ≡ number.0 = ap disk_number which_is ∙ found in
+        let so : (o : Outside) (disk : Disk) → disk.name ≡ number.0 → is_same b.which a.which ≡ nat_eq disk.name (o.media p.0).disk.name → device_of new.hardware (outside_plugged o p.0 disk) ≡ after (Plug p.0 disk) (device_of m.hardware o) =
+        λ o disk named same. did o disk named (ap (λ (w : Which). is_same w a.which) (sym which_is) ∙ same) in (
           (small, has_disks size told m p.0 a was, omega (arith, few, found), free _ refl),
           record {
             came = inl (record {
-              asked = plug;
-              fine = λ q w. seated_same m new p.0 a b was items (λ x. option_map (λ (y : ModelDisk S). failures y.store) (option_map (λ (y : Bay S). disk_in y w) x))
+              asked = plugged_so tells_so first later_so lasts_so that_so number.0 name free are so;
+              fine = λ _ q w. seated_same m new p.0 a b was items (λ x. option_map (λ (y : ModelDisk S). failures y.store) (option_map (λ (y : Bay S). disk_in y w) x))
                   (ap (λ (y : ModelDisk S). Some (failures y.store)) (kept w)) q;
               says = seated_same m new p.0 a b was items (option_map (λ (x : Bay S). x.says)) (ap Some says) p.0;
               ends = λ _. tt;
+              loses = λ yes. true-false yes refl;
             });
             held = held;
             which = ap (option_map (λ (x : Bay S). x.which)) (seated_here m new p.0 a b was items)
                 ∙ (ap Some (which_is ∙ of_number which number.0 found)
                 ∙ sym (ap (λ x. option_map (λ (_ : Which). if nat_eq number.0 0 then Disk0 else Disk1) (option_map (λ (y : Bay S). y.which) x)) was));
             others = seated_others m new p.0 a b was items;
-            pages = gains_one size m new (entry.Plug p (disk_number b.which)) (ap (λ (d : Device). d.tape) (did (outside_at size told m) put_disk (ap disk_number which_is ∙ found) (same_named (ap (λ x. (media_of size told x).disk) was))))
-                (λ x e. absurd (cc e));
+            pages = plug_noted tells_so first later_so lasts_so that_so number.0 name so;
             disks = λ _ w. seated_same m new p.0 a b was items (option_map (λ (x : Bay S). disk_in x w)) (ap Some (kept w)) p.0;
-            keeps = seated_keeps m new p.0 a b was items size (λ w _. kept w) (λ w. ap (identity size) (kept w)) queue accesses;
+            keeps = seated_keeps m new p.0 a b was items size (λ w _. kept w) (λ w. ap (identity size) (kept w)) cached queue accesses;
             starved = starved;
           },
         )

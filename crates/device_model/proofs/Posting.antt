@@ -125,14 +125,14 @@ done_may (asked.Plug p number) old new did = did
 done_may (asked.LosePlug p) old new did = did
 
 -- a fault in the place of a step, or on its way, is one of the device's own
-pub moving_fails : (port slot : ℕ) (was now : Option Failures) (says later : Option Description) (old new : Device) (f : FailsToMove port slot was now says later old new) →
+pub moving_fails : (cached : Bool) (port slot : ℕ) (was now : Option Failures) (says later : Option Description) (old new : Device) (f : FailsToMove cached port slot was now says later old new) →
     Fails SendsFailed port slot f.error 0 old new
-moving_fails port slot was now says later old new f =
+moving_fails cached port slot was now says later old new f =
     record { mid = after (Fault port slot f.error 0 f.t) old; fault = record { t = f.t; can = f.can; effect = refl }; posts = f.sends }
 
-pub clearing_fails : (port slot : ℕ) (was now : Option Failures) (says later : Option Description) (old new : Device) (f : FailsToClear port slot was now says later old new) →
+pub clearing_fails : (cached : Bool) (port slot : ℕ) (was now : Option Failures) (says later : Option Description) (old new : Device) (f : FailsToClear cached port slot was now says later old new) →
     Fails SendsFailed port slot f.error 0 old new
-clearing_fails port slot was now says later old new f =
+clearing_fails cached port slot was now says later old new f =
     record { mid = after (Fault port slot f.error 0 f.t) old; fault = record { t = f.t; can = f.can; effect = refl }; posts = f.sends }
 
 fails_after_may : (port slot error : ℕ) (Part More : Device → Device → Type 0) → ((old mid : Device) → Part old mid → More old mid) → (old mid new : Device) →
@@ -142,40 +142,40 @@ fails_after_may port slot error Part More more old mid new (inl same) f =
 fails_after_may port slot error Part More more old mid new (inr some) f =
     record { mid = mid; before = inr (more old mid some); error = error; fails = failed_may port slot error 0 mid new f }
 
-fails_may : (s : DeviceStep) (was now : Option Failures) (says later : Option Description) (old new : Device) → StepFails s was now says later old new → Asked s old new
-fails_may (asked.Fetch p s) was now says later old new f = inr (record {
+fails_may : (s : DeviceStep) (cached : Bool) (was now : Option Failures) (says later : Option Description) (old new : Device) → StepFails s cached was now says later old new → Asked s old new
+fails_may (asked.Fetch p s) cached was now says later old new f = inr (record {
   mid = after (FetchFault p.0 s.0 false 0) old;
   fault = record { queued = false; can = f.can; effect = refl };
   posts = λ o. fault_may false p.0 o (after (FetchFault p.0 s.0 false 0) old) new f.sends;
 })
-fails_may (asked.Move p s) was now says later old new f =
-    inr (f.error, failed_may p.0 s.0 f.error 0 old new (moving_fails p.0 s.0 was now says later old new f))
-fails_may (asked.Clear p s most) was now says later old new (mid, before, f) =
+fails_may (asked.Move p s) cached was now says later old new f =
+    inr (f.error, failed_may p.0 s.0 f.error 0 old new (moving_fails cached p.0 s.0 was now says later old new f))
+fails_may (asked.Clear p s most) cached was now says later old new (mid, before, f) =
     inr (fails_after_may p.0 s.0 f.error (ClearsFewer p.0 s.0 most) (DoesClear p.0 s.0 most) (λ a b some. some.0) old mid new before
-    (clearing_fails p.0 s.0 was now says later mid new f))
-fails_may (asked.Finish p s) was now says later old new (mid, before, inl f) =
+    (clearing_fails cached p.0 s.0 was now says later mid new f))
+fails_may (asked.Finish p s) cached was now says later old new (mid, before, inl f) =
     inr (fails_after_may p.0 s.0 f.error (GoesOn (SendsEnd s.0) p.0 s.0) (GoesOn MayPost p.0 s.0) (λ a b g. (g.0, some_may (suc g.0) p.0 s.0 a b g.1)) old mid new before
-    (moving_fails p.0 s.0 was now says later mid new f))
-fails_may (asked.Finish p s) was now says later old new (mid, before, inr f) =
+    (moving_fails cached p.0 s.0 was now says later mid new f))
+fails_may (asked.Finish p s) cached was now says later old new (mid, before, inr f) =
     inr (fails_after_may p.0 s.0 f.error (GoesOn (SendsEnd s.0) p.0 s.0) (GoesOn MayPost p.0 s.0) (λ a b g. (g.0, some_may (suc g.0) p.0 s.0 a b g.1)) old mid new before
-    (clearing_fails p.0 s.0 was now says later mid new f))
-fails_may (asked.Done p s) was now says later old new f = absurd f
-fails_may (asked.Fault p s error) was now says later old new f = absurd f
-fails_may (asked.FaultBusy p s error) was now says later old new f = absurd f
-fails_may (asked.Fatal p error) was now says later old new f = absurd f
-fails_may (asked.Scribble p byte) was now says later old new f = absurd f
-fails_may (asked.Lie p page offset bits) was now says later old new f = absurd f
-fails_may (asked.Truth p) was now says later old new f = absurd f
-fails_may (asked.Hold p) was now says later old new f = absurd f
-fails_may (asked.Release p) was now says later old new f = absurd f
-fails_may (asked.Unplug p) was now says later old new f = absurd f
-fails_may (asked.Plug p number) was now says later old new f = absurd f
-fails_may (asked.LosePlug p) was now says later old new f = absurd f
+    (clearing_fails cached p.0 s.0 was now says later mid new f))
+fails_may (asked.Done p s) cached was now says later old new f = absurd f
+fails_may (asked.Fault p s error) cached was now says later old new f = absurd f
+fails_may (asked.FaultBusy p s error) cached was now says later old new f = absurd f
+fails_may (asked.Fatal p error) cached was now says later old new f = absurd f
+fails_may (asked.Scribble p byte) cached was now says later old new f = absurd f
+fails_may (asked.Lie p page offset bits) cached was now says later old new f = absurd f
+fails_may (asked.Truth p) cached was now says later old new f = absurd f
+fails_may (asked.Hold p) cached was now says later old new f = absurd f
+fails_may (asked.Release p) cached was now says later old new f = absurd f
+fails_may (asked.Unplug p) cached was now says later old new f = absurd f
+fails_may (asked.Plug p number) cached was now says later old new f = absurd f
+fails_may (asked.LosePlug p) cached was now says later old new f = absurd f
 
 pub did_may : {S : Type 0} (size : S → ℕ) (told : S → Option (ℕ → List ℕ)) (failures : S → Option Failures) (s : DeviceStep) (old new : Model S) →
     Did size told failures s old new → Asked s (device_at size told old) (device_at size told new)
 did_may size told failures s old new did =
     elim did.came [
       | inl whole ↦ inl (done_may s _ _ whole.asked)
-      | inr failed ↦ fails_may s _ _ _ _ _ _ failed
+      | inr failed ↦ fails_may s _ _ _ _ _ _ _ failed
     ]

@@ -5,10 +5,11 @@ use Rattle.std.proofs.lemmas.List.{get_or_append_left, get_or-append_right}
 use Rattle.std.specs.Prelude.{IfSome}
 use Rattle.std.specs.Option.{SomeIff}
 use Rattle.std.specs.Vec.{vec_len}
+use Rattle.adapter.specs.Asked.{DoesFetch}
 use Rattle.adapter.specs.Commands.{Meaning}
-use Rattle.adapter.specs.Device.{Device, Taken}
+use Rattle.adapter.specs.Device.{Device, PortState, Taken}
 use Rattle.adapter.specs.Says.{Says, pieces, cut}
-use Rattle.adapter.specs.Steps.{Can, IsAlone, WorksOn, admits, begun}
+use Rattle.adapter.specs.Steps.{Can, IsAlone, WorksOn, admits, begun, with_fetch}
 use Rattle.adapter.specs.Steps.Step.{Fetch}
 use Rattle.adapter.specs.declared.command.Operation.{Operation}
 use Rattle.adapter.specs.declared.command.Prd.{Prd}
@@ -16,14 +17,16 @@ use Rattle.device_model.proofs.Absurd.{some-none, some_one}
 use Rattle.adapter.proofs.SaysLemmas.{says_meaning, says_places, cut_length, cut_index}
 use Rattle.device_model.specs.Finishing.{HasPage, FindsPage, IsInside, AreInside, IsCovered, IsRest, MayFinish, MayPage, sends_page}
 use Rattle.device_model.specs.Fetched.{IsNew, bytes_of}
-use Rattle.device_model.specs.Trims.{WillClear}
+use Rattle.device_model.specs.Cached.{HasOldRoom}
+use Rattle.device_model.specs.Trims.{WillClear, changes_ahead}
 use Rattle.device_model.specs.Slots.{IsOpenTo, MayTake, HasUntaken, HoldsAt}
 use Rattle.device_model.specs.View.{Media, halt_of, operation_of, port_of, taken_of, blank}
 use Rattle.device_model.specs.Whole.{Outside, device_of}
 use Rattle.device_model.specs.declared.port.PortModel.{PortModel}
 use Rattle.device_model.specs.declared.port.TakenCommand.{TakenCommand}
 use Rattle.device_model.specs.declared.hardware.Hardware.{Hardware}
-use Rattle.device_model.proofs.Finishing.{holds}
+use Rattle.device_model.specs.declared.cache.Cache.{Cache}
+use Rattle.device_model.proofs.Finishing.{here_after, holds, taken_after}
 use Rattle.device_model.proofs.SlotLemmas.{new_begun}
 use Rattle.device_model.proofs.Trimming.{page_clears}
 use Rattle.device_model.proofs.Stepping.{fetch_takes, fetch_says}
@@ -172,7 +175,7 @@ module _ (h : Hardware) (p port slot : ℕ) (r : TakenCommand) (e : p ≡ port) 
       (subst Q same ready.covered, subst R same ready.clearing)
 
   -- where a command may be taken, one that is ready is the one that its slot's bytes say
-  ready_is_one : HasUntaken (slice_index_or h.ports p blank) slot → IsNew r →
+  pub ready_is_one : HasUntaken (slice_index_or h.ports p blank) slot → IsNew r →
       Says (bytes_of h.memory.items) (slice_index_or h.ports p blank).addresses.clb slot (taken_of r).meaning (taken_of r).places →
       (o : Outside) (left clears : ℕ) (ready : MayFinish (device_of h o) port slot left clears) → ready.t ≡ taken_of r
   ready_is_one may new says o left clears ready =
@@ -211,6 +214,35 @@ module _ (h : Hardware) (p port slot : ℕ) (r : TakenCommand) (e : p ≡ port) 
       let w = ready_held h o p port slot left clears e ready never in
       let same : r ≡ w.0 = some_one (sym here.held ∙ w.1.held) in
       rest_back left clears o ready (w.2 ∙ ap taken_of (sym same))
+
+-- what a command is going to change is what is left of the one that is ready
+pub ahead_is : (h : Hardware) (o : Outside) (cache : Cache) (port slot left changes n m : ℕ) (r : TakenCommand) (may : MayFinish (device_of h o) port slot n m) → may.t ≡ taken_of r →
+    left ≡ n → changes ≡ changes_ahead (operation_of r.transfer) (bytes_of h.memory.items) (taken_of r) left →
+    HasOldRoom cache (changes_ahead may.t.meaning.operation (bytes_of h.memory.items) may.t n) → HasOldRoom cache changes
+ahead_is h o cache port slot left changes n m r may same number is =
+    let memory = bytes_of h.memory.items in
+    let here : changes_ahead may.t.meaning.operation memory may.t n ≡ changes = (λ i. changes_ahead (same i).meaning.operation memory (same i) (sym number i)) ∙ sym is in
+    subst (HasOldRoom cache) here
+
+-- and of the one that is taken
+pub ahead_of : (cache : Cache) (memory : ℕ → ℕ) (left changes : ℕ) (r : TakenCommand) (t : Taken) → taken_of r ≡ t →
+    changes ≡ changes_ahead (operation_of r.transfer) memory (taken_of r) left → HasOldRoom cache changes → HasOldRoom cache (changes_ahead t.meaning.operation memory t left)
+ahead_of cache memory left changes r t same is =
+    let there : changes ≡ changes_ahead t.meaning.operation memory t left = is ∙ (λ i. changes_ahead (same i).meaning.operation memory (same i) left) in
+    subst (HasOldRoom cache) there
+
+-- the one that was taken just now
+pub fetched_is : (port slot : ℕ) (old new : Device) (r : TakenCommand) (f : DoesFetch port slot old new) → IsNew r →
+    Says old.memory (old.port port).bases.clb slot (taken_of r).meaning (taken_of r).places → (t : Taken) → (new.port port).taken slot ≡ Some t → taken_of r ≡ t
+fetched_is port slot old new r f fresh says t taken =
+    let p : PortState = old.port port in
+    let state : PortState = with_fetch p slot f.meaning f.places in
+    let meaning : f.meaning ≡ (taken_of r).meaning = says_meaning old.memory p.bases.clb slot f.meaning (taken_of r).meaning f.places (taken_of r).places f.can.says says in
+    let places : f.places ≡ (taken_of r).places = says_places old.memory p.bases.clb slot f.meaning (taken_of r).meaning f.places (taken_of r).places f.can.says says in
+    let there : new.port port ≡ state = ap (λ (d : Device). d.port port) f.effect ∙ here_after old port state in
+    let held : (new.port port).taken slot ≡ Some (begun (taken_of r).meaning (taken_of r).places) =
+    ap (λ (x : PortState). x.taken slot) there ∙ (taken_after p slot (Some (begun f.meaning f.places)) ∙ (λ i. Some (begun (meaning i) (places i)))) in
+    new_begun r fresh ∙ some_one (sym held ∙ taken)
 
 -- ---- commands that send a page
 

@@ -1,7 +1,7 @@
 -- Steps of the hardware, as a model answers them.
 use Rattle.std.proofs.Common.{ℕ, Bool, true, false, ◌≡◌, ◌<◌, ◌∙◌, List, [], ◌∷◌, ◌++◌, Option, None, Some, refl, sym, ap, subst, inl, inr}
 use Rattle.std.specs.Global.{Vec}
-use Rattle.std.specs.Prelude.{if◌then◌else◌, option_map}
+use Rattle.std.specs.Prelude.{if◌then◌else◌, option_map, slice_set}
 use Rattle.adapter.specs.Asked.{DoesFatal, DoesFault, DoesFetch, DoesScribble, DoneOf, Ends, Fails, fatal_bit}
 use Rattle.adapter.specs.Asked.{busy as busy_bit}
 use Rattle.adapter.specs.Commands.{Meaning, is_queued}
@@ -19,19 +19,23 @@ use Rattle.adapter.specs.declared.tape.Move.{Move}
 use Rattle.ata_types.specs.declared.Port.{Port}
 use Rattle.ata_types.specs.declared.Slot.{Slot}
 use Rattle.sector_store.specs.declared.store.Failures.{Failures}
-use Rattle.device_model.specs.Disks.{EndsOnly, SaysOnly, bay_ended, disk_in, says_of, which_of}
-use Rattle.device_model.specs.Does.{AnswersStep, EndsIt, IsLeftOut, MayBeFetched, StepKeeps, LacksMemory, Possible, asked_fault, asked_port, says_after, says_failed, which_after}
+use Rattle.device_model.specs.Disks.{AreEnded, EndsOnly, IsEnded, SaysOnly, bay_of, disk_in, lasting_of, says_of, which_of}
+use Rattle.device_model.specs.Does.{AnswersStep, EndsIt, IsLeftOut, is_losing, MayBeFetched, StepKeeps, LacksMemory, Possible, asked_fault, asked_port, says_after, says_failed, which_after}
 use Rattle.device_model.specs.Finishing.{HasRoom, IsPassed}
 use Rattle.device_model.specs.Held.{held_after}
-use Rattle.device_model.specs.Modelled.{device_at, media_of, outside_at}
+use Rattle.device_model.specs.Modelled.{device_at, media_of, outside_at, tells}
 use Rattle.device_model.specs.Sent.{Sends, SendsEnd, SendsFailed, SendsFault}
 use Rattle.device_model.specs.View.{kept_by, media_ended}
 use Rattle.device_model.specs.Whole.{Outside, device_of, outside_ended}
 use Rattle.device_model.specs.declared.hardware.Hardware.{Hardware}
+use Rattle.device_model.specs.Cached.{lasting_in}
+use Rattle.device_model.specs.OldSectors.{with_old}
+use Rattle.device_model.specs.declared.old_sectors.OldSector.{OldSector}
 use Rattle.device_model.specs.declared.bay.Bay.{Bay}
 use Rattle.device_model.specs.declared.bay.Description.{Description}
 use Rattle.device_model.specs.declared.disks.ModelDisk.{ModelDisk}
 use Rattle.device_model.specs.declared.model.Model.{Model}
+use Rattle.device_model.proofs.Absurd.{some-none, some_one, true-false}
 use Rattle.device_model.proofs.Doing.{left_same}
 use Rattle.device_model.proofs.Posting.{fault_rest}
 use Rattle.device_model.proofs.Telling.{gains_none, gains_one, gains_done}
@@ -47,24 +51,63 @@ fault_sent port at slot error kept queued old mid new f kind here sent = record 
   posts = subst (λ (b : Bool). SendsFault b port mid new) kind (subst (λ (q : ℕ). SendsFault queued q mid new) here sent);
 }
 
--- what is behind a port once a command has ended
-ended_media : {S : Type 0} (size : S → ℕ) (told : S → Option (ℕ → List ℕ)) (o : Operation) (x : Option (Bay S)) → media_of size told (option_map (bay_ended o) x) ≡ media_ended (media_of size told x) o
-ended_media size told operation.Flush None = refl
-ended_media size told operation.Flush (Some b) = refl
-ended_media size told operation.Identify None = refl
-ended_media size told operation.Identify (Some b) = refl
-ended_media size told operation.ReadLog None = refl
-ended_media size told operation.ReadLog (Some b) = refl
-ended_media size told operation.Read None = refl
-ended_media size told operation.Read (Some b) = refl
-ended_media size told operation.ReadQueued None = refl
-ended_media size told operation.ReadQueued (Some b) = refl
-ended_media size told operation.Write None = refl
-ended_media size told operation.Write (Some b) = refl
-ended_media size told operation.WriteQueued None = refl
-ended_media size told operation.WriteQueued (Some b) = refl
-ended_media size told operation.Trim None = refl
-ended_media size told operation.Trim (Some b) = refl
+-- the bay of a port becomes one whose command has ended
+ended_put : {S : Type 0} (o : Operation) (x bay : Option (Bay S)) → AreEnded o x bay →
+    (put : Bay S → Bay S) × (bay ≡ option_map put x) × ((b : Bay S) → x ≡ Some b → IsEnded o b (put b))
+ended_put o None bay is = ((λ b. b), is, λ b e. some-none e refl)
+ended_put o (Some a) None is = absurd is
+ended_put o (Some a) (Some c) is = ((λ _. c), refl, λ b e. subst (λ x. IsEnded o x c) (some_one e) is)
+
+module _ {S : Type 0} (size : S → ℕ) (told : S → Option (ℕ → List ℕ)) where
+  -- what such a one leaves
+  ended_rest : (o : Operation) (a b : Bay S) → IsEnded o a b → (b ≡ record a { lasting = b.lasting; cache = b.cache }) × (b.cache.is_on ≡ a.cache.is_on)
+  ended_rest operation.Flush a b is = (is.1 ∙ (λ i. record a { lasting = (sym (ap (λ (x : Bay S). x.lasting) is.1)) i; cache = b.cache }), is.0.is_on)
+  ended_rest operation.Identify a b is = (is ∙ (λ i. record a { lasting = (sym is i).lasting; cache = (sym is i).cache }), ap (λ (x : Bay S). x.cache.is_on) is)
+  ended_rest operation.ReadLog a b is = (is ∙ (λ i. record a { lasting = (sym is i).lasting; cache = (sym is i).cache }), ap (λ (x : Bay S). x.cache.is_on) is)
+  ended_rest operation.Read a b is = (is ∙ (λ i. record a { lasting = (sym is i).lasting; cache = (sym is i).cache }), ap (λ (x : Bay S). x.cache.is_on) is)
+  ended_rest operation.ReadQueued a b is = (is ∙ (λ i. record a { lasting = (sym is i).lasting; cache = (sym is i).cache }), ap (λ (x : Bay S). x.cache.is_on) is)
+  ended_rest operation.Write a b is = (is ∙ (λ i. record a { lasting = (sym is i).lasting; cache = (sym is i).cache }), ap (λ (x : Bay S). x.cache.is_on) is)
+  ended_rest operation.WriteQueued a b is = (is ∙ (λ i. record a { lasting = (sym is i).lasting; cache = (sym is i).cache }), ap (λ (x : Bay S). x.cache.is_on) is)
+  ended_rest operation.Trim a b is = (is ∙ (λ i. record a { lasting = (sym is i).lasting; cache = (sym is i).cache }), ap (λ (x : Bay S). x.cache.is_on) is)
+
+  -- all that a disk tells is lasting where nothing older is kept
+  none_older : (on : Bool) (items : List OldSector) (now : Option (ℕ → List ℕ)) → items ≡ [] → (if on then option_map (with_old items) now else now) ≡ now
+  none_older false items now none = refl
+  none_older true items None none = refl
+  none_older true items (Some f) none = ap (λ (l : List OldSector). Some (with_old l f)) none
+
+  -- what is behind a port once a command has ended
+  ended_some : (o : Operation) (a b : Bay S) → IsEnded o a b → media_of size told (Some b) ≡ media_ended (media_of size told (Some a)) o
+  ended_some operation.Flush a b is =
+      let lasts : lasting_of told b ≡ told a.disk.store =
+      ap (λ (x : Bay S). lasting_in b.cache (told x.disk.store) (told x.lasting.value)) is.1 ∙ none_older b.cache.is_on b.cache.kept.sectors.items (told a.disk.store) is.0.items in
+      λ i. record {
+        disk = (media_of size told (Some (is.1 i))).disk;
+        plugged = (media_of size told (Some (is.1 i))).plugged;
+        lasting = lasts i;
+      }
+  ended_some operation.Identify a b is = ap (λ (x : Bay S). media_of size told (Some x)) is
+  ended_some operation.ReadLog a b is = ap (λ (x : Bay S). media_of size told (Some x)) is
+  ended_some operation.Read a b is = ap (λ (x : Bay S). media_of size told (Some x)) is
+  ended_some operation.ReadQueued a b is = ap (λ (x : Bay S). media_of size told (Some x)) is
+  ended_some operation.Write a b is = ap (λ (x : Bay S). media_of size told (Some x)) is
+  ended_some operation.WriteQueued a b is = ap (λ (x : Bay S). media_of size told (Some x)) is
+  ended_some operation.Trim a b is = ap (λ (x : Bay S). media_of size told (Some x)) is
+
+  ended_media : (o : Operation) (x bay : Option (Bay S)) → AreEnded o x bay → media_of size told bay ≡ media_ended (media_of size told x) o
+  ended_media o None bay is = ap (media_of size told) is ∙ ended_none o
+    where
+      ended_none : (o : Operation) → media_of size told None ≡ media_ended (media_of size told None) o
+      ended_none operation.Flush = refl
+      ended_none operation.Identify = refl
+      ended_none operation.ReadLog = refl
+      ended_none operation.Read = refl
+      ended_none operation.ReadQueued = refl
+      ended_none operation.Write = refl
+      ended_none operation.WriteQueued = refl
+      ended_none operation.Trim = refl
+  ended_media o (Some a) None is = absurd is
+  ended_media o (Some a) (Some b) is = ended_some o a b is
 
 module _ {S : Type 0} (size : S → ℕ) (told : S → Option (ℕ → List ℕ)) (failures : S → Option Failures) (m : Model S) (h : Hardware) where
   abbrev new : Model S
@@ -74,11 +117,11 @@ module _ {S : Type 0} (size : S → ℕ) (told : S → Option (ℕ → List ℕ)
   behind = outside_at size told m
 
   pub on_hardware : StepKeeps size m new
-  on_hardware = record { identities = λ _ _. refl; out = λ _ _ _. refl; queue = refl; accesses = refl }
+  on_hardware = record { identities = λ _ _. refl; out = λ _ _ _. refl; caches = λ _. refl; queue = refl; accesses = refl }
 
   -- a step that notes one entry wasn't done
   passed_left : (s : DeviceStep) (possible : Type 0) → (Possible s (device_at size told m) → possible) → (possible → Possible s (device_at size told m)) →
-      ((HasRoom m.hardware 1 → ⊥) → LacksMemory s (device_at size told m) m.hardware) → device_of h behind ≡ device_of m.hardware behind →
+      ((HasRoom m.hardware 1 → ⊥) → LacksMemory s (device_at size told m) m.hardware m.bays.items) → device_of h behind ≡ device_of m.hardware behind →
       IsPassed m.hardware h possible → IsLeftOut size told failures s m new
   passed_left s possible forth back lacks same (inl never) = record {
     device = same;
@@ -144,7 +187,7 @@ module _ {S : Type 0} (size : S → ℕ) (told : S → Option (ℕ → List ℕ)
   fetch_answers p s port slot f tape starved = (
     (port, slot, inl (f.meaning, f.places, f.can)),
     record {
-      came = inl (record { asked = f; fine = λ _ _. refl; says = refl; ends = λ _. tt });
+      came = inl (record { asked = f; fine = λ _ _ _. refl; says = refl; ends = λ _. tt; loses = λ yes. true-false yes refl });
       held = refl;
       which = refl;
       others = λ _ _. refl;
@@ -182,26 +225,33 @@ module _ {S : Type 0} (size : S → ℕ) (told : S → Option (ℕ → List ℕ)
   pub done_answers : (p : Port) (s : Slot) (o : Operation) (bays : Vec (Option (Bay S))) → p.0 < 4 → s.0 < 32 →
       Ends (SendsEnd s.0) p.0 s.0 (device_of m.hardware behind) (device_of h (outside_ended behind p.0 o)) →
       h.starved ≡ m.hardware.starved → EndsOnly o p.0 m.bays.items bays.items → AnswersStep size told failures (asked.Done p s) true m (record new { bays = bays })
-  done_answers p s o bays port slot d starved only =
+  done_answers p s o bays port slot d starved (bay, is, only) =
       let last : Model S = record new { bays = bays } in
-      let put : Bay S → Bay S = bay_ended o in
+      let ended = ended_put o (bay_of m p.0) bay is in
+      let put : Bay S → Bay S = ended.0 in
+      let items : bays.items ≡ slice_set m.bays.items p.0 (option_map put (bay_of m p.0)) = only ∙ ap (λ x. slice_set m.bays.items p.0 x) ended.1 in
+      let rest : (b : Bay S) → bay_of m p.0 ≡ Some b → (put b ≡ record b { lasting = (put b).lasting; cache = (put b).cache }) × ((put b).cache.is_on ≡ b.cache.is_on) =
+      λ b e. ended_rest size told o b (put b) (ended.2 b e) in
       let behind_then : outside_at size told last ≡ outside_ended behind p.0 o =
-      put_outside put m last p.0 only size told (λ x. media_ended x o) (λ b. refl) (ended_media size told o) in
+      put_outside put m last p.0 items size told (λ x. media_ended x o) (λ b e. ap (λ (x : Bay S). tells told (Some x)) (rest b e).0)
+      (ap (media_of size told) (sym ended.1) ∙ ended_media size told o (bay_of m p.0) bay is) in
       let P : Outside → Type 0 = λ x. Ends (SendsEnd s.0) p.0 s.0 (device_of m.hardware behind) (device_of h x) in (
         (port, slot, d.done.flag, d.done.t, d.done.can),
         record {
           came = inl (record {
             asked = subst P (sym behind_then) d;
-            fine = λ q w. put_same put m last p.0 only (λ x. option_map (λ (y : ModelDisk S). failures y.store) (option_map (λ (y : Bay S). disk_in y w) x)) (λ b. refl) q;
-            says = put_same put m last p.0 only (option_map (λ (y : Bay S). y.says)) (λ b. refl) p.0;
+            fine = λ _ q w. put_same put m last p.0 items (λ x. option_map (λ (y : ModelDisk S). failures y.store) (option_map (λ (y : Bay S). disk_in y w) x))
+                (λ b e. ap (λ (x : Bay S). Some (failures (disk_in x w).store)) (rest b e).0) q;
+            says = put_same put m last p.0 items (option_map (λ (y : Bay S). y.says)) (λ b e. ap (λ (x : Bay S). Some x.says) (rest b e).0) p.0;
             ends = λ _. tt;
+            loses = λ yes. true-false yes refl;
           });
           held = refl;
-          which = put_same put m last p.0 only (option_map (λ (y : Bay S). y.which)) (λ b. refl) p.0;
-          others = put_others put m last p.0 only;
+          which = put_same put m last p.0 items (option_map (λ (y : Bay S). y.which)) (λ b e. ap (λ (x : Bay S). Some x.which) (rest b e).0) p.0;
+          others = put_others put m last p.0 items;
           pages = gains_done size behind (outside_ended behind p.0 o) p.0 s.0 m last d;
-          disks = λ _ w. put_same put m last p.0 only (option_map (λ (y : Bay S). disk_in y w)) (λ b. refl) p.0;
-          keeps = put_keeps put m last p.0 only size (λ b w. refl) refl refl;
+          disks = λ _ w. put_same put m last p.0 items (option_map (λ (y : Bay S). disk_in y w)) (λ b e. ap (λ (x : Bay S). Some (disk_in x w)) (rest b e).0) p.0;
+          keeps = put_keeps put m last p.0 items size (λ b e w. ap (λ (x : Bay S). disk_in x w) (rest b e).0) (λ b e. (rest b e).1) refl refl;
           starved = starved;
         },
       )
@@ -218,6 +268,7 @@ module _ {S : Type 0} (size : S → ℕ) (told : S → Option (ℕ → List ℕ)
       (f : Fails SendsFailed (asked_port step) s.0 error kept (device_of m.hardware behind) (device_of h behind)) (starved : h.starved ≡ m.hardware.starved)
       (done : (old last : Device) → Fails SendsFailed (asked_port step) s.0 error kept old last → DoneOf (Sends step) step old last)
       (ends : (old last : Device) → EndsIt step old last)
+      (safe : is_losing step ≡ false)
       (tells : (said : Option Description) → says_after step (device_at size told m) said ≡ says_failed (((device_at size told m).port (asked_port step)).taken s.0) s.0 error said)
       (held : m.held ≡ held_after step m.held) (which : which_of m (asked_port step) ≡ which_after step (which_of m (asked_port step))) where
     abbrev at : ℕ
@@ -239,7 +290,7 @@ module _ {S : Type 0} (size : S → ℕ) (told : S → Option (ℕ → List ℕ)
     plain_fails plain = (
       may,
       record {
-        came = inl (record { asked = done _ _ f; fine = λ _ _. refl; says = said false plain; ends = λ _. ends _ _ });
+        came = inl (record { asked = done _ _ f; fine = λ _ _ _. refl; says = said false plain; ends = λ _. ends _ _; loses = λ yes. true-false yes safe });
         held = held;
         which = which;
         others = λ _ _. refl;
@@ -259,9 +310,10 @@ module _ {S : Type 0} (size : S → ℕ) (told : S → Option (ℕ → List ℕ)
           record {
             came = inl (record {
               asked = done _ _ (subst P (sym (saying_outside name m last at only size told)) f);
-              fine = λ q w. saying_same name m last at only (λ x. option_map (λ (y : ModelDisk S). failures y.store) (option_map (λ (y : Bay S). disk_in y w) x)) (λ b. refl) q;
+              fine = λ _ q w. saying_same name m last at only (λ x. option_map (λ (y : ModelDisk S). failures y.store) (option_map (λ (y : Bay S). disk_in y w) x)) (λ b. refl) q;
               says = saying_here name m last at only ∙ said true queued;
               ends = λ _. ends _ _;
+              loses = λ yes. true-false yes safe;
             });
             held = held;
             which = saying_same name m last at only (option_map (λ (y : Bay S). y.which)) (λ b. refl) at ∙ which;
@@ -278,18 +330,18 @@ module _ {S : Type 0} (size : S → ℕ) (told : S → Option (ℕ → List ℕ)
       (f : Fails SendsFailed p.0 s.0 error (kept_by busy) (device_of m.hardware behind) (device_of h behind)) → h.starved ≡ m.hardware.starved →
       is_queued f.fault.t.meaning.operation ≡ false → AnswersStep size told failures (asked_fault busy p s error) true m new
   plain_answers false p s error port slot f starved plain =
-      plain_fails (asked.Fault p s error) s error 0 (port, slot, f.fault.t, f.fault.can) f starved (λ _ _ g. g) (λ _ _. tt) (λ _. refl) refl refl plain
+      plain_fails (asked.Fault p s error) s error 0 (port, slot, f.fault.t, f.fault.can) f starved (λ _ _ g. g) (λ _ _. tt) refl (λ _. refl) refl refl plain
   plain_answers true p s error port slot f starved plain =
-      plain_fails (asked.FaultBusy p s error) s error busy_bit (port, slot, f.fault.t, f.fault.can) f starved (λ _ _ g. g) (λ _ _. tt) (λ _. refl) refl refl plain
+      plain_fails (asked.FaultBusy p s error) s error busy_bit (port, slot, f.fault.t, f.fault.can) f starved (λ _ _ g. g) (λ _ _. tt) refl (λ _. refl) refl refl plain
 
   pub queued_answers : (busy : Bool) (p : Port) (s : Slot) (error : ℕ) → p.0 < 4 → s.0 < 32 →
       (f : Fails SendsFailed p.0 s.0 error (kept_by busy) (device_of m.hardware behind) (device_of h behind)) → h.starved ≡ m.hardware.starved →
       (bays : Vec (Option (Bay S))) → SaysOnly (naming (record { tag = s.0; error = error })) p.0 m.bays.items bays.items →
       is_queued f.fault.t.meaning.operation ≡ true → AnswersStep size told failures (asked_fault busy p s error) true m (record new { bays = bays })
   queued_answers false p s error port slot f starved bays only queued =
-      queued_fails (asked.Fault p s error) s error 0 (port, slot, f.fault.t, f.fault.can) f starved (λ _ _ g. g) (λ _ _. tt) (λ _. refl) refl refl bays only queued
+      queued_fails (asked.Fault p s error) s error 0 (port, slot, f.fault.t, f.fault.can) f starved (λ _ _ g. g) (λ _ _. tt) refl (λ _. refl) refl refl bays only queued
   queued_answers true p s error port slot f starved bays only queued =
-      queued_fails (asked.FaultBusy p s error) s error busy_bit (port, slot, f.fault.t, f.fault.can) f starved (λ _ _ g. g) (λ _ _. tt) (λ _. refl) refl refl bays only queued
+      queued_fails (asked.FaultBusy p s error) s error busy_bit (port, slot, f.fault.t, f.fault.can) f starved (λ _ _ g. g) (λ _ _. tt) refl (λ _. refl) refl refl bays only queued
 
   -- none did
   pub fail_left : (busy : Bool) (p : Port) (s : Slot) (error : ℕ) → p.0 < 4 → s.0 < 32 → device_of h behind ≡ device_of m.hardware behind →
@@ -310,7 +362,7 @@ module _ {S : Type 0} (size : S → ℕ) (told : S → Option (ℕ → List ℕ)
       let d = done refl in (
         (port, d.receives),
         record {
-          came = inl (record { asked = d; fine = λ _ _. refl; says = refl; ends = λ _. tt });
+          came = inl (record { asked = d; fine = λ _ _ _. refl; says = refl; ends = λ _. tt; loses = λ yes. true-false yes refl });
           held = refl;
           which = refl;
           others = λ _ _. refl;
@@ -327,16 +379,17 @@ module _ {S : Type 0} (size : S → ℕ) (told : S → Option (ℕ → List ℕ)
   -- a step that notes one entry, which is no move, and changes nothing of the model but the device, was done, or wasn't
   noted_answers : (s : DeviceStep) (did : Bool) (possible : Type 0) (note : Entry) → ((x : Move) → note ≡ entry.Move x → ⊥) →
       (Possible s (device_at size told m) → possible) → (possible → Possible s (device_at size told m)) →
-      ((HasRoom m.hardware 1 → ⊥) → LacksMemory s (device_at size told m) m.hardware) → says_of m (asked_port s) ≡ says_after s (device_at size told m) (says_of m (asked_port s)) →
+      ((HasRoom m.hardware 1 → ⊥) → LacksMemory s (device_at size told m) m.hardware m.bays.items) → says_of m (asked_port s) ≡ says_after s (device_at size told m) (says_of m (asked_port s)) →
       m.held ≡ held_after s m.held → which_of m (asked_port s) ≡ which_after s (which_of m (asked_port s)) → EndsIt s (device_of m.hardware behind) (device_of h behind) →
+      is_losing s ≡ false →
       (did ≡ true → possible × DoneOf (Sends s) s (device_of m.hardware behind) (device_of h behind) × (h.tape.items ≡ m.hardware.tape.items ++ note ∷ [])) →
       (did ≡ false → device_of h behind ≡ device_of m.hardware behind) → (did ≡ false → IsPassed m.hardware h possible) →
       (did ≡ true → h.starved ≡ m.hardware.starved) → AnswersStep size told failures s did m new
-  noted_answers s true possible note no_move forth back lacks says held which ends done same passed starved =
+  noted_answers s true possible note no_move forth back lacks says held which ends safe done same passed starved =
       let d = done refl in (
         back d.0,
         record {
-          came = inl (record { asked = d.1; fine = λ _ _. refl; says = says; ends = λ _. ends });
+          came = inl (record { asked = d.1; fine = λ _ _ _. refl; says = says; ends = λ _. ends; loses = λ yes. true-false yes safe });
           held = held;
           which = which;
           others = λ _ _. refl;
@@ -346,7 +399,7 @@ module _ {S : Type 0} (size : S → ℕ) (told : S → Option (ℕ → List ℕ)
           starved = starved refl;
         },
       )
-  noted_answers s false possible note no_move forth back lacks says held which ends done same passed starved =
+  noted_answers s false possible note no_move forth back lacks says held which ends safe done same passed starved =
       passed_left s possible forth back lacks (same refl) (passed refl)
 
   pub fatal_answers : (p : Port) (error : FatalError) (did : Bool) → p.0 < 4 → (did ≡ true → DoesFatal p.0 error (device_of m.hardware behind) (device_of h behind)) →
@@ -355,7 +408,7 @@ module _ {S : Type 0} (size : S → ℕ) (told : S → Option (ℕ → List ℕ)
       (did ≡ true → h.starved ≡ m.hardware.starved) → AnswersStep size told failures (asked.Fatal p error) did m new
   fatal_answers p error did port done same passed starved =
       noted_answers (asked.Fatal p error) did (Can (Fatal p.0 (fatal_bit error)) (device_of m.hardware behind)) (entry.Fatal p) (λ x e. absurd (cc e))
-      (λ may. may.1) (λ may. (port, may)) (λ none. none) refl refl refl tt
+      (λ may. may.1) (λ may. (port, may)) (λ none. none) refl refl refl tt refl
       (λ e. let d = done e in (d.can, d, ap (λ (x : Device). x.tape) d.effect)) same passed starved
 
   pub unplug_answers : (p : Port) (did : Bool) → p.0 < 4 →
@@ -364,7 +417,7 @@ module _ {S : Type 0} (size : S → ℕ) (told : S → Option (ℕ → List ℕ)
       (did ≡ true → h.starved ≡ m.hardware.starved) → AnswersStep size told failures (asked.Unplug p) did m new
   unplug_answers p did port done same passed starved =
       noted_answers (asked.Unplug p) did (Can (Unplug p.0) (device_of m.hardware behind)) (entry.Unplug p) (λ x e. absurd (cc e))
-      (λ may. may.1) (λ may. (port, may)) (λ none. none) refl refl refl tt
+      (λ may. may.1) (λ may. (port, may)) (λ none. none) refl refl refl tt refl
       (λ e. let d = done e in (d.0, record { can = d.0; effect = d.1 }, ap (λ (x : Device). x.tape) d.1)) same passed starved
 
 -- ---- what the disks of a port say is another
@@ -376,17 +429,19 @@ module _ {S : Type 0} (size : S → ℕ) (told : S → Option (ℕ → List ℕ)
 
   -- a step that asks for nothing else is done
   pub lie_answers : Possible s (device_at size told m) → ((old new : Device) → new ≡ old → DoneOf (Sends s) s old new) → ((old new : Device) → EndsIt s old new) →
+      is_losing s ≡ false →
       option_map name (says_of m (asked_port s)) ≡ says_after s (device_at size told m) (says_of m (asked_port s)) → m.held ≡ held_after s m.held →
       which_of m (asked_port s) ≡ which_after s (which_of m (asked_port s)) → AnswersStep size told failures s true m lied
-  lie_answers may done ends says held which =
+  lie_answers may done ends safe says held which =
       let port : ℕ = asked_port s in (
         may,
         record {
           came = inl (record {
             asked = done _ _ (ap (λ (o : Outside). device_of m.hardware o) (saying_outside name m lied port only size told));
-            fine = λ q w. saying_same name m lied port only (λ x. option_map (λ (y : ModelDisk S). failures y.store) (option_map (λ (y : Bay S). disk_in y w) x)) (λ b. refl) q;
+            fine = λ _ q w. saying_same name m lied port only (λ x. option_map (λ (y : ModelDisk S). failures y.store) (option_map (λ (y : Bay S). disk_in y w) x)) (λ b. refl) q;
             says = saying_here name m lied port only ∙ says;
             ends = λ _. ends _ _;
+            loses = λ yes. true-false yes safe;
           });
           held = held;
           which = saying_same name m lied port only (option_map (λ (y : Bay S). y.which)) (λ b. refl) port ∙ which;

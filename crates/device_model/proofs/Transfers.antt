@@ -10,6 +10,7 @@ use Rattle.adapter.specs.declared.command.Operation.{Operation}
 use Rattle.adapter.specs.declared.command.Operation.TheVariants.{Identify, Read, ReadQueued, Write, WriteQueued, Flush, Trim, ReadLog}
 use Rattle.device_model.proofs.Absurd.{true-false}
 use Rattle.device_model.specs.Finishing.{sends_page}
+use Rattle.device_model.specs.Trims.{changes_ahead, written_ahead}
 use Rattle.device_model.specs.View.{operation_of}
 use Rattle.device_model.specs.declared.port.Transfer.{Transfer}
 use Rattle.device_model.specs.declared.port.Transfer.TheVariants as transfer
@@ -123,6 +124,26 @@ page_unranged Read e = absurd (cc e)
 page_unranged Write e = absurd (cc e)
 page_unranged ReadQueued e = absurd (cc e)
 page_unranged WriteQueued e = absurd (cc e)
+
+pub page_unwritten : (o : Operation) (left : ℕ) → sends_page o ≡ true → written_ahead o left ≡ 0
+page_unwritten Identify left e = refl
+page_unwritten ReadLog left e = refl
+page_unwritten Flush left e = refl
+page_unwritten Trim left e = refl
+page_unwritten Read left e = refl
+page_unwritten ReadQueued left e = refl
+page_unwritten Write left e = absurd (cc e)
+page_unwritten WriteQueued left e = absurd (cc e)
+
+pub page_unchanged : (o : Operation) (memory : ℕ → ℕ) (t : Taken) (left : ℕ) → sends_page o ≡ true → changes_ahead o memory t left ≡ 0
+page_unchanged Identify memory t left e = refl
+page_unchanged ReadLog memory t left e = refl
+page_unchanged Flush memory t left e = refl
+page_unchanged Trim memory t left e = absurd (cc e)
+page_unchanged Read memory t left e = refl
+page_unchanged ReadQueued memory t left e = refl
+page_unchanged Write memory t left e = absurd (cc e)
+page_unchanged WriteQueued memory t left e = absurd (cc e)
 
 pub page_plain : (o : Operation) → sends_page o ≡ true → is_queued o ≡ false
 page_plain o e = unranged_plain o (page_unranged o e)

@@ -1,5 +1,5 @@
 -- A trim that is to be done to its end: its block is moved, its sectors are cleared, and it ends.
-use Rattle.std.proofs.Common.{ℕ, Bool, true, zero, suc, ◌≡◌, ◌<◌, ◌≤◌, ◌+◌, ◌-◌, List, [], ◌∷◌, length, drop, take, slice_index, refl, sym, ◌∙◌, ap, subst, inl, inr, arith, length-drop}
+use Rattle.std.proofs.Common.{ℕ, Bool, true, zero, suc, ◌≡◌, ◌<◌, ◌≤◌, ◌+◌, ◌-◌, List, [], ◌∷◌, length, drop, take, slice_index, refl, sym, ◌∙◌, ap, subst, inl, inr, arith, length-drop, length-take}
 use Rattle.std.specs.Prelude.{if◌then◌else◌}
 use Rattle.std.proofs.lemmas.Bool.{cases_lt, le-ltb, lt-ltb}
 use Rattle.std.proofs.lemmas.List.{take_all}
@@ -11,7 +11,7 @@ use Rattle.adapter.specs.Trim.{consecutive, trim_sectors}
 use Rattle.adapter.specs.declared.command.Operation.{Operation}
 use Rattle.adapter.specs.declared.command.Operation.TheVariants.{Identify, Read, ReadQueued, Write, WriteQueued, Flush, Trim, ReadLog}
 use Rattle.device_model.specs.Finishing.{sends_page}
-use Rattle.device_model.specs.Trims.{HasRuns, WillClear, block_ahead, next_uncleared, run_of, runs_of, span, uncleared}
+use Rattle.device_model.specs.Trims.{HasRuns, WillClear, block_ahead, changes_ahead, cleared_ahead, written_ahead, next_uncleared, run_of, runs_of, span, uncleared}
 use Rattle.device_model.proofs.Runs.{drop_twice, no_runs, one_less, run_long, some_runs, take_run}
 
 -- ---- the block that a trim is going to have
@@ -75,6 +75,41 @@ moved_clears ReadQueued disk memory t bytes clears left brings will = will
 moved_clears WriteQueued disk memory t bytes clears left brings will = will
 moved_clears Flush disk memory t bytes clears left brings will = will
 moved_clears ReadLog disk memory t bytes clears left brings will = will
+
+-- and so is what it is going to change, but for what this piece has written
+pub moved_changes : (o : Operation) (disk : Disk) (memory : ℕ → ℕ) (t : Taken) (bytes : List ℕ) (left : ℕ) → t.moved < length t.places → Brings disk memory t o bytes →
+    changes_ahead o memory t (suc left)
+    ≡ written_ahead o 1
+    + changes_ahead o (if reads_memory o then memory else patched memory (next_place t) bytes) (record t { moved = t.moved + 1; block = block_after o bytes t.block }) left
+moved_changes Trim disk memory t bytes left small brings =
+    let same = ap (λ (b : List ℕ). length (drop t.cleared (trim_sectors b))) (moved_ahead memory t bytes small brings) in
+    omega (arith, same)
+moved_changes Write disk memory t bytes left small brings = omega arith
+moved_changes WriteQueued disk memory t bytes left small brings = omega arith
+moved_changes Identify disk memory t bytes left small brings = refl
+moved_changes Read disk memory t bytes left small brings = refl
+moved_changes ReadQueued disk memory t bytes left small brings = refl
+moved_changes Flush disk memory t bytes left small brings = refl
+moved_changes ReadLog disk memory t bytes left small brings = refl
+
+-- and once a run was cleared, but for that run
+pub cleared_changes : (memory : ℕ → ℕ) (t : Taken) (most : ℕ) → t.moved ≡ length t.places → t.meaning.operation ≡ Trim →
+    span most t + changes_ahead t.meaning.operation memory (record t { cleared = t.cleared + span most t }) 0 ≤ changes_ahead t.meaning.operation memory t 0
+cleared_changes memory t most all trim =
+    let xs : List ℕ = trim_sectors t.block in
+    let n = span most t in
+    let block : (k : ℕ) → block_ahead memory (record t { cleared = k }) ≡ t.block = λ k. ahead_moved memory (record t { cleared = k }) all in
+    let before : cleared_ahead t.meaning.operation memory t ≡ length (drop t.cleared xs) =
+    ap (λ (o : Operation). cleared_ahead o memory t) trim ∙ ap (λ (b : List ℕ). length (drop t.cleared (trim_sectors b))) (block t.cleared) in
+    let now : cleared_ahead t.meaning.operation memory (record t { cleared = t.cleared + n }) ≡ length (drop (t.cleared + n) xs) =
+    ap (λ (o : Operation). cleared_ahead o memory (record t { cleared = t.cleared + n })) trim
+    ∙ ap (λ (b : List ℕ). length (drop (t.cleared + n) (trim_sectors b))) (block (t.cleared + n)) in
+    let none : written_ahead t.meaning.operation 0 ≡ 0 = ap (λ (o : Operation). written_ahead o 0) trim in
+    let was = length-drop t.cleared xs in
+    let is = length-drop (t.cleared + n) xs in
+    let run = run_long (take most (uncleared t)) in
+    let few = length-take most (uncleared t) in
+    omega (arith, before, now, none, was, is, run, few)
 
 -- what is going to be cleared is a trim's
 clears_trim : (o : Operation) (memory : ℕ → ℕ) (t : Taken) (clears : ℕ) → WillClear o memory t (suc clears) → o ≡ Trim

@@ -8,13 +8,14 @@ use Rattle.adapter.specs.Memory.{changed}
 use Rattle.adapter.specs.Steps.{disk_after, disk_cleared, next_sector}
 use Rattle.device_model.proofs.Places.{fun_ext, changed_same, changed_other}
 use Rattle.sector_store.specs.declared.store.Failures.{Failures}
-use Rattle.device_model.specs.Disks.{bay_of, disk_in, disk_number, disk_of, disk_over, failing, failures_of, identity, identity_of, is_same, says_of, which_of}
+use Rattle.device_model.specs.Disks.{bay_of, disk_in, disk_number, disk_of, disk_over, failing, failures_of, has_cache, identity, identity_of, is_same, lasting_of, says_of, which_of}
 use Rattle.device_model.specs.Does.{NoneFails, StepKeeps}
 use Rattle.device_model.specs.Modelled.{all_tell, device_at, media_of, outside_at, tells}
 use Rattle.device_model.specs.View.{Media, media_after, media_cleared, operation_of, taken_of}
 use Rattle.device_model.specs.Whole.{HasDisks, outside_after, outside_cleared}
 use Rattle.device_model.specs.declared.bay.Bay.{Bay}
 use Rattle.device_model.specs.declared.bay.Description.{Description}
+use Rattle.device_model.specs.declared.cache.Cache.{Cache}
 use Rattle.device_model.specs.declared.disks.ModelDisk.{ModelDisk}
 use Rattle.device_model.specs.declared.disks.Which.{Which}
 use Rattle.device_model.specs.declared.disks.Which.TheVariants.{Disk0, Disk1}
@@ -27,11 +28,11 @@ use Rattle.device_model.proofs.Transfers.{still_tells}
 
 -- ---- which disk it is
 
-same_self : (w : Which) → is_same w w ≡ true
+pub same_self : (w : Which) → is_same w w ≡ true
 same_self Disk0 = refl
 same_self Disk1 = refl
 
-not_same : (w v : Which) → w ≢ v → is_same w v ≡ false
+pub not_same : (w v : Which) → w ≢ v → is_same w v ≡ false
 not_same Disk0 Disk0 ne = absurd (ne refl)
 not_same Disk0 Disk1 ne = refl
 not_same Disk1 Disk0 ne = refl
@@ -85,7 +86,7 @@ module _ {S : Type 0} where
   kept_in f true new old other same = same
   kept_in f false new old other same = refl
 
-  kept_out : (b : Bool) (new old other : ModelDisk S) → b ≡ false → (if b then new else other) ≡ (if b then old else other)
+  pub kept_out : (b : Bool) (new old other : ModelDisk S) → b ≡ false → (if b then new else other) ≡ (if b then old else other)
   kept_out true new old other e = absurd (let no : true ≡ false = e in cc)
   kept_out false new old other e = refl
 
@@ -204,10 +205,11 @@ module _ {S : Type 0} where
         ]
 
     pub seated_keeps : (size : S → ℕ) → ((w : Which) → w ≢ a.which → disk_in b w ≡ disk_in a w) → ((w : Which) → identity size (disk_in b w) ≡ identity size (disk_in a w)) →
-        new.queue ≡ m.queue → new.accesses ≡ m.accesses → StepKeeps size m new
-    seated_keeps size out same queue accesses = record {
+        b.cache.is_on ≡ a.cache.is_on → new.queue ≡ m.queue → new.accesses ≡ m.accesses → StepKeeps size m new
+    seated_keeps size out same cached queue accesses = record {
       out = λ q w ne. seated_out w (out w) q ne;
       identities = λ q w. seated_same (λ x. option_map (identity size) (option_map (λ (y : Bay S). disk_in y w) x)) (ap Some (same w)) q;
+      caches = seated_same has_cache cached;
       queue = queue;
       accesses = accesses;
     }
@@ -243,12 +245,12 @@ module _ {S : Type 0} where
               | inr differ ↦ ap (media_of size told) (seated_others q differ.1) ∙ sym (changed_other was_media port media q differ.1)
             ]
 
-  -- another store stands for the disk that is in
-  abbrev pub with_store : Bay S → S → Bay S
-  with_store b store = record b { disk = record b.disk { store = store } }
+  -- another store stands for the disk that is in, and another cache
+  abbrev pub with_store : Bay S → S → Cache → Bay S
+  with_store b store cache = record b { disk = record b.disk { store = store }; cache = cache }
 
   module _ (m new : Model S) (port : ℕ) (a b : Bay S) (was : bay_of m port ≡ Some a) (items : new.bays.items ≡ slice_set m.bays.items port (Some b))
-      (rest : b ≡ with_store a b.disk.store) where
+      (rest : b ≡ with_store a b.disk.store b.cache) where
     store_which : b.which ≡ a.which
     store_which = ap (λ (x : Bay S). x.which) rest
 
@@ -258,7 +260,7 @@ module _ {S : Type 0} where
     pub store_kept : {X : Type 0} (f : ModelDisk S → X) → f (record a.disk { store = b.disk.store }) ≡ f a.disk → (w : Which) → f (disk_in b w) ≡ f (disk_in a w)
     store_kept f same w = ap (λ (x : Bay S). f (disk_in x w)) rest ∙ kept_in f (is_same w a.which) (record a.disk { store = b.disk.store }) a.disk a.other same
 
-    pub store_keeps : (size : S → ℕ) → size b.disk.store ≡ size a.disk.store → new.queue ≡ m.queue → new.accesses ≡ m.accesses → StepKeeps size m new
+    pub store_keeps : (size : S → ℕ) → size b.disk.store ≡ size a.disk.store → b.cache.is_on ≡ a.cache.is_on → new.queue ≡ m.queue → new.accesses ≡ m.accesses → StepKeeps size m new
     store_keeps size sectors =
         seated_keeps m new port a b was items size store_out (store_kept (identity size) (ap (λ (n : ℕ). record { serial = a.disk.serial; size = n }) sectors))
 
@@ -278,30 +280,33 @@ module _ {S : Type 0} where
       abbrev was_put : List Disk
       was_put = (media_of size told (Some a)).plugged
 
-      store_media : media_of size told (Some b) ≡ record { disk = disk_over a.which (size b.disk.store) (told b.disk.store); plugged = was_put; lasting = told a.lasting.value }
-      store_media = ap (λ (x : Bay S). media_of size told (Some x)) rest
+      store_media : lasting_of told b ≡ lasting_of told a →
+          media_of size told (Some b) ≡ record { disk = disk_over a.which (size b.disk.store) (told b.disk.store); plugged = was_put; lasting = lasting_of told a }
+      store_media lasts =
+          let put : (media_of size told (Some b)).plugged ≡ was_put = ap (λ (x : Bay S). (media_of size told (Some x)).plugged) rest in
+          λ i. record { disk = disk_over (store_which i) (size b.disk.store) (told b.disk.store); plugged = put i; lasting = lasts i }
 
       store_tells : is_some (told b.disk.store) ≡ is_some (told a.disk.store) → tells told (Some b) ≡ tells told (Some a)
       store_tells same = ap (λ (x : Bay S). tells told (Some x)) rest ∙ ap (λ x. x && is_some (told a.other.store)) same
 
       -- sectors were cleared
-      pub outside_zeros : (first count : ℕ) →
+      pub outside_zeros : (first count : ℕ) → lasting_of told b ≡ lasting_of told a →
           disk_over a.which (size b.disk.store) (told b.disk.store) ≡ disk_cleared (disk_over a.which (size a.disk.store) (told a.disk.store)) first count →
           outside_at size told new ≡ outside_cleared (outside_at size told m) port first count
-      outside_zeros first count is =
+      outside_zeros first count lasts is =
           seated_outside m new port a b was items size told _
           (store_tells (ap (λ (d : Disk). is_some d.sectors) is ∙ cleared_tells (disk_over a.which (size a.disk.store) (told a.disk.store)) first count))
-          (store_media
-          ∙ (ap (λ (d : Disk). record { disk = d; plugged = was_put; lasting = told a.lasting.value }) is ∙ ap (λ x. media_cleared (media_of size told x) first count) (sym was)))
+          (store_media lasts
+          ∙ (ap (λ (d : Disk). record { disk = d; plugged = was_put; lasting = lasting_of told a }) is ∙ ap (λ x. media_cleared (media_of size told x) first count) (sym was)))
 
       -- a piece was moved
-      pub outside_moved : (next : NextMove) (r : TakenCommand) (bytes : List ℕ) → next.transfer ≡ r.transfer → next.sector ≡ next_sector (taken_of r) →
+      pub outside_moved : (next : NextMove) (r : TakenCommand) (bytes : List ℕ) → lasting_of told b ≡ lasting_of told a → next.transfer ≡ r.transfer → next.sector ≡ next_sector (taken_of r) →
           disk_over a.which (size b.disk.store) (told b.disk.store)
           ≡ disk_after (operation_of next.transfer) (disk_over a.which (size a.disk.store) (told a.disk.store)) next.sector bytes →
           outside_at size told new ≡ outside_after (outside_at size told m) port (taken_of r) bytes
-      outside_moved next r bytes kind sector is =
+      outside_moved next r bytes lasts kind sector is =
           seated_outside m new port a b was items size told _ (store_tells (ap (λ (d : Disk). is_some d.sectors) is_after ∙ still_tells r.transfer old (next_sector (taken_of r)) bytes))
-          (store_media ∙ (ap (λ (d : Disk). record { disk = d; plugged = was_put; lasting = told a.lasting.value }) is_after ∙ ap (λ x. media_after (media_of size told x) (taken_of r) bytes) (sym was)))
+          (store_media lasts ∙ (ap (λ (d : Disk). record { disk = d; plugged = was_put; lasting = lasting_of told a }) is_after ∙ ap (λ x. media_after (media_of size told x) (taken_of r) bytes) (sym was)))
         where
           old : Disk
           old = disk_over a.which (size a.disk.store) (told a.disk.store)
@@ -310,22 +315,24 @@ module _ {S : Type 0} where
           is_after = is ∙ (λ i. disk_after (operation_of (kind i)) old (sector i) bytes)
 
       -- the store tells what it told
-      pub outside_kept : size b.disk.store ≡ size a.disk.store → told b.disk.store ≡ told a.disk.store → outside_at size told new ≡ outside_at size told m
-      outside_kept sizes tells_so =
+      pub outside_kept : size b.disk.store ≡ size a.disk.store → told b.disk.store ≡ told a.disk.store → lasting_of told b ≡ lasting_of told a →
+          outside_at size told new ≡ outside_at size told m
+      outside_kept sizes tells_so lasts =
           seated_behind m new port a b was items size told
-          (store_media ∙ (λ i. record { disk = disk_over a.which (sizes i) (tells_so i); plugged = was_put; lasting = told a.lasting.value })) (store_tells (ap is_some tells_so))
+          (store_media lasts ∙ (λ i. record { disk = disk_over a.which (sizes i) (tells_so i); plugged = was_put; lasting = lasting_of told a })) (store_tells (ap is_some tells_so))
 
   -- ---- the disks of a port are others, if it has some
 
   module _ (put : Bay S → Bay S) (m new : Model S) (port : ℕ) (items : new.bays.items ≡ slice_set m.bays.items port (option_map put (bay_of m port))) where
-    pub put_same : {X : Type 0} (f : Option (Bay S) → X) → ((b : Bay S) → f (Some (put b)) ≡ f (Some b)) → (q : ℕ) → f (bay_of new q) ≡ f (bay_of m q)
+    pub put_same : {X : Type 0} (f : Option (Bay S) → X) → ((b : Bay S) → bay_of m port ≡ Some b → f (Some (put b)) ≡ f (Some b)) → (q : ℕ) →
+        f (bay_of new q) ≡ f (bay_of m q)
     put_same f same q =
         ap (λ (l : List (Option (Bay S))). f (slice_index_or l q None)) items
-        ∙ set_same f m.bays.items port (option_map put (bay_of m port)) (by (bay_of m port)) q
+        ∙ set_same f m.bays.items port (option_map put (bay_of m port)) (by (bay_of m port) refl) q
       where
-        by : (x : Option (Bay S)) → f (option_map put x) ≡ f x
-        by None = refl
-        by (Some b) = same b
+        by : (x : Option (Bay S)) → bay_of m port ≡ x → f (option_map put (bay_of m port)) ≡ f (bay_of m port)
+        by None is = ap (λ x. f (option_map put x)) is ∙ sym (ap f is)
+        by (Some b) is = ap (λ x. f (option_map put x)) is ∙ (same b is ∙ sym (ap f is))
 
     pub put_others : (q : ℕ) → q ≢ port → bay_of new q ≡ bay_of m q
     put_others q ne = ap (λ (l : List (Option (Bay S))). slice_index_or l q None) items ∙ get_or-set_other m.bays.items port q (option_map put (bay_of m port)) None ne
@@ -343,34 +350,36 @@ module _ {S : Type 0} where
             ∙ get_or-set_same m.bays.items port (option_map put (bay_of m port)) None (there m.bays.items port b is)
 
     -- what is behind the ports then
-    pub put_outside : (size : S → ℕ) (told : S → Option (ℕ → List ℕ)) (media : Media → Media) → ((b : Bay S) → tells told (Some (put b)) ≡ tells told (Some b)) →
-        ((x : Option (Bay S)) → media_of size told (option_map put x) ≡ media (media_of size told x)) →
+    pub put_outside : (size : S → ℕ) (told : S → Option (ℕ → List ℕ)) (media : Media → Media) → ((b : Bay S) → bay_of m port ≡ Some b → tells told (Some (put b)) ≡ tells told (Some b)) →
+        media_of size told (option_map put (bay_of m port)) ≡ media (media_of size told (bay_of m port)) →
         outside_at size told new ≡ record (outside_at size told m) { media = changed (outside_at size told m).media port (media ((outside_at size told m).media port)) }
     put_outside size told media same is = λ i. record { telling = tell i; media = fun_ext behind i }
       where
         was_media : ℕ → Media
         was_media = (outside_at size told m).media
 
-        by : (x : Option (Bay S)) → tells told (option_map put x) ≡ tells told x
-        by None = refl
-        by (Some b) = same b
+        by : (x : Option (Bay S)) → bay_of m port ≡ x → tells told (option_map put (bay_of m port)) ≡ tells told (bay_of m port)
+        by None is = ap (λ x. tells told (option_map put x)) is ∙ sym (ap (tells told) is)
+        by (Some b) is = ap (λ x. tells told (option_map put x)) is ∙ (same b is ∙ sym (ap (tells told) is))
 
         tell : all_tell told new.bays.items ≡ all_tell told m.bays.items
-        tell = ap (all_tell told) items ∙ all_tell_set told m.bays.items port (option_map put (bay_of m port)) (by (bay_of m port))
+        tell = ap (all_tell told) items ∙ all_tell_set told m.bays.items port (option_map put (bay_of m port)) (by (bay_of m port) refl)
 
         behind : (q : ℕ) → media_of size told (bay_of new q) ≡ changed was_media port (media (was_media port)) q
         behind q =
             elim (eqb_tells q port) [
               | inl here ↦
                   subst (λ k. media_of size told (bay_of new k) ≡ changed was_media port (media (was_media port)) k) (sym here.1)
-                  (ap (media_of size told) put_here ∙ (is (bay_of m port) ∙ sym (changed_same was_media port (media (was_media port)))))
+                  (ap (media_of size told) put_here ∙ (is ∙ sym (changed_same was_media port (media (was_media port)))))
               | inr differ ↦ ap (media_of size told) (put_others q differ.1) ∙ sym (changed_other was_media port (media (was_media port)) q differ.1)
             ]
 
-    pub put_keeps : (size : S → ℕ) → ((b : Bay S) (w : Which) → disk_in (put b) w ≡ disk_in b w) → new.queue ≡ m.queue → new.accesses ≡ m.accesses → StepKeeps size m new
-    put_keeps size same queue accesses = record {
-      out = λ q w _. put_same (option_map (λ (b : Bay S). disk_in b w)) (λ b. ap Some (same b w)) q;
-      identities = λ q w. put_same (λ x. option_map (identity size) (option_map (λ (b : Bay S). disk_in b w) x)) (λ b. ap (λ (d : ModelDisk S). Some (identity size d)) (same b w)) q;
+    pub put_keeps : (size : S → ℕ) → ((b : Bay S) → bay_of m port ≡ Some b → (w : Which) → disk_in (put b) w ≡ disk_in b w) →
+        ((b : Bay S) → bay_of m port ≡ Some b → (put b).cache.is_on ≡ b.cache.is_on) → new.queue ≡ m.queue → new.accesses ≡ m.accesses → StepKeeps size m new
+    put_keeps size same cached queue accesses = record {
+      out = λ q w _. put_same (option_map (λ (b : Bay S). disk_in b w)) (λ b is. ap Some (same b is w)) q;
+      identities = λ q w. put_same (λ x. option_map (identity size) (option_map (λ (b : Bay S). disk_in b w) x)) (λ b is. ap (λ (d : ModelDisk S). Some (identity size d)) (same b is w)) q;
+      caches = put_same has_cache cached;
       queue = queue;
       accesses = accesses;
     }
@@ -383,7 +392,7 @@ module _ {S : Type 0} where
     saying b = record b { says = says b.says }
 
     pub saying_same : {X : Type 0} (f : Option (Bay S) → X) → ((b : Bay S) → f (Some (saying b)) ≡ f (Some b)) → (q : ℕ) → f (bay_of new q) ≡ f (bay_of m q)
-    saying_same f same q = put_same saying m new port items f same q
+    saying_same f same q = put_same saying m new port items f (λ b _. same b) q
 
     pub saying_others : (q : ℕ) → q ≢ port → bay_of new q ≡ bay_of m q
     saying_others q ne = put_others saying m new port items q ne
@@ -407,7 +416,7 @@ module _ {S : Type 0} where
         tell = ap (all_tell told) items ∙ all_tell_set told m.bays.items port (option_map saying (bay_of m port)) (by (bay_of m port))
 
     pub saying_keeps : (size : S → ℕ) → new.queue ≡ m.queue → new.accesses ≡ m.accesses → StepKeeps size m new
-    saying_keeps size queue accesses = put_keeps saying m new port items size (λ b w. refl) queue accesses
+    saying_keeps size queue accesses = put_keeps saying m new port items size (λ b _ w. refl) (λ b _. refl) queue accesses
 
   -- ---- ports that have disks
 

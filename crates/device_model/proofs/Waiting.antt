@@ -48,27 +48,27 @@ plug_elsewhere q port number old new did empty apart =
     ap (λ (d : Device). (d.port q).present) did.effect ∙ (ap (λ (p : PortState). p.present) (changed_other old.port port _ q apart) ∙ empty)
 
 -- a step of this port that doesn't put the disk in leaves it out
-still_out : (s : DeviceStep) (d : Device) (q : ℕ) (w : Which) (v : Option Which) → q ≡ asked_port s → v ≢ Some w → (PutsIn q w s → ⊥) → Possible s d → which_after s v ≢ Some w
-still_out (asked.Plug p number) d q w None at out never may = λ e. some-none e refl
-still_out (asked.Plug p number) d q w (Some v) at out never may = λ e. never (sym at, named_by w number.0 may.2 (sym (some_one e)))
-still_out (asked.Fetch p s) d q w v at out never may = out
-still_out (asked.Move p s) d q w v at out never may = out
-still_out (asked.Clear p s n) d q w v at out never may = out
-still_out (asked.Done p s) d q w v at out never may = out
-still_out (asked.Finish p s) d q w v at out never may = out
-still_out (asked.Fault p s error) d q w v at out never may = out
-still_out (asked.FaultBusy p s error) d q w v at out never may = out
-still_out (asked.Fatal p error) d q w v at out never may = out
-still_out (asked.Scribble p byte) d q w v at out never may = out
-still_out (asked.Lie p page offset bits) d q w v at out never may = out
-still_out (asked.Truth p) d q w v at out never may = out
-still_out (asked.Hold p) d q w v at out never may = out
-still_out (asked.Release p) d q w v at out never may = out
-still_out (asked.Unplug p) d q w v at out never may = out
-still_out (asked.LosePlug p) d q w v at out never may = out
+still_out : (l : Option Which) (s : DeviceStep) (d : Device) (q : ℕ) (w : Which) (v : Option Which) → q ≡ asked_port s → v ≢ Some w → (PutsIn l q w s → ⊥) → Possible s d → which_after s v ≢ Some w
+still_out l (asked.Plug p number) d q w None at out never may = λ e. some-none e refl
+still_out l (asked.Plug p number) d q w (Some v) at out never may = λ e. never (sym at, named_by w number.0 may.2 (sym (some_one e)))
+still_out l (asked.Fetch p s) d q w v at out never may = out
+still_out l (asked.Move p s) d q w v at out never may = out
+still_out l (asked.Clear p s n) d q w v at out never may = out
+still_out l (asked.Done p s) d q w v at out never may = out
+still_out l (asked.Finish p s) d q w v at out never may = out
+still_out l (asked.Fault p s error) d q w v at out never may = out
+still_out l (asked.FaultBusy p s error) d q w v at out never may = out
+still_out l (asked.Fatal p error) d q w v at out never may = out
+still_out l (asked.Scribble p byte) d q w v at out never may = out
+still_out l (asked.Lie p page offset bits) d q w v at out never may = out
+still_out l (asked.Truth p) d q w v at out never may = out
+still_out l (asked.Hold p) d q w v at out never may = out
+still_out l (asked.Release p) d q w v at out never may = out
+still_out l (asked.Unplug p) d q w v at out never may = out
+still_out l (asked.LosePlug p) d q w v at out never may = out
 
 -- where a port has no disk in it, nothing that is asked puts one in, but a Plug
-still_empty : (s : DeviceStep) (old new : Device) (q : ℕ) (w : Which) (v : Option Which) → (old.port q).present ≡ false → (PutsIn q w s → ⊥) → Possible s old →
+still_empty : (s : DeviceStep) (old new : Device) (q : ℕ) (w : Which) (v : Option Which) → (old.port q).present ≡ false → (PutsIn (Some w) q w s → ⊥) → Possible s old →
     DoneOf (Sends s) s old new → (q ≡ asked_port s → which_after s v ≡ Some w) → (new.port q).present ≡ false
 still_empty (asked.Fetch p s) old new q w v empty never may did same = one_keeps_present q p.0 s.0 old new (inl did) ∙ empty
 still_empty (asked.Move p s) old new q w v empty never may did same = one_keeps_present q p.0 s.0 old new (inr (inl did)) ∙ empty
@@ -87,50 +87,50 @@ still_empty (asked.Unplug p) old new q w v empty never may did same = unplug_emp
 still_empty (asked.Plug p number) old new q w None empty never may did same = plug_elsewhere q p.0 number.0 old new did empty (λ here. some-none (same here) refl)
 still_empty (asked.Plug p number) old new q w (Some v) empty never may did same =
     plug_elsewhere q p.0 number.0 old new did empty (λ here. absurd (never (sym here, named_by w number.0 may.2 (sym (some_one (same here))))))
-still_empty (asked.LosePlug p) old new q w v empty never may did same = plug_elsewhere q p.0 (old.port p.0).disk.name old new did empty (λ here. never (sym here))
+still_empty (asked.LosePlug p) old new q w v empty never may did same = plug_elsewhere q p.0 (old.port p.0).disk.name old new did empty (λ here. never (sym here, refl))
 
-moving_keeps : (q port slot : ℕ) (was now : Option Failures) (says later : Option Description) (old new : Device) → FailsToMove port slot was now says later old new →
+moving_keeps : (cached : Bool) (q port slot : ℕ) (was now : Option Failures) (says later : Option Description) (old new : Device) → FailsToMove cached port slot was now says later old new →
     (new.port q).present ≡ (old.port q).present
-moving_keeps q port slot was now says later old new f =
-    fault_keeps_present q port slot f.error 0 old new (moving_fails port slot was now says later old new f)
+moving_keeps cached q port slot was now says later old new f =
+    fault_keeps_present q port slot f.error 0 old new (moving_fails cached port slot was now says later old new f)
 
-clearing_keeps : (q port slot : ℕ) (was now : Option Failures) (says later : Option Description) (old new : Device) → FailsToClear port slot was now says later old new →
+clearing_keeps : (cached : Bool) (q port slot : ℕ) (was now : Option Failures) (says later : Option Description) (old new : Device) → FailsToClear cached port slot was now says later old new →
     (new.port q).present ≡ (old.port q).present
-clearing_keeps q port slot was now says later old new f =
-    fault_keeps_present q port slot f.error 0 old new (clearing_fails port slot was now says later old new f)
+clearing_keeps cached q port slot was now says later old new f =
+    fault_keeps_present q port slot f.error 0 old new (clearing_fails cached port slot was now says later old new f)
 
 -- nor does a fault
-still_failed : (q : ℕ) (s : DeviceStep) (was now : Option Failures) (says later : Option Description) (old new : Device) → (old.port q).present ≡ false →
-    StepFails s was now says later old new → (new.port q).present ≡ false
-still_failed q (asked.Move p s) was now says later old new empty f = moving_keeps q p.0 s.0 was now says later old new f ∙ empty
-still_failed q (asked.Clear p s most) was now says later old new empty (mid, before, f) =
-    clearing_keeps q p.0 s.0 was now says later mid new f ∙ (by before ∙ empty)
+still_failed : (q : ℕ) (s : DeviceStep) (cached : Bool) (was now : Option Failures) (says later : Option Description) (old new : Device) → (old.port q).present ≡ false →
+    StepFails s cached was now says later old new → (new.port q).present ≡ false
+still_failed q (asked.Move p s) cached was now says later old new empty f = moving_keeps cached q p.0 s.0 was now says later old new f ∙ empty
+still_failed q (asked.Clear p s most) cached was now says later old new empty (mid, before, f) =
+    clearing_keeps cached q p.0 s.0 was now says later mid new f ∙ (by before ∙ empty)
   where
     by : (mid ≡ old) ⊎ ClearsFewer p.0 s.0 most old mid → (mid.port q).present ≡ (old.port q).present
     by (inl same) = ap (λ (d : Device). (d.port q).present) same
     by (inr did) = one_keeps_present q p.0 s.0 old mid (inr (inr (inr (most, did.0))))
-still_failed q (asked.Finish p s) was now says later old new empty (mid, before, f) = by f ∙ (went before ∙ empty)
+still_failed q (asked.Finish p s) cached was now says later old new empty (mid, before, f) = by f ∙ (went before ∙ empty)
   where
     went : (mid ≡ old) ⊎ GoesOn (SendsEnd s.0) p.0 s.0 old mid → (mid.port q).present ≡ (old.port q).present
     went (inl same) = ap (λ (d : Device). (d.port q).present) same
     went (inr did) = some_keep_present q (suc did.0) p.0 s.0 old mid did.1
 
-    by : FailsToMove p.0 s.0 was now says later mid new ⊎ FailsToClear p.0 s.0 was now says later mid new → (new.port q).present ≡ (mid.port q).present
-    by (inl moves) = moving_keeps q p.0 s.0 was now says later mid new moves
-    by (inr clears) = clearing_keeps q p.0 s.0 was now says later mid new clears
-still_failed q (asked.Fetch p s) was now says later old new empty f = senseless_keeps_present q p.0 s.0 old new f.sends ∙ empty
-still_failed q (asked.Done p s) was now says later old new empty f = absurd f
-still_failed q (asked.Fault p s error) was now says later old new empty f = absurd f
-still_failed q (asked.FaultBusy p s error) was now says later old new empty f = absurd f
-still_failed q (asked.Fatal p error) was now says later old new empty f = absurd f
-still_failed q (asked.Scribble p byte) was now says later old new empty f = absurd f
-still_failed q (asked.Lie p page offset bits) was now says later old new empty f = absurd f
-still_failed q (asked.Truth p) was now says later old new empty f = absurd f
-still_failed q (asked.Hold p) was now says later old new empty f = absurd f
-still_failed q (asked.Release p) was now says later old new empty f = absurd f
-still_failed q (asked.Unplug p) was now says later old new empty f = absurd f
-still_failed q (asked.Plug p number) was now says later old new empty f = absurd f
-still_failed q (asked.LosePlug p) was now says later old new empty f = absurd f
+    by : FailsToMove cached p.0 s.0 was now says later mid new ⊎ FailsToClear cached p.0 s.0 was now says later mid new → (new.port q).present ≡ (mid.port q).present
+    by (inl moves) = moving_keeps cached q p.0 s.0 was now says later mid new moves
+    by (inr clears) = clearing_keeps cached q p.0 s.0 was now says later mid new clears
+still_failed q (asked.Fetch p s) cached was now says later old new empty f = senseless_keeps_present q p.0 s.0 old new f.sends ∙ empty
+still_failed q (asked.Done p s) cached was now says later old new empty f = absurd f
+still_failed q (asked.Fault p s error) cached was now says later old new empty f = absurd f
+still_failed q (asked.FaultBusy p s error) cached was now says later old new empty f = absurd f
+still_failed q (asked.Fatal p error) cached was now says later old new empty f = absurd f
+still_failed q (asked.Scribble p byte) cached was now says later old new empty f = absurd f
+still_failed q (asked.Lie p page offset bits) cached was now says later old new empty f = absurd f
+still_failed q (asked.Truth p) cached was now says later old new empty f = absurd f
+still_failed q (asked.Hold p) cached was now says later old new empty f = absurd f
+still_failed q (asked.Release p) cached was now says later old new empty f = absurd f
+still_failed q (asked.Unplug p) cached was now says later old new empty f = absurd f
+still_failed q (asked.Plug p number) cached was now says later old new empty f = absurd f
+still_failed q (asked.LosePlug p) cached was now says later old new empty f = absurd f
 
 -- the disk is the one that is in or was last, or it isn't
 is_it : (v : Option Which) (w : Which) → (v ≡ Some w) ⊎ (v ≢ Some w)
@@ -146,9 +146,10 @@ module _ {S : Type 0} (size : S → ℕ) (told : S → Option (ℕ → List ℕ)
   IsOut w m = which_of m q ≡ Some w → ((device_at size told m).port q).present ≡ false
 
   -- where the port has no disk in it, its store isn't asked
-  none_moves : (s : DeviceStep) (m : Model S) → q ≡ asked_port s → ((device_at size told m).port q).present ≡ false → AsksStore s (device_at size told m) → ⊥
-  none_moves (asked.Move p s) m at empty moves = there (device_at size told m) p.0 at empty moves.2.works.working.present
-  none_moves (asked.Finish p s) m at empty moves = by moves.4.begins
+  none_moves : (s : DeviceStep) (w : Which) (m : Model S) → (PutsIn (Some w) q w s → ⊥) → q ≡ asked_port s → ((device_at size told m).port q).present ≡ false →
+      AsksStore s (device_at size told m) → ⊥
+  none_moves (asked.Move p s) w m never at empty moves = there (device_at size told m) p.0 at empty moves.2.works.working.present
+  none_moves (asked.Finish p s) w m never at empty moves = by moves.4.begins
     where
       d : Device
       d = device_at size told m
@@ -159,59 +160,59 @@ module _ {S : Type 0} (size : S → ℕ) (told : S → Option (ℕ → List ℕ)
       by : WorksOn (d.port p.0) s.0 t t.meaning.operation ⊎ (Can (Fetch p.0 s.0 t.meaning t.places) d × (t ≡ begun t.meaning t.places)) → ⊥
       by (inl works) = there d p.0 at empty works.working.present
       by (inr begins) = there d p.0 at empty begins.0.working.present
-  none_moves (asked.Fetch p s) m at empty moves = moves
-  none_moves (asked.Clear p s most) m at empty moves = there (device_at size told m) p.0 at empty moves.2.works.working.present
-  none_moves (asked.Done p s) m at empty moves = moves
-  none_moves (asked.Fault p s error) m at empty moves = moves
-  none_moves (asked.FaultBusy p s error) m at empty moves = moves
-  none_moves (asked.Fatal p error) m at empty moves = moves
-  none_moves (asked.Scribble p byte) m at empty moves = moves
-  none_moves (asked.Lie p page offset bits) m at empty moves = moves
-  none_moves (asked.Truth p) m at empty moves = moves
-  none_moves (asked.Hold p) m at empty moves = moves
-  none_moves (asked.Release p) m at empty moves = moves
-  none_moves (asked.Unplug p) m at empty moves = moves
-  none_moves (asked.Plug p number) m at empty moves = moves
-  none_moves (asked.LosePlug p) m at empty moves = moves
+  none_moves (asked.Fetch p s) w m never at empty moves = moves
+  none_moves (asked.Clear p s most) w m never at empty moves = there (device_at size told m) p.0 at empty moves.2.works.working.present
+  none_moves (asked.Done p s) w m never at empty moves = moves
+  none_moves (asked.Fault p s error) w m never at empty moves = moves
+  none_moves (asked.FaultBusy p s error) w m never at empty moves = moves
+  none_moves (asked.Fatal p error) w m never at empty moves = moves
+  none_moves (asked.Scribble p byte) w m never at empty moves = moves
+  none_moves (asked.Lie p page offset bits) w m never at empty moves = moves
+  none_moves (asked.Truth p) w m never at empty moves = moves
+  none_moves (asked.Hold p) w m never at empty moves = moves
+  none_moves (asked.Release p) w m never at empty moves = moves
+  none_moves (asked.Unplug p) w m never at empty moves = moves
+  none_moves (asked.Plug p number) w m never at empty moves = moves
+  none_moves (asked.LosePlug p) w m never at empty moves = never (sym at, refl)
 
-  one_stays : (s : DeviceStep) (answer : Bool) (old new : Model S) (w : Which) → which_of old q ≢ Some w → (PutsIn q w s → ⊥) →
+  one_stays : (l : Option Which) (s : DeviceStep) (answer : Bool) (old new : Model S) (w : Which) → which_of old q ≢ Some w → (PutsIn l q w s → ⊥) →
       AnswersStep size told failures s answer old new → (which_of new q ≢ Some w) × (disk_of new q w ≡ disk_of old q w)
-  one_stays s true old new w out never a = (
+  one_stays l s true old new w out never a = (
     elim (eqb_tells q (asked_port s)) [
       | inl here ↦
           λ e.
           let P : ℕ → Type 0 = λ k. which_of new k ≡ which_after s (which_of old k) in
-          still_out s _ q w (which_of old q) here.1 out never a.0 (sym (subst P (sym here.1) a.1.which) ∙ e)
+          still_out l s _ q w (which_of old q) here.1 out never a.0 (sym (subst P (sym here.1) a.1.which) ∙ e)
       | inr there ↦ λ e. out (sym (ap (option_map (λ (b : Bay S). b.which)) (a.1.others q there.1)) ∙ e)
     ],
     a.1.keeps.out q w out,
   )
-  one_stays s false old new w out never a = (
+  one_stays l s false old new w out never a = (
     λ e. out (sym (whichs size told failures (asked_port s) old new a.which a.others q) ∙ e),
     a.keeps.out q w out,
   )
 
-  pub out_stays : (steps : List DeviceStep) (old new : Model S) (w : Which) → which_of old q ≢ Some w → All (λ s. PutsIn q w s → ⊥) steps →
+  pub out_stays : (l : Option Which) (steps : List DeviceStep) (old new : Model S) (w : Which) → which_of old q ≢ Some w → All (λ s. PutsIn l q w s → ⊥) steps →
       DoesEach size told failures steps old new → (which_of new q ≢ Some w) × (disk_of new q w ≡ disk_of old q w)
-  out_stays [] old new w out none same = (λ e. out (sym (ap (λ (m : Model S). which_of m q) same) ∙ e), ap (λ (m : Model S). disk_of m q w) same)
-  out_stays (s ∷ steps) old new w out none does =
-      let P : DeviceStep → Type 0 = λ x. PutsIn q w x → ⊥ in
-      let first = one_stays s does.0 old does.1 w out (All-head P s steps none) does.2 in
-      let last = out_stays steps does.1 new w first.0 (All-tail P s steps none) does.3 in
+  out_stays l [] old new w out none same = (λ e. out (sym (ap (λ (m : Model S). which_of m q) same) ∙ e), ap (λ (m : Model S). disk_of m q w) same)
+  out_stays l (s ∷ steps) old new w out none does =
+      let P : DeviceStep → Type 0 = λ x. PutsIn l q w x → ⊥ in
+      let first = one_stays l s does.0 old does.1 w out (All-head P s steps none) does.2 in
+      let last = out_stays l steps does.1 new w first.0 (All-tail P s steps none) does.3 in
       (last.0, last.1 ∙ first.1)
 
   last_stays : (s : DeviceStep) (answer : Bool) (old new : Model S) (w : Which) → ((device_at size told old).port q).present ≡ false →
-      (PutsIn q w s → ⊥) → AnswersStep size told failures s answer old new → IsOut w new × (disk_of new q w ≡ disk_of old q w)
+      (PutsIn (Some w) q w s → ⊥) → AnswersStep size told failures s answer old new → IsOut w new × (disk_of new q w ≡ disk_of old q w)
   last_stays s true old new w empty never a = (
     λ same.
         elim a.1.came [
           | inl whole ↦ still_empty s _ _ q w (which_of old q) empty never a.0 whole.asked (after same)
-          | inr failed ↦ still_failed q s _ _ _ _ _ _ empty failed
+          | inr failed ↦ still_failed q s _ _ _ _ _ _ _ empty failed
         ],
     elim (eqb_tells q (asked_port s)) [
       | inl here ↦
           let P : ℕ → Type 0 = λ k. disk_of new k w ≡ disk_of old k w in
-          subst P (sym here.1) (a.1.disks (none_moves s old here.1 empty) w)
+          subst P (sym here.1) (a.1.disks (none_moves s w old never here.1 empty) w)
       | inr there ↦ ap (option_map (λ (b : Bay S). disk_in b w)) (a.1.others q there.1)
     ],
   )
@@ -223,20 +224,20 @@ module _ {S : Type 0} (size : S → ℕ) (told : S → Option (ℕ → List ℕ)
     each_port (option_map (λ (b : Bay S). disk_in b w)) old new (asked_port s) (a.disks w) a.others q,
   )
 
-  one_waits : (s : DeviceStep) (answer : Bool) (old new : Model S) (w : Which) → IsOut w old → (PutsIn q w s → ⊥) → AnswersStep size told failures s answer old new →
+  one_waits : (s : DeviceStep) (answer : Bool) (old new : Model S) (w : Which) → IsOut w old → (PutsIn (Some w) q w s → ⊥) → AnswersStep size told failures s answer old new →
       IsOut w new × (disk_of new q w ≡ disk_of old q w)
   one_waits s answer old new w out never a =
       elim (is_it (which_of old q) w) [
         | inl is ↦ last_stays s answer old new w (out is) never a
-        | inr ne ↦ let other = one_stays s answer old new w ne never a in ((λ e. absurd (other.0 e)), other.1)
+        | inr ne ↦ let other = one_stays (Some w) s answer old new w ne never a in ((λ e. absurd (other.0 e)), other.1)
       ]
 
-  pub last_waits : (steps : List DeviceStep) (old new : Model S) (w : Which) → IsOut w old → All (λ s. PutsIn q w s → ⊥) steps →
+  pub last_waits : (steps : List DeviceStep) (old new : Model S) (w : Which) → IsOut w old → All (λ s. PutsIn (Some w) q w s → ⊥) steps →
       DoesEach size told failures steps old new → IsOut w new × (disk_of new q w ≡ disk_of old q w)
   last_waits [] old new w out none same =
       let P : Model S → Type 0 = λ m. IsOut w m in (subst P (sym same) out, ap (λ (m : Model S). disk_of m q w) same)
   last_waits (s ∷ steps) old new w out none does =
-      let P : DeviceStep → Type 0 = λ x. PutsIn q w x → ⊥ in
+      let P : DeviceStep → Type 0 = λ x. PutsIn (Some w) q w x → ⊥ in
       let first = one_waits s does.0 old does.1 w out (All-head P s steps none) does.2 in
       let rest = last_waits steps does.1 new w first.0 (All-tail P s steps none) does.3 in
       (rest.0, rest.1 ∙ first.1)

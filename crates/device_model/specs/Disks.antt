@@ -1,11 +1,11 @@
 -- The disks of a model: two for each port that has some, of which one is in at a time, and how they stand (this
 -- project's own).
 use Rattle.std.specs.Prelude.{ℕ, ◌≡◌, Bool, true, false, List, [], ◌∷◌, ◌++◌, Option, None, Some, codes, if◌then◌else◌, option_map, slice_index_or, slice_set}
-use Rattle.std.specs.declared.snapshot.Snapshot.{Snapshot}
 use Rattle.adapter.specs.Device.{Disk}
 use Rattle.adapter.specs.declared.command.Operation.{Operation}
 use Rattle.adapter.specs.declared.command.Operation.TheVariants.{Flush}
 use Rattle.sector_store.specs.declared.store.Failures.{Failures}
+use Rattle.device_model.specs.Cached.{HasOldRoom, KeepsNone, WritesBack, lasting_in}
 use Rattle.device_model.specs.declared.bay.Bay.{Bay}
 use Rattle.device_model.specs.declared.bay.Description.{Description}
 use Rattle.device_model.specs.declared.disks.Disks.{Disks}
@@ -96,18 +96,55 @@ failing failures (Some b) = failures b.disk.store
 abbrev pub failures_of : {S : Type 0} → (S → Option Failures) → Model S → ℕ → Option Failures
 failures_of failures m port = failing failures (bay_of m port)
 
--- the disks of a port after such a command has ended: a flush makes lasting what the disk that is in holds
-abbrev pub lasting_store : {S : Type 0} → Operation → Bay S → Snapshot S
-lasting_store Flush b = record { marker = record {}; value = b.disk.store }
-lasting_store _ b = b.lasting
+-- ---- what is lasting of the one that is in, or was last
 
-abbrev pub bay_ended : {S : Type 0} → Operation → Bay S → Bay S
-bay_ended operation b = record b { lasting = lasting_store operation b }
+-- what is, where it tells
+abbrev pub lasting_of : {S : Type 0} → (S → Option (ℕ → List ℕ)) → Bay S → Option (ℕ → List ℕ)
+lasting_of told b = lasting_in b.cache (told b.disk.store) (told b.lasting.value)
+
+-- the disks of a port have a volatile write cache
+abbrev pub has_cache : {S : Type 0} → Option (Bay S) → Bool
+has_cache None = false
+has_cache (Some b) = b.cache.is_on
+
+abbrev pub caches : {S : Type 0} → Model S → ℕ → Bool
+caches m port = has_cache (bay_of m port)
+
+-- without growing, that of a port has room for the old bytes of so many sectors more
+abbrev pub HasOldRoomIn : {S : Type 0} → Option (Bay S) → ℕ → Type 0
+HasOldRoomIn None more = Unit {0}
+HasOldRoomIn (Some b) more = HasOldRoom b.cache more
+
+abbrev pub HasOldRoomOf : {S : Type 0} → List (Option (Bay S)) → ℕ → ℕ → Type 0
+HasOldRoomOf bays port more = HasOldRoomIn (slice_index_or bays port None) more
+
+abbrev pub HasOldRoomAt : {S : Type 0} → Model S → ℕ → ℕ → Type 0
+HasOldRoomAt m port more = HasOldRoomOf m.bays.items port more
+
+-- The disks of a port after such a command has ended: a flush makes lasting what the disk that is in holds, and nothing
+-- older is kept any more.
+abbrev pub IsEnded : {S : Type 0} → Operation → (old new : Bay S) → Type 0
+IsEnded Flush old new = KeepsNone old.cache new.cache
+    × (new ≡ record old { lasting = record { marker = record {}; value = old.disk.store }; cache = new.cache })
+IsEnded _ old new = new ≡ old
+
+-- the same of a port that has disks, or none
+abbrev pub AreEnded : {S : Type 0} → Operation → (old new : Option (Bay S)) → Type 0
+AreEnded operation None new = new ≡ None
+AreEnded operation (Some old) None = ⊥
+AreEnded operation (Some old) (Some new) = IsEnded operation old new
 
 -- a command of this port has ended, and nothing else is another
 abbrev pub EndsOnly : {S : Type 0} → Operation → ℕ → (old new : List (Option (Bay S))) → Type 0
-EndsOnly operation port old new = new ≡ slice_set old port (option_map (bay_ended operation)
-    (slice_index_or old port None))
+EndsOnly {S} operation port old new =
+    (bay : Option (Bay S)) × AreEnded operation (slice_index_or old port None) bay × (new ≡ slice_set old port bay)
+
+-- What was in a cache is lost: what its disk held before is written back. Without one the disk is as it was.
+pub record IsLost {S : Type 0} (size : S → ℕ) (told : S → Option (ℕ → List ℕ)) (failures : S → Option Failures)
+    (old new : Bay S) : Type 0 where
+  pub back : old.cache.is_on ≡ true
+      → WritesBack size told failures old.cache.kept.sectors.items old.disk.store new.disk.store
+  pub as_it_was : old.cache.is_on ≡ false → new.disk.store ≡ old.disk.store
 
 -- what the disks of this port say is another, if it has some, and nothing else
 abbrev pub SaysOnly : {S : Type 0} → (Description → Description) → ℕ → (old new : List (Option (Bay S))) → Type 0

@@ -1,6 +1,6 @@
 -- What a model makes of a step that it is told: when the step is possible, what it changes where it is done, and what
 -- stays where it is left (this project's own).
-use Rattle.std.specs.Prelude.{ℕ, Bool, true, false, ◌≡◌, ◌≢◌, ◌+◌, ◌^◌, ◌<◌, ◌≤◌, ◌⊎◌, List, [], ◌∷◌, ◌++◌, Option, None, Some, if◌then◌else◌, nat_eq, option_map}
+use Rattle.std.specs.Prelude.{ℕ, Bool, true, false, ◌≡◌, ◌≢◌, ◌+◌, ◌-◌, min, ◌^◌, ◌<◌, ◌≤◌, ◌⊎◌, List, [], ◌∷◌, ◌++◌, Option, None, Some, if◌then◌else◌, nat_eq, option_map}
 use Rattle.adapter.specs.Asked.{DoesClear, DoneOf, GoesOn, busy, fatal_bit}
 use Rattle.adapter.specs.Commands.{Meaning, is_queued, is_ranged, reads_memory}
 use Rattle.adapter.specs.Device.{Device, Taken}
@@ -12,19 +12,20 @@ use Rattle.adapter.specs.declared.command.Operation.{Operation}
 use Rattle.adapter.specs.declared.tape.Entry.{Entry}
 use Rattle.ata_types.specs.declared.Port.{Port}
 use Rattle.ata_types.specs.declared.Slot.{Slot}
-use Rattle.sector_store.specs.Stores.{FailsOn}
 use Rattle.sector_store.specs.declared.store.Failures.{Failures}
-use Rattle.device_model.specs.Disks.{bay_of, disk_number, disk_of, failures_of, identity, says_of, which_of}
+use Rattle.device_model.specs.Cached.{CallFails}
+use Rattle.device_model.specs.Disks.{HasOldRoomOf, IsLost, bay_of, caches, disk_number, disk_of, failures_of, identity, says_of, which_of}
 use Rattle.device_model.specs.Finishing.{HasMove, HasRoom, MayFinish}
 use Rattle.device_model.specs.Held.{held_after}
 use Rattle.device_model.specs.Modelled.{device_at}
 use Rattle.device_model.specs.Paged.{GainsPages, lying, naming, truthful}
 use Rattle.device_model.specs.Sent.{Sends, SendsEnd, SendsFault}
-use Rattle.device_model.specs.Trims.{HasClear, next_uncleared, span}
+use Rattle.device_model.specs.Trims.{HasClear, changes_ahead, next_uncleared, span, written_ahead}
 use Rattle.device_model.specs.declared.disks.Which.{Which}
 use Rattle.device_model.specs.declared.disks.Which.TheVariants.{Disk0, Disk1}
 use Rattle.device_model.specs.declared.hardware.Hardware.{Hardware}
 use Rattle.device_model.specs.Whole.{HasDisks}
+use Rattle.device_model.specs.declared.bay.Bay.{Bay}
 use Rattle.device_model.specs.declared.bay.Description.{Description}
 use Rattle.device_model.specs.declared.model.Model.{Model}
 use Rattle.device_model.specs.declared.model.Outcome.{Outcome}
@@ -60,38 +61,47 @@ Possible (asked.Unplug p) d = (p.0 < 4) × Can (Unplug p.0) d
 Possible (asked.Plug p number) d = (p.0 < 4) × HasDisks d p.0 × (number.0 < 2) × ((d.port p.0).present ≡ false)
 Possible (asked.LosePlug p) d = (p.0 < 4) × HasDisks d p.0 × ((d.port p.0).present ≡ false)
 
--- Without growing, the tape has no room for what the step notes there. A Finish notes each of its moves and clears, and
--- the end; a Fetch a fault alone. A Clear notes what it clears, and then a fault, where the store fails behind some
--- sectors: it asks room for both before it clears any, so that no command is cleared in part without its fault. The
--- other steps note nothing.
-abbrev pub LacksMemory : DeviceStep → Device → Hardware → Type 0
-LacksMemory (asked.Fetch p s) d h = Can (FetchFault p.0 s.0 false 0) d × (HasRoom h 1 → ⊥)
-LacksMemory (asked.Move p s) d h = HasRoom h 1 → ⊥
-LacksMemory (asked.Clear p s most) d h = HasRoom h 2 → ⊥
-LacksMemory (asked.Done p s) d h = HasRoom h 1 → ⊥
-LacksMemory (asked.Finish p s) d h =
-    (left clears : ℕ) × MayFinish d p.0 s.0 left clears × (HasRoom h (left + clears + 1) → ⊥)
-LacksMemory (asked.Fault p s error) d h = HasRoom h 1 → ⊥
-LacksMemory (asked.FaultBusy p s error) d h = HasRoom h 1 → ⊥
-LacksMemory (asked.Fatal p error) d h = HasRoom h 1 → ⊥
-LacksMemory (asked.Unplug p) d h = HasRoom h 1 → ⊥
-LacksMemory (asked.Plug p number) d h = HasRoom h 1 → ⊥
-LacksMemory (asked.LosePlug p) d h = HasRoom h 1 → ⊥
-LacksMemory step d h = ⊥
+-- Of the sectors that a Clear clears at once, so many are on the disk.
+abbrev pub cleared_on_disk : (size most : ℕ) → Taken → ℕ
+cleared_on_disk size most t = min (span most t) (size - next_uncleared t)
+
+-- Without growing, the tape has no room for what the step notes there, or the port's cache none for the old bytes of
+-- the sectors that it changes. A Finish notes each of its moves and clears, and the end; a Fetch a fault alone. A Clear
+-- notes what it clears, and then a fault, where the store fails behind some sectors: it asks room for both before it
+-- clears any, so that no command is cleared in part without its fault. The other steps note nothing, and a Move, a
+-- Clear and a Finish alone change sectors.
+abbrev pub LacksMemory : {S : Type 0} → DeviceStep → Device → Hardware → List (Option (Bay S)) → Type 0
+LacksMemory (asked.Fetch p s) d h bays = Can (FetchFault p.0 s.0 false 0) d × (HasRoom h 1 → ⊥)
+LacksMemory (asked.Move p s) d h bays = (t : Taken) × HasMove d p.0 s.0 t
+    × (HasRoom h 1 → HasOldRoomOf bays p.0 (written_ahead t.meaning.operation 1) → ⊥)
+LacksMemory (asked.Clear p s most) d h bays = (t : Taken) × HasClear d p.0 s.0 most t
+    × (HasRoom h 2 → HasOldRoomOf bays p.0 (cleared_on_disk (d.port p.0).disk.size most t) → ⊥)
+LacksMemory (asked.Done p s) d h bays = HasRoom h 1 → ⊥
+LacksMemory (asked.Finish p s) d h bays =
+    (left clears : ℕ) × (may : MayFinish d p.0 s.0 left clears) × (HasRoom h (left + clears + 1)
+    → HasOldRoomOf bays p.0 (changes_ahead may.t.meaning.operation d.memory may.t left) → ⊥)
+LacksMemory (asked.Fault p s error) d h bays = HasRoom h 1 → ⊥
+LacksMemory (asked.FaultBusy p s error) d h bays = HasRoom h 1 → ⊥
+LacksMemory (asked.Fatal p error) d h bays = HasRoom h 1 → ⊥
+LacksMemory (asked.Unplug p) d h bays = HasRoom h 1 → ⊥
+LacksMemory (asked.Plug p number) d h bays = HasRoom h 1 → ⊥
+LacksMemory (asked.LosePlug p) d h bays = HasRoom h 1 → ⊥
+LacksMemory step d h bays = ⊥
 
 -- so many moves of sectors, or clears, are left of an operation
 abbrev pub AsksFor : Operation → (left clears : ℕ) → Type 0
 AsksFor operation left clears = ((is_ranged operation ≡ true) × (1 ≤ left)) ⊎ (1 ≤ clears)
 
 -- The step is possible and moves or clears a sector, so that it may ask the store of the disk that is in for one: a
--- Move, or a Finish that has a move left, of a command that names sectors; a Clear, or a Finish that has one left. No
--- other step asks a store for anything.
+-- Move, or a Finish that has a move left, of a command that names sectors; a Clear, or a Finish that has one left. Or
+-- it is a LosePlug, which may write sectors back of the disk that was last in. No other step asks a store for anything.
 abbrev pub AsksStore : DeviceStep → Device → Type 0
 AsksStore (asked.Move p s) d = (s.0 < 32) × (t : Taken) × HasMove d p.0 s.0 t × (is_ranged t.meaning.operation ≡ true)
 AsksStore (asked.Clear p s most) d = (s.0 < 32) × (t : Taken) × HasClear d p.0 s.0 most t
 AsksStore (asked.Finish p s) d =
     HasDisks d p.0 × (s.0 < 32) × (left clears : ℕ) × (may : MayFinish d p.0 s.0 left clears)
     × AsksFor may.t.meaning.operation left clears
+AsksStore (asked.LosePlug p) d = (p.0 < 4) × HasDisks d p.0 × ((d.port p.0).present ≡ false)
 AsksStore step d = ⊥
 
 -- Each place of the memory has an address of 32 bits, for a step to which that matters: a Move, or a Finish of a
@@ -147,30 +157,32 @@ abbrev pub which_after : DeviceStep → Option Which → Option Which
 which_after (asked.Plug p number) which = option_map (λ (_ : Which). if nat_eq number.0 0 then Disk0 else Disk1) which
 which_after step which = which
 
--- the step puts this disk into this port; or the one of the port that was last in, which may be this one
-abbrev pub PutsIn : (port : ℕ) → Which → DeviceStep → Type 0
-PutsIn port which (asked.Plug p number) = (p.0 ≡ port) × (number.0 ≡ disk_number which)
-PutsIn port which (asked.LosePlug p) = p.0 ≡ port
-PutsIn port which step = ⊥
+-- the step puts this disk into this port: by its number, or as the one that was last in
+abbrev pub PutsIn : (last : Option Which) → (port : ℕ) → Which → DeviceStep → Type 0
+PutsIn last port which (asked.Plug p number) = (p.0 ≡ port) × (number.0 ≡ disk_number which)
+PutsIn last port which (asked.LosePlug p) = (p.0 ≡ port) × (last ≡ Some which)
+PutsIn last port which step = ⊥
 
 -- What no step changes: the disk of a port that isn't in, or wasn't last; of each disk its serial number and how many
--- sectors it has; the queue; and the count of the accesses.
+-- sectors it has; whether the disks of a port have a cache; the queue; and the count of the accesses.
 pub record StepKeeps {S : Type 0} (size : S → ℕ) (old new : Model S) : Type 0 where
   pub out : (port : ℕ) (which : Which) → which_of old port ≢ Some which
       → disk_of new port which ≡ disk_of old port which
   pub identities : (port : ℕ) (which : Which) → option_map (identity size) (disk_of new port which)
       ≡ option_map (identity size) (disk_of old port which)
+  pub caches : (port : ℕ) → caches new port ≡ caches old port
   pub queue : new.queue ≡ old.queue
   pub accesses : new.accesses ≡ old.accesses
 
 -- ---- commands that fail
 
 -- Why a command fails on a sector, with this error (ACS-3, 6.2): the sector is past the disk (10h, ID not found); or
--- one more call on the store of the disk has failed, that for this sector (40h, uncorrectable data).
-abbrev pub IsCause : (writes : Bool) (sector size error : ℕ) → (was now : Option Failures) → Type 0
-IsCause writes sector size error was now =
+-- one more call on the store of the disk has failed, that for this sector, or for what a cache keeps of it (40h,
+-- uncorrectable data).
+abbrev pub IsCause : (cached writes : Bool) (sector size error : ℕ) → (was now : Option Failures) → Type 0
+IsCause cached writes sector size error was now =
     ((size ≤ sector) × (error ≡ 0x10) × (now ≡ was))
-    ⊎ ((sector < size) × (error ≡ 0x40) × FailsOn writes sector was now)
+    ⊎ ((sector < size) × (error ≡ 0x40) × CallFails cached writes sector was now)
 
 -- What is issued in the slot fails as it is to be taken, since its bytes mean no command: with 04h, aborted. It is told
 -- as a plain one.
@@ -182,24 +194,24 @@ pub record FailsToFetch (port slot : ℕ) (was now : Option Failures) (says afte
   pub log : after_it ≡ says
 
 -- the slot's command fails on the sector that it moves next;
-pub record FailsToMove (port slot : ℕ) (was now : Option Failures) (says after_it : Option Description)
+pub record FailsToMove (cached : Bool) (port slot : ℕ) (was now : Option Failures) (says after_it : Option Description)
     (old new : Device) : Type 0 where
   pub t : Taken
   pub move : HasMove old port slot t
   pub ranged : is_ranged t.meaning.operation ≡ true
   pub error : ℕ
-  pub cause : IsCause (reads_memory t.meaning.operation) (next_sector t) (old.port port).disk.size error was now
+  pub cause : IsCause cached (reads_memory t.meaning.operation) (next_sector t) (old.port port).disk.size error was now
   pub can : Can (Fault port slot error 0 t) old
   pub sends : SendsFault (is_queued t.meaning.operation) port (after (Fault port slot error 0 t) old) new
   pub log : after_it ≡ says_failed (Some t) slot error says
 
 -- or on the one that it clears next
-pub record FailsToClear (port slot : ℕ) (was now : Option Failures) (says after_it : Option Description)
+pub record FailsToClear (cached : Bool) (port slot : ℕ) (was now : Option Failures) (says after_it : Option Description)
     (old new : Device) : Type 0 where
   pub t : Taken
   pub clear : HasClear old port slot 1 t
   pub error : ℕ
-  pub cause : IsCause true (next_uncleared t) (old.port port).disk.size error was now
+  pub cause : IsCause cached true (next_uncleared t) (old.port port).disk.size error was now
   pub can : Can (Fault port slot error 0 t) old
   pub sends : SendsFault (is_queued t.meaning.operation) port (after (Fault port slot error 0 t) old) new
   pub log : after_it ≡ says
@@ -215,22 +227,34 @@ ClearsFewer port slot most old new = (did : DoesClear port slot most old new) ×
 -- The command of a step fails in its place, or on the way: a Fetch since it means none; and a Move, a Clear and a
 -- Finish as they come to a sector of those that they ask for on which it fails, a Move as it begins, and the others
 -- once they have done what comes before it. What the disks say after it tells of a queued one.
-abbrev pub StepFails : DeviceStep → (was now : Option Failures) → (says after_it : Option Description) → Device → Device
-    → Type 0
-StepFails (asked.Fetch p s) was now says after_it old new = FailsToFetch p.0 s.0 was now says after_it old new
-StepFails (asked.Move p s) was now says after_it old new = FailsToMove p.0 s.0 was now says after_it old new
-StepFails (asked.Clear p s most) was now says after_it old new =
-    After (ClearsFewer p.0 s.0 most) (FailsToClear p.0 s.0 was now says after_it) old new
-StepFails (asked.Finish p s) was now says after_it old new =
-    After (GoesOn (SendsEnd s.0) p.0 s.0) (λ mid last. FailsToMove p.0 s.0 was now says after_it mid last
-    ⊎ FailsToClear p.0 s.0 was now says after_it mid last) old new
-StepFails step was now says after_it old new = ⊥
+abbrev pub StepFails : DeviceStep → (cached : Bool) → (was now : Option Failures)
+    → (says after_it : Option Description) → Device → Device → Type 0
+StepFails (asked.Fetch p s) cached was now says after_it old new = FailsToFetch p.0 s.0 was now says after_it old new
+StepFails (asked.Move p s) cached was now says after_it old new = FailsToMove cached p.0 s.0 was now says after_it old
+    new
+StepFails (asked.Clear p s most) cached was now says after_it old new =
+    After (ClearsFewer p.0 s.0 most) (FailsToClear cached p.0 s.0 was now says after_it) old new
+StepFails (asked.Finish p s) cached was now says after_it old new =
+    After (GoesOn (SendsEnd s.0) p.0 s.0) (λ mid last. FailsToMove cached p.0 s.0 was now says after_it mid last
+    ⊎ FailsToClear cached p.0 s.0 was now says after_it mid last) old new
+StepFails step cached was now says after_it old new = ⊥
 
 -- no call has failed, on any store
 abbrev pub NoneFails : {S : Type 0} → (S → Option Failures) → Model S → Model S → Type 0
 NoneFails {S} failures old new =
     (port : ℕ) (which : Which) → option_map (λ x. failures x.store) (disk_of new port which)
     ≡ option_map (λ x. failures x.store) (disk_of old port which)
+
+-- the step loses what is in a cache
+abbrev pub is_losing : DeviceStep → Bool
+is_losing (asked.LosePlug p) = true
+is_losing step = false
+
+-- What was in the cache of the disk that is put in again is lost.
+abbrev pub AreLost : {S : Type 0} → (S → ℕ) → (S → Option (ℕ → List ℕ)) → (S → Option Failures) → Option (Bay S)
+    → Option (Bay S) → Type 0
+AreLost size told failures (Some old) (Some new) = IsLost size told failures old new
+AreLost size told failures _ _ = ⊥
 
 -- The slot's command has ended since this state, just now, as the tape tells last: it is taken no more, and its bit is
 -- clear, of PxSACT if it was queued, and else of PxCI. A queued one has its bit of PxCI clear, too, if it was taken
@@ -262,27 +286,31 @@ EndsIt (asked.Finish p s) old new = HasEnded old new p.0 s.0
 EndsIt step old new = Unit {0}
 
 -- A step is done whole: the device did what it was asked, and sent the FIS of a command that ended or failed. No call
--- on a store has failed; a Clear did all that it could at once, and a Finish ended its command, in a memory of at most
--- 4 GiB; and the disks say of themselves what they say after it.
+-- on a store has failed, but where sectors are written back; a Clear did all that it could at once, and a Finish ended
+-- its command, in a memory of at most 4 GiB; a LosePlug lost what was in the cache; and the disks say of themselves
+-- what they say after it.
 pub record Completes {S : Type 0} (size : S → ℕ) (told : S → Option (ℕ → List ℕ)) (failures : S → Option Failures)
     (s : DeviceStep) (old new : Model S) : Type 0 where
   pub asked : DoneOf (Sends s) s (device_at size told old) (device_at size told new)
-  pub fine : NoneFails failures old new
+  pub fine : is_losing s ≡ false → NoneFails failures old new
   pub says : says_of new (asked_port s) ≡ says_after s (device_at size told old) (says_of old (asked_port s))
   pub ends : (device_at size told old).size ≤ 2 ^ 32 → EndsIt s (device_at size told old) (device_at size told new)
+  pub loses : is_losing s ≡ true → AreLost size told failures (bay_of old (asked_port s)) (bay_of new (asked_port s))
 
 -- its command fails
 abbrev pub HasFailed : {S : Type 0} → (S → ℕ) → (S → Option (ℕ → List ℕ)) → (S → Option Failures) → DeviceStep → Model S
     → Model S → Type 0
 HasFailed size told failures s old new =
-    StepFails s (failures_of failures old (asked_port s)) (failures_of failures new (asked_port s))
+    StepFails s (caches old (asked_port s)) (failures_of failures old (asked_port s))
+    (failures_of failures new (asked_port s))
     (says_of old (asked_port s)) (says_of new (asked_port s))
     (device_at size told old) (device_at size told new)
 
 -- A step that is done: whole, or as far as its command has come that fails. The ports are held that are held after it;
 -- the disk is in its port, or was last, that is after it, and each disk has the sectors that it had, but where a sector
--- is moved or cleared; the disks of all other ports are as they were; each page that the tape has gained is as the disk
--- that was in said before, and the log; and that nothing was left out for want of memory is told as it was.
+-- is moved, cleared or written back; the disks of all other ports are as they were; each page that the tape has gained
+-- is as the disk that was in said before, and the log; and that nothing was left out for want of memory is told as it
+-- was.
 pub record Did {S : Type 0} (size : S → ℕ) (told : S → Option (ℕ → List ℕ)) (failures : S → Option Failures)
     (s : DeviceStep) (old new : Model S) : Type 0 where
   pub came : Completes size told failures s old new ⊎ HasFailed size told failures s old new
@@ -307,11 +335,11 @@ pub record IsLeftOut {S : Type 0} (size : S → ℕ) (told : S → Option (ℕ �
   pub others : (port : ℕ) → port ≢ asked_port s → bay_of new port ≡ bay_of old port
   pub disks : (which : Which) → disk_of new (asked_port s) which ≡ disk_of old (asked_port s) which
   pub why : NeedsAddresses s (device_at size told old) → Possible s (device_at size told old) →
-      LacksMemory s (device_at size told old) old.hardware × (new.hardware.starved ≡ true)
+      LacksMemory s (device_at size told old) old.hardware old.bays.items × (new.hardware.starved ≡ true)
   pub keeps : StepKeeps size old new
   pub starved_on : old.hardware.starved ≡ true → new.hardware.starved ≡ true
   pub starved_since : new.hardware.starved ≡ true → (old.hardware.starved ≡ true)
-      ⊎ (Possible s (device_at size told old) × LacksMemory s (device_at size told old) old.hardware)
+      ⊎ (Possible s (device_at size told old) × LacksMemory s (device_at size told old) old.hardware old.bays.items)
 
 -- what a model makes of a step that it is told: it answers `true` where it was possible and is done, and `false` where
 -- it is left

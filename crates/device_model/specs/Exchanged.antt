@@ -1,14 +1,15 @@
 -- A disk and the memory exchange the next piece of a command.
-use Rattle.std.specs.Prelude.{ℕ, ◌≡◌, ◌<◌, Bool, true, false, List, Option, IfSome, length, if◌then◌else◌}
+use Rattle.std.specs.Prelude.{ℕ, ◌≡◌, ◌<◌, ◌+◌, Bool, true, false, List, Option, IfSome, length, if◌then◌else◌}
 use Rattle.adapter.specs.Commands.{is_ranged, reads_memory}
 use Rattle.adapter.specs.Device.{IsSector}
 use Rattle.adapter.specs.Memory.{bytes_at, patched}
 use Rattle.adapter.specs.Steps.{disk_after}
-use Rattle.sector_store.specs.Stores.{FailsOn}
 use Rattle.sector_store.specs.declared.store.Failures.{Failures}
-use Rattle.device_model.specs.Disks.{disk_over, identity}
+use Rattle.device_model.specs.Cached.{CallFails, HasOldRoom}
+use Rattle.device_model.specs.Disks.{disk_over, identity, lasting_of}
 use Rattle.device_model.specs.Fetched.{bytes_of}
 use Rattle.device_model.specs.Paged.{IsItsLog, IsItsPage}
+use Rattle.device_model.specs.Trims.{written_ahead}
 use Rattle.device_model.specs.View.{operation_of}
 use Rattle.device_model.specs.declared.bay.Bay.{Bay}
 use Rattle.device_model.specs.declared.hardware.Hardware.{Hardware}
@@ -29,7 +30,7 @@ pub record IsExchanged (old new : Hardware) (next : NextMove) : Type 0 where
 
 -- Bytes of memory, as they were and as they are now. The disk that is in has given them: the sector of a read, or its
 -- page. Or it has taken them as a write's sector, or they are a trim's block. Or the store has failed: it tells what it
--- told, and the bytes are as they were.
+-- told, and the bytes are as they were. What is lasting of the disk stays so.
 pub record Exchanges {S : Type 0} (size : S → ℕ) (told : S → Option (ℕ → List ℕ)) (failures : S → Option Failures)
     (old new : Bay S) (next : NextMove) (before after : List ℕ) (done : Bool) : Type 0 where
   pub inside : done ≡ true → is_ranged (operation_of next.transfer) ≡ true → next.sector < size old.disk.store
@@ -50,6 +51,10 @@ pub record Exchanges {S : Type 0} (size : S → ℕ) (told : S → Option (ℕ �
   pub fine : done ≡ true → failures new.disk.store ≡ failures old.disk.store
   pub ranged : done ≡ false → is_ranged (operation_of next.transfer) ≡ true
   pub fails : done ≡ false → next.sector < size old.disk.store →
-      FailsOn (reads_memory (operation_of next.transfer)) next.sector (failures old.disk.store)
+      CallFails old.cache.is_on (reads_memory (operation_of next.transfer)) next.sector (failures old.disk.store)
       (failures new.disk.store)
-  pub rest : new ≡ record old { disk = record old.disk { store = new.disk.store } }
+  pub lasting : lasting_of told new ≡ lasting_of told old
+  pub cached : new.cache.is_on ≡ old.cache.is_on
+  pub old_room : (n : ℕ) → HasOldRoom old.cache (written_ahead (operation_of next.transfer) 1 + n)
+      → HasOldRoom new.cache n
+  pub rest : new ≡ record old { disk = record old.disk { store = new.disk.store }; cache = new.cache }

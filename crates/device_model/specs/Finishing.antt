@@ -9,10 +9,12 @@ use Rattle.adapter.specs.Steps.Step.{Fetch}
 use Rattle.adapter.specs.declared.command.Operation.{Operation}
 use Rattle.adapter.specs.declared.command.Operation.TheVariants.{Identify, ReadLog}
 use Rattle.adapter.specs.declared.command.Prd.{Prd}
-use Rattle.device_model.specs.Trims.{WillClear}
+use Rattle.device_model.specs.Cached.{HasOldRoom}
+use Rattle.device_model.specs.Trims.{WillClear, changes_ahead}
 use Rattle.device_model.specs.Fetched.{bytes_of}
 use Rattle.device_model.specs.View.{operation_of, taken_of}
 use Rattle.device_model.specs.Whole.{HasDisks, Outside, device_of}
+use Rattle.device_model.specs.declared.cache.Cache.{Cache}
 use Rattle.device_model.specs.declared.hardware.Hardware.{Hardware}
 use Rattle.device_model.specs.declared.port.TakenCommand.{TakenCommand}
 
@@ -96,6 +98,11 @@ FindsPage d port slot None = (MayPage d port slot → ⊥) × (HasPage d port sl
 abbrev pub IsBusy : Device → ℕ → Type 0
 IsBusy d port = (slot : ℕ) × (t : Taken) × ((d.port port).taken slot ≡ Some t)
 
+-- there is room for the old bytes of each sector that the slot's command is going to change, of so many moves
+abbrev pub HasRoomAhead : Cache → (port slot left : ℕ) → Device → Type 0
+HasRoomAhead cache port slot left d = (t : Taken) → (d.port port).taken slot ≡ Some t
+    → HasOldRoom cache (changes_ahead t.meaning.operation d.memory t left)
+
 -- ---- a command that is to be done to its end
 
 -- so many moves, and then so many clears, are left of this command, all of them possible with this memory
@@ -115,19 +122,21 @@ pub record IsBegun (port slot left clears : ℕ) (was_taken : Bool) (old new : H
   pub tape : new.tape.items ≡ old.tape.items
   pub starved : new.starved ≡ old.starved
 
--- so many moves and clears are left of it, each possible, but there is no room for them and the end, and that is told
-pub record LacksRoom (port slot : ℕ) (old new : Hardware) : Type 0 where
+-- So many moves and clears are left of it, each possible, but there is no room for them and the end, or none for the
+-- old bytes of the sectors that they change; and that is told.
+pub record LacksRoom (port slot : ℕ) (old new : Hardware) (was now : Cache) : Type 0 where
   pub left : ℕ
   pub clears : ℕ
   pub ready : (o : Outside) → MayFinish (device_of old o) port slot left clears
-  pub only : (o : Outside) (n m : ℕ) → MayFinish (device_of old o) port slot n m → (n ≡ left) × (m ≡ clears)
-  pub lacked : HasRoom old (left + clears + 1) → ⊥
-  pub lacks : HasRoom new (left + clears + 1) → ⊥
+  pub lacked : (o : Outside) (n m : ℕ) (may : MayFinish (device_of old o) port slot n m) → HasRoom old (n + m + 1) →
+      HasOldRoom was (changes_ahead may.t.meaning.operation (device_of old o).memory may.t n) → ⊥
+  pub lacks : (o : Outside) (n m : ℕ) (may : MayFinish (device_of old o) port slot n m) → HasRoom new (n + m + 1) →
+      HasOldRoom now (changes_ahead may.t.meaning.operation (device_of old o).memory may.t n) → ⊥
   pub same : (o : Outside) → device_of new o ≡ device_of old o
   pub told : new.starved ≡ true
 
 -- It isn't begun: there is none that can be done to its end, and nothing is another, or there is no room.
-abbrev pub IsUnbegun : (port slot : ℕ) → Hardware → Hardware → Type 0
-IsUnbegun port slot old new =
+abbrev pub IsUnbegun : (port slot : ℕ) → (old new : Hardware) → (was now : Cache) → Type 0
+IsUnbegun port slot old new was now =
     (((o : Outside) (left clears : ℕ) → MayFinish (device_of old o) port slot left clears → ⊥) × (new ≡ old))
-    ⊎ LacksRoom port slot old new
+    ⊎ LacksRoom port slot old new was now

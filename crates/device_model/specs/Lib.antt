@@ -1,5 +1,7 @@
 pub mod Bits
 pub mod Block
+pub mod OldSectors
+pub mod Cached
 pub mod Disks
 pub mod View
 pub mod Whole

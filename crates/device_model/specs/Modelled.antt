@@ -5,7 +5,7 @@ use Rattle.adapter.specs.Device.{PortState, Device}
 use Rattle.adapter.specs.Device.Halt.{NotHalted}
 use Rattle.adapter.specs.FirstRead.{no_notes}
 use Rattle.adapter.specs.Idle.{IsIdle, IsSane}
-use Rattle.device_model.specs.Disks.{bay_of, disk_over, given_for, plugged_as}
+use Rattle.device_model.specs.Disks.{bay_of, disk_over, given_for, lasting_of, plugged_as}
 use Rattle.device_model.specs.Held.{none_held}
 use Rattle.device_model.specs.Paged.{no_lies}
 use Rattle.device_model.specs.View.{Media}
@@ -27,7 +27,7 @@ media_of size told (Some b) =
       disk = disk_over b.which (size b.disk.store) (told b.disk.store);
       plugged = disk_over Disk0 (size b.first.value) (told b.first.value)
           ∷ plugged_as (λ which store. disk_over which (size store) (told store)) b.later;
-      lasting = told b.lasting.value;
+      lasting = lasting_of told b;
     }
 
 -- the stores of both disks of a port tell their sectors, if it has disks; and so do those of all ports
@@ -80,20 +80,23 @@ pub record IsReset (p : PortState) : Type 0 where
   pub whole : p.broken ≡ false
   pub notes : p.notes ≡ no_notes
 
--- what is behind a new port: the first one of the disks that are given for it, which was never out; without any there
--- is no disk
+-- what is behind a new port: the first one of the disks that are given for it, which was never out, and of which all is
+-- lasting; without any there is no disk
 abbrev pub IsNewMedia : {S : Type 0} → (S → ℕ) → (S → Option (ℕ → List ℕ)) → Option (PortDisks S) → Media → Type 0
 IsNewMedia size told None m = m ≡ no_media
 IsNewMedia size told (Some disks) m =
     (m.disk ≡ disk_over Disk0 (size disks.first.store) (told disks.first.store))
     × (m.plugged ≡ disk_over Disk0 (size disks.first.store) (told disks.first.store) ∷ [])
+    × (m.lasting ≡ told disks.first.store)
 
--- A new port has the first one of the disks that are given for it, which was never out; without any it has no disk.
+-- A new port has the first one of the disks that are given for it, which was never out, and of which all is lasting;
+-- without any it has no disk.
 abbrev pub IsNewPort : {S : Type 0} → (S → ℕ) → (S → Option (ℕ → List ℕ)) → Option (PortDisks S) → PortState → Type 0
 IsNewPort size told None p = (p.present ≡ false) × (p.plugged ≡ [])
 IsNewPort size told (Some disks) p =
     (p.present ≡ true) × (p.disk ≡ disk_over Disk0 (size disks.first.store) (told disks.first.store))
     × (p.plugged ≡ disk_over Disk0 (size disks.first.store) (told disks.first.store) ∷ [])
+    × (p.lasting ≡ record { sectors = told disks.first.store; since = 0 })
 
 -- A new adapter has what its configuration says, its ports too, and in each port the disk that is given for it. It is
 -- switched off, its memory is zero, its ports are as after a reset, and nothing runs.
@@ -121,12 +124,13 @@ new_says config =
       log_lies = no_lies;
     }
 
--- The disks of a port are new: disk 0 is in, and the other one is disk 1. A port for which none are given has none.
+-- The disks of a port are new: disk 0 is in, and the other one is disk 1, with a cache or without, as the configuration
+-- says. A port for which none are given has none.
 abbrev pub IsNewBay : {S : Type 0} → ModelConfig → Option (PortDisks S) → Option (Bay S) → Type 0
 IsNewBay config None bay = bay ≡ None
 IsNewBay config (Some disks) None = ⊥
 IsNewBay config (Some disks) (Some b) = (b.which ≡ Disk0) × (b.disk ≡ disks.first) × (b.other ≡ disks.spare)
-    × (b.says ≡ new_says config)
+    × (b.says ≡ new_says config) × (b.cache.is_on ≡ config.cache) × (b.cache.kept.sectors.items ≡ [])
 
 -- whether the stores of the disks that are given for a port tell their sectors
 abbrev pub given_tell : {S : Type 0} → (S → Option (ℕ → List ℕ)) → Option (PortDisks S) → Bool

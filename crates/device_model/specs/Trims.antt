@@ -1,12 +1,12 @@
 -- The sectors of a trim that are left to clear, in the order of its block (ACS-3, 7.5), and how a model clears them
 -- (this project's own).
-use Rattle.std.specs.Prelude.{ℕ, suc, ◌≡◌, ◌-◌, ◌≤◌, List, [], ◌∷◌, length, drop, take, if◌then◌else◌, nat_eq, nat_lt, slice_index}
+use Rattle.std.specs.Prelude.{ℕ, suc, ◌≡◌, ◌+◌, ◌-◌, ◌≤◌, List, [], ◌∷◌, length, drop, take, if◌then◌else◌, nat_eq, nat_lt, slice_index}
 use Rattle.adapter.specs.Device.{Taken, Device}
 use Rattle.adapter.specs.Memory.{bytes_at}
 use Rattle.adapter.specs.Steps.{WorksOn}
 use Rattle.adapter.specs.Trim.{trim_sectors}
 use Rattle.adapter.specs.declared.command.Operation.{Operation}
-use Rattle.adapter.specs.declared.command.Operation.TheVariants.{Trim}
+use Rattle.adapter.specs.declared.command.Operation.TheVariants.{Trim, Write, WriteQueued}
 use Rattle.device_model.specs.Whole.{HasDisks}
 
 -- ---- runs of sectors that follow one another
@@ -67,6 +67,21 @@ block_ahead memory t = if nat_lt t.moved (length t.places) then bytes_at memory
 pub record HasRuns (block : List ℕ) (cleared clears : ℕ) : Type 0 where
   pub within : cleared ≤ length (trim_sectors block)
   pub runs : clears ≡ runs_of (drop cleared (trim_sectors block))
+
+-- so many sectors are left to clear of a command: those of a trim, and of another command none
+abbrev pub cleared_ahead : Operation → (ℕ → ℕ) → Taken → ℕ
+cleared_ahead Trim memory t = length (drop t.cleared (trim_sectors (block_ahead memory t)))
+cleared_ahead _ memory t = 0
+
+-- and so many to write, of so many moves that are left
+abbrev pub written_ahead : Operation → ℕ → ℕ
+written_ahead Write left = left
+written_ahead WriteQueued left = left
+written_ahead _ left = 0
+
+-- so many sectors of the disk it is going to change
+abbrev pub changes_ahead : Operation → (ℕ → ℕ) → Taken → ℕ → ℕ
+changes_ahead operation memory t left = written_ahead operation left + cleared_ahead operation memory t
 
 -- so many clears are left of a command: one of each run of a trim, and of another command none
 abbrev pub WillClear : Operation → (ℕ → ℕ) → Taken → (clears : ℕ) → Type 0

@@ -1,23 +1,27 @@
 // The disks of a port, as a model has them.
-ghost use Rattle.std.specs.Prelude.{◌≡◌, ◌<◌, ◌≤◌, ◌+◌, ◌++◌, ◌∷◌, [], ℕ, true, false, length, if◌then◌else◌, IfSome};
+ghost use Rattle.std.specs.Prelude.{◌≡◌, ◌<◌, ◌≤◌, ◌+◌, ◌++◌, ◌∷◌, [], ℕ, List, Option, None, true, false, length, if◌then◌else◌, IfSome};
 ghost use Rattle.adapter.specs.Commands.{is_ranged, reads_memory};
 ghost use Rattle.adapter.specs.Device.{Disk, IsSector};
 ghost use Rattle.adapter.specs.Steps.{disk_after, disk_cleared};
-ghost use Rattle.sector_store.specs.Stores.{FailsOn};
-ghost use Rattle.device_model.specs.Disks.{bay_ended, disk_in, disk_over, identity, is_same, plugged_as};
+ghost use Rattle.device_model.specs.Cached.{CallFails, HasOldRoom, KeepsTheSame, lasting_in};
+ghost use Rattle.device_model.specs.Disks.{EndsOnly, IsEnded, IsLost, SaysOnly, disk_in, disk_over, identity, is_same, lasting_of, plugged_as};
 ghost use Rattle.device_model.specs.Exchanged.{Exchanges, IsExchanged, piece_of};
+ghost use Rattle.device_model.specs.Finishing.{HasRoomAhead, IsBegun, IsUnbegun};
 ghost use Rattle.device_model.specs.Paged.{IsItsLog, IsItsPage, IsTurned, lying, naming, no_lies, truthful};
+ghost use Rattle.device_model.specs.Trims.{written_ahead};
 ghost use Rattle.device_model.specs.View.{operation_of};
 ghost use Rattle.device_model.specs.Whole.{Outside, device_of};
 
+use crate::cache::{Cache, put_sector, write_back};
 use crate::clearing::Run;
 use crate::disks::{ModelDisk, Plugged, PortDisks, Which};
 use crate::hardware::Hardware;
 use crate::port::Transfer;
-use crate::steps::NextMove;
+use crate::steps::{Begun, NextMove};
 use adapter::DiskPage;
 use sector_store::SectorStore;
 use sector_store::pages::{Abilities, FailedCommand, log_page};
+use std::alloc::Global;
 use std::mem;
 use std::snapshot::Snapshot;
 
@@ -57,6 +61,8 @@ pub struct Bay<S> {
     /// The disk that is in, or was last, as it was when it last ended a flush, or else when it was first in; for proofs
     /// alone.
     pub lasting: Snapshot<S>,
+    /// What its volatile write cache may lose of it, if the disks have one.
+    pub cache: Cache,
 }
 
 /// Turns these bits of a page.
@@ -70,20 +76,27 @@ fn turn(page: &mut [u8; PAGE_BYTES], bits: &[u8; PAGE_BYTES])
 }
 
 /// Makes these sectors of a disk zero, the first of them first, and tells how many: all of them, or those before the
-/// one at which the store failed. It is entered for clears alone, since its frame may have room for a sector.
+/// one at which the store failed. What they hold is kept before. It is entered for clears alone, since its frame may
+/// have room for a sector.
 #[inline(never)]
-fn clear_sectors<S: SectorStore>(disk: &mut S, which: Which, run: Run) -> u32
-    requires { run.first + run.count ≤ S.size disk.old }
+fn clear_sectors<S: SectorStore>(disk: &mut S, cache: &mut Cache, which: Which, run: Run) -> u32
+    requires inside { run.first + run.count ≤ S.size disk.old }
+    requires room { HasOldRoom cache.old run.count }
     ensures few { result ≤ run.count }
     ensures disk { disk_over which (S.size disk.new) (S.told disk.new)
         ≡ disk_cleared (disk_over which (S.size disk.old) (S.told disk.old)) run.first result }
     ensures size { S.size disk.new ≡ S.size disk.old }
     ensures none { result ≡ 0 → S.told disk.new ≡ S.told disk.old }
     ensures fine { result ≡ run.count → S.failures disk.new ≡ S.failures disk.old }
-    ensures fails { result < run.count → FailsOn true (run.first + result) (S.failures disk.old) (S.failures disk.new) }
+    ensures fails { result < run.count → CallFails cache.old.is_on true (run.first + result) (S.failures disk.old)
+        (S.failures disk.new) }
+    ensures lasting { (noted : Option (ℕ → List ℕ)) → lasting_in cache.new (S.told disk.new) noted
+        ≡ lasting_in cache.old (S.told disk.old) noted }
+    ensures cached { cache.new.is_on ≡ cache.old.is_on }
+    ensures old_room { (n : ℕ) → HasOldRoom cache.old (run.count + n) → HasOldRoom cache.new n }
 {
     for place in 0..run.count {
-        if !disk.write(run.first + u64::from(place), &ZEROS) {
+        if !put_sector(disk, cache, run.first + u64::from(place), &ZEROS) {
             return place;
         }
     }
@@ -91,8 +104,9 @@ fn clear_sectors<S: SectorStore>(disk: &mut S, which: Which, run: Run) -> u32
 }
 
 impl<S: SectorStore> Bay<S> {
-    /// A port with disks, of which the first one is in. They have these abilities, and tell no lies.
-    pub fn new(disks: PortDisks<S>, abilities: Abilities) -> Bay<S>
+    /// A port with disks, of which the first one is in. They have these abilities, and a volatile write cache or none,
+    /// and tell no lies.
+    pub fn new(alloc: Global, disks: PortDisks<S>, abilities: Abilities, cached: bool) -> Bay<S>
         ensures which { result.which ≡ Which.Disk0 }
         ensures disk { result.disk ≡ disks.first }
         ensures other { result.other ≡ disks.spare }
@@ -100,6 +114,8 @@ impl<S: SectorStore> Bay<S> {
         ensures first { result.first.value ≡ disks.first.store }
         ensures lasting { result.lasting.value ≡ disks.first.store }
         ensures later { (disk : Which → S → Disk) → plugged_as disk result.later ≡ [] }
+        ensures cached { result.cache.is_on ≡ cached }
+        ensures kept { result.cache.kept.sectors.items ≡ [] }
     {
         let first = Snapshot::of(&disks.first.store);
         let lasting = Snapshot::of(&disks.first.store);
@@ -116,6 +132,7 @@ impl<S: SectorStore> Bay<S> {
             first,
             later: Plugged::Nothing,
             lasting,
+            cache: Cache::new(alloc, cached),
         }
     }
 
@@ -146,6 +163,7 @@ impl<S: SectorStore> Bay<S> {
     /// bytes are as they were.
     #[inline(always)]
     fn exchange_bytes(&mut self, next: NextMove, bytes: &mut [u8; 512]) -> bool
+        requires { HasOldRoom self.old.cache (written_ahead (operation_of next.transfer) 1) }
         ensures inside { result ≡ true → is_ranged (operation_of next.transfer) ≡ true
             → next.sector < S.size self.old.disk.store }
         ensures sector { IsSector bytes.new }
@@ -167,13 +185,20 @@ impl<S: SectorStore> Bay<S> {
         ensures fine { result ≡ true → S.failures self.new.disk.store ≡ S.failures self.old.disk.store }
         ensures ranged { result ≡ false → is_ranged (operation_of next.transfer) ≡ true }
         ensures fails { result ≡ false → next.sector < S.size self.old.disk.store →
-            FailsOn (reads_memory (operation_of next.transfer)) next.sector (S.failures self.old.disk.store)
-            (S.failures self.new.disk.store) }
-        ensures rest { self.new ≡ record self.old { disk = record self.old.disk { store = self.new.disk.store } } }
+            CallFails self.old.cache.is_on (reads_memory (operation_of next.transfer)) next.sector
+            (S.failures self.old.disk.store) (S.failures self.new.disk.store) }
+        ensures lasting { lasting_of S.told self.new ≡ lasting_of S.told self.old }
+        ensures cached { self.new.cache.is_on ≡ self.old.cache.is_on }
+        ensures old_room { (n : ℕ) → HasOldRoom self.old.cache (written_ahead (operation_of next.transfer) 1 + n)
+            → HasOldRoom self.new.cache n }
+        ensures rest { self.new ≡ record self.old
+            { disk = record self.old.disk { store = self.new.disk.store }; cache = self.new.cache } }
     {
         match next.transfer {
             Transfer::Read | Transfer::ReadQueued => self.disk.store.read(next.sector, bytes),
-            Transfer::Write | Transfer::WriteQueued => self.disk.store.write(next.sector, bytes),
+            Transfer::Write | Transfer::WriteQueued => {
+                put_sector(&mut self.disk.store, &mut self.cache, next.sector, bytes)
+            }
             Transfer::Identify => {
                 self.give_identity(bytes);
                 true
@@ -190,7 +215,8 @@ impl<S: SectorStore> Bay<S> {
     /// The same with so many bytes of memory.
     #[inline(always)]
     fn exchange_piece(&mut self, next: NextMove, piece: &mut [u8]) -> bool
-        requires { length piece.old ≡ 512 }
+        requires long { length piece.old ≡ 512 }
+        requires room { HasOldRoom self.old.cache (written_ahead (operation_of next.transfer) 1) }
         ensures { Exchanges S.size S.told S.failures self.old self.new next piece.old piece.new result }
     {
         let Some(bytes) = piece.as_mut_array() else {
@@ -202,7 +228,8 @@ impl<S: SectorStore> Bay<S> {
     /// Has the disk that is in and the memory exchange the next piece of a command, where it stands.
     #[inline(always)]
     pub fn exchange(&mut self, hardware: &mut Hardware, next: NextMove) -> bool
-        requires { next.address + 512 ≤ length hardware.old.memory.items }
+        requires inside { next.address + 512 ≤ length hardware.old.memory.items }
+        requires room { HasOldRoom self.old.cache (written_ahead (operation_of next.transfer) 1) }
         ensures exchanges { Exchanges S.size S.told S.failures self.old self.new next
             (piece_of hardware.old next) (piece_of hardware.new next) result }
         ensures memory { IsExchanged hardware.old hardware.new next }
@@ -214,7 +241,8 @@ impl<S: SectorStore> Bay<S> {
 
     /// Makes these sectors of the disk that is in zero, as `clear_sectors` does.
     pub fn clear(&mut self, run: Run) -> u32
-        requires { run.first + run.count ≤ S.size self.old.disk.store }
+        requires inside { run.first + run.count ≤ S.size self.old.disk.store }
+        requires room { HasOldRoom self.old.cache run.count }
         ensures few { result ≤ run.count }
         ensures disk { disk_over self.old.which (S.size self.new.disk.store) (S.told self.new.disk.store)
             ≡ disk_cleared (disk_over self.old.which (S.size self.old.disk.store) (S.told self.old.disk.store))
@@ -222,11 +250,43 @@ impl<S: SectorStore> Bay<S> {
         ensures size { S.size self.new.disk.store ≡ S.size self.old.disk.store }
         ensures none { result ≡ 0 → S.told self.new.disk.store ≡ S.told self.old.disk.store }
         ensures fine { result ≡ run.count → S.failures self.new.disk.store ≡ S.failures self.old.disk.store }
-        ensures fails { result < run.count → FailsOn true (run.first + result) (S.failures self.old.disk.store)
-            (S.failures self.new.disk.store) }
-        ensures rest { self.new ≡ record self.old { disk = record self.old.disk { store = self.new.disk.store } } }
+        ensures fails { result < run.count → CallFails self.old.cache.is_on true (run.first + result)
+            (S.failures self.old.disk.store) (S.failures self.new.disk.store) }
+        ensures lasting { lasting_of S.told self.new ≡ lasting_of S.told self.old }
+        ensures cached { self.new.cache.is_on ≡ self.old.cache.is_on }
+        ensures old_room { (n : ℕ) → HasOldRoom self.old.cache (run.count + n) → HasOldRoom self.new.cache n }
+        ensures rest { self.new ≡ record self.old
+            { disk = record self.old.disk { store = self.new.disk.store }; cache = self.new.cache } }
     {
-        clear_sectors(&mut self.disk.store, self.which, run)
+        clear_sectors(&mut self.disk.store, &mut self.cache, self.which, run)
+    }
+
+    /// Begins to do a slot's command of the port to its end, as `Hardware::begin` does.
+    pub fn begin(&mut self, hardware: &mut Hardware, port: u8, slot: u8) -> Option<Begun>
+        requires port { port < 4 }
+        requires slot { slot < 32 }
+        ensures begun { IfSome result (λ b. IsBegun port slot b.rest.left b.rest.clears b.was_taken hardware.old
+            hardware.new) }
+        ensures ahead { IfSome result (λ b. (o : Outside)
+            → HasRoomAhead self.new.cache port slot b.rest.left (device_of hardware.new o)) }
+        ensures same { KeepsTheSame self.old.cache self.new.cache }
+        ensures left { result ≡ None
+            → IsUnbegun port slot hardware.old hardware.new self.old.cache self.new.cache }
+        ensures rest { self.new ≡ record self.old { cache = self.new.cache } }
+    {
+        hardware.begin(port, slot, &mut self.cache)
+    }
+
+    /// Finds memory for the old bytes of so many sectors more, if the disks have a cache; `false` says that there was
+    /// none.
+    pub fn reserve(&mut self, changes: u32) -> bool
+        ensures same { KeepsTheSame self.old.cache self.new.cache }
+        ensures kept { (n : ℕ) → HasOldRoom self.old.cache n → HasOldRoom self.new.cache n }
+        ensures room { result ≡ true → HasOldRoom self.new.cache changes }
+        ensures lacked { result ≡ false → HasOldRoom self.old.cache changes → ⊥ }
+        ensures rest { self.new ≡ record self.old { cache = self.new.cache } }
+    {
+        self.cache.reserve(changes as usize)
     }
 
     /// How many sectors the disk has that is in.
@@ -264,10 +324,13 @@ impl<S: SectorStore> Bay<S> {
 
     /// Such a command has ended: a flush makes lasting what the disk that is in holds.
     pub fn end(&mut self, transfer: Transfer)
-        ensures { self.new ≡ bay_ended (operation_of transfer) self.old }
+        ensures { IsEnded (operation_of transfer) self.old self.new }
     {
         match transfer {
-            Transfer::Flush => self.lasting = Snapshot::of(&self.disk.store),
+            Transfer::Flush => {
+                self.lasting = Snapshot::of(&self.disk.store);
+                self.cache.forget();
+            }
             _ => {}
         }
     }
@@ -276,15 +339,22 @@ impl<S: SectorStore> Bay<S> {
     fn turn_to(&mut self, which: Which)
         ensures which { self.new.which ≡ which }
         ensures disks { (w : Which) → disk_in self.new w ≡ disk_in self.old w }
-        ensures lasting { self.new.lasting.value
-            ≡ (if is_same which self.old.which then self.old.lasting.value else self.new.disk.store) }
-        ensures rest { self.new ≡ record self.old
-            { which = self.new.which; disk = self.new.disk; other = self.new.other; lasting = self.new.lasting } }
+        ensures lasting { lasting_of S.told self.new
+            ≡ (if is_same which self.old.which then lasting_of S.told self.old else S.told self.new.disk.store) }
+        ensures cached { self.new.cache.is_on ≡ self.old.cache.is_on }
+        ensures rest { self.new ≡ record self.old {
+          which = self.new.which;
+          disk = self.new.disk;
+          other = self.new.other;
+          lasting = self.new.lasting;
+          cache = self.new.cache;
+        } }
     {
         if self.which != which {
             mem::swap(&mut self.disk, &mut self.other);
             self.which = which;
             self.lasting = Snapshot::of(&self.disk.store);
+            self.cache.forget();
         }
     }
 
@@ -294,17 +364,89 @@ impl<S: SectorStore> Bay<S> {
         ensures disks { (w : Which) → disk_in self.new w ≡ disk_in self.old w }
         ensures later { (disk : Which → S → Disk) → plugged_as disk self.new.later
             ≡ plugged_as disk self.old.later ++ disk which self.new.disk.store ∷ [] }
-        ensures lasting { self.new.lasting.value
-            ≡ (if is_same which self.old.which then self.old.lasting.value else self.new.disk.store) }
+        ensures lasting { lasting_of S.told self.new
+            ≡ (if is_same which self.old.which then lasting_of S.told self.old else S.told self.new.disk.store) }
+        ensures cached { self.new.cache.is_on ≡ self.old.cache.is_on }
         ensures rest { self.new ≡ record self.old {
           which = self.new.which;
           disk = self.new.disk;
           other = self.new.other;
           later = self.new.later;
           lasting = self.new.lasting;
+          cache = self.new.cache;
         } }
     {
         self.turn_to(which);
         self.later.note(which, &self.disk.store);
+    }
+
+    /// Puts the disk in again that was last in, and what was in its cache is lost. What it may lose is kept: another
+    /// one that is put in so loses the same.
+    pub fn put_back(&mut self)
+        ensures loses { IsLost S.size S.told S.failures self.old self.new }
+        ensures later { (disk : Which → S → Disk) → plugged_as disk self.new.later
+            ≡ plugged_as disk self.old.later ++ disk self.old.which self.new.disk.store ∷ [] }
+        ensures rest { self.new ≡ record self.old
+            { disk = record self.old.disk { store = self.new.disk.store }; later = self.new.later } }
+    {
+        if self.cache.is_on {
+            write_back(&mut self.disk.store, &self.cache.kept);
+        }
+        self.later.note(self.which, &self.disk.store);
+    }
+}
+
+/// Has the disks of a port know that such a command of it has ended, if it has disks.
+pub fn end_in<S: SectorStore>(bays: &mut Vec<Option<Bay<S>>>, port: usize, transfer: Transfer)
+    ensures { EndsOnly (operation_of transfer) port bays.old.items bays.new.items }
+{
+    if port < bays.len() {
+        if let Some(bay) = &mut bays[port] {
+            bay.end(transfer);
+        }
+    }
+}
+
+/// Has the log of a port's disks name this command, if it has disks.
+pub fn log_failed<S: SectorStore>(
+    bays: &mut Vec<Option<Bay<S>>>,
+    port: usize,
+    failed: FailedCommand,
+)
+    ensures { SaysOnly (naming failed) port bays.old.items bays.new.items }
+{
+    if port < bays.len() {
+        if let Some(bay) = &mut bays[port] {
+            bay.log_failed(failed);
+        }
+    }
+}
+
+/// Has them lie of a byte of a page once more.
+pub fn lie_of<S: SectorStore>(
+    bays: &mut Vec<Option<Bay<S>>>,
+    port: usize,
+    page: DiskPage,
+    offset: usize,
+    bits: u8,
+)
+    requires { offset < 512 }
+    ensures { SaysOnly (lying page offset bits) port bays.old.items bays.new.items }
+{
+    if port < bays.len() {
+        if let Some(bay) = &mut bays[port] {
+            bay.lie(page, offset, bits);
+        }
+    }
+}
+
+/// Has them tell no lies any more.
+pub fn end_lies<S: SectorStore>(bays: &mut Vec<Option<Bay<S>>>, port: usize)
+    ensures { SaysOnly truthful port bays.old.items bays.new.items }
+{
+    if port < bays.len() {
+        if let Some(bay) = &mut bays[port] {
+            bay.tell_truth();
+        }
     }
 }

@@ -17,6 +17,8 @@ pub struct ModelConfig {
     pub depth: u8,
     /// What a disk says of trims.
     pub trim: Trim,
+    /// Whether the disks have a volatile write cache: `DeviceStep::LosePlug` loses what no flush has made lasting.
+    pub cache: bool,
 }
 
 /// There was no memory left.

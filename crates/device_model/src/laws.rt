@@ -47,16 +47,17 @@ pub fn clears_are_possible<S: SectorStore>()
 {}
 
 /// Whatever steps are done or left, one after another, that don't put a disk in which isn't in: it stays out, with the
-/// sectors that it had. So it has these where it is put in. That holds of the disk that wasn't in last, and of the one
-/// that was, where none is in.
+/// sectors that it had. So it has these where it is put in. That holds of the disk that wasn't in last, which a
+/// LosePlug doesn't put in, and of the one that was, where none is in.
 pub fn disks_that_are_out_stay<S: SectorStore>()
     ensures other { (steps : List DeviceStep) (old new : Model S) (port : ℕ) (which : Which)
-        → which_of old port ≢ Some which → All (λ s. PutsIn port which s → ⊥) steps →
+        → which_of old port ≢ Some which → All (λ s. PutsIn (which_of old port) port which s → ⊥) steps →
         DoesEach S.size S.told S.failures steps old new → (which_of new port ≢ Some which)
         × (disk_of new port which ≡ disk_of old port which) }
     ensures last_in { (steps : List DeviceStep) (old new : Model S) (port : ℕ) (which : Which)
         → which_of old port ≡ Some which →
-        ((device_at S.size S.told old).port port).present ≡ false → All (λ s. PutsIn port which s → ⊥) steps
+        ((device_at S.size S.told old).port port).present ≡ false
+        → All (λ s. PutsIn (which_of old port) port which s → ⊥) steps
         → DoesEach S.size S.told S.failures steps old new →
         (which_of new port ≡ Some which → ((device_at S.size S.told new).port port).present ≡ false)
         × (disk_of new port which ≡ disk_of old port which) }

@@ -12,6 +12,7 @@
 
 mod bay;
 mod bits;
+mod cache;
 mod clearing;
 mod config;
 mod disks;
@@ -20,6 +21,7 @@ mod halt;
 mod hardware;
 pub mod laws;
 mod model;
+mod old_sectors;
 mod port;
 mod prds;
 mod registers;

@@ -11,7 +11,7 @@ ghost use Rattle.adapter.specs.Asked.{Asked};
 ghost use Rattle.sector_store.specs.Stores.{FailsOn};
 ghost use Rattle.device_model.specs.Fetched.{bytes_of};
 ghost use Rattle.adapter.specs.OneCommand.{IsFreeSlot};
-ghost use Rattle.device_model.specs.Disks.{EndsOnly, SaysOnly, disk_of, given_for, port_0_alone};
+ghost use Rattle.device_model.specs.Disks.{EndsOnly, HasOldRoomAt, SaysOnly, disk_of, given_for, port_0_alone};
 ghost use Rattle.device_model.specs.View.{operation_of};
 ghost use Rattle.device_model.specs.Finishing.{FindsPage, HasPage, HasMove, HasRoom, IsBusy, MayPage, sends_page};
 ghost use Rattle.device_model.specs.Held.{IsPortLoose};
@@ -21,15 +21,16 @@ ghost use Rattle.device_model.specs.Tells.{disks_told};
 ghost use Rattle.device_model.specs.Queue.{BeginsAccess, DoesRead, DoesThen};
 ghost use Rattle.device_model.specs.Modelled.{IsNewBay, IsNewMedia, IsNewModel, all_given_tell, all_tell, cap_of, device_at, given_tell, media_of, tells};
 ghost use Rattle.device_model.specs.Settled.{SendsPages, IsSettled, LeadsOwn, LeavesOne, NoneIsLeft};
+ghost use Rattle.device_model.specs.Trims.{span, written_ahead};
 ghost use Rattle.device_model.specs.Whole.{HasDisks, HasRegister};
 
-use crate::bay::{Bay, PAGE_BYTES};
+use crate::bay::{Bay, PAGE_BYTES, end_in, end_lies, lie_of, log_failed};
 use crate::clearing::Run;
 use crate::config::{ModelConfig, NoMemory};
 use crate::disks::{Disks, PortDisks, Which};
 use crate::hardware::Hardware;
 use crate::port::{PortModel, Transfer};
-use crate::steps::{Begun, FoundPage, Growths};
+use crate::steps::{Begun, FoundPage};
 use adapter::{Adapter, DeviceStep, DiskNumber, DiskPage, Entry, FatalError, Stepped};
 use ata_types::{FEWEST_FRAMES, FRAME_BYTES, MOST_FRAMES, PORTS, Port, Slot};
 use hba_regs::Reg;
@@ -102,7 +103,11 @@ fn has_disks<S>(bays: &[Option<Bay<S>>], port: usize) -> bool
 }
 
 /// The bay for these disks, if some are given.
-fn bay_for<S: SectorStore>(disks: Option<PortDisks<S>>, config: ModelConfig) -> Option<Bay<S>>
+fn bay_for<S: SectorStore>(
+    alloc: Global,
+    disks: Option<PortDisks<S>>,
+    config: ModelConfig,
+) -> Option<Bay<S>>
     ensures bay { IsNewBay config disks result }
     ensures media { IsNewMedia S.size S.told disks (media_of S.size S.told result) }
     ensures tells { tells S.told result ≡ given_tell S.told disks }
@@ -113,7 +118,7 @@ fn bay_for<S: SectorStore>(disks: Option<PortDisks<S>>, config: ModelConfig) -> 
         trim: config.trim,
     };
     match disks {
-        Some(disks) => Some(Bay::new(disks, abilities)),
+        Some(disks) => Some(Bay::new(alloc, disks, abilities, config.cache)),
         None => None,
     }
 }
@@ -141,10 +146,10 @@ fn bays_for<S: SectorStore>(
     ensures tells { IfOk result (λ bays. all_tell S.told bays.items ≡ all_given_tell S.told disks) }
 {
     let mut bays = Vec::with_capacity(alloc, PORTS)?;
-    seat(&mut bays, bay_for(disks.port0, config));
-    seat(&mut bays, bay_for(disks.port1, config));
-    seat(&mut bays, bay_for(disks.port2, config));
-    seat(&mut bays, bay_for(disks.port3, config));
+    seat(&mut bays, bay_for(alloc, disks.port0, config));
+    seat(&mut bays, bay_for(alloc, disks.port1, config));
+    seat(&mut bays, bay_for(alloc, disks.port2, config));
+    seat(&mut bays, bay_for(alloc, disks.port3, config));
     Ok(bays)
 }
 
@@ -349,8 +354,9 @@ impl<S: SectorStore> Model<S> {
     }
 
     /// Moves the next piece of a slot's command, or fails it, if that is a sector on which the store fails, or one past
-    /// the disk. The memory is taken to end at 4 GiB. It is entered for each sector, so it stands in its callers' code,
-    /// with what it calls for each.
+    /// the disk. Where a sector is written, what it holds is kept before, if the disks have a cache. The memory is
+    /// taken to end at 4 GiB. It is entered for each sector, so it stands in its callers' code, with what it calls for
+    /// each.
     #[inline(always)]
     fn move_piece(&mut self, port: Port, slot: Slot) -> Outcome
         requires { slot.0 < 32 }
@@ -362,6 +368,9 @@ impl<S: SectorStore> Model<S> {
             self.old self.new }
         ensures left { result ≡ Outcome.Done → (n : ℕ) → HasRoom self.old.hardware (n + 1)
             → HasRoom self.new.hardware n }
+        ensures old_room { result ≡ Outcome.Done → (t : Taken)
+            → ((device_at S.size S.told self.old).port port.0).taken slot.0 ≡ Some t → (n : ℕ)
+            → HasOldRoomAt self.old port.0 (written_ahead t.meaning.operation 1 + n) → HasOldRoomAt self.new port.0 n }
         ensures page { (t : Taken) → ((device_at S.size S.told self.old).port port.0).taken slot.0 ≡ Some t
             → sends_page t.meaning.operation ≡ true →
             result ≡ Outcome.Left → HasMove (device_at S.size S.told self.old) port.0 slot.0 t → next_place t < 2 ^ 32
@@ -372,7 +381,7 @@ impl<S: SectorStore> Model<S> {
             return Outcome::Left;
         }
         // A sector that was written can't be taken back, so the memory of its entry is found first.
-        let room = self.hardware.reserve(Growths { entries: 1 });
+        let room = self.hardware.reserve(1);
         let Some(next) = self.hardware.next_move(port.0, slot.0) else {
             return Outcome::Left;
         };
@@ -386,6 +395,10 @@ impl<S: SectorStore> Model<S> {
         if !next.is_on(bay.sectors()) {
             let _failed = self.fail(port, slot, PAST_THE_DISK, false);
             return Outcome::Failed;
+        }
+        if !bay.reserve(next.transfer.written(1)) {
+            self.hardware.starved = true;
+            return Outcome::Left;
         }
         if !bay.exchange(&mut self.hardware, next) {
             let _failed = self.fail(port, slot, STORE_FAILED, false);
@@ -405,7 +418,8 @@ impl<S: SectorStore> Model<S> {
     }
 
     /// Clears the next sectors of a slot's trim, so many at the most: those that follow one another. It fails on the
-    /// first one past the disk, or on which the store fails, once those before it are cleared.
+    /// first one past the disk, or on which the store fails, once those before it are cleared. What they hold is kept
+    /// before, if the disks have a cache.
     fn clear_run(&mut self, port: Port, slot: Slot, most: u32) -> Outcome
         requires { slot.0 < 32 }
         ensures answers { AnswersStep S.size S.told S.failures (DeviceStep.Clear port slot most) (answer_of result)
@@ -417,13 +431,16 @@ impl<S: SectorStore> Model<S> {
             self.old self.new }
         ensures left { result ≡ Outcome.Done → (n : ℕ) → HasRoom self.old.hardware (n + 1)
             → HasRoom self.new.hardware n }
+        ensures old_room { result ≡ Outcome.Done → (t : Taken)
+            → ((device_at S.size S.told self.old).port port.0).taken slot.0 ≡ Some t → (n : ℕ)
+            → HasOldRoomAt self.old port.0 (span most t + n) → HasOldRoomAt self.new port.0 n }
     {
         let place = usize::from(port.0);
         if place >= PORTS || !has_disks(self.bays.as_slice(), place) {
             return Outcome::Left;
         }
         // A sector that was cleared can't be taken back, so the memory of the entries is found first.
-        let room = self.hardware.reserve(Growths { entries: 2 });
+        let room = self.hardware.reserve(2);
         let Some(run) = self.hardware.run_to_clear(port.0, slot.0, most) else {
             return Outcome::Left;
         };
@@ -435,6 +452,10 @@ impl<S: SectorStore> Model<S> {
             return Outcome::Left;
         };
         let on_disk = run.cut(bay.sectors());
+        if !bay.reserve(on_disk.count) {
+            self.hardware.starved = true;
+            return Outcome::Left;
+        }
         let count = bay.clear(on_disk);
         let first = run.first;
         self.hardware.clear(port.0, slot.0, Run { first, count });
@@ -451,7 +472,8 @@ impl<S: SectorStore> Model<S> {
     }
 
     /// Takes a slot's command if it isn't taken, moves and clears all that is left of it, and ends it. The tape's
-    /// memory is found first. A sector on which the store fails, or that is past the disk, fails it.
+    /// memory is found first, and that of the old bytes that are kept. A sector on which the store fails, or that is
+    /// past the disk, fails it.
     #[inline(never)]
     fn finish(&mut self, port: Port, slot: Slot) -> bool
         requires { slot.0 < 32 }
@@ -464,7 +486,10 @@ impl<S: SectorStore> Model<S> {
         if port.0 >= 4 || !has_disks(self.bays.as_slice(), usize::from(port.0)) {
             return false;
         }
-        let Some(Begun { rest, was_taken }) = self.hardware.begin(port.0, slot.0) else {
+        let Some(bay) = &mut self.bays[usize::from(port.0)] else {
+            return false;
+        };
+        let Some(Begun { rest, was_taken }) = bay.begin(&mut self.hardware, port.0, slot.0) else {
             return false;
         };
         let mut did = was_taken;
@@ -602,7 +627,9 @@ impl<S: SectorStore> Model<S> {
         true
     }
 
-    /// Puts the disk of a port that was last in into it again, as it was when it was taken out.
+    /// Puts the disk of a port that was last in into it again, and what was in its cache is lost: each sector holds
+    /// what it held when the disk last ended a flush, or else when it was first in, but for those on which the store
+    /// fails. Without a cache it is as it was when it was taken out.
     fn lose_plug(&mut self, port: Port) -> bool
         ensures { AnswersStep S.size S.told S.failures (DeviceStep.LosePlug port) result self.old self.new }
     {
@@ -610,11 +637,17 @@ impl<S: SectorStore> Model<S> {
         if place >= PORTS || !has_disks(self.bays.as_slice(), place) {
             return false;
         }
-        let Some(bay) = &self.bays[place] else {
+        if self.hardware.ports[place].present {
+            return false;
+        }
+        let Some(bay) = &mut self.bays[place] else {
             return false;
         };
-        let last = DiskNumber(bay.which.number() as u8);
-        self.plug(port, last)
+        if !self.hardware.plug(port.0, bay.which.number(), true) {
+            return false;
+        }
+        bay.put_back();
+        true
     }
 
     /// Has the device do a step.
@@ -660,57 +693,6 @@ impl<S: SectorStore> Model<S> {
                 self.queue.remove(place);
                 let _done = self.do_step(&queued.step);
             }
-        }
-    }
-}
-
-/// Has the disks of a port know that such a command of it has ended, if it has disks.
-fn end_in<S: SectorStore>(bays: &mut Vec<Option<Bay<S>>>, port: usize, transfer: Transfer)
-    ensures { EndsOnly (operation_of transfer) port bays.old.items bays.new.items }
-{
-    if port < bays.len() {
-        if let Some(bay) = &mut bays[port] {
-            bay.end(transfer);
-        }
-    }
-}
-
-/// Has the log of a port's disks name this command, if it has disks.
-fn log_failed<S: SectorStore>(bays: &mut Vec<Option<Bay<S>>>, port: usize, failed: FailedCommand)
-    ensures { SaysOnly (naming failed) port bays.old.items bays.new.items }
-{
-    if port < bays.len() {
-        if let Some(bay) = &mut bays[port] {
-            bay.log_failed(failed);
-        }
-    }
-}
-
-/// Has them lie of a byte of a page once more.
-fn lie_of<S: SectorStore>(
-    bays: &mut Vec<Option<Bay<S>>>,
-    port: usize,
-    page: DiskPage,
-    offset: usize,
-    bits: u8,
-)
-    requires { offset < 512 }
-    ensures { SaysOnly (lying page offset bits) port bays.old.items bays.new.items }
-{
-    if port < bays.len() {
-        if let Some(bay) = &mut bays[port] {
-            bay.lie(page, offset, bits);
-        }
-    }
-}
-
-/// Has them tell no lies any more.
-fn end_lies<S: SectorStore>(bays: &mut Vec<Option<Bay<S>>>, port: usize)
-    ensures { SaysOnly truthful port bays.old.items bays.new.items }
-{
-    if port < bays.len() {
-        if let Some(bay) = &mut bays[port] {
-            bay.tell_truth();
         }
     }
 }

@@ -6,6 +6,7 @@ ghost use Rattle.adapter.specs.Idle.{IsIdlePort};
 ghost use Rattle.adapter.specs.Steps.{lasting_after};
 ghost use Rattle.device_model.specs.Finishing.{sends_page};
 ghost use Rattle.device_model.specs.Modelled.{IsReset};
+ghost use Rattle.device_model.specs.Trims.{written_ahead};
 ghost use Rattle.device_model.specs.View.{Media, cause_of, operation_of, port_of};
 
 use crate::halt::Halting;
@@ -102,6 +103,21 @@ impl Transfer {
             | Transfer::Identify
             | Transfer::Flush
             | Transfer::ReadLog => false,
+        }
+    }
+
+    /// How many sectors it writes to the disk, of so many pieces that are left to move.
+    pub fn written(self, left: u32) -> u32
+        ensures { result ≡ written_ahead (operation_of self) left }
+    {
+        match self {
+            Transfer::Write | Transfer::WriteQueued => left,
+            Transfer::Read
+            | Transfer::ReadQueued
+            | Transfer::Identify
+            | Transfer::Flush
+            | Transfer::Trim
+            | Transfer::ReadLog => 0,
         }
     }
 
@@ -268,6 +284,7 @@ impl PortModel {
         ensures idle { IfOk result (λ p. (m : Media) → IsIdlePort (port_of p m)) }
         ensures present { IfOk result (λ p. p.present ≡ present) }
         ensures reset { IfOk result (λ p. (m : Media) → IsReset (port_of p m)) }
+        ensures lasting { IfOk result (λ p. p.lasting_at ≡ 0) }
     {
         let taken = TakenCommands::new(alloc)?;
         Ok(PortModel {

@@ -1,5 +1,5 @@
 // Steps that the hardware does when it is told.
-ghost use Rattle.std.specs.Prelude.{◌≡◌, ◌↔◌, IsTrue, ◌<◌, ◌≤◌, ◌+◌, ◌^◌, ◌++◌, ◌∷◌, [], true, false, ℕ, List, None, Some, IfSome, if◌then◌else◌, length, nat_eq, slice_index, slice_index_or};
+ghost use Rattle.std.specs.Prelude.{◌≡◌, ◌↔◌, IsTrue, ◌<◌, ◌≤◌, ◌+◌, ◌^◌, ◌++◌, ◌∷◌, [], true, false, ℕ, List, None, Some, IfSome, IsSomeAnd, if◌then◌else◌, length, nat_eq, slice_index, slice_index_or};
 ghost use Rattle.std.specs.Vec.{vec_len, vec_capacity};
 ghost use Rattle.adapter.specs.Commands.{Meaning, is_queued, is_ranged, reads_memory};
 ghost use Rattle.adapter.specs.Device.{Disk, Taken};
@@ -9,15 +9,18 @@ ghost use Rattle.adapter.specs.Steps.{Can, IsFinished, after, next_sector};
 ghost use Rattle.adapter.specs.Steps.Step.{Fetch as FetchStep, FetchFault as FetchFaultStep, Move as MoveStep, Done as DoneStep, Fault as FaultStep, Fatal as FatalStep, Unplug as UnplugStep, Plug as PlugStep};
 ghost use Rattle.adapter.specs.Asked.{DoesFatal, DoesFault, DoesFetch, Ends, fatal_bit};
 ghost use Rattle.device_model.specs.Block.{brought};
+ghost use Rattle.device_model.specs.Cached.{HasOldRoom, KeepsTheSame};
 ghost use Rattle.device_model.specs.Exchanged.{IsExchanged, piece_of};
 ghost use Rattle.device_model.specs.Fetched.{bytes_of};
-ghost use Rattle.device_model.specs.Finishing.{HasRoom, FindsPage, IsInside, AreInside, IsBegun, IsCovered, IsPassed, IsRest, IsUnbegun};
+ghost use Rattle.device_model.specs.Finishing.{HasRoom, HasRoomAhead, FindsPage, IsInside, AreInside, IsBegun, IsCovered, IsPassed, IsRest, IsUnbegun};
 ghost use Rattle.device_model.specs.Sent.{SendsEnd};
 ghost use Rattle.device_model.specs.Slots.{HoldsAt, IsNext, HasUntaken};
+ghost use Rattle.device_model.specs.Trims.{changes_ahead};
 ghost use Rattle.device_model.specs.View.{held_in, kept_by, operation_of, taken_of, blank};
 ghost use Rattle.device_model.specs.Whole.{Outside, device_of, outside_after, outside_ended, outside_plugged};
 ghost use Rattle.device_model.specs.declared.port.TakenCommand.{TakenCommand};
 
+use crate::cache::Cache;
 use crate::fetch::{count_pieces, piece_at, read_command, read_into, read_page, says_command};
 use crate::hardware::Hardware;
 use crate::port::{TakenCommand, Transfer};
@@ -43,6 +46,8 @@ pub struct NextMove {
 pub struct Rest {
     pub left: u32,
     pub clears: u32,
+    /// How many sectors of the disk these change: each sector that is written, and each one that is cleared.
+    pub changes: usize,
 }
 
 /// A command that is to be done to its end.
@@ -128,39 +133,53 @@ fn rest_of(command: &TakenCommand, block: &[u8], memory: &[u8]) -> Option<Rest>
     requires block { block.now ≡ brought command.now.block }
     requires few { length block.now ≤ 512 }
     ensures rest { IfSome result (λ rest. IsRest command.now memory.now rest.left rest.clears) }
+    ensures changes { IfSome result (λ rest. rest.changes
+        ≡ changes_ahead (operation_of command.now.transfer) (bytes_of memory.now) (taken_of command.now) rest.left) }
     ensures only { (left clears : ℕ) → IsRest command.now memory.now left clears
-        → result ≡ Some (record { left = left; clears = clears }) }
+        → IsSomeAnd result (λ rest. (rest.left ≡ left) × (rest.clears ≡ clears)) }
 {
+    let left = left_of(command, memory.len())?;
+    let clears = clears_of(command, block, memory)?;
     Some(Rest {
-        left: left_of(command, memory.len())?,
-        clears: clears_of(command, block, memory)?,
+        left,
+        clears: clears.runs,
+        changes: command.transfer.written(left) as usize + clears.sectors as usize,
     })
 }
 
-/// How far what a step notes has to grow before it is done: the tape by so many entries.
+/// How far what a step notes and keeps has to grow before it is done: the tape by so many entries, and the old bytes by
+/// those of so many sectors, where they are kept.
 #[derive(Clone, Copy, Debug)]
 pub struct Growths {
     pub entries: usize,
+    pub old_sectors: usize,
 }
 
-/// What a command needs to be done to its end: an entry of each move and each clear, and one of the end.
+/// What a command needs to be done to its end: an entry of each move and each clear, and one of the end; and the old
+/// bytes of each sector that it changes.
 fn growths_of(rest: Rest) -> Growths
-    ensures { result.entries ≡ rest.left + rest.clears + 1 }
+    ensures entries { result.entries ≡ rest.left + rest.clears + 1 }
+    ensures old_sectors { result.old_sectors ≡ rest.changes }
 {
     Growths {
         entries: rest.left as usize + rest.clears as usize + 1,
+        old_sectors: rest.changes,
     }
 }
 
 /// Finds memory for these; `false` says that there was none.
-fn grow(tape: &mut Vec<Entry>, growths: Growths) -> bool
+fn grow(tape: &mut Vec<Entry>, cache: &mut Cache, growths: Growths) -> bool
     ensures items { tape.new.items ≡ tape.old.items }
     ensures kept { vec_capacity tape.old ≤ vec_capacity tape.new }
+    ensures same { KeepsTheSame cache.old cache.new }
     ensures room { result ≡ true → vec_len tape.new + growths.entries ≤ vec_capacity tape.new }
-    ensures lacked { result ≡ false → vec_capacity tape.old < vec_len tape.old + growths.entries }
-    ensures lacks { result ≡ false → vec_capacity tape.new < vec_len tape.new + growths.entries }
+    ensures old_room { result ≡ true → HasOldRoom cache.new growths.old_sectors }
+    ensures lacked { result ≡ false → vec_len tape.old + growths.entries ≤ vec_capacity tape.old
+        → HasOldRoom cache.old growths.old_sectors → ⊥ }
+    ensures lacks { result ≡ false → vec_len tape.new + growths.entries ≤ vec_capacity tape.new
+        → HasOldRoom cache.new growths.old_sectors → ⊥ }
 {
-    tape.reserve(growths.entries).is_ok()
+    tape.reserve(growths.entries).is_ok() && cache.reserve(growths.old_sectors)
 }
 
 /// Whether a command that sends a page can be done to its end: whether each of its pieces has a place in a memory of
@@ -392,9 +411,12 @@ impl Hardware {
         ensures found { IfSome result (λ rest. (t : TakenCommand) × HoldsAt (slice_index_or self.now.ports port blank)
             slot t
             × IsRest t self.now.memory.items rest.left rest.clears) }
+        ensures changes { IfSome result (λ rest. (t : TakenCommand)
+            → HoldsAt (slice_index_or self.now.ports port blank) slot t → rest.changes ≡ changes_ahead
+            (operation_of t.transfer) (bytes_of self.now.memory.items) (taken_of t) rest.left) }
         ensures only { (t : TakenCommand) (left clears : ℕ) → HoldsAt (slice_index_or self.now.ports port blank) slot t
-            →
-            IsRest t self.now.memory.items left clears → result ≡ Some (record { left = left; clears = clears }) }
+            → IsRest t self.now.memory.items left clears
+            → IsSomeAnd result (λ rest. (rest.left ≡ left) × (rest.clears ≡ clears)) }
     {
         let command = working_on(&self.ports, usize::from(port), slot)?;
         let block = self.ports[usize::from(port)].taken.block(slot);
@@ -518,12 +540,15 @@ impl Hardware {
     /// Takes the command that the bytes of a slot say, which may be taken, where each of its moves and clears is
     /// possible and the tape finds memory for them and the end. Want of memory is told.
     #[inline(never)]
-    fn begin_said(&mut self, port: u8, slot: u8) -> Option<Begun>
+    fn begin_said(&mut self, port: u8, slot: u8, cache: &mut Cache) -> Option<Begun>
         requires port { port < 4 }
         requires slot { slot < 32 }
         requires may { HasUntaken (slice_index_or self.old.ports port blank) slot }
         ensures begun { IfSome result (λ b. IsBegun port slot b.rest.left b.rest.clears b.was_taken self.old self.new) }
-        ensures left { result ≡ None → IsUnbegun port slot self.old self.new }
+        ensures ahead { IfSome result (λ b. (o : Outside)
+            → HasRoomAhead cache.new port slot b.rest.left (device_of self.new o)) }
+        ensures same { KeepsTheSame cache.old cache.new }
+        ensures left { result ≡ None → IsUnbegun port slot self.old self.new cache.old cache.new }
     {
         let place = usize::from(port);
         let list = self.ports[place].addresses.clb;
@@ -535,7 +560,7 @@ impl Hardware {
             return None;
         }
         let rest = rest_of(&command, &[], &self.memory)?;
-        if !grow(&mut self.tape, growths_of(rest)) {
+        if !grow(&mut self.tape, cache, growths_of(rest)) {
             self.starved = true;
             return None;
         }
@@ -547,19 +572,23 @@ impl Hardware {
     }
 
     /// Begins to do a slot's command to its end, where each move and each clear that it has left is possible: the tape
-    /// finds memory for them and the end, and the command is taken, unless it is already. Want of memory is told.
-    pub fn begin(&mut self, port: u8, slot: u8) -> Option<Begun>
+    /// finds memory for them and the end, and the cache of the port's disks for what these held that they change, and
+    /// the command is taken, unless it is already. Want of memory is told.
+    pub fn begin(&mut self, port: u8, slot: u8, cache: &mut Cache) -> Option<Begun>
         requires port { port < 4 }
         requires slot { slot < 32 }
         ensures begun { IfSome result (λ b. IsBegun port slot b.rest.left b.rest.clears b.was_taken self.old self.new) }
-        ensures left { result ≡ None → IsUnbegun port slot self.old self.new }
+        ensures ahead { IfSome result (λ b. (o : Outside)
+            → HasRoomAhead cache.new port slot b.rest.left (device_of self.new o)) }
+        ensures same { KeepsTheSame cache.old cache.new }
+        ensures left { result ≡ None → IsUnbegun port slot self.old self.new cache.old cache.new }
     {
         let place = usize::from(port);
         if has_untaken(&self.ports, place, slot) {
-            return self.begin_said(port, slot);
+            return self.begin_said(port, slot, cache);
         }
         let rest = self.rest_at(port, slot)?;
-        if !grow(&mut self.tape, growths_of(rest)) {
+        if !grow(&mut self.tape, cache, growths_of(rest)) {
             self.starved = true;
             return None;
         }
@@ -638,16 +667,16 @@ impl Hardware {
         true
     }
 
-    /// Finds memory for what a step notes; `false` says that there was none. That something was left out for that is
-    /// not told yet.
-    pub fn reserve(&mut self, growths: Growths) -> bool
+    /// Finds memory for so many entries of the tape; `false` says that there was none. That something was left out for
+    /// that is not told yet.
+    pub fn reserve(&mut self, entries: usize) -> bool
         ensures same { (o : Outside) → device_of self.new o ≡ device_of self.old o }
-        ensures room { result ≡ true → HasRoom self.new growths.entries }
+        ensures room { result ≡ true → HasRoom self.new entries }
         ensures kept { (n : ℕ) → HasRoom self.old n → HasRoom self.new n }
-        ensures enough { HasRoom self.old growths.entries → result ≡ true }
-        ensures lacks { result ≡ false → HasRoom self.new growths.entries → ⊥ }
+        ensures enough { HasRoom self.old entries → result ≡ true }
+        ensures lacks { result ≡ false → HasRoom self.new entries → ⊥ }
         ensures starved { self.new.starved ≡ self.old.starved }
     {
-        grow(&mut self.tape, growths)
+        self.tape.reserve(entries).is_ok()
     }
 }

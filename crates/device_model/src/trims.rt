@@ -1,13 +1,14 @@
 // Trims: what is left to clear of one, and that it is cleared.
-ghost use Rattle.std.specs.Prelude.{◌≡◌, ◌↔◌, ◌+◌, ◌^◌, ◌<◌, ◌≤◌, ℕ, IsTrue, IfSome, None, Some, length, slice_index_or};
+ghost use Rattle.std.specs.Prelude.{◌≡◌, ◌↔◌, ◌+◌, ◌^◌, ◌<◌, ◌≤◌, ℕ, IsTrue, IfSome, IsSomeAnd, None, Some, length, drop, slice_index_or};
 ghost use Rattle.adapter.specs.Says.{pieces};
 ghost use Rattle.adapter.specs.Steps.{IsFinished, after};
 ghost use Rattle.adapter.specs.Steps.Step.{Clear as ClearStep};
+ghost use Rattle.adapter.specs.Trim.{trim_sectors};
 ghost use Rattle.device_model.specs.Block.{brought};
 ghost use Rattle.device_model.specs.Fetched.{bytes_of};
 ghost use Rattle.device_model.specs.Finishing.{HasRoom};
 ghost use Rattle.device_model.specs.Slots.{CanClear, HoldsAt, IsNextRun};
-ghost use Rattle.device_model.specs.Trims.{HasRuns, WillClear, block_ahead, next_uncleared, span, uncleared};
+ghost use Rattle.device_model.specs.Trims.{HasRuns, WillClear, block_ahead, cleared_ahead, next_uncleared, span, uncleared};
 ghost use Rattle.device_model.specs.View.{blank, operation_of, taken_of};
 ghost use Rattle.device_model.specs.Whole.{Outside, device_of, outside_cleared};
 ghost use Rattle.device_model.specs.declared.port.TakenCommand.{TakenCommand};
@@ -40,28 +41,39 @@ fn uncleared_of(command: &TakenCommand, block: &[u8]) -> u32
     count_sectors(block).saturating_sub(command.cleared)
 }
 
-/// How many clears a block brings, of which so many sectors were cleared.
-fn clears_of_block(block: &[u8], cleared: u32) -> Option<u32>
-    requires { length block.now ≤ 512 }
-    ensures found { IfSome result (λ clears. HasRuns block.now cleared clears) }
-    ensures only { (clears : ℕ) → HasRuns block.now cleared clears → result ≡ Some clears }
-{
-    if count_sectors(block) < cleared {
-        return None;
-    }
-    Some(count_runs(block, cleared))
+/// What is left to clear of a command: so many runs, and in these so many sectors.
+#[derive(Clone, Copy, Debug)]
+pub struct Clears {
+    pub runs: u32,
+    pub sectors: u32,
 }
 
-/// How many clears a trim is going to make, as `clears_of` says. The block that it is going to move is looked at where
+/// What a block brings to clear, of which so many sectors were cleared.
+fn clears_of_block(block: &[u8], cleared: u32) -> Option<Clears>
+    requires { length block.now ≤ 512 }
+    ensures found { IfSome result (λ clears. HasRuns block.now cleared clears.runs) }
+    ensures sectors { IfSome result (λ clears. clears.sectors ≡ length (drop cleared (trim_sectors block.now))) }
+    ensures only { (runs : ℕ) → HasRuns block.now cleared runs → IsSomeAnd result (λ clears. clears.runs ≡ runs) }
+{
+    let sectors = count_sectors(block).checked_sub(cleared)?;
+    Some(Clears {
+        runs: count_runs(block, cleared),
+        sectors,
+    })
+}
+
+/// What a trim is going to clear, as `clears_of` says. The block that it is going to move is looked at where
 /// it is. It is entered for trims alone, since its frame has room for a block.
 #[inline(never)]
-fn clears_of_trim(command: &TakenCommand, block: &[u8], memory: &[u8]) -> Option<u32>
+fn clears_of_trim(command: &TakenCommand, block: &[u8], memory: &[u8]) -> Option<Clears>
     requires block { block.now ≡ brought command.now.block }
     requires few { length block.now ≤ 512 }
     ensures found { IfSome result (λ clears. HasRuns (block_ahead (bytes_of memory.now) (taken_of command.now))
-        command.now.cleared clears) }
-    ensures only { (clears : ℕ) → HasRuns (block_ahead (bytes_of memory.now) (taken_of command.now)) command.now.cleared
-        clears → result ≡ Some clears }
+        command.now.cleared clears.runs) }
+    ensures sectors { IfSome result (λ clears. clears.sectors ≡ length (drop command.now.cleared
+        (trim_sectors (block_ahead (bytes_of memory.now) (taken_of command.now))))) }
+    ensures only { (runs : ℕ) → HasRuns (block_ahead (bytes_of memory.now) (taken_of command.now)) command.now.cleared
+        runs → IsSomeAnd result (λ clears. clears.runs ≡ runs) }
 {
     let prds = command.prds.as_slice();
     let pieces = count_pieces(prds);
@@ -74,19 +86,24 @@ fn clears_of_trim(command: &TakenCommand, block: &[u8], memory: &[u8]) -> Option
     clears_of_block(&bytes, command.cleared)
 }
 
-/// How many clears are left of a command, whose block is this; none but of a trim.
-pub fn clears_of(command: &TakenCommand, block: &[u8], memory: &[u8]) -> Option<u32>
+/// What is left to clear of a command, whose block is this; nothing but of a trim.
+pub fn clears_of(command: &TakenCommand, block: &[u8], memory: &[u8]) -> Option<Clears>
     requires block { block.now ≡ brought command.now.block }
     requires few { length block.now ≤ 512 }
     ensures found { IfSome result (λ clears. WillClear (operation_of command.now.transfer) (bytes_of memory.now)
-        (taken_of command.now) clears) }
-    ensures only { (clears : ℕ) → WillClear (operation_of command.now.transfer) (bytes_of memory.now)
-        (taken_of command.now) clears → result ≡ Some clears }
+        (taken_of command.now) clears.runs) }
+    ensures sectors { IfSome result (λ clears. clears.sectors ≡ cleared_ahead (operation_of command.now.transfer)
+        (bytes_of memory.now) (taken_of command.now)) }
+    ensures only { (runs : ℕ) → WillClear (operation_of command.now.transfer) (bytes_of memory.now)
+        (taken_of command.now) runs → IsSomeAnd result (λ clears. clears.runs ≡ runs) }
 {
     if command.transfer.is_trim() {
         clears_of_trim(command, block, memory)
     } else {
-        Some(0)
+        Some(Clears {
+            runs: 0,
+            sectors: 0,
+        })
     }
 }
 

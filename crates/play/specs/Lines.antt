@@ -5,6 +5,9 @@ use Rattle.std.specs.List.{flat_map}
 use Rattle.ata_types.specs.declared.refusal.Refusal.TheVariants as refusal
 use Rattle.ata_types.specs.declared.refusal.Rule.TheVariants.{NoGrant}
 use Rattle.ata_types.specs.declared.request.Reply.{Reply}
+use Rattle.adapter.specs.declared.command.Operation.{Operation}
+use Rattle.adapter.specs.declared.command.Operation.TheVariants.{Flush}
+use Rattle.adapter.specs.declared.tape.Done.{Done}
 use Rattle.adapter.specs.declared.tape.Entry.{Entry}
 use Rattle.adapter.specs.declared.tape.Entry.TheVariants as entry
 use Rattle.block_server.specs.declared.types.Said.{Said}
@@ -41,11 +44,16 @@ said_text (said.WasRevoked (Err none)) = answer_line (answer.Refused (refusal.Ru
 said_text (said.State state) = answer_line (answer.State state)
 said_text (said.Stepped done) = answer_line (answer.Stepped done)
 
--- a move and a clear have a line; nothing else on a tape has one
+-- a flush that has ended has a line, and no other command has
+abbrev pub end_text : Operation → Done → List ℕ
+end_text Flush done = answer_line (answer.Flushed done)
+end_text _ done = []
+
+-- a move, a clear and the end of a flush have a line; nothing else on a tape has one
 abbrev pub entry_text : Entry → List ℕ
 entry_text (entry.Move moved) = answer_line (answer.Moved (referred moved))
 entry_text (entry.Clear cleared) = answer_line (answer.Cleared cleared)
-entry_text (entry.Done done) = []
+entry_text (entry.Done done) = end_text done.operation done
 entry_text (entry.Fault fault) = []
 entry_text (entry.Fatal port) = []
 entry_text (entry.Unplug port) = []

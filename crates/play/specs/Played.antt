@@ -46,6 +46,7 @@ pub record IsSetBy (config : Config) (settings : ModelConfig) : Type 0 where
   pub queuing : settings.ncq ≡ config.ncq
   pub depth : settings.depth ≡ config.depth
   pub trim : word_of settings.trim ≡ string_bytes config.trim
+  pub cache : settings.cache ≡ config.cache
 
 -- The model is new and as the configuration says, with these disks.
 pub record IsModelWith {S : Type 0} (size : S → ℕ) (told : S → Option (ℕ → List ℕ)) (config : Config) (disks : Disks S)

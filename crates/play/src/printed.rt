@@ -3,11 +3,11 @@ ghost use Rattle.std.specs.Prelude.{◌≡◌, ◌≢◌, ◌≤◌, ℕ, IfErr,
 ghost use Rattle.std.specs.Io.KnownBytes.{Appends};
 ghost use Rattle.std.specs.declared.io.ErrorKind.TheVariants.{Interrupted};
 ghost use Rattle.block_server.specs.Sayings.{with_replies};
-ghost use Rattle.play.specs.Lines.{call_text, gained_text, replies_text, done_text, said_text, trace_text};
+ghost use Rattle.play.specs.Lines.{call_text, end_text, gained_text, replies_text, done_text, said_text, trace_text};
 ghost use Rattle.script.specs.Answer.{answer_line};
 ghost use Rattle.std.specs.List.{flat_map};
 
-use adapter::Entry;
+use adapter::{Done, Entry, Operation};
 use ata_types::{Refusal, Reply, Rule};
 use block_server::Told;
 use script::Answer;
@@ -79,7 +79,17 @@ fn print_told<W: io::Write>(out: &mut W, told: &Told, replies: &[Reply]) -> io::
     }
 }
 
-/// Prints a line for each move and each clear, in their order.
+/// Prints a line for a command that has ended, if it was a flush.
+fn print_end<W: io::Write>(out: &mut W, done: Done) -> io::Result<()>
+    ensures { OnOk result (Appends (W.contents out.old) (W.contents out.new) (end_text done.operation done)) }
+{
+    match done.operation {
+        Operation::Flush => Answer::Flushed(done).print(out),
+        _ => Ok(()),
+    }
+}
+
+/// Prints a line for each move, each clear, and each flush that has ended, in their order.
 fn print_gained<W: io::Write>(out: &mut W, gained: &[Entry]) -> io::Result<()>
     ensures { OnOk result (Appends (W.contents out.old) (W.contents out.new) (gained_text gained.now)) }
 {
@@ -87,11 +97,8 @@ fn print_gained<W: io::Write>(out: &mut W, gained: &[Entry]) -> io::Result<()>
         match entry {
             Entry::Move(moved) => Answer::Moved(moved).print(out)?,
             Entry::Clear(cleared) => Answer::Cleared(*cleared).print(out)?,
-            Entry::Done(_)
-            | Entry::Fault(_)
-            | Entry::Fatal(_)
-            | Entry::Unplug(_)
-            | Entry::Plug(..) => {}
+            Entry::Done(done) => print_end(out, *done)?,
+            Entry::Fault(_) | Entry::Fatal(_) | Entry::Unplug(_) | Entry::Plug(..) => {}
         }
     }
     Ok(())

@@ -59,6 +59,7 @@ pub fn model_with<S: SectorStore>(
         ncq: config.ncq,
         depth: config.depth as u8,
         trim: trim_of(config.trim.as_str()),
+        cache: config.cache,
     };
     Model::with_disks(alloc, settings, disks)
 }

@@ -96,6 +96,7 @@ answer_words (answer.Moved m) = codes "move" ∷ decimal m.now.port.0 ∷ decima
     ∷ decimal m.now.sector ∷ encode_lower (to_be_bytes w32 m.now.address) ∷ []
 answer_words (answer.Cleared c) = codes "clear" ∷ decimal c.port.0 ∷ decimal c.slot.0 ∷ decimal c.first
     ∷ decimal c.count ∷ []
+answer_words (answer.Flushed d) = codes "flush" ∷ decimal d.port.0 ∷ decimal d.slot.0 ∷ []
 
 -- the words, parted by one space
 abbrev pub answer_text : Answer → List ℕ

@@ -6,7 +6,7 @@ ghost use Rattle.hex.specs.Hex.{encode_lower};
 ghost use Rattle.block_machine.specs.Rules.{rank};
 ghost use Rattle.script.specs.Answer.{answer_line, answer_text, fault_words, kind_word, mem_fault_word, outcome_words, refusal_words, rule_words, state_words};
 
-use adapter::{Clear, Move, Operation};
+use adapter::{Clear, Done, Move, Operation};
 use ata_types::{FrameFault, MemFault, Outcome, PortState, Refusal, Reply, RequestId, Rule};
 use std::{fmt, io};
 
@@ -39,6 +39,8 @@ pub enum Answer<'a> {
     Moved(&'a Move),
     /// Sectors were made zero.
     Cleared(Clear),
+    /// A flush has ended.
+    Flushed(Done),
 }
 
 /// The most bytes that one line has.
@@ -237,6 +239,7 @@ impl fmt::Display for Answer<'_> {
                     clear.port.0, clear.slot.0, clear.first, clear.count
                 )
             }
+            Answer::Flushed(done) => write!(f, "flush {} {}", done.port.0, done.slot.0),
         }
     }
 }

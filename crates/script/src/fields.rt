@@ -113,7 +113,7 @@ pub(crate) fn fatal_error(word: &str) -> Option<FatalError>
     }
 }
 
-/// Frames by their numbers, at most 32, parted by commas; `-` is none.
+/// Frames by their numbers, at most 128, parted by commas; `-` is none.
 pub(crate) fn frames(word: &str) -> Option<ArrayVec<Frame, MOST_REQUEST_FRAMES>>
     ensures spelled { IfSome result (λ v. All (λ f. f.0 < 65536) v.items × (frames_word v.items ≡ word.now)) }
     ensures only { (v : Items Frame) → All (λ f. f.0 < 65536) v.items → length v.items ≤ MOST_REQUEST_FRAMES

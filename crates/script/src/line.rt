@@ -294,57 +294,191 @@ fn revoke(client: &str, grant: &str) -> Option<Line>
     Some(Line::Revoke { client, grant })
 }
 
-/// What the words of a line ask.
+/// A step of the device, from the words after `dev`.
+#[inline(never)]
+fn of_device(words: &[&str]) -> Option<Line>
+    ensures found { IfSome result (λ line. IsLine line
+        × (line_words line ≡ codes "dev" ∷ map (λ w. w.now) words.now)) }
+    ensures only { (line : Line) → IsLine line → line_words line ≡ codes "dev" ∷ map (λ w. w.now) words.now
+        → result ≡ Some line }
+{
+    Some(Line::Device(step(words)?))
+}
+
+/// A service: no word stands after `service`.
+#[inline(never)]
+fn of_service(words: &[&str]) -> Option<Line>
+    ensures found { IfSome result (λ line. IsLine line
+        × (line_words line ≡ codes "service" ∷ map (λ w. w.now) words.now)) }
+    ensures only { (line : Line) → IsLine line → line_words line ≡ codes "service" ∷ map (λ w. w.now) words.now
+        → result ≡ Some line }
+{
+    match words {
+        [] => Some(Line::Service),
+        _ => None,
+    }
+}
+
+/// A tick: no word stands after `tick`.
+#[inline(never)]
+fn of_tick(words: &[&str]) -> Option<Line>
+    ensures found { IfSome result (λ line. IsLine line
+        × (line_words line ≡ codes "tick" ∷ map (λ w. w.now) words.now)) }
+    ensures only { (line : Line) → IsLine line → line_words line ≡ codes "tick" ∷ map (λ w. w.now) words.now
+        → result ≡ Some line }
+{
+    match words {
+        [] => Some(Line::Tick),
+        _ => None,
+    }
+}
+
+/// A reset: no word stands after `reset`.
+#[inline(never)]
+fn of_reset(words: &[&str]) -> Option<Line>
+    ensures found { IfSome result (λ line. IsLine line
+        × (line_words line ≡ codes "reset" ∷ map (λ w. w.now) words.now)) }
+    ensures only { (line : Line) → IsLine line → line_words line ≡ codes "reset" ∷ map (λ w. w.now) words.now
+        → result ≡ Some line }
+{
+    match words {
+        [] => Some(Line::Reset),
+        _ => None,
+    }
+}
+
+/// A read, from the words after `read`.
+#[inline(never)]
+fn of_read(words: &[&str]) -> Option<Line>
+    ensures found { IfSome result (λ line. IsLine line
+        × (line_words line ≡ codes "read" ∷ map (λ w. w.now) words.now)) }
+    ensures only { (line : Line) → IsLine line → line_words line ≡ codes "read" ∷ map (λ w. w.now) words.now
+        → result ≡ Some line }
+{
+    Some(Line::Submit(transfer(Op::Read, words)?))
+}
+
+/// A write, from the words after `write`.
+#[inline(never)]
+fn of_write(words: &[&str]) -> Option<Line>
+    ensures found { IfSome result (λ line. IsLine line
+        × (line_words line ≡ codes "write" ∷ map (λ w. w.now) words.now)) }
+    ensures only { (line : Line) → IsLine line → line_words line ≡ codes "write" ∷ map (λ w. w.now) words.now
+        → result ≡ Some line }
+{
+    Some(Line::Submit(transfer(Op::Write, words)?))
+}
+
+/// A trim, from the words after `trim`.
+#[inline(never)]
+fn of_trim(words: &[&str]) -> Option<Line>
+    ensures found { IfSome result (λ line. IsLine line
+        × (line_words line ≡ codes "trim" ∷ map (λ w. w.now) words.now)) }
+    ensures only { (line : Line) → IsLine line → line_words line ≡ codes "trim" ∷ map (λ w. w.now) words.now
+        → result ≡ Some line }
+{
+    match words {
+        [client, grant, first, count] => trim(client, grant, first, count),
+        _ => None,
+    }
+}
+
+/// A flush, from the words after `flush`.
+#[inline(never)]
+fn of_flush(words: &[&str]) -> Option<Line>
+    ensures found { IfSome result (λ line. IsLine line
+        × (line_words line ≡ codes "flush" ∷ map (λ w. w.now) words.now)) }
+    ensures only { (line : Line) → IsLine line → line_words line ≡ codes "flush" ∷ map (λ w. w.now) words.now
+        → result ≡ Some line }
+{
+    match words {
+        [client, grant] => flush(client, grant),
+        _ => None,
+    }
+}
+
+/// A store, from the words after `store`.
+#[inline(never)]
+fn of_store(words: &[&str]) -> Option<Line>
+    ensures found { IfSome result (λ line. IsLine line
+        × (line_words line ≡ codes "store" ∷ map (λ w. w.now) words.now)) }
+    ensures only { (line : Line) → IsLine line → line_words line ≡ codes "store" ∷ map (λ w. w.now) words.now
+        → result ≡ Some line }
+{
+    match words {
+        [client, frame, offset, bytes] => store(client, frame, offset, bytes),
+        _ => None,
+    }
+}
+
+/// A load, from the words after `load`.
+#[inline(never)]
+fn of_load(words: &[&str]) -> Option<Line>
+    ensures found { IfSome result (λ line. IsLine line
+        × (line_words line ≡ codes "load" ∷ map (λ w. w.now) words.now)) }
+    ensures only { (line : Line) → IsLine line → line_words line ≡ codes "load" ∷ map (λ w. w.now) words.now
+        → result ≡ Some line }
+{
+    match words {
+        [client, frame, offset, count] => load(client, frame, offset, count),
+        _ => None,
+    }
+}
+
+/// A revocation, from the words after `revoke`.
+#[inline(never)]
+fn of_revoke(words: &[&str]) -> Option<Line>
+    ensures found { IfSome result (λ line. IsLine line
+        × (line_words line ≡ codes "revoke" ∷ map (λ w. w.now) words.now)) }
+    ensures only { (line : Line) → IsLine line → line_words line ≡ codes "revoke" ∷ map (λ w. w.now) words.now
+        → result ≡ Some line }
+{
+    match words {
+        [client, grant] => revoke(client, grant),
+        _ => None,
+    }
+}
+
+/// A port's state, from the words after `state`.
+#[inline(never)]
+fn of_state(words: &[&str]) -> Option<Line>
+    ensures found { IfSome result (λ line. IsLine line
+        × (line_words line ≡ codes "state" ∷ map (λ w. w.now) words.now)) }
+    ensures only { (line : Line) → IsLine line → line_words line ≡ codes "state" ∷ map (λ w. w.now) words.now
+        → result ≡ Some line }
+{
+    match words {
+        [port] => Some(Line::State(fields::port(port)?)),
+        _ => None,
+    }
+}
+
+/// What the words of a line ask. Each kind of line has a function of its own: a line has room for a request's frames,
+/// and a function clears at its beginning all that it has such room for.
 fn asked(words: &[&str]) -> Option<Line>
     ensures found { IfSome result (λ line. IsLine line × (line_words line ≡ map (λ w. w.now) words.now)) }
     ensures only { (line : Line) → IsLine line → line_words line ≡ map (λ w. w.now) words.now → result ≡ Some line }
 {
     let (first, rest) = words.split_first()?;
     match *first {
-        "dev" => Some(Line::Device(step(rest)?)),
-        "service" => match rest {
-            [] => Some(Line::Service),
-            _ => None,
-        },
-        "tick" => match rest {
-            [] => Some(Line::Tick),
-            _ => None,
-        },
-        "reset" => match rest {
-            [] => Some(Line::Reset),
-            _ => None,
-        },
-        "read" => Some(Line::Submit(transfer(Op::Read, rest)?)),
-        "write" => Some(Line::Submit(transfer(Op::Write, rest)?)),
-        "trim" => match rest {
-            [client, grant, first, count] => trim(client, grant, first, count),
-            _ => None,
-        },
-        "flush" => match rest {
-            [client, grant] => flush(client, grant),
-            _ => None,
-        },
-        "store" => match rest {
-            [client, frame, offset, bytes] => store(client, frame, offset, bytes),
-            _ => None,
-        },
-        "load" => match rest {
-            [client, frame, offset, count] => load(client, frame, offset, count),
-            _ => None,
-        },
-        "revoke" => match rest {
-            [client, grant] => revoke(client, grant),
-            _ => None,
-        },
-        "state" => match rest {
-            [port] => Some(Line::State(fields::port(port)?)),
-            _ => None,
-        },
+        "dev" => of_device(rest),
+        "service" => of_service(rest),
+        "tick" => of_tick(rest),
+        "reset" => of_reset(rest),
+        "read" => of_read(rest),
+        "write" => of_write(rest),
+        "trim" => of_trim(rest),
+        "flush" => of_flush(rest),
+        "store" => of_store(rest),
+        "load" => of_load(rest),
+        "revoke" => of_revoke(rest),
+        "state" => of_state(rest),
         _ => None,
     }
 }
 
 /// Reads a line, without its line feed. `None` says that no line is spelled so.
+#[inline(never)]
 pub fn read_line(text: &[u8]) -> Option<Line>
     ensures found { IfSome result (λ line. IsLine line × (line_text line ≡ text.now)) }
     ensures only { (line : Line) → IsLine line → line_text line ≡ text.now → result ≡ Some line }

@@ -1,7 +1,10 @@
-use Rattle.std.proofs.Common.{ℕ, ◌∙◌, ap, refl, sym, inl}
+use Rattle.std.proofs.Common.{ℕ, Bool, true, Option, ◌≡◌, ◌+◌, ◌∙◌, ap, refl, sym, subst, inl, arith}
 use Rattle.adapter.specs.Device.{Disk}
 use Rattle.adapter.specs.Steps.{disk_cleared}
+use Rattle.sector_store.specs.declared.store.Failures.{Failures}
+use Rattle.device_model.specs.Cached.{CallFails}
 use Rattle.device_model.specs.Disks.{disk_over}
+use Rattle.device_model.proofs.Caching.{less_room}
 use Rattle.device_model.proofs.Cleared.{clears_more, clears_none}
 use Rattle.device_model.proofs.bay.clear_sectors.Goals as goal
 
@@ -10,23 +13,72 @@ loop-place-init g c = record {
   disk = sym (clears_none (disk_over c.args.which (g.S.SectorStore.size c.args.disk.now) (g.S.SectorStore.told c.args.disk.now)) c.args.run.first);
   size = refl;
   fine = refl;
+  lasting = λ _. refl;
+  cached = refl;
+  old_room = λ n room. less_room c.args.cache.now (0 + n) n (omega arith) room;
 }
+
+pub put_sector-requires : goal.put_sector-requires
+put_sector-requires g c =
+    let below = c.loop-place-test.true in
+    c.loop-place.invariant.old_room 1 (less_room c.args.cache.now c.args.run.count (c.loop-place.place + 1) (omega (arith, below)) c.requires.room)
 
 pub loop-place-preserved : goal.loop-place-preserved
 loop-place-preserved g c =
     let disk : Disk = disk_over c.args.which (g.S.SectorStore.size c.args.disk.now) (g.S.SectorStore.told c.args.disk.now) in
-    let size = c.write.ensures.size ∙ c.loop-place.invariant.size in
-    let told = clears_more disk c.args.run.first c.loop-place.place (g.S.SectorStore.told c.loop-place.disk) (g.S.SectorStore.told c.write.new.self)
-    (ap (λ (d : Disk). d.sectors) c.loop-place.invariant.disk) (rw c.from.ensures at (c.write.ensures.puts c.if-not-write.false)) in
+    let put = c.put_sector.ensures in
+    let size = put.size ∙ c.loop-place.invariant.size in
+    let told = clears_more disk c.args.run.first c.loop-place.place (g.S.SectorStore.told c.loop-place.disk) (g.S.SectorStore.told c.put_sector.new.store)
+    (ap (λ (d : Disk). d.sectors) c.loop-place.invariant.disk) (rw c.from.ensures at (put.puts c.if-not-put_sector.false)) in
     record {
       disk = λ i. disk_over c.args.which (size i) (told i);
       size = size;
-      fine = c.write.ensures.serves (inl c.if-not-write.false) ∙ c.loop-place.invariant.fine;
+      fine = put.serves (inl c.if-not-put_sector.false) ∙ c.loop-place.invariant.fine;
+      lasting = λ noted. put.lasting noted ∙ c.loop-place.invariant.lasting noted;
+      cached = put.is_on ∙ c.loop-place.invariant.cached;
+      old_room = λ n room. put.left n (c.loop-place.invariant.old_room (n + 1) (less_room c.args.cache.now (c.loop-place.place + 1 + n) (c.loop-place.place + (n + 1)) (omega arith) room));
     }
 
-pub returns-then-not-write-clause-none : goal.returns-then-not-write-clause-none
-returns-then-not-write-clause-none g c = λ none.
+pub returns-then-not-put_sector-clause-none : goal.returns-then-not-put_sector-clause-none
+returns-then-not-put_sector-clause-none g c = λ none.
     let disk : Disk = disk_over c.args.which (g.S.SectorStore.size c.args.disk.now) (g.S.SectorStore.told c.args.disk.now) in
-    c.write.ensures.kept c.if-not-write.true
+    c.put_sector.ensures.kept c.if-not-put_sector.true
     ∙ (ap (λ (d : Disk). d.sectors) c.loop-place.invariant.disk
     ∙ ap (λ (d : Disk). d.sectors) (ap (λ (n : ℕ). disk_cleared disk c.args.run.first n) none ∙ clears_none disk c.args.run.first))
+
+pub returns-then-not-put_sector-clause-fails : goal.returns-then-not-put_sector-clause-fails
+returns-then-not-put_sector-clause-fails g c = λ _.
+    let put = c.put_sector.ensures in
+    let is = c.loop-place.invariant in
+    let below = c.loop-place-test.true in
+    let inside = c.requires.inside in
+    let size = is.size in
+    let at : c.args.run.first + c.from.result ≡ c.args.run.first + c.loop-place.place = ap (λ (k : ℕ). c.args.run.first + k) c.from.ensures in
+    let failed = put.fails c.if-not-put_sector.true (omega (arith, at, below, inside, size)) in
+    let P : Bool → Type 0 = λ on. CallFails on true (c.args.run.first + c.loop-place.place) (g.S.SectorStore.failures c.args.disk.now) (g.S.SectorStore.failures c.put_sector.new.store) in
+    let Q : Option Failures → Type 0 = λ was. CallFails c.loop-place.cache.is_on true (c.args.run.first + c.loop-place.place) was (g.S.SectorStore.failures c.put_sector.new.store) in
+    let R : ℕ → Type 0 = λ k. CallFails c.loop-place.cache.is_on true k (g.S.SectorStore.failures c.loop-place.disk) (g.S.SectorStore.failures c.put_sector.new.store) in
+    subst P is.cached (subst Q is.fine (subst R at failed))
+
+pub returns-then-not-put_sector-clause-lasting : goal.returns-then-not-put_sector-clause-lasting
+returns-then-not-put_sector-clause-lasting g c = λ noted. c.put_sector.ensures.lasting noted ∙ c.loop-place.invariant.lasting noted
+
+pub returns-then-not-put_sector-clause-cached : goal.returns-then-not-put_sector-clause-cached
+returns-then-not-put_sector-clause-cached g c = c.put_sector.ensures.is_on ∙ c.loop-place.invariant.cached
+
+pub returns-then-not-put_sector-clause-old_room : goal.returns-then-not-put_sector-clause-old_room
+returns-then-not-put_sector-clause-old_room g c = λ n room.
+    let below = c.loop-place-test.true in
+    c.put_sector.ensures.left n (c.loop-place.invariant.old_room (n + 1) (less_room c.args.cache.now (c.args.run.count + n) (c.loop-place.place + (n + 1)) (omega (arith, below)) room))
+
+pub returns-clause-lasting : goal.returns-clause-lasting
+returns-clause-lasting g c = c.loop-place.invariant.lasting
+
+pub returns-clause-cached : goal.returns-clause-cached
+returns-clause-cached g c = c.loop-place.invariant.cached
+
+pub returns-clause-old_room : goal.returns-clause-old_room
+returns-clause-old_room g c = λ n room.
+    let past = c.loop-place-test.false in
+    let end = c.loop-place.auto.place-end in
+    c.loop-place.invariant.old_room n (less_room c.args.cache.now (c.args.run.count + n) (c.loop-place.place + n) (omega (arith, past, end)) room)

@@ -34,7 +34,7 @@ returns-clause-ready g c = IfOk-weaker c.with_disks.result _ _ (λ m made. recor
 -- the settings are those that the model was made with
 pub returns-clause-made : goal.returns-clause-made
 returns-clause-made g c = IfOk-weaker c.with_disks.result _ _ (λ m made. record {
-  settings = record { frames = c.args.config.now.frames; pi = 15; slots = c.args.config.now.slots; ncq = c.args.config.now.ncq; depth = c.args.config.now.depth; trim = c.trim_of.result };
-  set = record { frames = refl; ports = refl; slots = refl; queuing = refl; depth = refl; trim = c.trim_of.ensures ∙ c.as_str.ensures.value };
+  settings = record { frames = c.args.config.now.frames; pi = 15; slots = c.args.config.now.slots; ncq = c.args.config.now.ncq; depth = c.args.config.now.depth; trim = c.trim_of.result; cache = c.args.config.now.cache };
+  set = record { frames = refl; ports = refl; slots = refl; queuing = refl; depth = refl; trim = c.trim_of.ensures ∙ c.as_str.ensures.value; cache = refl };
   made = made;
 }) c.with_disks.ensures

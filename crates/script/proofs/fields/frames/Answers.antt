@@ -5,6 +5,7 @@ use Rattle.std.proofs.lemmas.Iterator.Consumers.{YieldsList-turn, YieldsList-end
 use Rattle.std.proofs.lemmas.List.Elements.{All-nil, All-cons, All-append}
 use Rattle.std.proofs.lemmas.Slice.Eq.{bytes_eq-Decides}
 use Rattle.std.specs.Bool.{◌==◌}
+use Rattle.ata_types.specs.declared.limits.TheConstants.{MOST_REQUEST_FRAMES}
 use Rattle.std.specs.List.{All, slice_split}
 use Rattle.script.proofs.FrameLemmas.{IsFrame, spelled, parted_word, part_of, same_frames, none_for_dash, other_word}
 use Rattle.script.proofs.fields.frames.Goals as goal
@@ -46,7 +47,7 @@ returns-in_err-ok-clause-only c = λ v all most e.
     parted_word v.items c.args.word.now all e (other_word c.args.word.now (sym c.eq.ensures ∙ c.if-eq.false)) in
     let turn = YieldsList-turn road c.loop-piece.yielded c.loop-piece.piece-iterator c.loop-piece.yielded_by c.next.result c.next.new.self c.in-Some.piece c.in-Some.is c.next.ensures.steps in
     let below : length c.loop-piece.yielded < length (map spelled v.items) = subst (λ parts. length c.loop-piece.yielded < length parts) other turn.0 in
-    let full : length c.loop-piece.frames.items ≡ 32 = search rules in
+    let full : length c.loop-piece.frames.items ≡ MOST_REQUEST_FRAMES = search rules in
     let yielded : length c.loop-piece.yielded ≡ length c.loop-piece.frames.items =
     sym (length-map c.loop-piece.yielded (λ w. w.now)) ∙ ap length c.loop-piece.invariant.0 ∙ length-map c.loop-piece.frames.items spelled in
     absurd (omega (arith, below, full, yielded, most, length-map v.items spelled))

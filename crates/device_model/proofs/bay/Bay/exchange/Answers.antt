@@ -15,8 +15,8 @@ returns-clause-exchanges g c =
     let E : List ℕ → List ℕ → Type 0 = λ before after. Exchanges g.S.SectorStore.size g.S.SectorStore.told
     g.S.SectorStore.failures c.args.self.now
     c.exchange_piece.new.self next before after c.exchange_piece.result in
-    let was = piece_was h next k d c.deref_mut.ensures.value (omega arith) c.requires in
-    let is = piece_is h next k d b c.deref_mut.ensures.value (omega arith) c.requires c.exchange_piece.ensures.sector.0
+    let was = piece_was h next k d c.deref_mut.ensures.value (omega arith) c.requires.inside in
+    let is = piece_is h next k d b c.deref_mut.ensures.value (omega arith) c.requires.inside c.exchange_piece.ensures.sector.0
     in
     subst (λ before. E before (piece_of there next)) (sym was) (subst (λ after. E (take k (drop next.address d)) after)
     (sym is) c.exchange_piece.ensures)
@@ -25,10 +25,10 @@ pub returns-clause-memory : goal.returns-clause-memory
 returns-clause-memory g c =
     exchanged c.args.hardware.now c.args.next (c.args.next.address + 512 - c.args.next.address) c.deref_mut.result.now
     c.exchange_piece.new.piece
-    c.deref_mut.ensures.value (omega arith) c.requires c.exchange_piece.ensures.sector.0 c.exchange_piece.ensures.takes
+    c.deref_mut.ensures.value (omega arith) c.requires.inside c.exchange_piece.ensures.sector.0 c.exchange_piece.ensures.takes
 
 pub returns-clause-stays : goal.returns-clause-stays
 returns-clause-stays g c = λ failed o.
     piece_stays c.args.hardware.now o c.args.next (c.args.next.address + 512 - c.args.next.address)
     c.deref_mut.result.now c.exchange_piece.new.piece
-    c.deref_mut.ensures.value (omega arith) c.requires (c.exchange_piece.ensures.left failed)
+    c.deref_mut.ensures.value (omega arith) c.requires.inside (c.exchange_piece.ensures.left failed)

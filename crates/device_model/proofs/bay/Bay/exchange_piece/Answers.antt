@@ -24,5 +24,8 @@ returns g c =
       fine = is.fine;
       ranged = is.ranged;
       fails = is.fails;
+      lasting = is.lasting;
+      cached = is.cached;
+      old_room = is.old_room;
       rest = is.rest;
     })

@@ -1,15 +1,18 @@
-use Rattle.std.proofs.Common.{ℕ, ◌≡◌, ◌<◌, ◌≤◌, ◌+◌, ◌∙◌, List, false, inl, inr, refl, sym, ap, subst, arith, slice_index_or}
+use Rattle.std.proofs.Common.{ℕ, false, ◌≡◌, ◌≤◌, ◌+◌, ◌∙◌, List, inl, inr, refl, sym, ap, subst, arith, slice_index_or}
 use Rattle.std.specs.Vec.{vec_len, vec_capacity}
 use Rattle.adapter.specs.declared.tape.Entry.{Entry}
-use Rattle.device_model.proofs.Absurd.{some-none, some_one, true-false}
+use Rattle.device_model.proofs.Absurd.{none_and, some_and, some_one, true-false}
+use Rattle.device_model.specs.Cached.{HasOldRoom}
+use Rattle.device_model.specs.Fetched.{bytes_of}
 use Rattle.device_model.specs.Finishing.{MayFinish}
 use Rattle.device_model.specs.Slots.{HasUntaken, HoldsAt}
-use Rattle.device_model.specs.View.{blank}
+use Rattle.device_model.specs.Trims.{changes_ahead}
+use Rattle.device_model.specs.View.{blank, taken_of}
 use Rattle.device_model.specs.Whole.{Outside, device_of}
+use Rattle.device_model.specs.declared.cache.Cache.{Cache}
 use Rattle.device_model.specs.declared.hardware.Hardware.{Hardware}
-use Rattle.device_model.specs.declared.steps.Rest.{Rest}
 use Rattle.device_model.proofs.Finishing.{fetched_goes}
-use Rattle.device_model.proofs.Ready.{ready_held, ready_to_go, ready_is_held}
+use Rattle.device_model.proofs.Ready.{ahead_is, ahead_of, ready_held, ready_to_go, ready_is_held}
 use Rattle.device_model.proofs.Stepping.{fetch_takes}
 use Rattle.device_model.proofs.hardware.Hardware.begin.Goals as goal
 
@@ -27,34 +30,61 @@ returns-in_err-rest-clause-left c = λ _.
           let P : ℕ → Type 0 = λ q. HoldsAt (slice_index_or c.args.self.now.ports q blank) c.args.slot w.0 in
           let rest = ready_is_held c.args.self.now c.from-place.result c.args.port c.args.slot w.0 c.from-place.ensures w.1
           (c.has_untaken.ensures.only c.if-has_untaken.false) o left clears ready in
-          some-none (c.rest_at.ensures.only w.0 left clears (subst P c.from-place.ensures w.1) rest) c.in_err-rest.was,
+          none_and _ _ (c.rest_at.ensures.only w.0 left clears (subst P c.from-place.ensures w.1) rest) c.in_err-rest.was,
       refl,
     )
 
 pub returns-then-not-grow-clause-left : goal.returns-then-not-grow-clause-left
 returns-then-not-grow-clause-left c = λ _.
+    -- the command that is ready is the one that is held, and so much is left of it
+    let ready_one : (o : Outside) (n m : ℕ) (may : MayFinish (device_of c.args.self.now o) c.args.port c.args.slot n m) (cache : Cache) → (c.in_ok-rest.rest.left ≡ n) × (c.in_ok-rest.rest.clears ≡ m) × (HasOldRoom cache (changes_ahead may.t.meaning.operation (bytes_of c.args.self.now.memory.items) may.t n) → HasOldRoom cache c.growths_of.result.old_sectors) =
+    λ o n m may cache.
+    let h = c.args.self.now in
+    let rest = c.in_ok-rest.rest in
+    let found = c.in_ok-rest.ensures.found in
+    let never = c.has_untaken.ensures.only c.if-has_untaken.false in
+    let P : ℕ → Type 0 = λ q. HoldsAt (slice_index_or h.ports q blank) c.args.slot found.0 in
+    let held = subst P (sym c.from-place.ensures) found.1 in
+    let one = some_and _ _ rest (c.rest_at.ensures.only found.0 n m found.1 (ready_is_held h c.from-place.result c.args.port c.args.slot found.0 c.from-place.ensures held never o n m may)) c.in_ok-rest.was in
+    let w = ready_held h o c.from-place.result c.args.port c.args.slot n m c.from-place.ensures may never in
+    let same : may.t ≡ taken_of found.0 = w.2 ∙ ap taken_of (some_one (sym w.1.held ∙ held.held)) in (
+      one.0,
+      one.1,
+      ahead_is h o cache c.args.port c.args.slot rest.left c.growths_of.result.old_sectors n m found.0 may same one.0
+          (c.growths_of.ensures.old_sectors ∙ c.in_ok-rest.ensures.changes found.0 found.1),
+    ) in
     let h = c.args.self.now in
     let rest = c.in_ok-rest.rest in
     let found = c.in_ok-rest.ensures.found in
     let P : ℕ → Type 0 = λ q. HoldsAt (slice_index_or h.ports q blank) c.args.slot found.0 in
     let held = subst P (sym c.from-place.ensures) found.1 in
-    let over : vec_capacity h.tape < vec_len h.tape + c.growths_of.result.entries = c.grow.ensures.lacked c.if-not-grow.true in
-    let still : vec_capacity c.grow.new.tape < vec_len c.grow.new.tape + c.growths_of.result.entries = c.grow.ensures.lacks c.if-not-grow.true in
-    let entries = c.growths_of.ensures in
+    let entries = c.growths_of.ensures.entries in
     inr (record {
       left = rest.left;
       clears = rest.clears;
       ready = ready_to_go h c.from-place.result c.args.port c.args.slot found.0 c.from-place.ensures rest.left rest.clears found.2 held;
-      only = λ o n m ready.
-          let one = some_one (sym (c.rest_at.ensures.only found.0 n m found.1
-          (ready_is_held h c.from-place.result c.args.port c.args.slot found.0 c.from-place.ensures held
-          (c.has_untaken.ensures.only c.if-has_untaken.false) o n m ready)) ∙ c.in_ok-rest.was) in
-          (ap (λ (x : Rest). x.left) one, ap (λ (x : Rest). x.clears) one);
-      lacked = λ room. absurd (omega (arith, over, room, entries));
-      lacks = λ room. absurd (omega (arith, still, room, entries));
+      lacked = λ o n m may room old.
+          let one = ready_one o n m may c.args.cache.now in
+          let left = one.0 in
+          let clears = one.1 in
+          c.grow.ensures.lacked c.if-not-grow.true (omega (arith, room, left, clears, entries)) (one.2 old);
+      lacks = λ o n m may room old.
+          let one = ready_one o n m may c.grow.new.cache in
+          let left = one.0 in
+          let clears = one.1 in
+          c.grow.ensures.lacks c.if-not-grow.true (omega (arith, room, left, clears, entries)) (one.2 old);
       same = λ o. ap (λ (items : List Entry). record (device_of h o) { tape = items }) c.grow.ensures.items;
       told = refl;
     })
+
+pub returns-clause-ahead : goal.returns-clause-ahead
+returns-clause-ahead c = λ o t taken.
+    let h = c.args.self.now in
+    let found = c.in_ok-rest.ensures.found in
+    let P : ℕ → Type 0 = λ q. HoldsAt (slice_index_or h.ports q blank) c.args.slot found.0 in
+    let same : taken_of found.0 ≡ t = some_one (sym (found.1.works (o.media c.args.port)).taken ∙ taken) in
+    ahead_of c.grow.new.cache (bytes_of h.memory.items) c.in_ok-rest.rest.left c.growths_of.result.old_sectors found.0 t same
+    (c.growths_of.ensures.old_sectors ∙ c.in_ok-rest.ensures.changes found.0 found.1) (c.grow.ensures.old_room c.if-not-grow.false)
 
 pub returns-clause-begun : goal.returns-clause-begun
 returns-clause-begun c =
@@ -65,7 +95,7 @@ returns-clause-begun c =
     let held = subst P (sym c.from-place.ensures) found.1 in
     let new : Hardware = record h { tape = c.grow.new.tape } in
     let room : vec_len c.grow.new.tape + c.growths_of.result.entries ≤ vec_capacity c.grow.new.tape = c.grow.ensures.room c.if-not-grow.false in
-    let entries = c.growths_of.ensures in
+    let entries = c.growths_of.ensures.entries in
     let ready : (o : Outside) → MayFinish (device_of h o) c.args.port c.args.slot rest.left rest.clears =
     ready_to_go h c.from-place.result c.args.port c.args.slot found.0 c.from-place.ensures rest.left rest.clears found.2 held in
     let same : (o : Outside) → device_of new o ≡ device_of h o = λ o. ap (λ (items : List Entry). record (device_of h o) { tape = items }) c.grow.ensures.items in

@@ -3,18 +3,23 @@ use Rattle.std.specs.Vec.{vec_len, vec_capacity}
 use Rattle.adapter.specs.Asked.{DoesFetch}
 use Rattle.adapter.specs.Device.{Device}
 use Rattle.adapter.specs.declared.tape.Entry.{Entry}
-use Rattle.device_model.proofs.Absurd.{some-none, some_one, true-false}
+use Rattle.device_model.proofs.Absurd.{none_and, some_and, true-false}
+use Rattle.adapter.specs.Says.{Says}
+use Rattle.device_model.specs.Cached.{HasOldRoom}
+use Rattle.device_model.specs.Fetched.{bytes_of}
 use Rattle.device_model.specs.Finishing.{MayFinish}
 use Rattle.device_model.specs.Slots.{HasUntaken}
-use Rattle.device_model.specs.View.{blank}
+use Rattle.device_model.specs.Trims.{changes_ahead}
+use Rattle.device_model.specs.View.{blank, taken_of}
 use Rattle.device_model.specs.Whole.{Outside, device_of}
 use Rattle.device_model.specs.declared.hardware.Hardware.{Hardware}
-use Rattle.device_model.specs.declared.steps.Rest.{Rest}
+use Rattle.device_model.specs.declared.cache.Cache.{Cache}
 use Rattle.device_model.proofs.Finishing.{fetched_goes}
-use Rattle.device_model.proofs.Ready.{may_be_taken, ready_beside, ready_said, ready_to_take, ready_is_said}
+use Rattle.device_model.proofs.Ready.{ahead_is, ahead_of, fetched_is, may_be_taken, ready_beside, ready_said, ready_to_take, ready_is_one, ready_is_said}
 use Rattle.device_model.proofs.Stepping.{port_takes}
 use Rattle.device_model.proofs.SlotLemmas.{at_port}
 use Rattle.device_model.proofs.hardware.Hardware.begin_said.Goals as goal
+use Rattle.device_model.proofs.hardware.Hardware.begin_said.Goals.{After-take}
 
 pub take-requires-clause-alone : goal.take-requires-clause-alone
 take-requires-clause-alone c = λ m.
@@ -46,12 +51,15 @@ returns-in_err-rest-clause-left c = λ _.
           let said = c.read_into.ensures.found c.if-not-read_into.false in
           let rest = ready_is_said c.args.self.now c.from-place.result c.args.port c.args.slot c.read_into.new.command
           c.from-place.ensures may said.0 (rw (at_port c.args.self.now.ports c.from-place.result c.index-self-place.result small) at (rw c.deref.ensures.value at said.1)) o left clears ready in
-          some-none ((rw c.deref-2.ensures.value at (c.rest_of.ensures.only left clears)) rest) c.in_err-rest.was,
+          none_and _ _ ((rw c.deref-2.ensures.value at (c.rest_of.ensures.only left clears)) rest) c.in_err-rest.was,
       refl,
     )
 
 pub returns-then-not-grow-clause-left : goal.returns-then-not-grow-clause-left
 returns-then-not-grow-clause-left c = λ _.
+    -- the command that is ready is the one that its slot's bytes say, and so much is left of it
+    let ready_one : (o : Outside) (n m : ℕ) (may : MayFinish (device_of c.args.self.now o) c.args.port c.args.slot n m) (cache : Cache) → (c.in_ok-rest.rest.left ≡ n) × (c.in_ok-rest.rest.clears ≡ m) × (HasOldRoom cache (changes_ahead may.t.meaning.operation (bytes_of c.args.self.now.memory.items) may.t n) → HasOldRoom cache c.growths_of.result.old_sectors) =
+    λ o n m ready cache.
     let h = c.args.self.now in
     let rest = c.in_ok-rest.rest in
     let P : ℕ → Type 0 = λ q. HasUntaken (slice_index_or h.ports q blank) c.args.slot in
@@ -59,23 +67,72 @@ returns-then-not-grow-clause-left c = λ _.
     let small : c.from-place.result < length c.args.self.now.ports = search rules in
     let said = c.read_into.ensures.found c.if-not-read_into.false in
     let says = rw (at_port c.args.self.now.ports c.from-place.result c.index-self-place.result small) at (rw c.deref.ensures.value at said.1) in
-    let over : vec_capacity h.tape < vec_len h.tape + c.growths_of.result.entries = c.grow.ensures.lacked c.if-not-grow.true in
-    let still : vec_capacity c.grow.new.tape < vec_len c.grow.new.tape + c.growths_of.result.entries = c.grow.ensures.lacks c.if-not-grow.true in
-    let entries = c.growths_of.ensures in
+    let one = some_and _ _ rest ((rw c.deref-2.ensures.value at (c.rest_of.ensures.only n m))
+    (ready_is_said h c.from-place.result c.args.port c.args.slot c.read_into.new.command c.from-place.ensures may said.0 says o n m ready)) c.in_ok-rest.was in
+    let same = ready_is_one h c.from-place.result c.args.port c.args.slot c.read_into.new.command c.from-place.ensures may said.0 says o n m ready in (
+      one.0,
+      one.1,
+      ahead_is h o cache c.args.port c.args.slot rest.left c.growths_of.result.old_sectors n m c.read_into.new.command ready same one.0
+          (c.growths_of.ensures.old_sectors ∙ (rw c.deref-2.ensures.value at c.in_ok-rest.ensures.changes)),
+    ) in
+    let h = c.args.self.now in
+    let rest = c.in_ok-rest.rest in
+    let P : ℕ → Type 0 = λ q. HasUntaken (slice_index_or h.ports q blank) c.args.slot in
+    let may = subst P (sym c.from-place.ensures) c.requires.may in
+    let small : c.from-place.result < length c.args.self.now.ports = search rules in
+    let said = c.read_into.ensures.found c.if-not-read_into.false in
+    let says = rw (at_port c.args.self.now.ports c.from-place.result c.index-self-place.result small) at (rw c.deref.ensures.value at said.1) in
+    let entries = c.growths_of.ensures.entries in
     inr (record {
       left = rest.left;
       clears = rest.clears;
       ready = ready_to_take h c.from-place.result c.args.port c.args.slot c.read_into.new.command c.from-place.ensures rest.left rest.clears
           (rw c.deref-2.ensures.value at c.in_ok-rest.ensures.rest) said.0 may (rw (at_port c.args.self.now.ports c.from-place.result c.index-self-place-2.result small) at (c.is_open_to.ensures.open c.if-not-is_open_to.false)) says;
-      only = λ o n m ready.
-          let one = some_one (sym ((rw c.deref-2.ensures.value at (c.rest_of.ensures.only n m))
-          (ready_is_said h c.from-place.result c.args.port c.args.slot c.read_into.new.command c.from-place.ensures may said.0 says o n m ready)) ∙ c.in_ok-rest.was) in
-          (ap (λ (x : Rest). x.left) one, ap (λ (x : Rest). x.clears) one);
-      lacked = λ room. absurd (omega (arith, over, room, entries));
-      lacks = λ room. absurd (omega (arith, still, room, entries));
+      lacked = λ o n m may room old.
+          let one = ready_one o n m may c.args.cache.now in
+          let left = one.0 in
+          let clears = one.1 in
+          c.grow.ensures.lacked c.if-not-grow.true (omega (arith, room, left, clears, entries)) (one.2 old);
+      lacks = λ o n m may room old.
+          let one = ready_one o n m may c.grow.new.cache in
+          let left = one.0 in
+          let clears = one.1 in
+          c.grow.ensures.lacks c.if-not-grow.true (omega (arith, room, left, clears, entries)) (one.2 old);
       same = λ o. ap (λ (items : List Entry). record (device_of h o) { tape = items }) c.grow.ensures.items;
       told = refl;
     })
+
+-- it is taken
+did : (c : After-take) (o : Outside) → DoesFetch c.args.port c.args.slot (device_of c.args.self.now o)
+    (device_of (record c.args.self.now { tape = c.grow.new.tape; ports = slice_set c.args.self.now.ports c.from-place.result c.take.new.self }) o)
+did c o =
+    let h = c.args.self.now in
+    let held : Hardware = record h { tape = c.grow.new.tape } in
+    let new : Hardware = record held { ports = slice_set h.ports c.from-place.result c.take.new.self } in
+    let P : ℕ → Type 0 = λ q. HasUntaken (slice_index_or h.ports q blank) c.args.slot in
+    let may = subst P (sym c.from-place.ensures) c.requires.may in
+    let small : c.from-place.result < length h.ports = search rules in
+    let said = c.read_into.ensures.found c.if-not-read_into.false in
+    let says = rw (at_port h.ports c.from-place.result c.index-self-place.result small) at (rw c.deref.ensures.value at said.1) in
+    let alone = rw (at_port c.args.self.now.ports c.from-place.result c.index-self-place-2.result small) at (c.is_open_to.ensures.open c.if-not-is_open_to.false) in
+    let taken = may_be_taken (slice_index_or h.ports c.from-place.result blank) c.args.slot c.read_into.new.command may alone in
+    let kept : device_of held o ≡ device_of h o = ap (λ (items : List Entry). record (device_of h o) { tape = items }) c.grow.ensures.items in
+    let Q : Device → Type 0 = λ d. DoesFetch c.args.port c.args.slot d (device_of new o) in
+    subst Q kept
+    (port_takes held o c.from-place.result c.args.port c.args.slot c.take.new.self c.read_into.new.command c.from-place.ensures small
+    (taken (o.media c.from-place.result)) says (rw (at_port c.args.self.now.ports c.from-place.result c.index-self-place-3.result small) at (c.take.ensures (o.media c.from-place.result))))
+
+pub returns-clause-ahead : goal.returns-clause-ahead
+returns-clause-ahead c = λ o t taken.
+    let h = c.args.self.now in
+    let said = c.read_into.ensures.found c.if-not-read_into.false in
+    let small : c.from-place.result < length h.ports = search rules in
+    let says = rw (at_port h.ports c.from-place.result c.index-self-place.result small) at (rw c.deref.ensures.value at said.1) in
+    let P : ℕ → Type 0 = λ q. Says (bytes_of h.memory.items) (slice_index_or h.ports q blank).addresses.clb c.args.slot (taken_of c.read_into.new.command).meaning (taken_of c.read_into.new.command).places in
+    let new : Hardware = record h { tape = c.grow.new.tape; ports = slice_set h.ports c.from-place.result c.take.new.self } in
+    let same = fetched_is c.args.port c.args.slot (device_of h o) (device_of new o) c.read_into.new.command (did c o) said.0 (subst P c.from-place.ensures says) t taken in
+    ahead_of c.grow.new.cache (bytes_of h.memory.items) c.in_ok-rest.rest.left c.growths_of.result.old_sectors c.read_into.new.command t same
+    (c.growths_of.ensures.old_sectors ∙ (rw c.deref-2.ensures.value at c.in_ok-rest.ensures.changes)) (c.grow.ensures.old_room c.if-not-grow.false)
 
 pub returns-clause-begun : goal.returns-clause-begun
 returns-clause-begun c =
@@ -89,25 +146,18 @@ returns-clause-begun c =
     let says = rw (at_port h.ports c.from-place.result c.index-self-place.result small) at (rw c.deref.ensures.value at said.1) in
     let alone = rw (at_port c.args.self.now.ports c.from-place.result c.index-self-place-2.result small) at (c.is_open_to.ensures.open c.if-not-is_open_to.false) in
     let room : vec_len c.grow.new.tape + c.growths_of.result.entries ≤ vec_capacity c.grow.new.tape = c.grow.ensures.room c.if-not-grow.false in
-    let entries = c.growths_of.ensures in
-    let kept : (o : Outside) → device_of held o ≡ device_of h o = λ o. ap (λ (items : List Entry). record (device_of h o) { tape = items }) c.grow.ensures.items in
+    let entries = c.growths_of.ensures.entries in
     let ready : (o : Outside) → MayFinish (device_of h o) c.args.port c.args.slot rest.left rest.clears =
     ready_to_take h c.from-place.result c.args.port c.args.slot c.read_into.new.command c.from-place.ensures rest.left rest.clears
     (rw c.deref-2.ensures.value at c.in_ok-rest.ensures.rest) said.0 may alone says in
     let new : Hardware = record held { ports = slice_set h.ports c.from-place.result c.take.new.self } in
-    let taken = may_be_taken (slice_index_or h.ports c.from-place.result blank) c.args.slot c.read_into.new.command may alone in
-    let did : (o : Outside) → DoesFetch c.args.port c.args.slot (device_of h o) (device_of new o) = λ o.
-    let Q : Device → Type 0 = λ d. DoesFetch c.args.port c.args.slot d (device_of new o) in
-    subst Q (kept o)
-    (port_takes held o c.from-place.result c.args.port c.args.slot c.take.new.self c.read_into.new.command c.from-place.ensures small
-    (taken (o.media c.from-place.result)) says (rw (at_port c.args.self.now.ports c.from-place.result c.index-self-place-3.result small) at (c.take.ensures (o.media c.from-place.result)))) in
     record {
       ready = ready;
       going = λ o.
-          fetched_goes c.args.port c.args.slot rest.left rest.clears true (device_of h o) (device_of new o) (ready o) (λ _. did o) (λ never. true-false refl never)
+          fetched_goes c.args.port c.args.slot rest.left rest.clears true (device_of h o) (device_of new o) (ready o) (λ _. did c o) (λ never. true-false refl never)
           (λ never. true-false refl never);
       room = omega (arith, room, entries);
-      did = λ _ o. did o;
+      did = λ _ o. did c o;
       same = λ never. true-false refl never;
       tape = c.grow.ensures.items;
       starved = refl;

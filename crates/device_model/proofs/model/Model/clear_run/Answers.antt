@@ -1,14 +1,16 @@
-use Rattle.std.proofs.Common.{ℕ, true, ◌≡◌, ◌<◌, ◌≤◌, ◌+◌, ◌∙◌, Some, length, refl, sym, ap, subst, arith, inl, inr}
+use Rattle.std.proofs.Common.{ℕ, Bool, true, min, ◌-◌, ◌≡◌, ◌<◌, ◌≤◌, ◌+◌, ◌∙◌, Some, length, refl, sym, ap, subst, arith, inl, inr}
 use Rattle.adapter.specs.declared.access.DeviceStep.TheVariants as asked
-use Rattle.sector_store.specs.Stores.{FailsOn}
-use Rattle.device_model.specs.Disks.{bay_of, failing}
-use Rattle.device_model.specs.Does.{Completes, HasCleared, HasFailed, IsCause}
-use Rattle.device_model.specs.Finishing.{HasRoom}
-use Rattle.device_model.specs.Modelled.{device_at, outside_at}
-use Rattle.device_model.specs.Trims.{HasClear, span}
+use Rattle.adapter.specs.Steps.{disk_cleared}
+use Rattle.device_model.specs.Cached.{CallFails, HasOldRoom}
+use Rattle.device_model.specs.Disks.{bay_of, disk_over, failing, lasting_of}
+use Rattle.device_model.specs.Does.{Completes, HasCleared, HasFailed, IsCause, LacksMemory, cleared_on_disk}
+use Rattle.device_model.specs.Modelled.{device_at, media_of, outside_at}
+use Rattle.device_model.specs.Trims.{HasClear, next_uncleared, span}
 use Rattle.device_model.specs.View.{taken_of}
 use Rattle.device_model.specs.Whole.{Outside}
-use Rattle.device_model.proofs.Absurd.{true-false}
+use Rattle.device_model.proofs.Absurd.{some_one, true-false}
+use Rattle.device_model.proofs.Caching.{less_room}
+use Rattle.device_model.proofs.Growing.{grown_lasts, grown_left, room_here, room_there}
 use Rattle.device_model.proofs.Clears.{IsPart, cut_part, found_clear, part_fails}
 use Rattle.device_model.proofs.Doing.{IsFailed, is_failed}
 use Rattle.device_model.proofs.Faults.{did_fail, fine_on}
@@ -16,8 +18,9 @@ use Rattle.device_model.proofs.Finishing.{clear_fits}
 use Rattle.device_model.proofs.Trimming.{span_some}
 use Rattle.std.specs.Vec.{with_item}
 use Rattle.std.specs.Prelude.{slice_set}
+use Rattle.device_model.specs.declared.bay.Bay.{Bay}
 use Rattle.device_model.specs.declared.model.Model.{Model}
-use Rattle.device_model.proofs.TwoDisks.{found_bay, has_disks, seat_is, seated_here, seated_others, store_fine, store_keeps, store_says, store_whichs}
+use Rattle.device_model.proofs.TwoDisks.{found_bay, has_disks, seat_is, seated_here, seated_others, store_fine, store_keeps, store_says, store_whichs, with_store}
 use Rattle.device_model.proofs.model.Model.clear_run.Given.{Over}
 use Rattle.device_model.proofs.model.Model.clear_run.Goals as goal
 use Rattle.device_model.proofs.model.Model.clear_run.Goals.{then-count-on_disk, else-count-on_disk}
@@ -34,7 +37,7 @@ returns-in_default-clause-answers g c =
       says = refl;
       which = refl;
       others = λ _ _. refl;
-      keeps = record { identities = λ _ _. refl; out = λ _ _ _. refl; queue = refl; accesses = refl };
+      keeps = record { identities = λ _ _. refl; out = λ _ _ _. refl; caches = λ _. refl; queue = refl; accesses = refl };
       disks = λ _. refl;
       why = λ served may.
           absurd (
@@ -53,14 +56,15 @@ returns-then-not-room-clause-answers g c =
     let bay = found_bay m c.from-place.result c.args.port.0 _ c.from-place.ensures c.as_slice.ensures.value (sym c.has_disks.ensures.disks ∙ c.if-not-has_disks.false) in
     let has = found_clear c.reserve-room.new.self o _ c.args.port.0 c.args.slot.0 c.args.most c.in-Some.run' found.0
     (has_disks g.S.SectorStore.size g.S.SectorStore.told m c.args.port.0 bay.0 bay.1) (c.reserve-room.ensures.same o) found.1 in
-    let lacks : HasRoom m.hardware 2 → ⊥ = λ room. true-false (c.reserve-room.ensures.enough room) c.if-not-room.true in
+    let lacks : LacksMemory (asked.Clear c.args.port c.args.slot c.args.most) (device_at g.S.SectorStore.size g.S.SectorStore.told m) m.hardware m.bays.items =
+    (taken_of found.0, has, λ room _. true-false (c.reserve-room.ensures.enough room) c.if-not-room.true) in
     record {
       device = c.reserve-room.ensures.same o;
       held = refl;
       says = refl;
       which = refl;
       others = λ _ _. refl;
-      keeps = record { identities = λ _ _. refl; out = λ _ _ _. refl; queue = refl; accesses = refl };
+      keeps = record { identities = λ _ _. refl; out = λ _ _ _. refl; caches = λ _. refl; queue = refl; accesses = refl };
       disks = λ _. refl;
       why = λ _ _. (lacks, refl);
       starved_on = λ _. refl;
@@ -86,6 +90,31 @@ whole_was g c =
     (let there = c.has_disks.ensures.there c.if-not-has_disks.false in let long = ap length c.as_slice.ensures.value in omega (arith, there, long))
     c.index_mut.ensures.value c.in-Some-index_mut.is
 
+-- what the store made of it, with the bay as it was, but that its cache has grown
+whole_rest : (g : Over) (c : goal.Then-count-run g) → c.clear-count.new.self ≡ with_store c.in-Some-index_mut.bay c.clear-count.new.self.disk.store c.clear-count.new.self.cache
+whole_rest g c =
+    c.clear-count.ensures.rest ∙ ap (λ (x : Bay g.row.S.Denot). with_store x c.clear-count.new.self.disk.store c.clear-count.new.self.cache) c.reserve.ensures.rest
+
+whole_store : (g : Over) (c : goal.Then-count-run g) → c.reserve.new.self.disk.store ≡ c.in-Some-index_mut.bay.disk.store
+whole_store g c = ap (λ (x : Bay g.row.S.Denot). x.disk.store) c.reserve.ensures.rest
+
+whole_lasts : (g : Over) (c : goal.Then-count-run g) → lasting_of g.S.SectorStore.told c.clear-count.new.self ≡ lasting_of g.S.SectorStore.told c.in-Some-index_mut.bay
+whole_lasts g c =
+    c.clear-count.ensures.lasting
+    ∙ (ap (lasting_of g.S.SectorStore.told) c.reserve.ensures.rest ∙ grown_lasts g.S.SectorStore.told c.in-Some-index_mut.bay c.reserve.new.self.cache c.reserve.ensures.same)
+
+whole_cached : (g : Over) (c : goal.Then-count-run g) → c.clear-count.new.self.cache.is_on ≡ c.in-Some-index_mut.bay.cache.is_on
+whole_cached g c = c.clear-count.ensures.cached ∙ c.reserve.ensures.same.is_on
+
+whole_disk : (g : Over) (c : goal.Then-count-run g) →
+    disk_over c.in-Some-index_mut.bay.which (g.S.SectorStore.size c.clear-count.new.self.disk.store) (g.S.SectorStore.told c.clear-count.new.self.disk.store)
+    ≡ disk_cleared (disk_over c.in-Some-index_mut.bay.which (g.S.SectorStore.size c.in-Some-index_mut.bay.disk.store) (g.S.SectorStore.told c.in-Some-index_mut.bay.disk.store))
+    c.cut-on_disk.result.first c.clear-count.result
+whole_disk g c =
+    let P : Bay g.row.S.Denot → Type 0 = λ x. disk_over x.which (g.S.SectorStore.size c.clear-count.new.self.disk.store) (g.S.SectorStore.told c.clear-count.new.self.disk.store)
+    ≡ disk_cleared (disk_over x.which (g.S.SectorStore.size x.disk.store) (g.S.SectorStore.told x.disk.store)) c.cut-on_disk.result.first c.clear-count.result in
+    subst P c.reserve.ensures.rest c.clear-count.ensures.disk
+
 abbrev whole_mid : (g : Over) (c : goal.Then-count-run g) → Model g.row.S.Denot
 whole_mid g c = record c.args.self.now { hardware = c.clear.new.self; bays = with_item c.args.self.now.bays c.from-place.result (Some c.clear-count.new.self) }
 
@@ -109,9 +138,9 @@ whole_part g c =
     let cut = c.cut-on_disk.ensures in
     let zeros = c.clear-count.ensures in
     cut_part g.S.SectorStore.size g.S.SectorStore.told g.S.SectorStore.failures c.args.port c.args.slot c.args.most c.args.self.now (whole_mid g c)
-    c.in-Some-index_mut.bay c.clear-count.new.self (whole_was g c) (whole_items g c) c.clear-count.ensures.rest c.reserve-room.new.self
+    c.in-Some-index_mut.bay c.clear-count.new.self (whole_was g c) (whole_items g c) (whole_rest g c) (whole_lasts g c) c.reserve-room.new.self
     c.in-Some.run'.first c.clear-count.result found.0 c.reserve-room.ensures.same
-    c.in-Some.run' c.cut-on_disk.result c.sectors.result refl found.1 c.sectors.ensures cut.inside cut.count cut.first zeros.few zeros.disk zeros.none zeros.size
+    c.in-Some.run' c.cut-on_disk.result c.sectors.result refl found.1 c.sectors.ensures cut.inside cut.count cut.first zeros.few (whole_disk g c) (λ none. zeros.none none ∙ ap g.S.SectorStore.told (whole_store g c)) (zeros.size ∙ ap g.S.SectorStore.size (whole_store g c))
     c.clear.ensures.none (λ some o. c.clear.ensures.cleared some o found.0 found.1.holds)
 
 -- all of it is
@@ -136,10 +165,11 @@ all g c =
       cleared,
       record {
         asked = p.whole some;
-        fine = store_fine m (whole_mid g c) c.args.port.0 a b (whole_was g c) (whole_items g c) c.clear-count.ensures.rest g.S.SectorStore.failures
-            (c.clear-count.ensures.fine (omega (arith, few, cut, same)));
-        says = store_says m (whole_mid g c) c.args.port.0 a b (whole_was g c) (whole_items g c) c.clear-count.ensures.rest c.args.port.0;
+        fine = λ _. store_fine m (whole_mid g c) c.args.port.0 a b (whole_was g c) (whole_items g c) (whole_rest g c) g.S.SectorStore.failures
+            (c.clear-count.ensures.fine (omega (arith, few, cut, same)) ∙ ap g.S.SectorStore.failures (whole_store g c));
+        says = store_says m (whole_mid g c) c.args.port.0 a b (whole_was g c) (whole_items g c) (whole_rest g c) c.args.port.0;
         ends = λ _. cleared;
+        loses = λ yes. true-false yes refl;
       },
     )
 
@@ -156,11 +186,11 @@ returns-then-count-run-clause-answers g c =
       record {
         came = inl (all g c).1;
         held = refl;
-        which = store_whichs m (whole_mid g c) c.args.port.0 a b (whole_was g c) (whole_items g c) c.clear-count.ensures.rest c.args.port.0;
+        which = store_whichs m (whole_mid g c) c.args.port.0 a b (whole_was g c) (whole_items g c) (whole_rest g c) c.args.port.0;
         others = seated_others m (whole_mid g c) c.args.port.0 a b (whole_was g c) (whole_items g c);
         pages = (whole_part g c).pages;
         disks = λ none. absurd (none (c.requires, taken_of found.0, whole_can g c));
-        keeps = store_keeps m (whole_mid g c) c.args.port.0 a b (whole_was g c) (whole_items g c) c.clear-count.ensures.rest g.S.SectorStore.size c.clear-count.ensures.size refl refl;
+        keeps = store_keeps m (whole_mid g c) c.args.port.0 a b (whole_was g c) (whole_items g c) (whole_rest g c) g.S.SectorStore.size (c.clear-count.ensures.size ∙ ap g.S.SectorStore.size (whole_store g c)) (whole_cached g c) refl refl;
         starved = c.clear.ensures.starved ∙ c.reserve-room.ensures.starved;
       },
     )
@@ -175,6 +205,31 @@ was g c =
     seat_is c.args.self.now c.from-place.result c.args.port.0 c.index_mut.result.now c.in-Some-index_mut.bay c.from-place.ensures
     (let there = c.has_disks.ensures.there c.if-not-has_disks.false in let long = ap length c.as_slice.ensures.value in omega (arith, there, long))
     c.index_mut.ensures.value c.in-Some-index_mut.is
+
+-- what the store made of it, with the bay as it was, but that its cache has grown
+then_rest : (g : Over) (c : goal.After-fail-failed g) → c.clear-count.new.self ≡ with_store c.in-Some-index_mut.bay c.clear-count.new.self.disk.store c.clear-count.new.self.cache
+then_rest g c =
+    c.clear-count.ensures.rest ∙ ap (λ (x : Bay g.row.S.Denot). with_store x c.clear-count.new.self.disk.store c.clear-count.new.self.cache) c.reserve.ensures.rest
+
+then_store : (g : Over) (c : goal.After-fail-failed g) → c.reserve.new.self.disk.store ≡ c.in-Some-index_mut.bay.disk.store
+then_store g c = ap (λ (x : Bay g.row.S.Denot). x.disk.store) c.reserve.ensures.rest
+
+then_lasts : (g : Over) (c : goal.After-fail-failed g) → lasting_of g.S.SectorStore.told c.clear-count.new.self ≡ lasting_of g.S.SectorStore.told c.in-Some-index_mut.bay
+then_lasts g c =
+    c.clear-count.ensures.lasting
+    ∙ (ap (lasting_of g.S.SectorStore.told) c.reserve.ensures.rest ∙ grown_lasts g.S.SectorStore.told c.in-Some-index_mut.bay c.reserve.new.self.cache c.reserve.ensures.same)
+
+then_cached : (g : Over) (c : goal.After-fail-failed g) → c.clear-count.new.self.cache.is_on ≡ c.in-Some-index_mut.bay.cache.is_on
+then_cached g c = c.clear-count.ensures.cached ∙ c.reserve.ensures.same.is_on
+
+then_disk : (g : Over) (c : goal.After-fail-failed g) →
+    disk_over c.in-Some-index_mut.bay.which (g.S.SectorStore.size c.clear-count.new.self.disk.store) (g.S.SectorStore.told c.clear-count.new.self.disk.store)
+    ≡ disk_cleared (disk_over c.in-Some-index_mut.bay.which (g.S.SectorStore.size c.in-Some-index_mut.bay.disk.store) (g.S.SectorStore.told c.in-Some-index_mut.bay.disk.store))
+    c.cut-on_disk.result.first c.clear-count.result
+then_disk g c =
+    let P : Bay g.row.S.Denot → Type 0 = λ x. disk_over x.which (g.S.SectorStore.size c.clear-count.new.self.disk.store) (g.S.SectorStore.told c.clear-count.new.self.disk.store)
+    ≡ disk_cleared (disk_over x.which (g.S.SectorStore.size x.disk.store) (g.S.SectorStore.told x.disk.store)) c.cut-on_disk.result.first c.clear-count.result in
+    subst P c.reserve.ensures.rest c.clear-count.ensures.disk
 
 abbrev mid : (g : Over) (c : goal.After-fail-failed g) → Model g.row.S.Denot
 mid g c = record c.args.self.now { hardware = c.clear.new.self; bays = with_item c.args.self.now.bays c.from-place.result (Some c.clear-count.new.self) }
@@ -199,9 +254,9 @@ part g c =
     let cut = c.cut-on_disk.ensures in
     let zeros = c.clear-count.ensures in
     cut_part g.S.SectorStore.size g.S.SectorStore.told g.S.SectorStore.failures c.args.port c.args.slot c.args.most c.args.self.now (mid g c)
-    c.in-Some-index_mut.bay c.clear-count.new.self (was g c) (items g c) c.clear-count.ensures.rest c.reserve-room.new.self
+    c.in-Some-index_mut.bay c.clear-count.new.self (was g c) (items g c) (then_rest g c) (then_lasts g c) c.reserve-room.new.self
     c.in-Some.run'.first c.clear-count.result found.0 c.reserve-room.ensures.same
-    c.in-Some.run' c.cut-on_disk.result c.sectors.result refl found.1 c.sectors.ensures cut.inside cut.count cut.first zeros.few zeros.disk zeros.none zeros.size
+    c.in-Some.run' c.cut-on_disk.result c.sectors.result refl found.1 c.sectors.ensures cut.inside cut.count cut.first zeros.few (then_disk g c) (λ none. zeros.none none ∙ ap g.S.SectorStore.told (then_store g c)) (zeros.size ∙ ap g.S.SectorStore.size (then_store g c))
     c.clear.ensures.none (λ some o. c.clear.ensures.cleared some o found.0 found.1.holds)
 
 fewer : (g : Over) (c : goal.After-fail-failed g) → c.clear-count.result < span c.args.most (taken_of c.in-Some.ensures.found.0)
@@ -214,7 +269,7 @@ fewer g c =
 
 -- with this error
 cause : (g : Over) (c : goal.After-fail-failed g) →
-    IsCause true (c.in-Some.run'.first + c.clear-count.result) (g.S.SectorStore.size c.in-Some-index_mut.bay.disk.store) c.if-count-on_disk.error
+    IsCause c.in-Some-index_mut.bay.cache.is_on true (c.in-Some.run'.first + c.clear-count.result) (g.S.SectorStore.size c.in-Some-index_mut.bay.disk.store) c.if-count-on_disk.error
     (g.S.SectorStore.failures c.in-Some-index_mut.bay.disk.store) (g.S.SectorStore.failures c.clear-count.new.self.disk.store) × (c.if-count-on_disk.error < 256)
 cause g c =
     let a = c.in-Some-index_mut.bay in
@@ -231,13 +286,15 @@ cause g c =
           let less = w.if-count-on_disk.true in
           let first : on.first ≡ run.first = c.cut-on_disk.ensures.first (omega (arith, less)) in
           let error = w.error-is in
-          let Q : ℕ → Type 0 = λ k. FailsOn true k (g.S.SectorStore.failures a.disk.store) (g.S.SectorStore.failures c.clear-count.new.self.disk.store) in
+          let Q : ℕ → Type 0 = λ k. CallFails a.cache.is_on true k (g.S.SectorStore.failures a.disk.store) (g.S.SectorStore.failures c.clear-count.new.self.disk.store) in
+          let V : Bool → Type 0 = λ x. CallFails x true (on.first + count) (g.S.SectorStore.failures c.reserve.new.self.disk.store) (g.S.SectorStore.failures c.clear-count.new.self.disk.store) in
+          let W : g.row.S.Denot → Type 0 = λ x. CallFails a.cache.is_on true (on.first + count) (g.S.SectorStore.failures x) (g.S.SectorStore.failures c.clear-count.new.self.disk.store) in
           let sector : on.first + count ≡ run.first + count = omega (arith, first) in
-          (inr (omega (arith, less, first, inside, size), error, subst Q sector (c.clear-count.ensures.fails less)), omega (arith, error))
+          (inr (omega (arith, less, first, inside, size), error, subst Q sector (subst W (then_store g c) (subst V c.reserve.ensures.same.is_on (c.clear-count.ensures.fails less)))), omega (arith, error))
       | else-count-on_disk w ↦
           let most = w.if-count-on_disk.false in
           let error = w.error-is in
-          (inl (omega (arith, few, cut, most, other, size), error, c.clear-count.ensures.fine (omega (arith, few, most))), omega (arith, error))
+          (inl (omega (arith, few, cut, most, other, size), error, c.clear-count.ensures.fine (omega (arith, few, most)) ∙ ap g.S.SectorStore.failures (then_store g c)), omega (arith, error))
     ]
 
 failed : (g : Over) (c : goal.After-fail-failed g) →
@@ -260,7 +317,7 @@ has_failed g c =
     let found = c.in-Some.ensures.found in
     let f = failed g c in
     part_fails g.S.SectorStore.size g.S.SectorStore.told g.S.SectorStore.failures c.args.port c.args.slot c.args.most c.args.self.now (mid g c)
-    c.in-Some-index_mut.bay c.clear-count.new.self (was g c) (items g c) c.clear-count.ensures.rest c.reserve-room.new.self
+    c.in-Some-index_mut.bay c.clear-count.new.self (was g c) (items g c) (then_rest g c) (then_lasts g c) c.reserve-room.new.self
     c.in-Some.run'.first c.clear-count.result found.0 c.reserve-room.ensures.same c.requires (can g c) (part g c)
     (fewer g c) c.if-count-on_disk.error c.fail-failed.new.self
     (fine_on g.S.SectorStore.size g.S.SectorStore.told g.S.SectorStore.failures c.args.port c.args.slot c.if-count-on_disk.error _ _ _ f
@@ -280,9 +337,66 @@ returns-clause-answers g c =
       did_fail g.S.SectorStore.size g.S.SectorStore.told g.S.SectorStore.failures c.args.port c.args.slot c.if-count-on_disk.error _ m
           (mid g c) c.fail-failed.new.self (failed g c)
           (asked.Clear c.args.port c.args.slot c.args.most) refl (has_failed g c) refl refl refl
-          (store_says m (mid g c) c.args.port.0 a b (was g c) (items g c) c.clear-count.ensures.rest c.args.port.0)
-          (store_whichs m (mid g c) c.args.port.0 a b (was g c) (items g c) c.clear-count.ensures.rest c.args.port.0)
+          (store_says m (mid g c) c.args.port.0 a b (was g c) (items g c) (then_rest g c) c.args.port.0)
+          (store_whichs m (mid g c) c.args.port.0 a b (was g c) (items g c) (then_rest g c) c.args.port.0)
           (seated_others m (mid g c) c.args.port.0 a b (was g c) (items g c)) (part g c).pages
-          (store_keeps m (mid g c) c.args.port.0 a b (was g c) (items g c) c.clear-count.ensures.rest g.S.SectorStore.size c.clear-count.ensures.size refl refl)
+          (store_keeps m (mid g c) c.args.port.0 a b (was g c) (items g c) (then_rest g c) g.S.SectorStore.size (c.clear-count.ensures.size ∙ ap g.S.SectorStore.size (then_store g c)) (then_cached g c) refl refl)
           (c.clear.ensures.starved ∙ c.reserve-room.ensures.starved) (c.requires, taken_of found.0, can g c),
     )
+
+-- ---- the cache had no memory for what the sectors hold, and that is told
+
+pub clear-count-requires-clause-inside : goal.clear-count-requires-clause-inside
+clear-count-requires-clause-inside g c =
+    let inside = c.cut-on_disk.ensures.inside in
+    let size = c.sectors.ensures in
+    let same : g.S.SectorStore.size c.reserve.new.self.disk.store ≡ g.S.SectorStore.size c.in-Some-index_mut.bay.disk.store =
+    ap (λ (x : Bay g.row.S.Denot). g.S.SectorStore.size x.disk.store) c.reserve.ensures.rest in
+    omega (arith, inside, size, same)
+
+pub clear-count-requires-clause-room : goal.clear-count-requires-clause-room
+clear-count-requires-clause-room g c = c.reserve.ensures.room c.if-not-reserve.false
+
+pub returns-then-not-reserve-clause-answers : goal.returns-then-not-reserve-clause-answers
+returns-then-not-reserve-clause-answers g c =
+    let m = c.args.self.now in
+    let a = c.in-Some-index_mut.bay in
+    let o : Outside = outside_at g.S.SectorStore.size g.S.SectorStore.told m in
+    let found = c.in-Some.ensures.found in
+    let t = taken_of found.0 in
+    let seat = seat_is m c.from-place.result c.args.port.0 c.index_mut.result.now a c.from-place.ensures
+    (let there = c.has_disks.ensures.there c.if-not-has_disks.false in let long = ap length c.as_slice.ensures.value in omega (arith, there, long))
+    c.index_mut.ensures.value c.in-Some-index_mut.is in
+    let has = found_clear c.reserve-room.new.self o _ c.args.port.0 c.args.slot.0 c.args.most c.in-Some.run' found.0
+    (has_disks g.S.SectorStore.size g.S.SectorStore.told m c.args.port.0 a seat) (c.reserve-room.ensures.same o) found.1 in
+    let size : ((device_at g.S.SectorStore.size g.S.SectorStore.told m).port c.args.port.0).disk.size ≡ c.sectors.result =
+    ap (λ x. (media_of g.S.SectorStore.size g.S.SectorStore.told x).disk.size) seat ∙ sym c.sectors.ensures in
+    let cut : c.cut-on_disk.result.count ≡ min c.in-Some.run'.count (c.sectors.result - c.in-Some.run'.first) = c.cut-on_disk.ensures.count in
+    let whole : c.in-Some.run'.count ≡ span c.args.most t = found.1.count_is in
+    let start : c.in-Some.run'.first ≡ next_uncleared t = found.1.first_is in
+    let here : cleared_on_disk ((device_at g.S.SectorStore.size g.S.SectorStore.told m).port c.args.port.0).disk.size c.args.most t ≡ c.cut-on_disk.result.count =
+    sym (cut ∙ (λ i. min (whole i) (sym size i - start i))) in
+    let lacks : LacksMemory (asked.Clear c.args.port c.args.slot c.args.most) (device_at g.S.SectorStore.size g.S.SectorStore.told m) m.hardware m.bays.items =
+    (t, has, λ _ old. c.reserve.ensures.lacked c.if-not-reserve.true (subst (HasOldRoom a.cache) here (room_here m c.args.port.0 _ a seat old))) in
+    grown_left g.S.SectorStore.size g.S.SectorStore.told g.S.SectorStore.failures m _ c.args.port.0 a c.reserve.new.self.cache seat
+    (ap (λ k. slice_set m.bays.items k (Some c.reserve.new.self)) c.from-place.ensures ∙ ap (λ (x : Bay g.row.S.Denot). slice_set m.bays.items c.args.port.0 (Some x)) c.reserve.ensures.rest)
+    c.reserve.ensures.same (asked.Clear c.args.port c.args.slot c.args.most) refl (c.reserve-room.ensures.same o) refl refl refl (λ _ _. (lacks, refl)) (λ _. refl)
+    (λ _. inr ((c.requires, t, has), lacks))
+
+-- ---- old bytes for which there is still room
+
+pub returns-then-count-run-clause-old_room : goal.returns-then-count-run-clause-old_room
+returns-then-count-run-clause-old_room g c = λ _ t taken n room.
+    let m = c.args.self.now in
+    let a = c.in-Some-index_mut.bay in
+    let found = c.in-Some.ensures.found in
+    let able = whole_can g c in
+    let one : t ≡ taken_of found.0 = some_one (sym taken ∙ able.works.taken) in
+    let whole : c.in-Some.run'.count ≡ span c.args.most t = found.1.count_is ∙ ap (span c.args.most) (sym one) in
+    let few = c.clear-count.ensures.few in
+    let cut = c.cut-on_disk.ensures.count in
+    let same = c.if-count-run.true in
+    room_there (whole_mid g c) c.args.port.0 n c.clear-count.new.self (seated_here m (whole_mid g c) c.args.port.0 a c.clear-count.new.self (whole_was g c) (whole_items g c))
+    (c.clear-count.ensures.old_room n
+    (c.reserve.ensures.kept (c.cut-on_disk.result.count + n)
+    (less_room a.cache (span c.args.most t + n) (c.cut-on_disk.result.count + n) (omega (arith, whole, cut, few, same)) (room_here m c.args.port.0 (span c.args.most t + n) a (whole_was g c) room))))

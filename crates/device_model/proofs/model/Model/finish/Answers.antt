@@ -1,15 +1,22 @@
-use Rattle.std.proofs.Common.{rules, ℕ, suc, ◌≡◌, ◌≤◌, length, slice_index_or, ◌+◌, ◌-◌, ◌∙◌, true, false, inl, inr, refl, sym, ap, subst, arith}
+use Rattle.std.proofs.Common.{rules, ℕ, suc, Some, ◌≡◌, ◌≤◌, length, slice_index_or, ◌+◌, ◌-◌, ◌∙◌, true, false, inl, inr, refl, sym, ap, subst, arith}
+use Rattle.std.specs.Prelude.{slice_set}
+use Rattle.std.specs.Vec.{with_item}
+use Rattle.adapter.specs.Asked.{DoesFetch}
 use Rattle.adapter.specs.Device.{Device, Taken}
 use Rattle.adapter.specs.declared.access.DeviceStep.TheVariants as asked
 use Rattle.device_model.specs.Finishing.{HasPage, HasRoom, IsGoing, MayFinish}
-use Rattle.device_model.specs.Does.{IsLeftOut, answer_of}
+use Rattle.device_model.specs.Cached.{HasOldRoom}
+use Rattle.device_model.specs.Disks.{bay_of}
+use Rattle.device_model.specs.Does.{LacksMemory, Possible, answer_of}
 use Rattle.device_model.specs.Modelled.{device_at, outside_at}
 use Rattle.device_model.specs.Sent.{SendsEnd}
 use Rattle.device_model.specs.Slots.{HoldsAt}
-use Rattle.device_model.specs.Trims.{HasClear, uncleared}
+use Rattle.device_model.specs.Trims.{HasClear, changes_ahead, uncleared}
 use Rattle.device_model.specs.View.{blank, taken_of}
 use Rattle.device_model.specs.Whole.{HasDisks, Outside, device_of}
+use Rattle.device_model.specs.declared.bay.Bay.{Bay}
 use Rattle.device_model.specs.declared.hardware.Hardware.{Hardware}
+use Rattle.device_model.specs.declared.model.Model.{Model}
 use Rattle.device_model.specs.declared.port.TakenCommand.{TakenCommand}
 use Rattle.device_model.proofs.Absurd.{true-false}
 use Rattle.adapter.proofs.Going.{goes_one, goes_next}
@@ -17,41 +24,85 @@ use Rattle.device_model.proofs.Doing.{answered_true, done_whole, clear_fails, cu
 use Rattle.device_model.proofs.Paging.{finish_clears, finish_moves, page_asks_none, page_taken}
 use Rattle.device_model.proofs.Finishing.{never_past, cleared_goes, fetched_size, going_has_clear, holds, moved_goes, going_has_move, going_may_end, done_ended, done_frees, no_more_going}
 use Rattle.device_model.proofs.Telling.{gains_none}
-use Rattle.device_model.proofs.Told.{on_hardware}
-use Rattle.device_model.proofs.Transfers.{page_plain, page_unranged}
-use Rattle.device_model.proofs.TwoDisks.{disks_kept, found_disks, no_bay, no_disks}
+use Rattle.device_model.proofs.Caching.{no_room}
+use Rattle.device_model.proofs.Growing.{RoomAhead, cleared_room, grown_disks, grown_keeps, grown_left, grown_outside, moved_room, one_room, room_here, room_there, run_room}
+use Rattle.device_model.proofs.Transfers.{page_plain, page_unchanged, page_unranged}
+use Rattle.device_model.proofs.TwoDisks.{disks_kept, found_disks, has_disks, no_bay, no_disks, seat_is, seated_here, seated_others, store_fine, store_says, store_whichs}
 use Rattle.device_model.proofs.model.Model.finish.Given.{Over}
 use Rattle.device_model.proofs.model.Model.finish.Goals as goal
 use Rattle.device_model.proofs.model.Model.finish.Goals.{then-port-ge4-via-then-port-ge4, then-port-ge4-via-else-port-ge4+then-not-has_disks}
 
+-- the bay of the port as the command is begun
+was : (g : Over) (c : goal.In-Some-begin g) → bay_of c.args.self.now c.args.port.0 ≡ Some c.in-Some.bay
+was g c =
+    seat_is c.args.self.now c.from-2.result c.args.port.0 c.index_mut.result.now c.in-Some.bay c.from-2.ensures
+    (let there = c.has_disks.ensures.there c.if-not-has_disks.false in
+    let long = ap length c.as_slice.ensures.value in
+    let one = c.from.ensures in
+    let two = c.from-2.ensures in
+    omega (arith, there, long, one, two))
+    c.index_mut.ensures.value c.in-Some.is
+
+-- it is as it was, but that its cache has grown
+abbrev begun_model : (g : Over) (c : goal.In-Some-begin g) → Model g.row.S.Denot
+begun_model g c = record c.args.self.now {
+  hardware = c.begin.new.hardware;
+  bays = with_item c.args.self.now.bays c.from-2.result (Some c.begin.new.self);
+}
+
+begun_items : (g : Over) (c : goal.In-Some-begin g) →
+    (begun_model g c).bays.items ≡ slice_set c.args.self.now.bays.items c.args.port.0 (Some (record c.in-Some.bay { cache = c.begin.new.self.cache }))
+begun_items g c = ap (λ k. slice_set c.args.self.now.bays.items k (Some c.begin.new.self)) c.from-2.ensures
+    ∙ ap (λ (x : Bay g.row.S.Denot). slice_set c.args.self.now.bays.items c.args.port.0 (Some x)) c.begin.ensures.rest
+
+begun_outside : (g : Over) (c : goal.In-Some-begin g) →
+    outside_at g.S.SectorStore.size g.S.SectorStore.told (begun_model g c) ≡ outside_at g.S.SectorStore.size g.S.SectorStore.told c.args.self.now
+begun_outside g c =
+    grown_outside g.S.SectorStore.size g.S.SectorStore.told g.S.SectorStore.failures c.args.self.now (begun_model g c) c.args.port.0 c.in-Some.bay c.begin.new.self.cache (was g c) (begun_items g c)
+    c.begin.ensures.same
+
 pub loop-piece-init : goal.loop-piece-init
 loop-piece-init g c =
     let m = c.args.self.now in
-    let o : Outside = outside_at g.S.SectorStore.size g.S.SectorStore.told m in
-    let old : Device = device_of m.hardware o in
-    let new : Device = device_of c.begin.new.self o in
-    let is = c.in-Some.ensures.begun in
+    let a = c.in-Some.bay in
+    let mid = begun_model g c in
+    let start : Outside = outside_at g.S.SectorStore.size g.S.SectorStore.told m in
+    let o : Outside = outside_at g.S.SectorStore.size g.S.SectorStore.told mid in
+    let behind : o ≡ start = begun_outside g c in
+    let old : Device = device_of m.hardware start in
+    let new : Device = device_of c.begin.new.hardware o in
+    let is = c.in-Some-begin.ensures.begun in
+    let P : Outside → Type 0 = λ x. DoesFetch c.args.port.0 c.args.slot.0 (device_of m.hardware x) new in
+    let did : c.in-Some-begin.field-0.was_taken ≡ true → DoesFetch c.args.port.0 c.args.slot.0 old new = λ e. subst P behind (is.did e o) in
+    let same : c.in-Some-begin.field-0.was_taken ≡ false → new ≡ old = λ e. is.same e o ∙ ap (device_of m.hardware) behind in
     record {
-      did = λ e. goes_one (SendsEnd c.args.slot.0) c.args.port.0 c.args.slot.0 old new (inl (is.did e o));
-      refused = λ e. is.same e o;
-      size = fetched_size c.args.port.0 c.args.slot.0 c.in-Some.field-0.was_taken old new (λ e. is.did e o) (λ e. is.same e o);
-      disks = λ _ _. refl;
-      untouched = λ _ _. refl;
-      fine = λ _ _. refl;
+      did = λ e. goes_one (SendsEnd c.args.slot.0) c.args.port.0 c.args.slot.0 old new (inl (did e));
+      refused = same;
+      size = fetched_size c.args.port.0 c.args.slot.0 c.in-Some-begin.field-0.was_taken old new did same;
+      disks = λ _ w.
+          grown_disks g.S.SectorStore.size g.S.SectorStore.told g.S.SectorStore.failures m mid c.args.port.0 a c.begin.new.self.cache (was g c) (begun_items g c) c.begin.ensures.same c.args.port.0 w refl;
+      untouched = λ _ w.
+          grown_disks g.S.SectorStore.size g.S.SectorStore.told g.S.SectorStore.failures m mid c.args.port.0 a c.begin.new.self.cache (was g c) (begun_items g c) c.begin.ensures.same c.args.port.0 w refl;
+      fine = store_fine m mid c.args.port.0 a (record a { cache = c.begin.new.self.cache }) (was g c) (begun_items g c) refl g.S.SectorStore.failures refl;
       meanwhile = record {
         held = refl;
-        says = refl;
-        which = refl;
-        others = λ _ _. refl;
+        says = store_says m mid c.args.port.0 a (record a { cache = c.begin.new.self.cache }) (was g c) (begun_items g c) refl c.args.port.0;
+        which = store_whichs m mid c.args.port.0 a (record a { cache = c.begin.new.self.cache }) (was g c) (begun_items g c) refl c.args.port.0;
+        others = seated_others m mid c.args.port.0 a (record a { cache = c.begin.new.self.cache }) (was g c) (begun_items g c);
         pages = gains_none g.S.SectorStore.size _ _ is.tape;
-        keeps = on_hardware g.S.SectorStore.size g.S.SectorStore.told g.S.SectorStore.failures m c.begin.new.self;
+        keeps = grown_keeps g.S.SectorStore.size g.S.SectorStore.told g.S.SectorStore.failures m mid c.args.port.0 a c.begin.new.self.cache (was g c) (begun_items g c) c.begin.ensures.same refl refl;
         starved = is.starved;
       };
       room = let enough = is.room in omega (arith, enough);
       going =
-          let Q : ℕ → Type 0 = λ n. IsGoing new c.args.port.0 c.args.slot.0 n c.in-Some.field-0.rest.clears in
-          let all : c.in-Some.field-0.rest.left ≡ c.in-Some.field-0.rest.left - 0 = omega arith in
+          let Q : ℕ → Type 0 = λ n. IsGoing new c.args.port.0 c.args.slot.0 n c.in-Some-begin.field-0.rest.clears in
+          let all : c.in-Some-begin.field-0.rest.left ≡ c.in-Some-begin.field-0.rest.left - 0 = omega arith in
           subst Q all (is.going o);
+      ahead =
+          let all : c.in-Some-begin.field-0.rest.left ≡ c.in-Some-begin.field-0.rest.left - 0 = omega arith in
+          subst (RoomAhead g.S.SectorStore.size g.S.SectorStore.told mid c.args.port.0 c.args.slot.0) all
+          (λ t taken. room_there mid c.args.port.0 _ (record a { cache = c.begin.new.self.cache }) (seated_here m mid c.args.port.0 a (record a { cache = c.begin.new.self.cache }) (was g c) (begun_items g c))
+          (c.in-Some-begin.ensures.ahead o t taken));
     }
 
 pub loop-piece-preserved : goal.loop-piece-preserved
@@ -68,16 +119,20 @@ loop-piece-preserved g c =
           (record { held = step.held; says = whole.says; which = step.which; others = step.others; pages = step.pages; keeps = step.keeps; starved = step.starved });
       disks = λ none which.
           let o : Outside = outside_at g.S.SectorStore.size g.S.SectorStore.told c.args.self.now in
-          let moves = finish_moves c.args.port c.args.slot c.loop-piece.did _ _ c.in-Some.field-0.rest.left c.in-Some.field-0.rest.clears (found_disks g.S.SectorStore.size g.S.SectorStore.told c.args.self.now c.from.result c.args.port.0 _ c.from.ensures c.as_slice.ensures.value (sym c.has_disks.ensures.disks ∙ c.if-not-has_disks.false))
-          (omega (arith, c.loop-piece-test.true)) c.loop-piece.invariant.did c.loop-piece.invariant.refused (c.in-Some.ensures.begun.ready o) in
+          let moves = finish_moves c.args.port c.args.slot c.loop-piece.did _ _ c.in-Some-begin.field-0.rest.left c.in-Some-begin.field-0.rest.clears (found_disks g.S.SectorStore.size g.S.SectorStore.told c.args.self.now c.from.result c.args.port.0 _ c.from.ensures c.as_slice.ensures.value (sym c.has_disks.ensures.disks ∙ c.if-not-has_disks.false))
+          (omega (arith, c.loop-piece-test.true)) c.loop-piece.invariant.did c.loop-piece.invariant.refused (c.in-Some-begin.ensures.begun.ready o) in
           step.disks (λ sector. none (moves sector)) which ∙ c.loop-piece.invariant.disks none which;
       untouched = λ never. absurd (let e : true ≡ false = never in cc);
-      fine = λ q which. whole.fine q which ∙ c.loop-piece.invariant.fine q which;
+      fine = λ q which. whole.fine refl q which ∙ c.loop-piece.invariant.fine q which;
       room = c.move_piece.ensures.left c.in-Done.is _ (omega (arith, c.loop-piece.invariant.room, c.loop-piece-test.true));
       going =
-          let P : ℕ → Type 0 = λ n. IsGoing (device_at g.S.SectorStore.size g.S.SectorStore.told c.loop-piece.self) c.args.port.0 c.args.slot.0 n c.in-Some.field-0.rest.clears in
-          let next : c.in-Some.field-0.rest.left - c.loop-piece._piece ≡ suc (c.in-Some.field-0.rest.left - (c.loop-piece._piece + 1)) = omega (arith, c.loop-piece-test.true) in
-          moved_goes c.args.port.0 c.args.slot.0 (c.in-Some.field-0.rest.left - (c.loop-piece._piece + 1)) c.in-Some.field-0.rest.clears _ _ (subst P next c.loop-piece.invariant.going) moved;
+          let P : ℕ → Type 0 = λ n. IsGoing (device_at g.S.SectorStore.size g.S.SectorStore.told c.loop-piece.self) c.args.port.0 c.args.slot.0 n c.in-Some-begin.field-0.rest.clears in
+          let next : c.in-Some-begin.field-0.rest.left - c.loop-piece._piece ≡ suc (c.in-Some-begin.field-0.rest.left - (c.loop-piece._piece + 1)) = omega (arith, c.loop-piece-test.true) in
+          moved_goes c.args.port.0 c.args.slot.0 (c.in-Some-begin.field-0.rest.left - (c.loop-piece._piece + 1)) c.in-Some-begin.field-0.rest.clears _ _ (subst P next c.loop-piece.invariant.going) moved;
+      ahead =
+          let next : c.in-Some-begin.field-0.rest.left - c.loop-piece._piece ≡ suc (c.in-Some-begin.field-0.rest.left - (c.loop-piece._piece + 1)) = omega (arith, c.loop-piece-test.true) in
+          moved_room g.S.SectorStore.size g.S.SectorStore.told c.args.port.0 c.args.slot.0 c.loop-piece.self c.move_piece.new.self (c.in-Some-begin.field-0.rest.left - (c.loop-piece._piece + 1)) moved
+          (subst (RoomAhead g.S.SectorStore.size g.S.SectorStore.told c.loop-piece.self c.args.port.0 c.args.slot.0) next c.loop-piece.invariant.ahead) (c.move_piece.ensures.old_room c.in-Done.is);
     }
 
 -- a move was left: no move that is possible is, where it is served
@@ -90,17 +145,19 @@ returns-in-Left-clause-answers g c =
     let d : Device = device_at g.S.SectorStore.size g.S.SectorStore.told m in
     let step = left_it g.S.SectorStore.size g.S.SectorStore.told g.S.SectorStore.failures (asked.Move c.args.port c.args.slot) _ _ (answer_of c.move_piece.result)
     c.move_piece.ensures.answers (ap answer_of c.in-Left.is) in
-    let left = c.in-Some.field-0.rest.left - (c.loop-piece._piece + 1) in
-    let clears = c.in-Some.field-0.rest.clears in
+    let left = c.in-Some-begin.field-0.rest.left - (c.loop-piece._piece + 1) in
+    let clears = c.in-Some-begin.field-0.rest.clears in
     let P : ℕ → Type 0 = λ n. IsGoing d c.args.port.0 c.args.slot.0 n clears in
-    let next : c.in-Some.field-0.rest.left - c.loop-piece._piece ≡ suc left = omega (arith, c.loop-piece-test.true) in
+    let next : c.in-Some-begin.field-0.rest.left - c.loop-piece._piece ≡ suc left = omega (arith, c.loop-piece-test.true) in
     let disks : HasDisks (device_at g.S.SectorStore.size g.S.SectorStore.told first) c.args.port.0 = found_disks g.S.SectorStore.size g.S.SectorStore.told c.args.self.now c.from.result c.args.port.0 _ c.from.ensures c.as_slice.ensures.value (sym c.has_disks.ensures.disks ∙ c.if-not-has_disks.false) in
     let going = subst P next is.going in
     let move = going_has_move d c.args.port.0 c.args.slot.0 left clears (disks_kept g.S.SectorStore.size g.S.SectorStore.told first m c.args.port.0 is.meanwhile.which disks) going in
     let room : HasRoom m.hardware 1 = omega (arith, is.room) in
     cut_short g.S.SectorStore.size g.S.SectorStore.told g.S.SectorStore.failures (asked.Move c.args.port c.args.slot) c.args.port c.args.slot c.loop-piece.did first m _
-    (disks, c.requires, c.in-Some.field-0.rest.left, c.in-Some.field-0.rest.clears, c.in-Some.ensures.begun.ready o) is.did is.refused is.meanwhile is.disks is.untouched
-    is.fine refl step (λ small_enough. omega (arith, is.size, small_enough)) (c.requires, going.t, move) (λ lacks. lacks room) going.t going.works.taken
+    (disks, c.requires, c.in-Some-begin.field-0.rest.left, c.in-Some-begin.field-0.rest.clears, c.in-Some-begin.ensures.begun.ready o) is.did is.refused is.meanwhile is.disks is.untouched
+    is.fine refl step (λ small_enough. omega (arith, is.size, small_enough)) (c.requires, going.t, move)
+    (λ lacks. lacks.2 room (one_room m.bays.items c.args.port.0 lacks.0 _ left (subst (RoomAhead g.S.SectorStore.size g.S.SectorStore.told m c.args.port.0 c.args.slot.0) next is.ahead lacks.0 lacks.1.works.taken)))
+    going.t going.works.taken
 
 -- a move came to a sector on which the command failed
 pub returns-in-Failed-clause-answers : goal.returns-in-Failed-clause-answers
@@ -111,11 +168,11 @@ returns-in-Failed-clause-answers g c =
     let step = did_it g.S.SectorStore.size g.S.SectorStore.told g.S.SectorStore.failures (asked.Move c.args.port c.args.slot) _ _ (answer_of c.move_piece.result)
     c.move_piece.ensures.answers (ap answer_of c.in-Failed.is) in
     let failed = c.move_piece.ensures.failed c.in-Failed.is in
-    let left = c.in-Some.field-0.rest.left in
-    let asks = finish_moves c.args.port c.args.slot c.loop-piece.did _ _ left c.in-Some.field-0.rest.clears (found_disks g.S.SectorStore.size g.S.SectorStore.told c.args.self.now c.from.result c.args.port.0 _ c.from.ensures c.as_slice.ensures.value (sym c.has_disks.ensures.disks ∙ c.if-not-has_disks.false))
-    (omega (arith, c.loop-piece-test.true)) is.did is.refused (c.in-Some.ensures.begun.ready o) (c.requires, failed.t, failed.move, failed.ranged) in
+    let left = c.in-Some-begin.field-0.rest.left in
+    let asks = finish_moves c.args.port c.args.slot c.loop-piece.did _ _ left c.in-Some-begin.field-0.rest.clears (found_disks g.S.SectorStore.size g.S.SectorStore.told c.args.self.now c.from.result c.args.port.0 _ c.from.ensures c.as_slice.ensures.value (sym c.has_disks.ensures.disks ∙ c.if-not-has_disks.false))
+    (omega (arith, c.loop-piece-test.true)) is.did is.refused (c.in-Some-begin.ensures.begun.ready o) (c.requires, failed.t, failed.move, failed.ranged) in
     move_fails g.S.SectorStore.size g.S.SectorStore.told g.S.SectorStore.failures c.args.port c.args.slot c.loop-piece.did first _ _
-    ((found_disks g.S.SectorStore.size g.S.SectorStore.told c.args.self.now c.from.result c.args.port.0 _ c.from.ensures c.as_slice.ensures.value (sym c.has_disks.ensures.disks ∙ c.if-not-has_disks.false)), c.requires, left, c.in-Some.field-0.rest.clears, c.in-Some.ensures.begun.ready o) is.did is.refused is.meanwhile asks is.fine step failed
+    ((found_disks g.S.SectorStore.size g.S.SectorStore.told c.args.self.now c.from.result c.args.port.0 _ c.from.ensures c.as_slice.ensures.value (sym c.has_disks.ensures.disks ∙ c.if-not-has_disks.false)), c.requires, left, c.in-Some-begin.field-0.rest.clears, c.in-Some-begin.ensures.begun.ready o) is.did is.refused is.meanwhile asks is.fine step failed
 
 -- ---- the clears
 
@@ -123,15 +180,16 @@ pub loop-run-init : goal.loop-run-init
 loop-run-init g c =
     let is = c.loop-piece.invariant in
     let d : Device = device_at g.S.SectorStore.size g.S.SectorStore.told c.loop-piece.self in
-    let none : c.in-Some.field-0.rest.left - c.loop-piece._piece ≡ 0 = omega (arith, c.loop-piece-test.false) in
-    let all : c.in-Some.field-0.rest.clears ≡ c.in-Some.field-0.rest.clears - 0 = omega arith in
-    let P : ℕ → Type 0 = λ n. IsGoing d c.args.port.0 c.args.slot.0 n c.in-Some.field-0.rest.clears in
+    let none : c.in-Some-begin.field-0.rest.left - c.loop-piece._piece ≡ 0 = omega (arith, c.loop-piece-test.false) in
+    let all : c.in-Some-begin.field-0.rest.clears ≡ c.in-Some-begin.field-0.rest.clears - 0 = omega arith in
+    let P : ℕ → Type 0 = λ n. IsGoing d c.args.port.0 c.args.slot.0 n c.in-Some-begin.field-0.rest.clears in
     let Q : ℕ → Type 0 = λ n. IsGoing d c.args.port.0 c.args.slot.0 0 n in
     record {
       did = is.did;
       refused = is.refused;
       room = let enough = is.room in omega (arith, enough, none);
       going = subst Q all (subst P none is.going);
+      ahead = subst (RoomAhead g.S.SectorStore.size g.S.SectorStore.told c.loop-piece.self c.args.port.0 c.args.slot.0) none is.ahead;
       disks = is.disks;
       untouched = is.untouched;
       fine = is.fine;
@@ -157,12 +215,12 @@ loop-run-preserved g c =
     let step = did_it g.S.SectorStore.size g.S.SectorStore.told g.S.SectorStore.failures (asked.Clear c.args.port c.args.slot most) _ _ (answer_of c.clear_run.result)
     c.clear_run.ensures.answers (ap answer_of c.in-Done-clear_run.is) in
     let whole = c.clear_run.ensures.whole c.in-Done-clear_run.is in
-    let left = c.in-Some.field-0.rest.clears - (c.loop-run._run + 1) in
+    let left = c.in-Some-begin.field-0.rest.clears - (c.loop-run._run + 1) in
     let P : ℕ → Type 0 = λ n. IsGoing d c.args.port.0 c.args.slot.0 0 n in
-    let next : c.in-Some.field-0.rest.clears - c.loop-run._run ≡ suc left = omega (arith, c.loop-run-test.true) in
+    let next : c.in-Some-begin.field-0.rest.clears - c.loop-run._run ≡ suc left = omega (arith, c.loop-run-test.true) in
     let going = subst P next is.going in
-    let asks = finish_clears c.args.port c.args.slot _ c.in-Some.field-0.rest.left c.in-Some.field-0.rest.clears (found_disks g.S.SectorStore.size g.S.SectorStore.told c.args.self.now c.from.result c.args.port.0 _ c.from.ensures c.as_slice.ensures.value (sym c.has_disks.ensures.disks ∙ c.if-not-has_disks.false)) c.requires
-    (omega (arith, c.loop-run-test.true)) (c.in-Some.ensures.begun.ready start) in
+    let asks = finish_clears c.args.port c.args.slot _ c.in-Some-begin.field-0.rest.left c.in-Some-begin.field-0.rest.clears (found_disks g.S.SectorStore.size g.S.SectorStore.told c.args.self.now c.from.result c.args.port.0 _ c.from.ensures c.as_slice.ensures.value (sym c.has_disks.ensures.disks ∙ c.if-not-has_disks.false)) c.requires
+    (omega (arith, c.loop-run-test.true)) (c.in-Some-begin.ensures.begun.ready start) in
     record {
       did = λ _. goes_next (SendsEnd c.args.slot.0) c.args.port.0 c.args.slot.0 _ _ _ c.loop-run.did is.did is.refused (inr (inr (inr (most, whole.1.asked))));
       refused = λ never. absurd (let e : true ≡ false = never in cc);
@@ -170,10 +228,11 @@ loop-run-preserved g c =
           (record { held = step.held; says = whole.1.says; which = step.which; others = step.others; pages = step.pages; keeps = step.keeps; starved = step.starved });
       disks = λ none. absurd (none asks);
       untouched = λ never. absurd (let e : true ≡ false = never in cc);
-      fine = λ q which. whole.1.fine q which ∙ is.fine q which;
+      fine = λ q which. whole.1.fine refl q which ∙ is.fine q which;
       room = c.clear_run.ensures.left c.in-Done-clear_run.is _ (omega (arith, is.room, c.loop-run-test.true));
       going = cleared_goes c.args.port.0 c.args.slot.0 left d _ going most
           (as_many m.hardware o c.args.port.0 c.args.slot.0 0 (suc left) most going c.count_uncleared-most.ensures) whole.1.asked whole.0;
+      ahead = cleared_room g.S.SectorStore.size g.S.SectorStore.told c.args.port.0 c.args.slot.0 m c.clear_run.new.self most whole.1.asked whole.0 is.ahead (c.clear_run.ensures.old_room c.in-Done-clear_run.is);
     }
 
 -- a clear was left
@@ -189,16 +248,17 @@ returns-in-Left-clear_run-clause-answers g c =
     let most = c.count_uncleared-most.result in
     let step = left_it g.S.SectorStore.size g.S.SectorStore.told g.S.SectorStore.failures (asked.Clear c.args.port c.args.slot most) _ _ (answer_of c.clear_run.result)
     c.clear_run.ensures.answers (ap answer_of c.in-Left-clear_run.is) in
-    let left = c.in-Some.field-0.rest.clears - (c.loop-run._run + 1) in
+    let left = c.in-Some-begin.field-0.rest.clears - (c.loop-run._run + 1) in
     let P : ℕ → Type 0 = λ n. IsGoing d c.args.port.0 c.args.slot.0 0 n in
-    let next : c.in-Some.field-0.rest.clears - c.loop-run._run ≡ suc left = omega (arith, c.loop-run-test.true) in
+    let next : c.in-Some-begin.field-0.rest.clears - c.loop-run._run ≡ suc left = omega (arith, c.loop-run-test.true) in
     let going = subst P next is.going in
     let whole = as_many m.hardware o c.args.port.0 c.args.slot.0 0 (suc left) most going c.count_uncleared-most.ensures in
     let has = subst (λ (n : ℕ). HasClear d c.args.port.0 c.args.slot.0 n going.t) (sym whole) (going_has_clear d c.args.port.0 c.args.slot.0 left (disks_kept g.S.SectorStore.size g.S.SectorStore.told first m c.args.port.0 is.meanwhile.which disks) going) in
     let room : HasRoom m.hardware 2 = omega (arith, is.room, next) in
     cut_short g.S.SectorStore.size g.S.SectorStore.told g.S.SectorStore.failures (asked.Clear c.args.port c.args.slot most) c.args.port c.args.slot c.loop-run.did first m _
-    (disks, c.requires, c.in-Some.field-0.rest.left, c.in-Some.field-0.rest.clears, c.in-Some.ensures.begun.ready start) is.did is.refused is.meanwhile is.disks is.untouched
-    is.fine refl step (λ _. tt) (c.requires, going.t, has) (λ lacks. lacks room) going.t going.works.taken
+    (disks, c.requires, c.in-Some-begin.field-0.rest.left, c.in-Some-begin.field-0.rest.clears, c.in-Some-begin.ensures.begun.ready start) is.did is.refused is.meanwhile is.disks is.untouched
+    is.fine refl step (λ _. tt) (c.requires, going.t, has)
+    (λ lacks. lacks.2 room (run_room g.S.SectorStore.size g.S.SectorStore.told m c.args.port.0 c.args.slot.0 most lacks.0 lacks.1 is.ahead)) going.t going.works.taken
 
 -- a clear came to a sector on which the command failed
 pub returns-in-Failed-clear_run-clause-answers : goal.returns-in-Failed-clear_run-clause-answers
@@ -209,10 +269,10 @@ returns-in-Failed-clear_run-clause-answers g c =
     let most = c.count_uncleared-most.result in
     let step = did_it g.S.SectorStore.size g.S.SectorStore.told g.S.SectorStore.failures (asked.Clear c.args.port c.args.slot most) _ _ (answer_of c.clear_run.result)
     c.clear_run.ensures.answers (ap answer_of c.in-Failed-clear_run.is) in
-    let asks = finish_clears c.args.port c.args.slot _ c.in-Some.field-0.rest.left c.in-Some.field-0.rest.clears (found_disks g.S.SectorStore.size g.S.SectorStore.told c.args.self.now c.from.result c.args.port.0 _ c.from.ensures c.as_slice.ensures.value (sym c.has_disks.ensures.disks ∙ c.if-not-has_disks.false)) c.requires
-    (omega (arith, c.loop-run-test.true)) (c.in-Some.ensures.begun.ready start) in
+    let asks = finish_clears c.args.port c.args.slot _ c.in-Some-begin.field-0.rest.left c.in-Some-begin.field-0.rest.clears (found_disks g.S.SectorStore.size g.S.SectorStore.told c.args.self.now c.from.result c.args.port.0 _ c.from.ensures c.as_slice.ensures.value (sym c.has_disks.ensures.disks ∙ c.if-not-has_disks.false)) c.requires
+    (omega (arith, c.loop-run-test.true)) (c.in-Some-begin.ensures.begun.ready start) in
     clear_fails g.S.SectorStore.size g.S.SectorStore.told g.S.SectorStore.failures c.args.port c.args.slot c.loop-run.did first _ _
-    ((found_disks g.S.SectorStore.size g.S.SectorStore.told c.args.self.now c.from.result c.args.port.0 _ c.from.ensures c.as_slice.ensures.value (sym c.has_disks.ensures.disks ∙ c.if-not-has_disks.false)), c.requires, c.in-Some.field-0.rest.left, c.in-Some.field-0.rest.clears, c.in-Some.ensures.begun.ready start) is.did is.refused is.meanwhile asks
+    ((found_disks g.S.SectorStore.size g.S.SectorStore.told c.args.self.now c.from.result c.args.port.0 _ c.from.ensures c.as_slice.ensures.value (sym c.has_disks.ensures.disks ∙ c.if-not-has_disks.false)), c.requires, c.in-Some-begin.field-0.rest.left, c.in-Some-begin.field-0.rest.clears, c.in-Some-begin.ensures.begun.ready start) is.did is.refused is.meanwhile asks
     is.fine most step (c.clear_run.ensures.failed c.in-Failed-clear_run.is)
 
 -- ---- the end
@@ -230,15 +290,16 @@ returns-then-done-clause-answers g c =
     let all = meanwhile_on g.S.SectorStore.size g.S.SectorStore.told g.S.SectorStore.failures c.args.port.0 first m _ is.meanwhile
     (record { held = step.held; says = whole.says; which = step.which; others = step.others; pages = step.pages; keeps = step.keeps; starved = step.starved }) in
     answered_true g.S.SectorStore.size g.S.SectorStore.told g.S.SectorStore.failures (asked.Finish c.args.port c.args.slot) first _ c.done.result c.if-done.true (
-      ((found_disks g.S.SectorStore.size g.S.SectorStore.told c.args.self.now c.from.result c.args.port.0 _ c.from.ensures c.as_slice.ensures.value (sym c.has_disks.ensures.disks ∙ c.if-not-has_disks.false)), c.requires, c.in-Some.field-0.rest.left, c.in-Some.field-0.rest.clears, c.in-Some.ensures.begun.ready start),
+      ((found_disks g.S.SectorStore.size g.S.SectorStore.told c.args.self.now c.from.result c.args.port.0 _ c.from.ensures c.as_slice.ensures.value (sym c.has_disks.ensures.disks ∙ c.if-not-has_disks.false)), c.requires, c.in-Some-begin.field-0.rest.left, c.in-Some-begin.field-0.rest.clears, c.in-Some-begin.ensures.begun.ready start),
       record {
         came = inl (record {
           asked = goes_next (SendsEnd c.args.slot.0) c.args.port.0 c.args.slot.0 _ _ _ c.loop-run.did is.did is.refused (inr (inr (inl done)));
-          fine = λ q which. whole.fine q which ∙ is.fine q which;
+          fine = λ _ q which. whole.fine refl q which ∙ is.fine q which;
           says = all.says;
           ends = λ _.
               let issued = no_more_going c.args.port.0 c.args.slot.0 c.loop-run.did _ _ is.did is.refused in
               done_ended c.args.port.0 c.args.slot.0 _ _ _ issued done;
+          loses = λ yes. true-false yes refl;
         });
         held = all.held;
         which = all.which;
@@ -256,7 +317,7 @@ end_is_done g c =
     let m = c.loop-run.self in
     let o : Outside = outside_at g.S.SectorStore.size g.S.SectorStore.told m in
     let P : ℕ → Type 0 = λ n. IsGoing (device_at g.S.SectorStore.size g.S.SectorStore.told m) c.args.port.0 c.args.slot.0 0 n in
-    let none : c.in-Some.field-0.rest.clears - c.loop-run._run ≡ 0 = omega (arith, c.loop-run-test.false) in
+    let none : c.in-Some-begin.field-0.rest.clears - c.loop-run._run ≡ 0 = omega (arith, c.loop-run-test.false) in
     let going = subst P none c.loop-run.invariant.going in
     let left = left_it g.S.SectorStore.size g.S.SectorStore.told g.S.SectorStore.failures (asked.Done c.args.port c.args.slot) _ _ c.done.result c.done.ensures c.if-done.false in
     (left.why tt (omega (arith, c.if-port-ge4.false), c.requires, 0, going.t, going_may_end c.args.port.0 c.args.slot.0 _ going)).0 (omega (arith, c.loop-run.invariant.room))
@@ -294,30 +355,32 @@ returns-then-port-ge4-clause-sends g c = λ disks has.
     ])
 
 -- there is no command that can be done
-pub returns-in_default-clause-answers : goal.returns-in_default-clause-answers
-returns-in_default-clause-answers g c =
+pub returns-in_default-begin-clause-answers : goal.returns-in_default-begin-clause-answers
+returns-in_default-begin-clause-answers g c =
     let m = c.args.self.now in
+    let a = c.in-Some.bay in
     let o : Outside = outside_at g.S.SectorStore.size g.S.SectorStore.told m in
-    elim (c.in_default.ensures.left refl) [
+    let here = seat_is c.args.self.now c.from-2.result c.args.port.0 c.index_mut.result.now c.in-Some.bay c.from-2.ensures
+    (let there = c.has_disks.ensures.there c.if-not-has_disks.false in
+    let long = ap length c.as_slice.ensures.value in
+    let one = c.from.ensures in
+    let two = c.from-2.ensures in
+    omega (arith, there, long, one, two))
+    c.index_mut.ensures.value c.in-Some.is in
+    let items = ap (λ k. slice_set m.bays.items k (Some c.begin.new.self)) c.from-2.ensures ∙ ap (λ (x : Bay g.row.S.Denot). slice_set m.bays.items c.args.port.0 (Some x)) c.begin.ensures.rest in
+    elim (c.in_default-begin.ensures.left refl) [
       | inl never ↦
-          let Left : Hardware → Type 0 = λ h.
-          IsLeftOut g.S.SectorStore.size g.S.SectorStore.told g.S.SectorStore.failures (asked.Finish c.args.port c.args.slot) m (record m { hardware = h }) in
-          subst Left (sym never.1)
-          (left_same g.S.SectorStore.size g.S.SectorStore.told g.S.SectorStore.failures _ m (λ may. never.0 o may.2 may.3 may.4))
+          grown_left g.S.SectorStore.size g.S.SectorStore.told g.S.SectorStore.failures m _ c.args.port.0 a c.begin.new.self.cache here items c.begin.ensures.same
+          (asked.Finish c.args.port c.args.slot) refl (ap (λ (h : Hardware). device_of h o) never.1) refl refl refl (λ _ may. absurd (never.0 o may.2 may.3 may.4))
+          (λ yes. ap (λ (h : Hardware). h.starved) never.1 ∙ yes) (λ yes. inl (sym (ap (λ (h : Hardware). h.starved) never.1) ∙ yes))
       | inr lacks ↦
           let ready = lacks.ready o in
-          record {
-            device = lacks.same o;
-            held = refl;
-            says = refl;
-            which = refl;
-            others = λ _ _. refl;
-            disks = λ _. refl;
-            why = λ _ _. ((lacks.left, lacks.clears, ready, lacks.lacked), lacks.told);
-            keeps = record { identities = λ _ _. refl; out = λ _ _ _. refl; queue = refl; accesses = refl };
-            starved_on = λ _. lacks.told;
-            starved_since = λ _. inr (((found_disks g.S.SectorStore.size g.S.SectorStore.told c.args.self.now c.from.result c.args.port.0 _ c.from.ensures c.as_slice.ensures.value (sym c.has_disks.ensures.disks ∙ c.if-not-has_disks.false)), c.requires, lacks.left, lacks.clears, ready), (lacks.left, lacks.clears, ready, lacks.lacked));
-          }
+          let may : Possible (asked.Finish c.args.port c.args.slot) (device_at g.S.SectorStore.size g.S.SectorStore.told m) =
+          (has_disks g.S.SectorStore.size g.S.SectorStore.told m c.args.port.0 a here, c.requires, lacks.left, lacks.clears, ready) in
+          let none : LacksMemory (asked.Finish c.args.port c.args.slot) (device_at g.S.SectorStore.size g.S.SectorStore.told m) m.hardware m.bays.items =
+          (lacks.left, lacks.clears, ready, λ room old. lacks.lacked o lacks.left lacks.clears ready room (room_here m c.args.port.0 _ a here old)) in
+          grown_left g.S.SectorStore.size g.S.SectorStore.told g.S.SectorStore.failures m _ c.args.port.0 a c.begin.new.self.cache here items c.begin.ensures.same
+          (asked.Finish c.args.port c.args.slot) refl (lacks.same o) refl refl refl (λ _ _. (none, lacks.told)) (λ _. lacks.told) (λ _. inr (may, none))
     ]
 
 -- ---- a command that sends a page, for which no store is asked
@@ -329,10 +392,10 @@ returns-in-Left-clause-sends g c = λ disks has.
     let first = c.args.self.now in
     let is = c.loop-piece.invariant in
     let d : Device = device_at g.S.SectorStore.size g.S.SectorStore.told m in
-    let left = c.in-Some.field-0.rest.left - (c.loop-piece._piece + 1) in
-    let clears = c.in-Some.field-0.rest.clears in
+    let left = c.in-Some-begin.field-0.rest.left - (c.loop-piece._piece + 1) in
+    let clears = c.in-Some-begin.field-0.rest.clears in
     let P : ℕ → Type 0 = λ n. IsGoing d c.args.port.0 c.args.slot.0 n clears in
-    let next : c.in-Some.field-0.rest.left - c.loop-piece._piece ≡ suc left = omega (arith, c.loop-piece-test.true) in
+    let next : c.in-Some-begin.field-0.rest.left - c.loop-piece._piece ≡ suc left = omega (arith, c.loop-piece-test.true) in
     let going = subst P next is.going in
     let move = going_has_move d c.args.port.0 c.args.slot.0 left clears (disks_kept g.S.SectorStore.size g.S.SectorStore.told first m c.args.port.0 is.meanwhile.which disks) going in
     let t : Taken = going.t in
@@ -353,7 +416,7 @@ returns-then-done-clause-sends g c = λ disks has.
     let m = c.loop-run.self in
     let o : Outside = outside_at g.S.SectorStore.size g.S.SectorStore.told m in
     let P : ℕ → Type 0 = λ n. IsGoing (device_at g.S.SectorStore.size g.S.SectorStore.told m) c.args.port.0 c.args.slot.0 0 n in
-    let none : c.in-Some.field-0.rest.clears - c.loop-run._run ≡ 0 = omega (arith, c.loop-run-test.false) in
+    let none : c.in-Some-begin.field-0.rest.clears - c.loop-run._run ≡ 0 = omega (arith, c.loop-run-test.false) in
     let going = subst P none c.loop-run.invariant.going in
     let page = page_taken c.args.port.0 c.args.slot.0 c.loop-run.did _ _ c.loop-run.invariant.did c.loop-run.invariant.refused has going.t going.works.taken in (
       λ _. done_frees c.args.port.0 c.args.slot.0 _ _ going (page_plain _ page.0) (done_whole g.S.SectorStore.size g.S.SectorStore.told g.S.SectorStore.failures c.args.port c.args.slot _ _ (did_it g.S.SectorStore.size g.S.SectorStore.told g.S.SectorStore.failures (asked.Done c.args.port c.args.slot) _ _ c.done.result c.done.ensures c.if-done.true)).asked,
@@ -363,17 +426,17 @@ returns-then-done-clause-sends g c = λ disks has.
 pub returns-else-done-clause-sends : goal.returns-else-done-clause-sends
 returns-else-done-clause-sends g c = λ _ _. absurd (end_is_done g c)
 
-pub returns-in_default-clause-sends : goal.returns-in_default-clause-sends
-returns-in_default-clause-sends g c = λ disks has.
+pub returns-in_default-begin-clause-sends : goal.returns-in_default-begin-clause-sends
+returns-in_default-begin-clause-sends g c = λ disks has.
     let m = c.args.self.now in
     let o : Outside = outside_at g.S.SectorStore.size g.S.SectorStore.told m in
     let ready = has.ready in
-    elim (c.in_default.ensures.left refl) [
+    elim (c.in_default-begin.ensures.left refl) [
       | inl never ↦ absurd (never.0 o has.left 0 ready)
       | inr lacks ↦
-          let same = lacks.only o has.left 0 ready in (
+          let none : changes_ahead ready.t.meaning.operation (device_of m.hardware o).memory ready.t has.left ≡ 0 = page_unchanged ready.t.meaning.operation _ ready.t has.left has.sends in (
             λ never. absurd (let e : false ≡ true = never in cc),
-            λ _. (lacks.told, λ room. lacks.lacks (omega (arith, same.0, same.1, room))),
+            λ _. (lacks.told, λ room. lacks.lacks o has.left 0 ready (omega (arith, room)) (subst (HasOldRoom c.begin.new.self.cache) (sym none) (no_room c.begin.new.self.cache))),
           )
     ]
 
@@ -384,9 +447,9 @@ no_clears d port slot left clears has may some = page_asks_none d port slot left
 pub returns-in-Left-clear_run-clause-sends : goal.returns-in-Left-clear_run-clause-sends
 returns-in-Left-clear_run-clause-sends g c = λ _ has.
     let o : Outside = outside_at g.S.SectorStore.size g.S.SectorStore.told c.args.self.now in
-    absurd (no_clears _ c.args.port.0 c.args.slot.0 _ _ has (c.in-Some.ensures.begun.ready o) (omega (arith, c.loop-run-test.true)))
+    absurd (no_clears _ c.args.port.0 c.args.slot.0 _ _ has (c.in-Some-begin.ensures.begun.ready o) (omega (arith, c.loop-run-test.true)))
 
 pub returns-in-Failed-clear_run-clause-sends : goal.returns-in-Failed-clear_run-clause-sends
 returns-in-Failed-clear_run-clause-sends g c = λ _ has.
     let o : Outside = outside_at g.S.SectorStore.size g.S.SectorStore.told c.args.self.now in
-    absurd (no_clears _ c.args.port.0 c.args.slot.0 _ _ has (c.in-Some.ensures.begun.ready o) (omega (arith, c.loop-run-test.true)))
+    absurd (no_clears _ c.args.port.0 c.args.slot.0 _ _ has (c.in-Some-begin.ensures.begun.ready o) (omega (arith, c.loop-run-test.true)))

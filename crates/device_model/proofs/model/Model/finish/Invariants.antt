@@ -8,6 +8,7 @@ use Rattle.device_model.specs.Modelled.{device_at}
 use Rattle.device_model.specs.Sent.{SendsEnd}
 use Rattle.device_model.specs.declared.disks.Which.{Which}
 use Rattle.device_model.proofs.Doing.{Meanwhile}
+use Rattle.device_model.proofs.Growing.{RoomAhead}
 use Rattle.device_model.proofs.model.Model.finish.Given as goal
 
 abbrev pub invariant-loop-piece : goal.invariant-loop-piece
@@ -19,6 +20,7 @@ invariant-loop-piece g l = record {
   size : (device_at g.S.SectorStore.size g.S.SectorStore.told l.self).size ≡ (device_at g.S.SectorStore.size g.S.SectorStore.told l.fn.self).size;
   room : HasRoom l.self.hardware (l.rest.left - l._piece + l.rest.clears + 1);
   going : IsGoing (device_at g.S.SectorStore.size g.S.SectorStore.told l.self) l.port.0 l.slot.0 (l.rest.left - l._piece) l.rest.clears;
+  ahead : RoomAhead g.S.SectorStore.size g.S.SectorStore.told l.self l.port.0 l.slot.0 (l.rest.left - l._piece);
   disks : (AsksStore (asked.Finish l.port l.slot) (device_at g.S.SectorStore.size g.S.SectorStore.told l.fn.self) → ⊥) → (which : Which) →
       disk_of l.self l.port.0 which ≡ disk_of l.fn.self l.port.0 which;
   untouched : l.did ≡ false → (which : Which) → disk_of l.self l.port.0 which ≡ disk_of l.fn.self l.port.0 which;
@@ -34,6 +36,7 @@ invariant-loop-run g l = record {
       device_at g.S.SectorStore.size g.S.SectorStore.told l.self ≡ device_at g.S.SectorStore.size g.S.SectorStore.told l.fn.self;
   room : HasRoom l.self.hardware (l._run-end - l._run + 1);
   going : IsGoing (device_at g.S.SectorStore.size g.S.SectorStore.told l.self) l.port.0 l.slot.0 0 (l._run-end - l._run);
+  ahead : RoomAhead g.S.SectorStore.size g.S.SectorStore.told l.self l.port.0 l.slot.0 0;
   disks : (AsksStore (asked.Finish l.port l.slot) (device_at g.S.SectorStore.size g.S.SectorStore.told l.fn.self) → ⊥) → (which : Which) →
       disk_of l.self l.port.0 which ≡ disk_of l.fn.self l.port.0 which;
   untouched : l.did ≡ false → (which : Which) → disk_of l.self l.port.0 which ≡ disk_of l.fn.self l.port.0 which;

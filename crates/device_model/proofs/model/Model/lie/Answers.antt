@@ -14,4 +14,4 @@ returns g c =
     let small = c.if-offset-ge-PAGE_BYTES.false in
     lie_answers g.S.SectorStore.size g.S.SectorStore.told g.S.SectorStore.failures m (asked.Lie c.args.port c.args.page c.args.offset c.args.bits)
     (lying c.args.page c.args.offset c.args.bits) c.lie_of.new.bays (subst Q c.from.ensures (subst P c.from-offset.ensures c.lie_of.ensures)) (omega (arith, at, small))
-    (λ old new same. same) (λ old new. tt) refl refl refl
+    (λ old new same. same) (λ old new. tt) refl refl refl refl

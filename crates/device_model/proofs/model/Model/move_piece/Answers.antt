@@ -5,20 +5,21 @@ use Rattle.std.proofs.Common.{Bool, Some, Option, refl, ◌++◌, ℕ, true, fal
 use Rattle.device_model.proofs.Absurd.{some_one, true-false}
 use Rattle.adapter.specs.Asked.{DoesMove}
 use Rattle.adapter.specs.Commands.{is_ranged, reads_memory}
-use Rattle.adapter.specs.Device.{Device}
+use Rattle.adapter.specs.Device.{Device, Taken}
 use Rattle.adapter.specs.Steps.{next_place, next_sector, Can, after, move_of}
 use Rattle.adapter.specs.Steps.Step.{Move}
 use Rattle.adapter.specs.declared.tape.Entry.{Entry}
 use Rattle.adapter.specs.declared.tape.Entry.TheVariants as entry
-use Rattle.sector_store.specs.Stores.{FailsOn}
 use Rattle.sector_store.specs.declared.store.Failures.{Failures}
 use Rattle.adapter.specs.declared.access.DeviceStep.TheVariants as asked
-use Rattle.device_model.specs.Disks.{bay_of, disk_in, failing, failures_of}
-use Rattle.device_model.specs.Does.{Completes, HasFailed}
-use Rattle.device_model.specs.Exchanged.{piece_of}
-use Rattle.device_model.specs.Finishing.{HasMove, HasRoom}
+use Rattle.device_model.specs.Disks.{bay_of, caches, disk_in, failing, failures_of, has_cache, lasting_of}
+use Rattle.device_model.specs.Cached.{CallFails, HasOldRoom}
+use Rattle.device_model.specs.Does.{Completes, HasFailed, LacksMemory}
+use Rattle.device_model.specs.Exchanged.{Exchanges, piece_of}
+use Rattle.device_model.specs.Finishing.{HasMove}
 use Rattle.device_model.specs.Modelled.{device_at, media_of, outside_at}
 use Rattle.device_model.specs.Slots.{IsNext}
+use Rattle.device_model.specs.Trims.{written_ahead}
 use Rattle.device_model.specs.View.{Media, operation_of, taken_of}
 use Rattle.device_model.specs.declared.port.Transfer.{Transfer}
 use Rattle.device_model.specs.Whole.{Outside, device_of, outside_after}
@@ -30,7 +31,10 @@ use Rattle.device_model.proofs.Doing.{IsFailed, is_failed}
 use Rattle.device_model.proofs.Exchanging.{next_over, room_over, starved_over}
 use Rattle.device_model.proofs.Faults.{did_fail, fails_to_move}
 use Rattle.device_model.proofs.Finishing.{move_fits, next_has_move}
+use Rattle.device_model.proofs.Growing.{grown_lasts, grown_left, room_here, room_there}
+use Rattle.device_model.proofs.Caching.{no_room}
 use Rattle.device_model.proofs.Paging.{next_unranged}
+use Rattle.device_model.proofs.Transfers.{page_unwritten}
 use Rattle.device_model.proofs.Stepping.{may_move}
 use Rattle.device_model.proofs.Telling.{gains_moved, gains_none}
 use Rattle.device_model.proofs.model.Model.move_piece.Given.{Over}
@@ -48,7 +52,7 @@ returns-in_default-clause-answers g c =
       says = refl;
       which = refl;
       others = λ _ _. refl;
-      keeps = record { identities = λ _ _. refl; out = λ _ _ _. refl; queue = refl; accesses = refl };
+      keeps = record { identities = λ _ _. refl; out = λ _ _ _. refl; caches = λ _. refl; queue = refl; accesses = refl };
       disks = λ _. refl;
       why = λ served may.
           absurd (
@@ -68,14 +72,15 @@ returns-then-not-room-clause-answers g c =
     let bay = found_bay m c.from-place.result c.args.port.0 _ c.from-place.ensures c.as_slice.ensures.value (sym c.has_disks.ensures.disks ∙ c.if-not-has_disks.false) in
     let fits = next_has_move c.reserve-room.new.self o _ c.args.port.0 c.args.slot.0 c.in-Some.next c.in-Some.ensures.found.0
     (has_disks g.S.SectorStore.size g.S.SectorStore.told m c.args.port.0 bay.0 bay.1) (c.reserve-room.ensures.same o) c.in-Some.ensures.found.1 in
-    let lacks : HasRoom m.hardware 1 → ⊥ = λ room. true-false (c.reserve-room.ensures.enough room) c.if-not-room.true in
+    let lacks : LacksMemory (asked.Move c.args.port c.args.slot) (device_at g.S.SectorStore.size g.S.SectorStore.told m) m.hardware m.bays.items =
+    (taken_of c.in-Some.ensures.found.0, fits, λ room _. true-false (c.reserve-room.ensures.enough room) c.if-not-room.true) in
     record {
       device = c.reserve-room.ensures.same o;
       held = refl;
       says = refl;
       which = refl;
       others = λ _ _. refl;
-      keeps = record { identities = λ _ _. refl; out = λ _ _ _. refl; queue = refl; accesses = refl };
+      keeps = record { identities = λ _ _. refl; out = λ _ _ _. refl; caches = λ _. refl; queue = refl; accesses = refl };
       disks = λ _. refl;
       why = λ _ _. (lacks, refl);
       starved_on = λ _. refl;
@@ -89,6 +94,21 @@ was g c =
     seat_is c.args.self.now c.from-place.result c.args.port.0 c.index_mut.result.now c.in-Some-index_mut.bay c.from-place.ensures
     (let there = c.has_disks.ensures.there c.if-not-has_disks.false in let long = ap length c.as_slice.ensures.value in omega (arith, there, long))
     c.index_mut.ensures.value c.in-Some-index_mut.is
+
+-- it was exchanged with the bay as it was, but that its cache has grown
+exchanged : (g : Over) (c : goal.After-note_move g) →
+    Exchanges g.S.SectorStore.size g.S.SectorStore.told g.S.SectorStore.failures (record c.in-Some-index_mut.bay { cache = c.reserve.new.self.cache }) c.exchange.new.self c.in-Some.next
+    (piece_of c.reserve-room.new.self c.in-Some.next) (piece_of c.exchange.new.hardware c.in-Some.next) c.exchange.result
+exchanged g c =
+    let P : Bay g.row.S.Denot → Type 0 = λ x. Exchanges g.S.SectorStore.size g.S.SectorStore.told g.S.SectorStore.failures x c.exchange.new.self c.in-Some.next
+    (piece_of c.reserve-room.new.self c.in-Some.next) (piece_of c.exchange.new.hardware c.in-Some.next) c.exchange.result in
+    subst P c.reserve.ensures.rest c.exchange.ensures.exchanges
+
+lasts : (g : Over) (c : goal.After-note_move g) → lasting_of g.S.SectorStore.told c.exchange.new.self ≡ lasting_of g.S.SectorStore.told c.in-Some-index_mut.bay
+lasts g c = (exchanged g c).lasting ∙ grown_lasts g.S.SectorStore.told c.in-Some-index_mut.bay c.reserve.new.self.cache c.reserve.ensures.same
+
+cached : (g : Over) (c : goal.After-note_move g) → c.exchange.new.self.cache.is_on ≡ c.in-Some-index_mut.bay.cache.is_on
+cached g c = (exchanged g c).cached ∙ c.reserve.ensures.same.is_on
 
 -- the model afterwards
 abbrev moved_model : (g : Over) (c : goal.After-note_move g) → Model g.row.S.Denot
@@ -121,19 +141,19 @@ moved g c =
     let at : here ≡ o.media c.args.port.0 = sym (ap (media_of g.S.SectorStore.size g.S.SectorStore.told) (was g c)) in
     let behind : outside_at g.S.SectorStore.size g.S.SectorStore.told (moved_model g c) ≡ outside_after o c.args.port.0 (taken_of r) bytes =
     outside_moved m (moved_model g c) c.args.port.0 a c.exchange.new.self (was g c) (items g c)
-    c.exchange.ensures.exchanges.rest g.S.SectorStore.size g.S.SectorStore.told
-    c.in-Some.next r bytes is.transfer_is is.sector_is (c.exchange.ensures.exchanges.disk did) in
+    (exchanged g c).rest g.S.SectorStore.size g.S.SectorStore.told
+    c.in-Some.next r bytes (lasts g c) is.transfer_is is.sector_is ((exchanged g c).disk did) in
     let R : Device → Type 0 = λ d. Can (Move c.args.port.0 c.args.slot.0 (taken_of r) bytes) d in
     record {
       t = taken_of r;
       bytes = bytes;
       can = subst R (c.reserve-room.ensures.same o)
-          (may_move h o c.args.port.0 c.args.slot.0 c.in-Some.next r bytes is c.exchange.ensures.exchanges.sector
+          (may_move h o c.args.port.0 c.args.slot.0 c.in-Some.next r bytes is (exchanged g c).sector
           (subst (λ (x : Media). is_ranged (operation_of c.in-Some.next.transfer) ≡ true →
-          c.in-Some.next.sector < x.disk.size) at (c.exchange.ensures.exchanges.inside did))
+          c.in-Some.next.sector < x.disk.size) at ((exchanged g c).inside did))
           (subst (λ (x : Media). is_ranged (operation_of c.in-Some.next.transfer) ≡ true → reads_memory (operation_of c.in-Some.next.transfer) ≡ false →
-          IfSome x.disk.sectors (λ f. bytes ≡ f c.in-Some.next.sector)) at (c.exchange.ensures.exchanges.gives did))
-          c.exchange.ensures.exchanges.takes);
+          IfSome x.disk.sectors (λ f. bytes ≡ f c.in-Some.next.sector)) at ((exchanged g c).gives did))
+          (exchanged g c).takes);
       effect = ap (λ (x : Outside). device_of c.note_move.new.self x) behind
           ∙ (c.note_move.ensures.moved h o r c.exchange.ensures.memory is
           ∙ ap (λ (d : Device). after (Move c.args.port.0 c.args.slot.0 (taken_of r) bytes) d)
@@ -147,12 +167,13 @@ whole g c =
     let a = c.in-Some-index_mut.bay in
     record {
       asked = moved g c;
-      fine = store_fine m (moved_model g c) c.args.port.0 a c.exchange.new.self (was g c) (items g c)
-          c.exchange.ensures.exchanges.rest g.S.SectorStore.failures
-          (c.exchange.ensures.exchanges.fine c.if-not-exchange.false);
+      fine = λ _. store_fine m (moved_model g c) c.args.port.0 a c.exchange.new.self (was g c) (items g c)
+          (exchanged g c).rest g.S.SectorStore.failures
+          ((exchanged g c).fine c.if-not-exchange.false);
       says = store_says m (moved_model g c) c.args.port.0 a c.exchange.new.self (was g c) (items g c)
-          c.exchange.ensures.exchanges.rest c.args.port.0;
+          (exchanged g c).rest c.args.port.0;
       ends = λ _. tt;
+      loses = λ yes. true-false yes refl;
     }
 
 pub returns-clause-whole : goal.returns-clause-whole
@@ -174,22 +195,22 @@ returns-clause-answers g c =
         came = inl (whole g c);
         held = refl;
         which = store_whichs m (moved_model g c) c.args.port.0 a b (was g c) (items g c)
-            c.exchange.ensures.exchanges.rest c.args.port.0;
+            (exchanged g c).rest c.args.port.0;
         others = seated_others m (moved_model g c) c.args.port.0 a b (was g c) (items g c);
         pages = gains_moved g.S.SectorStore.size m _ a found.0.transfer
             (move_of c.args.port.0 c.args.slot.0 (taken_of found.0) bytes) (was g c)
             (ap (λ (d : Device). d.tape) noted ∙ ap (λ (d : Device). d.tape ++ entry ∷ [])
             (c.reserve-room.ensures.same o)) refl
-            (λ identify. c.exchange.ensures.exchanges.page c.if-not-exchange.false (found.1.transfer_is ∙ identify))
-            (λ log. c.exchange.ensures.exchanges.log c.if-not-exchange.false (found.1.transfer_is ∙ log));
+            (λ identify. (exchanged g c).page c.if-not-exchange.false (found.1.transfer_is ∙ identify))
+            (λ log. (exchanged g c).log c.if-not-exchange.false (found.1.transfer_is ∙ log));
         disks = λ none w.
             seated_same m (moved_model g c) c.args.port.0 a b (was g c) (items g c) (option_map (λ (x : Bay g.row.S.Denot). disk_in x w))
             (ap (λ (x : Bay g.row.S.Denot). Some (disk_in x w))
-            (c.exchange.ensures.exchanges.same
+            ((exchanged g c).same
             (next_unranged c.reserve-room.new.self o _ c.args.port c.args.slot c.in-Some.next c.in-Some.ensures.found.0 disks c.requires
             (c.reserve-room.ensures.same o) c.in-Some.ensures.found.1 none))) c.args.port.0;
         keeps = store_keeps m (moved_model g c) c.args.port.0 a b (was g c) (items g c)
-            c.exchange.ensures.exchanges.rest g.S.SectorStore.size c.exchange.ensures.exchanges.sized refl refl;
+            (exchanged g c).rest g.S.SectorStore.size (exchanged g c).sized (cached g c) refl refl;
         starved = c.note_move.ensures.starved ∙ (starved_over c.exchange.ensures.memory
             ∙ c.reserve-room.ensures.starved);
       },
@@ -216,7 +237,7 @@ past_same g c =
     let m = c.args.self.now in
     let a = c.in-Some-index_mut.bay in
     ap (λ (x : Outside). device_of c.reserve-room.new.self x)
-    (outside_kept m (past_model g c) c.args.port.0 a a (was_past g c) (past_items g c) refl g.S.SectorStore.size g.S.SectorStore.told refl refl)
+    (outside_kept m (past_model g c) c.args.port.0 a a (was_past g c) (past_items g c) refl g.S.SectorStore.size g.S.SectorStore.told refl refl refl)
     ∙ c.reserve-room.ensures.same (outside_at g.S.SectorStore.size g.S.SectorStore.told m)
 
 past_fits : (g : Over) (c : goal.After-fail-failed g) →
@@ -296,7 +317,7 @@ returns-then-not-is_on-clause-answers g c =
           (store_whichs m (past_model g c) c.args.port.0 a a (was_past g c) (past_items g c) refl c.args.port.0)
           (seated_others m (past_model g c) c.args.port.0 a a (was_past g c) (past_items g c))
           (gains_none g.S.SectorStore.size m _ (ap (λ (d : Device). d.tape) (past_same g c)))
-          (store_keeps m (past_model g c) c.args.port.0 a a (was_past g c) (past_items g c) refl g.S.SectorStore.size refl refl refl) c.reserve-room.ensures.starved
+          (store_keeps m (past_model g c) c.args.port.0 a a (was_past g c) (past_items g c) refl g.S.SectorStore.size refl refl refl refl) c.reserve-room.ensures.starved
           (c.requires, taken_of found.0, past_fits g c, (past_ranged g c).1),
     )
 
@@ -307,6 +328,20 @@ was_store g c =
     seat_is c.args.self.now c.from-place.result c.args.port.0 c.index_mut.result.now c.in-Some-index_mut.bay c.from-place.ensures
     (let there = c.has_disks.ensures.there c.if-not-has_disks.false in let long = ap length c.as_slice.ensures.value in omega (arith, there, long))
     c.index_mut.ensures.value c.in-Some-index_mut.is
+
+exchanged_so : (g : Over) (c : goal.After-fail-failed-then-not-exchange g) →
+    Exchanges g.S.SectorStore.size g.S.SectorStore.told g.S.SectorStore.failures (record c.in-Some-index_mut.bay { cache = c.reserve.new.self.cache }) c.exchange.new.self c.in-Some.next
+    (piece_of c.reserve-room.new.self c.in-Some.next) (piece_of c.exchange.new.hardware c.in-Some.next) c.exchange.result
+exchanged_so g c =
+    let P : Bay g.row.S.Denot → Type 0 = λ x. Exchanges g.S.SectorStore.size g.S.SectorStore.told g.S.SectorStore.failures x c.exchange.new.self c.in-Some.next
+    (piece_of c.reserve-room.new.self c.in-Some.next) (piece_of c.exchange.new.hardware c.in-Some.next) c.exchange.result in
+    subst P c.reserve.ensures.rest c.exchange.ensures.exchanges
+
+lasts_so : (g : Over) (c : goal.After-fail-failed-then-not-exchange g) → lasting_of g.S.SectorStore.told c.exchange.new.self ≡ lasting_of g.S.SectorStore.told c.in-Some-index_mut.bay
+lasts_so g c = (exchanged_so g c).lasting ∙ grown_lasts g.S.SectorStore.told c.in-Some-index_mut.bay c.reserve.new.self.cache c.reserve.ensures.same
+
+cached_so : (g : Over) (c : goal.After-fail-failed-then-not-exchange g) → c.exchange.new.self.cache.is_on ≡ c.in-Some-index_mut.bay.cache.is_on
+cached_so g c = (exchanged_so g c).cached ∙ c.reserve.ensures.same.is_on
 
 abbrev store_model : (g : Over) (c : goal.After-fail-failed-then-not-exchange g) → Model g.row.S.Denot
 store_model g c = record c.args.self.now {
@@ -350,9 +385,9 @@ store_same g c =
     let m = c.args.self.now in
     ap (λ (x : Outside). device_of c.exchange.new.hardware x)
     (outside_kept m (store_model g c) c.args.port.0 c.in-Some-index_mut.bay c.exchange.new.self (was_store g c)
-    (store_items g c) c.exchange.ensures.exchanges.rest
-    g.S.SectorStore.size g.S.SectorStore.told c.exchange.ensures.exchanges.sized
-    (c.exchange.ensures.exchanges.kept c.if-not-exchange.true))
+    (store_items g c) (exchanged_so g c).rest
+    g.S.SectorStore.size g.S.SectorStore.told (exchanged_so g c).sized
+    ((exchanged_so g c).kept c.if-not-exchange.true) (lasts_so g c))
     ∙ (c.exchange.ensures.stays c.if-not-exchange.true (outside_at g.S.SectorStore.size g.S.SectorStore.told m)
     ∙ c.reserve-room.ensures.same (outside_at g.S.SectorStore.size g.S.SectorStore.told m))
 
@@ -363,11 +398,13 @@ store_failed g c =
     let a = c.in-Some-index_mut.bay in
     let b = c.exchange.new.self in
     let next = c.in-Some.ensures.found in
-    let ranged = c.exchange.ensures.exchanges.ranged c.if-not-exchange.true in
+    let ranged = (exchanged_so g c).ranged c.if-not-exchange.true in
     let here = c.is_on.ensures.0 c.if-not-is_on.false ranged in
     let listed = c.sectors.ensures in
-    let failed = c.exchange.ensures.exchanges.fails c.if-not-exchange.true (omega (arith, here, listed)) in
-    let Q : Bool → ℕ → Type 0 = λ is_write sector. FailsOn is_write sector (g.S.SectorStore.failures a.disk.store) (g.S.SectorStore.failures b.disk.store) in
+    let on : c.reserve.new.self.cache.is_on ≡ caches m c.args.port.0 = c.reserve.ensures.same.is_on ∙ sym (ap has_cache (was_store g c)) in
+    let Q : Bool → ℕ → Type 0 = λ writes sector. CallFails (caches m c.args.port.0) writes sector (g.S.SectorStore.failures a.disk.store) (g.S.SectorStore.failures b.disk.store) in
+    let O : Bool → Type 0 = λ x. CallFails x (reads_memory (operation_of c.in-Some.next.transfer)) c.in-Some.next.sector (g.S.SectorStore.failures a.disk.store) (g.S.SectorStore.failures b.disk.store) in
+    let failed = subst O on ((exchanged_so g c).fails c.if-not-exchange.true (omega (arith, here, listed))) in
     let writes = ap (λ (k : Transfer). reads_memory (operation_of k)) next.1.transfer_is in
     let size : ((device_at g.S.SectorStore.size g.S.SectorStore.told m).port c.args.port.0).disk.size ≡ g.S.SectorStore.size a.disk.store =
     ap (λ x. (media_of g.S.SectorStore.size g.S.SectorStore.told x).disk.size) (was_store g c) in
@@ -375,12 +412,12 @@ store_failed g c =
     let before : failures_of g.S.SectorStore.failures m c.args.port.0 ≡ g.S.SectorStore.failures a.disk.store = ap (failing g.S.SectorStore.failures) (was_store g c) in
     let now : failures_of g.S.SectorStore.failures (store_model g c) c.args.port.0 ≡ g.S.SectorStore.failures b.disk.store =
     ap (failing g.S.SectorStore.failures) (seated_here m (store_model g c) c.args.port.0 a b (was_store g c) (store_items g c)) in
-    let R : Option Failures → Option Failures → Type 0 = λ x y. FailsOn (reads_memory (operation_of next.0.transfer)) (next_sector (taken_of next.0)) x y in
+    let R : Option Failures → Option Failures → Type 0 = λ x y. CallFails (caches m c.args.port.0) (reads_memory (operation_of next.0.transfer)) (next_sector (taken_of next.0)) x y in
     let called = subst (λ w. Q w (next_sector (taken_of next.0))) writes (subst (Q (reads_memory (operation_of c.in-Some.next.transfer))) next.1.sector_is failed) in
     fails_to_move g.S.SectorStore.size g.S.SectorStore.told g.S.SectorStore.failures c.args.port c.args.slot 0x40 (taken_of next.0) m
     (store_model g c) c.fail-failed-then-not-exchange.new.self (store g c) (store_same g c)
     (store_says m (store_model g c) c.args.port.0 a b (was_store g c) (store_items g c)
-    c.exchange.ensures.exchanges.rest c.args.port.0) (store_fits g c)
+    (exchanged_so g c).rest c.args.port.0) (store_fits g c)
     (ap (λ (k : Transfer). is_ranged (operation_of k)) (sym next.1.transfer_is) ∙ ranged)
     (inr (
       omega (arith, here, listed, size, sector),
@@ -398,18 +435,18 @@ returns-then-not-exchange-clause-answers g c =
     let b = c.exchange.new.self in
     let next = c.in-Some.ensures.found in
     let ranged = ap (λ (k : Transfer). is_ranged (operation_of k)) (sym next.1.transfer_is)
-    ∙ c.exchange.ensures.exchanges.ranged c.if-not-exchange.true in (
+    ∙ (exchanged_so g c).ranged c.if-not-exchange.true in (
       (c.requires, taken_of next.0, store_fits g c),
       did_fail g.S.SectorStore.size g.S.SectorStore.told g.S.SectorStore.failures c.args.port c.args.slot 0x40 (taken_of next.0) m
           (store_model g c) c.fail-failed-then-not-exchange.new.self (store g c) (asked.Move c.args.port c.args.slot) refl (store_failed g c) refl refl refl
           (store_says m (store_model g c) c.args.port.0 a b (was_store g c) (store_items g c)
-          c.exchange.ensures.exchanges.rest c.args.port.0)
+          (exchanged_so g c).rest c.args.port.0)
           (store_whichs m (store_model g c) c.args.port.0 a b (was_store g c) (store_items g c)
-          c.exchange.ensures.exchanges.rest c.args.port.0)
+          (exchanged_so g c).rest c.args.port.0)
           (seated_others m (store_model g c) c.args.port.0 a b (was_store g c) (store_items g c))
           (gains_none g.S.SectorStore.size m _ (ap (λ (d : Device). d.tape) (store_same g c)))
           (store_keeps m (store_model g c) c.args.port.0 a b (was_store g c) (store_items g c)
-          c.exchange.ensures.exchanges.rest g.S.SectorStore.size c.exchange.ensures.exchanges.sized refl refl)
+          (exchanged_so g c).rest g.S.SectorStore.size (exchanged_so g c).sized (cached_so g c) refl refl)
           (starved_over c.exchange.ensures.memory ∙ c.reserve-room.ensures.starved)
           (c.requires, taken_of next.0, store_fits g c, ranged),
     )
@@ -430,3 +467,63 @@ returns-in_default-clause-page g c = λ t taken sends _ move low _.
     let one : t ≡ taken_of found.r = some_one (sym move.works.taken ∙ (ap (λ (d : Device). (d.port c.args.port.0).taken c.args.slot.0) (sym (c.reserve-room.ensures.same o)) ∙ (found.holds.works (o.media c.args.port.0)).taken)) in
     let place : next_place t ≡ next_place (taken_of found.r) = ap next_place one in
     c.next_move.ensures.none c.in_default.is found.r found.holds found.left (omega (arith, place, low)) found.inside
+
+pub returns-clause-old_room : goal.returns-clause-old_room
+returns-clause-old_room g c = λ _ t taken n room.
+    let m = c.args.self.now in
+    let a = c.in-Some-index_mut.bay in
+    let found = c.in-Some.ensures.found in
+    let o : Outside = outside_at g.S.SectorStore.size g.S.SectorStore.told m in
+    let one : t ≡ taken_of found.0 = some_one (sym taken ∙ (fits g c).works.taken) in
+    let kind : written_ahead t.meaning.operation 1 ≡ written_ahead (operation_of c.in-Some.next.transfer) 1 =
+    ap (λ (x : Taken). written_ahead x.meaning.operation 1) one ∙ ap (λ (k : Transfer). written_ahead (operation_of k) 1) (sym found.1.transfer_is) in
+    let P : ℕ → Type 0 = λ k. HasOldRoom a.cache (k + n) in
+    room_there (moved_model g c) c.args.port.0 n c.exchange.new.self (seated_here m (moved_model g c) c.args.port.0 a c.exchange.new.self (was g c) (items g c))
+    ((exchanged g c).old_room n
+    (c.reserve.ensures.kept (written_ahead (operation_of c.in-Some.next.transfer) 1 + n)
+    (subst P kind (room_here m c.args.port.0 (written_ahead t.meaning.operation 1 + n) a (was g c) room))))
+
+-- ---- the cache had no memory for what the sector holds, and that is told
+
+pub exchange-requires-clause-room : goal.exchange-requires-clause-room
+exchange-requires-clause-room g c = subst (HasOldRoom c.reserve.new.self.cache) c.written.ensures (c.reserve.ensures.room c.if-not-reserve.false)
+
+pub returns-then-not-reserve-clause-answers : goal.returns-then-not-reserve-clause-answers
+returns-then-not-reserve-clause-answers g c =
+    let m = c.args.self.now in
+    let a = c.in-Some-index_mut.bay in
+    let o : Outside = outside_at g.S.SectorStore.size g.S.SectorStore.told m in
+    let found = c.in-Some.ensures.found in
+    let r = found.0 in
+    let was = seat_is m c.from-place.result c.args.port.0 c.index_mut.result.now a c.from-place.ensures
+    (let there = c.has_disks.ensures.there c.if-not-has_disks.false in let long = ap length c.as_slice.ensures.value in omega (arith, there, long))
+    c.index_mut.ensures.value c.in-Some-index_mut.is in
+    let fits : HasMove (device_at g.S.SectorStore.size g.S.SectorStore.told m) c.args.port.0 c.args.slot.0 (taken_of r) =
+    next_has_move c.reserve-room.new.self o _ c.args.port.0 c.args.slot.0 c.in-Some.next r (has_disks g.S.SectorStore.size g.S.SectorStore.told m c.args.port.0 a was)
+    (c.reserve-room.ensures.same o) found.1 in
+    let changes : written_ahead (operation_of r.transfer) 1 ≡ c.written.result = ap (λ (k : Transfer). written_ahead (operation_of k) 1) (sym found.1.transfer_is) ∙ sym c.written.ensures in
+    let lacks : LacksMemory (asked.Move c.args.port c.args.slot) (device_at g.S.SectorStore.size g.S.SectorStore.told m) m.hardware m.bays.items = (
+      taken_of r,
+      fits,
+      λ _ old. c.reserve.ensures.lacked c.if-not-reserve.true
+          (subst (HasOldRoom a.cache) changes (room_here m c.args.port.0 (written_ahead (operation_of r.transfer) 1) a was old)),
+    ) in
+    grown_left g.S.SectorStore.size g.S.SectorStore.told g.S.SectorStore.failures m _ c.args.port.0 a c.reserve.new.self.cache was
+    (ap (λ k. slice_set m.bays.items k (Some c.reserve.new.self)) c.from-place.ensures ∙ ap (λ (x : Bay g.row.S.Denot). slice_set m.bays.items c.args.port.0 (Some x)) c.reserve.ensures.rest)
+    c.reserve.ensures.same (asked.Move c.args.port c.args.slot) refl (c.reserve-room.ensures.same o) refl refl refl (λ _ _. (lacks, refl)) (λ _. refl)
+    (λ _. inr ((c.requires, taken_of r, fits), lacks))
+
+-- a page changes no sector
+pub returns-then-not-reserve-clause-page : goal.returns-then-not-reserve-clause-page
+returns-then-not-reserve-clause-page g c = λ t taken sends _ _ _ _.
+    let m = c.args.self.now in
+    let a = c.in-Some-index_mut.bay in
+    let o : Outside = outside_at g.S.SectorStore.size g.S.SectorStore.told m in
+    let found = c.in-Some.ensures.found in
+    let P : Device → Type 0 = λ d. (d.port c.args.port.0).taken c.args.slot.0 ≡ Some (taken_of found.0) in
+    let here = subst P (c.reserve-room.ensures.same o) (found.1.holds.works (o.media c.args.port.0)).taken in
+    let one : t ≡ taken_of found.0 = some_one (sym taken ∙ here) in
+    let none : written_ahead (operation_of found.0.transfer) 1 ≡ 0 =
+    ap (λ (x : Taken). written_ahead x.meaning.operation 1) (sym one) ∙ page_unwritten t.meaning.operation 1 sends in
+    let changes : written_ahead (operation_of found.0.transfer) 1 ≡ c.written.result = ap (λ (k : Transfer). written_ahead (operation_of k) 1) (sym found.1.transfer_is) ∙ sym c.written.ensures in
+    c.reserve.ensures.lacked c.if-not-reserve.true (subst (HasOldRoom a.cache) (sym none ∙ changes) (no_room a.cache))

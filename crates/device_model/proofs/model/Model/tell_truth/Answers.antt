@@ -10,4 +10,4 @@ returns g c =
     let m = c.args.self.now in
     let Q : ℕ → Type 0 = λ q. SaysOnly truthful q m.bays.items c.end_lies.new.bays.items in
     lie_answers g.S.SectorStore.size g.S.SectorStore.told g.S.SectorStore.failures m (asked.Truth c.args.port) truthful c.end_lies.new.bays
-    (subst Q c.from.ensures c.end_lies.ensures) tt (λ old new same. same) (λ old new. tt) refl refl refl
+    (subst Q c.from.ensures c.end_lies.ensures) tt (λ old new same. same) (λ old new. tt) refl refl refl refl

@@ -19,7 +19,8 @@ returns g c =
             new_port g.S.SectorStore.size g.S.SectorStore.told (given_for c.args.disks port) (slice_index_or (c.in_ok-port0.port0 ∷ c.in_ok-port1.port1 ∷ c.in_ok-port2.port2 ∷ c.in_ok-port3.port3 ∷ []) port blank) _
             (ports_are (λ k p. p.present ≡ is_some (given_for c.args.disks k)) c.in_ok-port0.port0 c.in_ok-port1.port1 c.in_ok-port2.port2 c.in_ok-port3.port3 (c.in_ok-port0.ensures.present ∙ c.is_some.ensures)
             (c.in_ok-port1.ensures.present ∙ c.is_some-2.ensures) (c.in_ok-port2.ensures.present ∙ c.is_some-3.ensures)
-            (c.in_ok-port3.ensures.present ∙ c.is_some-4.ensures) port (λ past. sym (ap is_some (past_given c.args.disks port past)))) (is.media port);
+            (c.in_ok-port3.ensures.present ∙ c.is_some-4.ensures) port (λ past. sym (ap is_some (past_given c.args.disks port past))))
+            (ports_are (λ _ p. p.lasting_at ≡ 0) _ _ _ _ c.in_ok-port0.ensures.lasting c.in_ok-port1.ensures.lasting c.in_ok-port2.ensures.lasting c.in_ok-port3.ensures.lasting port (λ _. refl)) (is.media port);
         unused = search rules;
         off = refl;
         silent = refl;

@@ -97,6 +97,7 @@ returns-clause-alone g c =
       keeps = record {
         out = own.keeps.out;
         identities = own.keeps.identities;
+        caches = own.keeps.caches;
         queue = own.keeps.queue;
         accesses = own.keeps.accesses;
       };

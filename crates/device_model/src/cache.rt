@@ -1,0 +1,118 @@
+// The volatile write cache of a disk: what it holds is lost with it, but for what a flush has made lasting (ACS-3,
+// FLUSH CACHE EXT). What is written goes to the store at once; what the store held before is kept until the next flush.
+ghost use Rattle.std.specs.Prelude.{◌≡◌, ◌<◌, ◌≤◌, ◌+◌, ◌⊎◌, ℕ, List, Option, true, false, option_map, length, is_some, []};
+ghost use Rattle.std.specs.Vec.{vec_len, vec_capacity};
+ghost use Rattle.sector_store.specs.Stores.{FailsOn, replaced};
+ghost use Rattle.device_model.specs.Cached.{CallFails, HasOldRoom, KeepsNone, KeepsTheSame, WritesBack, lasting_in};
+ghost use Rattle.device_model.specs.OldSectors.{with_old};
+
+use crate::old_sectors::OldSectors;
+use sector_store::SectorStore;
+use std::alloc::Global;
+
+/// What is kept for the disk that is in a port, or was last, since it last ended a flush, or else since it was first
+/// in.
+#[derive(Drop)]
+pub struct Cache {
+    /// Whether the disks of the port have one. Else nothing is kept, and no call is made for it.
+    pub is_on: bool,
+    /// The sectors that were changed since then, as they were.
+    pub kept: OldSectors,
+}
+
+impl Cache {
+    /// That of a disk that was changed nowhere yet.
+    pub fn new(alloc: Global, is_on: bool) -> Cache
+        ensures is_on { result.is_on ≡ is_on }
+        ensures kept { result.kept.sectors.items ≡ [] }
+    {
+        Cache {
+            is_on,
+            kept: OldSectors::new(alloc),
+        }
+    }
+
+    /// Finds memory for the old bytes of so many sectors more, if it keeps any; `false` says that there was none.
+    pub fn reserve(&mut self, more: usize) -> bool
+        ensures same { KeepsTheSame self.old self.new }
+        ensures kept { (n : ℕ) → HasOldRoom self.old n → HasOldRoom self.new n }
+        ensures room { result ≡ true → HasOldRoom self.new more }
+        ensures lacked { result ≡ false → HasOldRoom self.old more → ⊥ }
+        ensures lacks { result ≡ false → HasOldRoom self.new more → ⊥ }
+    {
+        !self.is_on || more == 0 || self.kept.reserve(more)
+    }
+
+    /// All that the disk holds is lasting.
+    pub fn forget(&mut self)
+        ensures { KeepsNone self.old self.new }
+    {
+        self.kept.forget();
+    }
+}
+
+/// Keeps what a sector holds, unless it has old bytes; `false` says that the store didn't give it. It is entered only
+/// where there is a cache, since its frame has room for a sector.
+#[inline(never)]
+fn keep_old<S: SectorStore>(store: &mut S, kept: &mut OldSectors, sector: u64) -> bool
+    requires { vec_len kept.old.sectors < vec_capacity kept.old.sectors }
+    ensures told { S.told store.new ≡ S.told store.old }
+    ensures size { S.size store.new ≡ S.size store.old }
+    ensures serves { (result ≡ true) ⊎ (S.size store.old ≤ sector) → S.failures store.new ≡ S.failures store.old }
+    ensures fails { result ≡ false → sector < S.size store.old
+        → FailsOn false sector (S.failures store.old) (S.failures store.new) }
+    ensures lasting { option_map (with_old kept.new.sectors.items) (S.told store.old)
+        ≡ option_map (with_old kept.old.sectors.items) (S.told store.old) }
+    ensures written { result ≡ true → (bytes : List ℕ) →
+        option_map (with_old kept.new.sectors.items) (option_map (λ f. replaced f sector bytes) (S.told store.old))
+        ≡ option_map (with_old kept.old.sectors.items) (S.told store.old) }
+    ensures left { (n : ℕ) → vec_len kept.old.sectors + (n + 1) ≤ vec_capacity kept.old.sectors
+        → vec_len kept.new.sectors + n ≤ vec_capacity kept.new.sectors }
+{
+    let Some(place) = kept.gap_for(sector) else {
+        return true;
+    };
+    let mut bytes = [0; 512];
+    if !store.read(sector, &mut bytes) {
+        return false;
+    }
+    kept.keep(place, sector, &bytes);
+    true
+}
+
+/// Writes a sector of a disk, as `SectorStore::write` does, where what it holds is kept before; `false` says that one
+/// of the two calls has failed.
+pub fn put_sector<S: SectorStore>(
+    store: &mut S,
+    cache: &mut Cache,
+    sector: u64,
+    bytes: &[u8; 512],
+) -> bool
+    requires { HasOldRoom cache.old 1 }
+    ensures inside { result ≡ true → sector < S.size store.old }
+    ensures puts { result ≡ true → S.told store.new ≡ option_map (λ told. replaced told sector bytes.now)
+        (S.told store.old) }
+    ensures kept { result ≡ false → S.told store.new ≡ S.told store.old }
+    ensures serves { (result ≡ true) ⊎ (S.size store.old ≤ sector) → S.failures store.new ≡ S.failures store.old }
+    ensures fails { result ≡ false → sector < S.size store.old
+        → CallFails cache.old.is_on true sector (S.failures store.old) (S.failures store.new) }
+    ensures size { S.size store.new ≡ S.size store.old }
+    ensures lasting { (noted : Option (ℕ → List ℕ)) → lasting_in cache.new (S.told store.new) noted
+        ≡ lasting_in cache.old (S.told store.old) noted }
+    ensures is_on { cache.new.is_on ≡ cache.old.is_on }
+    ensures left { (n : ℕ) → HasOldRoom cache.old (n + 1) → HasOldRoom cache.new n }
+{
+    if cache.is_on && !keep_old(store, &mut cache.kept, sector) {
+        return false;
+    }
+    store.write(sector, bytes)
+}
+
+/// Writes back what is kept, the lowest sector first. A sector on which the store fails keeps what it holds.
+pub fn write_back<S: SectorStore>(store: &mut S, kept: &OldSectors)
+    ensures { WritesBack S.size S.told S.failures kept.now.sectors.items store.old store.new }
+{
+    for old in kept.as_slice() {
+        let _written = store.write(old.sector, &old.bytes);
+    }
+}
