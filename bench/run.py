@@ -30,6 +30,8 @@ number = 0
 # Unanswered requests of one client at most, and frames of each of eight clients; one client alone has all that they
 # have.
 PLACES = 16
+# The first frame that isn't the driver's.
+FIRST_FRAME = 76
 
 
 def configuration(clients=1, grants=1):
@@ -38,7 +40,7 @@ def configuration(clients=1, grants=1):
     text = ADAPTER
     frames = 8 * PLACES // clients
     for client in range(1, clients + 1):
-        text += f"[[client]]\nid = {client}\nfirst_frame = {40 + frames * (client - 1)}\nframes = {frames}\n"
+        text += f"[[client]]\nid = {client}\nfirst_frame = {FIRST_FRAME + frames * (client - 1)}\nframes = {frames}\n"
     named = [(1, number) for number in range(grants - clients + 1)] + [(client, 0) for client in range(2, clients + 1)]
     for client, number in sorted(named, key=lambda name: name == (1, grants - clients)):
         text += f'[[grant]]\nclient = {client}\nnumber = {number}\nport = 0\nfirst = 0\ncount = 256\nrights = "rw"\n'
@@ -47,7 +49,8 @@ def configuration(clients=1, grants=1):
 
 def waiting(range_of):
     """127 writes by eight clients, none of which is done. `range_of` gives the first sector and the number of each."""
-    names = [(client, 40 + PLACES * (client - 1) + place) for client in range(8, 0, -1) for place in range(PLACES)]
+    first_frames = [(client, FIRST_FRAME + PLACES * (client - 1)) for client in range(8, 0, -1)]
+    names = [(client, first + place) for client, first in first_frames for place in range(PLACES)]
     ranges = map(range_of, range(127))
     return [f"write {client} 0 {first} {count} {frame}" for (client, frame), (first, count) in zip(names, ranges)]
 
@@ -74,7 +77,7 @@ def script(requests, at_a_time, before=(), grant=0, slot=0, sectors=8):
     wide = sectors // 8
     for _ in range(requests // at_a_time):
         for place in range(at_a_time):
-            first = 40 + PLACES - at_a_time + place if wide == 1 else 40
+            first = FIRST_FRAME + PLACES - at_a_time + place if wide == 1 else FIRST_FRAME
             frames = ",".join(str(frame) for frame in range(first, first + wide))
             lines.append(f"read 1 {grant} 0 {sectors} {frames}")
         lines += [f"dev finish 0 {slot + place}" for place in range(at_a_time)] + ["service"]

@@ -20,11 +20,11 @@ trim = \"full\"
 number = 0
 [[client]]
 id = 1
-first_frame = 40
+first_frame = 76
 frames = 40
 [[client]]
 id = 2
-first_frame = 80
+first_frame = 116
 frames = 40
 [[grant]]
 client = 1

@@ -6,7 +6,7 @@ ghost use Rattle.adapter.specs.Idle.{IsIdle};
 use adapter::{
     Adapter, DeviceStep, Direction, DiskNumber, DiskPage, Entry, Move, Operation, Stepped,
 };
-use ata_types::{DRIVER_BYTES, PORTS, Port, PortState, Slot};
+use ata_types::{DRIVER_BYTES, FEWEST_FRAMES, PORTS, Port, PortState, SCRATCH, Slot};
 use device_model::{Model, ModelConfig, Trim};
 use hba_regs::Reg;
 use host_boot::{Found, take_over};
@@ -189,14 +189,14 @@ fn page_but(others: &[(usize, u8)]) -> [u8; 512] {
     page
 }
 
-/// Whether it is the move of a page to the driver's scratch frame, frame 9.
+/// Whether it is the move of a page to the driver's scratch frame.
 fn is_page(moved: &Move) -> bool {
     moved.port == Port(0)
         && moved.slot == Slot(0)
         && moved.operation == Operation::Identify
         && moved.direction == Direction::ToMemory
         && moved.sector == 0
-        && moved.address == 0x9000
+        && moved.address == SCRATCH
 }
 
 /// Whether the tape tells of a page, the only one, and of the end of its command; or of no page.
@@ -282,12 +282,13 @@ fn model(alloc: Global, pi: u8) -> Result<Model<MemStore>, Fail>
     ensures room { IfOk result (λ m. DRIVER_BYTES ≤ (⟦<Model<MemStore> as Adapter>⟧.device m).size) }
 {
     let config = ModelConfig {
-        frames: 41,
+        frames: FEWEST_FRAMES,
         pi,
         slots: 32,
         ncq: true,
         depth: 32,
         trim: Trim::Full,
+        cache: false,
     };
     let image = MemStore::new(alloc, SECTORS)?;
     Ok(Model::new(alloc, config, image, MemStore::new(alloc, SECTORS)?)?)

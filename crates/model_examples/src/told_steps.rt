@@ -1,7 +1,7 @@
 // What a new model does when it is told, and before an access. It isn't switched on, so that GHC alone is read and
 // written.
 use adapter::{Adapter, DeviceStep, DiskNumber, DiskPage, Entry, FatalError, Stepped};
-use ata_types::{Port, Slot};
+use ata_types::{FEWEST_FRAMES, Port, Slot};
 use device_model::{Model, ModelConfig, NoMemory, Trim};
 use hba_regs::Reg;
 use host_boot::{AdapterStuck, reset};
@@ -10,12 +10,13 @@ use std::alloc::Global;
 use std::test::Fail;
 
 const CONFIG: ModelConfig = ModelConfig {
-    frames: 41,
+    frames: FEWEST_FRAMES,
     pi: 0x0f,
     slots: 32,
     ncq: true,
     depth: 32,
     trim: Trim::Full,
+    cache: false,
 };
 
 /// A disk that went or came.

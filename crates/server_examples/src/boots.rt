@@ -208,15 +208,15 @@ fn writes_of_a_ready_port() -> [Access; 16] {
     ]
 }
 
-/// What the boot writes first where a disk is wanted in port 2, which has its frames from 14000h on.
+/// What the boot writes first where a disk is wanted in port 2, which has its frames from 26000h on.
 fn first_writes_of_port_2() -> [Access; 7] {
     [
         ENABLE,
         px(2, PortReg::Cmd, 0),
         px(2, PortReg::Cmd, 0),
-        px(2, PortReg::Clb, 0x14000),
+        px(2, PortReg::Clb, 0x2_6000),
         px(2, PortReg::Clbu, 0),
-        px(2, PortReg::Fb, 0x14400),
+        px(2, PortReg::Fb, 0x2_6400),
         px(2, PortReg::Fbu, 0),
     ]
 }

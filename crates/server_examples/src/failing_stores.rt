@@ -1,88 +1,12 @@
 // Disks in memory of which one call fails, as one of a file may: each call in turn, in the worked cases that move or
-// clear sectors, and in which nothing else goes wrong.
-ghost use Rattle.std.specs.Prelude.{◌≡◌, Some, true, false};
-ghost use Rattle.sector_store.specs.Stores.{FailsOn};
-
+// clear sectors.
+use crate::failing_store::FailingStore;
 use crate::lists::image_of_numbers;
-use crate::servers::{QUEUED, UNQUEUED};
+use crate::servers::{CACHED, OF_ALL_SECTORS, QUEUED, UNQUEUED};
 use play::{Ended, play};
-use sector_store::{Failures, MemStore, SectorStore};
+use sector_store::MemStore;
 use std::alloc::Global;
 use std::test::Fail;
-
-/// Sectors in memory, of whose calls one fails.
-#[derive(Drop)]
-struct FailingStore {
-    memory: MemStore,
-    /// Calls on sectors that are there, before the one that fails.
-    before: u64,
-    /// For contracts alone.
-    failed: Failures,
-}
-
-impl FailingStore {
-    /// One whose next call on a sector that is there fails, once so many have come.
-    fn new(memory: MemStore, before: u64) -> FailingStore {
-        FailingStore {
-            memory,
-            before,
-            failed: Failures {
-                calls: 0,
-                sector: 0,
-                is_write: false,
-            },
-        }
-    }
-
-    /// Whether this call on a sector that is there fails. It is noted then.
-    fn fails(&mut self, is_write: bool, sector: u64) -> bool
-        ensures memory { self.new.memory ≡ self.old.memory }
-        ensures serves { result ≡ false → self.new.failed ≡ self.old.failed }
-        ensures fails { result ≡ true → FailsOn is_write sector (Some self.old.failed) (Some self.new.failed) }
-    {
-        let fails = self.before == 0;
-        // No other one fails.
-        self.before = self.before.wrapping_sub(1);
-        if fails {
-            self.failed = Failures {
-                calls: self.failed.calls.wrapping_add(1),
-                sector,
-                is_write,
-            };
-        }
-        fails
-    }
-}
-
-impl SectorStore for FailingStore {
-    ghost size = { λ s. ⟦<MemStore as SectorStore>⟧.size s.memory };
-
-    ghost told = { λ s. ⟦<MemStore as SectorStore>⟧.told s.memory };
-
-    ghost failures = { λ s. Some s.failed };
-
-    ghost tells_sectors = { λ s. s.memory.are_sectors };
-
-    ghost fits = { λ s. s.memory.few };
-
-    fn sectors(&self) -> u64 {
-        self.memory.sectors()
-    }
-
-    fn read(&mut self, sector: u64, out: &mut [u8; 512]) -> bool {
-        if sector < self.memory.sectors() && self.fails(false, sector) {
-            return false;
-        }
-        self.memory.read(sector, out)
-    }
-
-    fn write(&mut self, sector: u64, bytes: &[u8; 512]) -> bool {
-        if sector < self.memory.sectors() && self.fails(true, sector) {
-            return false;
-        }
-        self.memory.write(sector, bytes)
-    }
-}
 
 /// Sectors that a request has the disk read, write or clear, one call each, and what it leaves in each byte of them.
 struct Calls {
@@ -90,26 +14,32 @@ struct Calls {
     first: u64,
     count: u64,
     left: Option<u8>,
+    /// The session where one of the calls fails, if more of it is another one than what the request is told.
+    failed: Option<&'static str>,
 }
 
-/// A worked case: its configuration, its session, in the form of examples/cases, how many requests it has, and the
-/// calls of the disk in their order.
+/// A worked case: its configuration, the sectors of its disk, its session, in the form of examples/cases, how many
+/// requests it has, and the calls of the disk in their order.
 struct Case<'a> {
     text: &'a str,
+    sectors: u32,
     session: &'a str,
     requests: u64,
     calls: &'a [Calls],
 }
 
-const CASES: [Case<'static>; 8] = [
+const CASES: [Case<'static>; 12] = [
     Case {
         text: QUEUED,
-        session: "> read 1 0 100 8 40
+        sectors: 356,
+        session: "> read 1 0 100 8 76
 ok 1
 > dev finish 0 0
 did
 > service
 reply 1 Ok
+> state 0
+state Ready
 ",
         requests: 1,
         calls: &[Calls {
@@ -117,16 +47,20 @@ reply 1 Ok
             first: 100,
             count: 8,
             left: None,
+            failed: None,
         }],
     },
     Case {
         text: QUEUED,
-        session: "> write 1 0 100 8 40
+        sectors: 356,
+        session: "> write 1 0 100 8 76
 ok 1
 > dev finish 0 0
 did
 > service
 reply 1 Ok
+> state 0
+state Ready
 ",
         requests: 1,
         calls: &[Calls {
@@ -134,22 +68,28 @@ reply 1 Ok
             first: 100,
             count: 8,
             left: Some(0),
+            failed: None,
         }],
     },
     Case {
         text: QUEUED,
-        session: "> write 1 0 100 8 40
+        sectors: 356,
+        session: "> write 1 0 100 8 76
 ok 1
-> write 1 0 120 8 41
+> write 1 0 120 8 77
 ok 2
 > dev finish 0 1
 did
 > service
 reply 2 Ok
+> state 0
+state Ready
 > dev finish 0 0
 did
 > service
 reply 1 Ok
+> state 0
+state Ready
 ",
         requests: 2,
         calls: &[
@@ -158,29 +98,36 @@ reply 1 Ok
                 first: 120,
                 count: 8,
                 left: Some(0),
+                failed: None,
             },
             Calls {
                 request: 1,
                 first: 100,
                 count: 8,
                 left: Some(0),
+                failed: None,
             },
         ],
     },
     Case {
         text: QUEUED,
-        session: "> write 1 0 100 1 40
+        sectors: 356,
+        session: "> write 1 0 100 1 76
 ok 1
-> read 1 0 100 1 41
+> read 1 0 100 1 77
 ok 2
 > dev finish 0 0
 did
 > service
 reply 1 Ok
+> state 0
+state Ready
 > dev finish 0 0
 did
 > service
 reply 2 Ok
+> state 0
+state Ready
 ",
         requests: 2,
         calls: &[
@@ -189,29 +136,36 @@ reply 2 Ok
                 first: 100,
                 count: 1,
                 left: Some(0),
+                failed: None,
             },
             Calls {
                 request: 2,
                 first: 100,
                 count: 1,
                 left: None,
+                failed: None,
             },
         ],
     },
     Case {
         text: QUEUED,
+        sectors: 356,
         session: "> trim 1 0 100 8
 ok 1
-> read 1 0 104 8 40
+> read 1 0 104 8 76
 ok 2
 > dev finish 0 0
 did
 > service
 reply 1 Ok
+> state 0
+state Ready
 > dev finish 0 0
 did
 > service
 reply 2 Ok
+> state 0
+state Ready
 ",
         requests: 2,
         calls: &[
@@ -220,35 +174,44 @@ reply 2 Ok
                 first: 100,
                 count: 8,
                 left: Some(0),
+                failed: None,
             },
             Calls {
                 request: 2,
                 first: 104,
                 count: 8,
                 left: None,
+                failed: None,
             },
         ],
     },
     Case {
         text: QUEUED,
-        session: "> write 1 0 100 8 40
+        sectors: 356,
+        session: "> write 1 0 100 8 76
 ok 1
 > flush 1 0
 ok 2
-> read 1 0 130 2 41
+> read 1 0 130 2 77
 ok 3
 > dev finish 0 0
 did
 > service
 reply 1 Ok
+> state 0
+state Ready
 > dev finish 0 0
 did
 > service
 reply 2 Ok
+> state 0
+state Ready
 > dev finish 0 0
 did
 > service
 reply 3 Ok
+> state 0
+state Ready
 ",
         requests: 3,
         calls: &[
@@ -257,18 +220,21 @@ reply 3 Ok
                 first: 100,
                 count: 8,
                 left: Some(0),
+                failed: None,
             },
             Calls {
                 request: 3,
                 first: 130,
                 count: 2,
                 left: None,
+                failed: None,
             },
         ],
     },
     Case {
         text: QUEUED,
-        session: "> read 1 0 100 8 40
+        sectors: 356,
+        session: "> read 1 0 100 8 76
 ok 1
 > dev fetch 0 0
 did
@@ -276,10 +242,14 @@ did
 did
 > service
 quiet
+> state 0
+state Ready
 > dev finish 0 0
 did
 > service
 reply 1 Ok
+> state 0
+state Ready
 ",
         requests: 1,
         calls: &[Calls {
@@ -287,22 +257,28 @@ reply 1 Ok
             first: 100,
             count: 8,
             left: None,
+            failed: None,
         }],
     },
     Case {
         text: UNQUEUED,
-        session: "> read 1 0 100 8 40
+        sectors: 356,
+        session: "> read 1 0 100 8 76
 ok 1
-> write 1 0 110 8 41
+> write 1 0 110 8 77
 ok 2
 > dev finish 0 0
 did
 > service
 reply 1 Ok
+> state 0
+state Ready
 > dev finish 0 0
 did
 > service
 reply 2 Ok
+> state 0
+state Ready
 ",
         requests: 2,
         calls: &[
@@ -311,12 +287,266 @@ reply 2 Ok
                 first: 100,
                 count: 8,
                 left: None,
+                failed: None,
             },
             Calls {
                 request: 2,
                 first: 110,
                 count: 8,
                 left: Some(0),
+                failed: None,
+            },
+        ],
+    },
+    // A read fails, and those beside it go again.
+    Case {
+        text: QUEUED,
+        sectors: 356,
+        session: "> read 1 0 100 8 76
+ok 1
+> read 1 0 108 8 77
+ok 2
+> read 1 0 116 8 78
+ok 3
+> dev fetch 0 1
+did
+> dev fault 0 1 40
+did
+> service
+reply 2 DeviceError 41 40
+> state 0
+state Ready
+> dev finish 0 0
+did
+> dev finish 0 1
+did
+> service
+reply 1 Ok
+reply 3 Ok
+> state 0
+state Ready
+> dev finish 0 0
+no
+> service
+quiet
+",
+        requests: 3,
+        calls: &[
+            Calls {
+                request: 1,
+                first: 100,
+                count: 8,
+                left: None,
+                failed: Some(
+                    "> read 1 0 100 8 76
+ok 1
+> read 1 0 108 8 77
+ok 2
+> read 1 0 116 8 78
+ok 3
+> dev fetch 0 1
+did
+> dev fault 0 1 40
+did
+> service
+reply 2 DeviceError 41 40
+> state 0
+state Ready
+> dev finish 0 0
+did
+> dev finish 0 1
+no
+> service
+reply 1 DeviceError 41 40
+> state 0
+state Ready
+> dev finish 0 0
+did
+> service
+reply 3 Ok
+",
+                ),
+            },
+            Calls {
+                request: 3,
+                first: 116,
+                count: 8,
+                left: None,
+                failed: None,
+            },
+        ],
+    },
+    // A write of which two sectors were moved when its disk went.
+    Case {
+        text: QUEUED,
+        sectors: 356,
+        session: "> write 1 0 100 8 76
+ok 1
+> dev fetch 0 0
+did
+> dev move 0 0
+did
+> dev move 0 0
+did
+> dev unplug 0
+did
+> service
+reply 1 Unplugged
+> state 0
+state Absent
+> dev plug 0 0
+did
+> service
+quiet
+> state 0
+state Ready
+",
+        requests: 1,
+        calls: &[
+            Calls {
+                request: 1,
+                first: 100,
+                count: 1,
+                left: Some(0),
+                failed: Some(
+                    "> write 1 0 100 8 76
+ok 1
+> dev fetch 0 0
+did
+> dev move 0 0
+did
+> dev move 0 0
+no
+> dev unplug 0
+did
+> service
+reply 1 Unplugged
+> state 0
+state Absent
+> dev plug 0 0
+did
+> service
+quiet
+> state 0
+state Ready
+",
+                ),
+            },
+            Calls {
+                request: 1,
+                first: 101,
+                count: 1,
+                left: Some(0),
+                failed: None,
+            },
+        ],
+    },
+    // A read that the disk doesn't do for three ticks goes again.
+    Case {
+        text: QUEUED,
+        sectors: 356,
+        session: "> read 1 0 100 8 76
+ok 1
+> tick
+quiet
+> tick
+quiet
+> tick
+quiet
+> dev finish 0 0
+did
+> service
+reply 1 Ok
+> state 0
+state Ready
+",
+        requests: 1,
+        calls: &[Calls {
+            request: 1,
+            first: 100,
+            count: 8,
+            left: None,
+            failed: None,
+        }],
+    },
+    // The last sector of a trim, and the one behind it, are looked at.
+    Case {
+        text: OF_ALL_SECTORS,
+        sectors: 70_000,
+        session: "> trim 1 0 1000 65536
+ok 1
+> dev finish 0 0
+did
+> service
+reply 1 Ok
+> state 0
+state Ready
+> read 1 0 66535 2 76
+ok 2
+> dev finish 0 0
+did
+> service
+reply 2 Ok
+> state 0
+state Ready
+> load 1 76 511 2
+bytes 00e8
+",
+        requests: 2,
+        calls: &[
+            Calls {
+                request: 1,
+                first: 1000,
+                count: 65_536,
+                left: Some(0),
+                failed: Some(
+                    "> trim 1 0 1000 65536
+ok 1
+> dev finish 0 0
+did
+> service
+reply 1 DeviceError 41 40
+> state 0
+state Ready
+> read 1 0 66535 2 76
+ok 2
+> dev finish 0 0
+did
+> service
+reply 2 Ok
+> state 0
+state Ready
+> load 1 76 511 2
+bytes e7e8
+",
+                ),
+            },
+            Calls {
+                request: 2,
+                first: 66_535,
+                count: 2,
+                left: None,
+                failed: Some(
+                    "> trim 1 0 1000 65536
+ok 1
+> dev finish 0 0
+did
+> service
+reply 1 Ok
+> state 0
+state Ready
+> read 1 0 66535 2 76
+ok 2
+> dev finish 0 0
+did
+> service
+reply 2 DeviceError 41 40
+> state 0
+state Ready
+> load 1 76 511 2
+bytes 0000
+",
+                ),
             },
         ],
     },
@@ -336,16 +566,18 @@ impl Case<'_> {
             .fold(0, |count: u64, calls| count.saturating_add(calls.count))
     }
 
+    /// The calls among which this one is; none where there are fewer.
+    fn calls_of(&self, call: u64) -> Option<&Calls> {
+        let mut before: u64 = 0;
+        self.calls.iter().find(|calls| {
+            before = before.saturating_add(calls.count);
+            call < before
+        })
+    }
+
     /// The request of which a call is, from 0 on; 0 where there are fewer calls.
     fn request_of(&self, call: u64) -> u64 {
-        let mut before: u64 = 0;
-        for calls in self.calls {
-            before = before.saturating_add(calls.count);
-            if call < before {
-                return calls.request;
-            }
-        }
-        0
+        self.calls_of(call).map_or(0, |calls| calls.request)
     }
 
     /// Each byte of a sector once the case was played, where a call fails: the sectors of its request from there on are
@@ -353,57 +585,51 @@ impl Case<'_> {
     fn byte(&self, sector: u64, failing: u64) -> u8 {
         let mut byte = sector.to_le_bytes()[0];
         let mut before: u64 = 0;
+        let failed = self.request_of(failing);
         for calls in self.calls {
             let place = sector.wrapping_sub(calls.first);
-            let end = before.saturating_add(calls.count);
-            let is_stopped = failing < end && failing <= before.saturating_add(place);
+            let is_left = calls.request == failed && failing <= before.saturating_add(place);
             if let Some(left) = calls.left
                 && place < calls.count
+                && !is_left
             {
-                byte = if before <= failing && is_stopped {
-                    byte
-                } else {
-                    left
-                };
+                byte = left;
             }
-            before = end;
+            before = before.saturating_add(calls.count);
         }
         byte
     }
 
-    /// What is asked: the case's lines, after each service what the port is, and at last a read of the sectors.
+    /// What is asked: the case's lines, and at last a read of the sectors.
     fn script(&self, alloc: Global) -> Result<String, Fail> {
         let mut text = String::new(alloc);
         for line in self.session.split('\n') {
             if let Some(asked) = line.strip_prefix("> ") {
                 text.push_str(asked)?;
-                text.push_str(if asked == "service" {
-                    "\nstate 0\n"
-                } else {
-                    "\n"
-                })?;
+                text.push_str("\n")?;
             }
         }
-        text.push_str("read 1 0 100 32 70,71,72,73\ndev finish 0 0\nservice\n")?;
+        text.push_str("read 1 0 100 32 106,107,108,109\ndev finish 0 0\nservice\n")?;
         for place in 0..LOOKED_AT {
-            let look = format!(in alloc; "load 1 {} {} 1\n", 70 + place / 8, 512 * (place % 8))?;
+            let look = format!(in alloc; "load 1 {} {} 1\n", 106 + place / 8, 512 * (place % 8))?;
             text.push_str(look.as_str())?;
         }
         Ok(text)
     }
 
-    /// What is printed where a call fails: its request is told so, and all others what they are told without that.
+    /// What is printed where a call fails: its request is told so, and all others what they are told without that,
+    /// unless the call says otherwise.
     fn printed(&self, alloc: Global, failing: u64) -> Result<String, Fail> {
-        let mut text = String::new(alloc);
         let request = self.request_of(failing);
+        let session = self
+            .calls_of(failing)
+            .and_then(|calls| calls.failed)
+            .unwrap_or(self.session);
         let done = format!(in alloc; "reply {request} Ok")?;
         let failed = format!(in alloc; "reply {request} DeviceError 41 40")?;
-        // The last service is followed by no line.
-        let mut is_served = false;
-        for line in self.session.split('\n') {
+        let mut text = String::new(alloc);
+        for line in session.split('\n') {
             if line.is_empty() || line.starts_with("> ") {
-                text.push_str(if is_served { "state Ready\n" } else { "" })?;
-                is_served = line == "> service";
                 continue;
             }
             text.push_str(if line == done.as_str() {
@@ -424,12 +650,21 @@ impl Case<'_> {
     }
 }
 
+/// Whether a call's failure is tried: of thousands the first two, each 16,381st, and the last three.
+fn is_tried(call: u64, count: u64) -> bool {
+    count <= 100 || call < 2 || call % 16_381 == 0 || call.saturating_add(3) >= count
+}
+
 #[test]
 fn a_call_that_fails_is_told_to_its_request(rt: HostRuntime) -> Result<(), Fail> {
     for case in &CASES {
         let script = case.script(rt.alloc())?;
-        for failing in (0..case.count()).chain([NEVER]) {
-            let image = FailingStore::new(image_of_numbers(rt.alloc())?, failing);
+        let count = case.count();
+        for failing in (0..count).chain([NEVER]) {
+            if failing < count && !is_tried(failing, count) {
+                continue;
+            }
+            let image = FailingStore::new(image_of_numbers(rt.alloc(), case.sectors)?, failing);
             let blank = FailingStore::new(MemStore::new(rt.alloc(), 0)?, 0);
             let mut printed = Vec::new(rt.alloc());
             let (text, script) = (case.text.as_bytes(), script.as_str().as_bytes());
@@ -442,6 +677,67 @@ fn a_call_that_fails_is_told_to_its_request(rt: HostRuntime) -> Result<(), Fail>
                 case.session
             );
         }
+    }
+    Ok(())
+}
+
+/// Three sectors are written to a disk with a cache, which is taken out and put in again, and has lost them; then they
+/// are read.
+const LOSING: &str = "store 1 76 0 5a
+write 1 0 100 3 76
+dev finish 0 0
+service
+dev unplug 0
+service
+dev loseplug 0
+service
+read 1 0 100 3 77
+dev finish 0 0
+service
+load 1 77 0 1
+load 1 77 512 1
+load 1 77 1024 1
+";
+
+/// For each of the three the disk is read, for what is kept, and then written: 6 calls. Then what was kept is written
+/// back, in rising order of sectors: 3 calls.
+const CALLS_OF_WRITE: u64 = 6;
+
+/// What is printed where a call fails. One of the write's fails the write, and what it had written is lost as well. One
+/// that writes back leaves its sector as it was written.
+fn printed_of_losing(alloc: Global, failing: u64) -> Result<String, Fail> {
+    let told = if failing < CALLS_OF_WRITE {
+        "DeviceError 41 40"
+    } else {
+        "Ok"
+    };
+    let mut text = format!(in alloc;
+        "stored\nok 1\ndid\nreply 1 {told}\ndid\nquiet\ndid\nquiet\n"
+    )?;
+    text.push_str("ok 2\ndid\nreply 2 Ok\n")?;
+    for (call, first, written) in [(6, 0x64, 0x5a), (7, 0x65, 0), (8, 0x66, 0)] {
+        let byte: u8 = if failing == call { written } else { first };
+        text.push_str(format!(in alloc; "bytes {byte:02x}\n")?.as_str())?;
+    }
+    Ok(text)
+}
+
+#[test]
+fn a_sector_that_cannot_be_written_back_keeps_what_was_written(
+    rt: HostRuntime,
+) -> Result<(), Fail> {
+    for failing in (0..9).chain([NEVER]) {
+        let image = FailingStore::new(image_of_numbers(rt.alloc(), 356)?, failing);
+        let blank = FailingStore::new(MemStore::new(rt.alloc(), 0)?, 0);
+        let mut printed = Vec::new(rt.alloc());
+        let (text, script) = (CACHED.as_bytes(), LOSING.as_bytes());
+        let ended = play(rt.alloc(), text, script, image, blank, false, &mut printed).ended;
+        let wanted = printed_of_losing(rt.alloc(), failing)?;
+        assert_eq!(rt; ended, Ended::Done);
+        assert!(rt;
+            printed.as_slice() == wanted.as_str().as_bytes(),
+            "call {failing}"
+        );
     }
     Ok(())
 }

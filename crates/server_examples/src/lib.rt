@@ -8,6 +8,8 @@
 #[cfg(test)]
 mod boots;
 #[cfg(test)]
+mod failing_store;
+#[cfg(test)]
 mod failing_stores;
 pub mod histories;
 #[cfg(test)]

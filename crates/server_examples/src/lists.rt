@@ -10,10 +10,10 @@ use sector_store::{MemStore, SectorStore};
 use std::alloc::Global;
 use std::test::Fail;
 
-/// A disk in memory of which every byte of sector k is k modulo 256.
-pub fn image_of_numbers(alloc: Global) -> Result<MemStore, Fail> {
-    let mut image = MemStore::new(alloc, 356)?;
-    for sector in 0..356_u16 {
+/// A disk of so many sectors in memory, of which every byte of sector k is k modulo 256.
+pub fn image_of_numbers(alloc: Global, sectors: u32) -> Result<MemStore, Fail> {
+    let mut image = MemStore::new(alloc, sectors)?;
+    for sector in 0..sectors {
         let bytes = [sector.to_le_bytes()[0]; 512];
         let _done = image.write(u64::from(sector), &bytes);
     }
@@ -23,7 +23,7 @@ pub fn image_of_numbers(alloc: Global) -> Result<MemStore, Fail> {
 /// A server over such a disk.
 fn server_of_numbers(alloc: Global) -> Result<Server<Model<MemStore>>, Fail> {
     let config = config(alloc, QUEUED)?;
-    let image = image_of_numbers(alloc)?;
+    let image = image_of_numbers(alloc, 356)?;
     let model = new_model(alloc, &config, image, MemStore::new(alloc, 0)?)?;
     match Server::new(alloc, &config, model) {
         Ok(server) => Ok(server),
@@ -31,11 +31,11 @@ fn server_of_numbers(alloc: Global) -> Result<Server<Model<MemStore>>, Fail> {
     }
 }
 
-/// A look of client 1 at so many bytes of frame 40.
+/// A look of client 1 at so many bytes of frame 76.
 fn look(offset: u32, length: u32) -> Event {
     Event::ClientLoad {
         client: ClientId(1),
-        frame: Frame(40),
+        frame: Frame(76),
         offset,
         length,
     }
@@ -44,7 +44,7 @@ fn look(offset: u32, length: u32) -> Event {
 /// The first calls of a read.
 fn first_calls() -> [Event; 2] {
     [
-        Event::Submit(request(Op::Read, 100, 8, 40, 1)),
+        Event::Submit(request(Op::Read, 100, 8, 76, 1)),
         Event::Device(DeviceStep::Finish(Port(0), Slot(0))),
     ]
 }

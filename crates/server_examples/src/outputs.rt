@@ -6,7 +6,7 @@ use std::io;
 use std::test::Fail;
 
 /// A configuration without ports, clients and grants.
-const SETTINGS: &[u8] = b"frames = 41
+const SETTINGS: &[u8] = b"frames = 77
 slots = 1
 ncq = false
 depth = 1

@@ -17,7 +17,7 @@ number = 0
 serial = \"IMAGEDISK\"
 [[client]]
 id = 1
-first_frame = 40
+first_frame = 76
 frames = 40
 [[grant]]
 client = 1
@@ -74,7 +74,7 @@ const fn client(id: u64, first_frame: u64) -> ClientConfig {
 }
 
 const OWNERS: &[(ClientId, Frame, u16)] = &[
-    (ClientId(1), Frame(40), 40),
+    (ClientId(1), Frame(76), 40),
     (ClientId(8), Frame(255), 1),
 ];
 
@@ -139,7 +139,7 @@ fn values_that_break_a_rule_are_refused(rt: HostRuntime) -> Result<(), Fail> {
         (Added::Grant(8, 1, 0), None),
         (Added::Grant(1, 1, 1), Some(Kind::UnknownPort)),
         (Added::Grant(2, 1, 0), Some(Kind::UnknownClient)),
-        (Added::Client(3, 79, 1), Some(Kind::SharedFrames)),
+        (Added::Client(3, 115, 1), Some(Kind::SharedFrames)),
         (Added::Port(0), Some(Kind::Duplicate)),
         (Added::Client(1, u64::MAX, u64::MAX), Some(Kind::OutOfRange)),
     ] {

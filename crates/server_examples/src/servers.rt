@@ -18,41 +18,61 @@ use std::alloc::Global;
 use std::process::Abort;
 use std::test::Fail;
 
-/// A configuration with this adapter and this disk: client 1 owns frames 40 to 79, and may do all with sectors 100 to
-/// 355.
+/// A configuration with this adapter and this disk: client 1 owns frames 76 to 235, and may do all with these sectors.
 macro_rules! text_with {
-    ($model:literal) => {
+    ($model:literal, $sectors:literal) => {
         concat!(
             $model,
-            "frames = 256
+            "frames = 512
 trim = \"full\"
 [[port]]
 number = 0
 serial = \"IMAGEDISK\"
 [[client]]
 id = 1
-first_frame = 40
-frames = 40
+first_frame = 76
+frames = 160
 [[grant]]
 client = 1
 number = 0
 port = 0
-first = 100
-count = 256
-rights = \"rwtf\"
+",
+            $sectors,
+            "rights = \"rwtf\"
 "
         )
     };
 }
 
 /// Commands are plain.
-const PLAIN: &str = text_with!("slots = 1\nncq = false\ndepth = 1\n");
+const PLAIN: &str = text_with!(
+    "slots = 1\nncq = false\ndepth = 1\n",
+    "first = 100\ncount = 1024\n"
+);
 
 /// Commands are queued.
-pub const QUEUED: &str = text_with!("slots = 32\nncq = true\ndepth = 32\n");
+pub const QUEUED: &str = text_with!(
+    "slots = 32\nncq = true\ndepth = 32\n",
+    "first = 100\ncount = 1024\n"
+);
+
+/// And the client may do all with the disk.
+pub const OF_ALL_SECTORS: &str = text_with!(
+    "slots = 32\nncq = true\ndepth = 32\n",
+    "first = 0\ncount = 70000\n"
+);
 
 /// Neither adapter nor disk queues commands.
-pub const UNQUEUED: &str = text_with!("slots = 32\nncq = false\ndepth = 32\n");
+pub const UNQUEUED: &str = text_with!(
+    "slots = 32\nncq = false\ndepth = 32\n",
+    "first = 100\ncount = 1024\n"
+);
+
+/// With disks that have a volatile write cache.
+pub const CACHED: &str = text_with!(
+    "slots = 32\nncq = true\ndepth = 32\ncache = true\n",
+    "first = 100\ncount = 1024\n"
+);
 
 /// The values of the text.
 pub fn config(alloc: Global, text: &str) -> Result<Config, Fail>
@@ -91,7 +111,7 @@ pub fn request(op: Op, first: u64, count: u32, frame: u16, frames: u16) -> Reque
     }
 }
 
-/// The bytes of a slot's header, of its FIS, and of its first and its 32nd entry.
+/// The bytes of a slot's header, of its FIS, and of its first and its 128th entry.
 type Slot = ([u8; 16], [u8; 20], [u8; 16], [u8; 16]);
 
 /// Bytes from a place of memory on.
@@ -111,7 +131,7 @@ fn served(
     requests: &[Request],
 ) -> Result<(Watched<Model<MemStore>>, usize), Fail> {
     let config = config(rt.alloc(), text)?;
-    let watched = Watched::new(rt.alloc(), model_of(rt.alloc(), &config, 356)?)?;
+    let watched = Watched::new(rt.alloc(), model_of(rt.alloc(), &config, 1124)?)?;
     let Ok(server) = Server::new(rt.alloc(), &config, watched) else {
         return Err(Fail::from("no server"));
     };
@@ -139,9 +159,9 @@ fn check(
 ) -> Result<(), Fail> {
     let (watched, before) = served(rt, text, requests)?;
     let low = watched.low.as_slice();
-    let table = 0x1000 + 0x400 * usize::from(slot);
+    let table = 0x1000 + 0x880 * usize::from(slot);
     let (header, fis) = (piece(low, 0x20 * usize::from(slot)), piece(low, table));
-    let (first, last) = (piece(low, table + 0x80), piece(low, table + 0x270));
+    let (first, last) = (piece(low, table + 0x80), piece(low, table + 0x870));
     assert_eq!(rt; (header, fis, first, last), wanted);
     assert_eq!(rt; watched.accesses.get(before..), Some(accesses));
     Ok(())
@@ -151,13 +171,13 @@ const NO_ENTRY: [u8; 16] = [0; 16];
 
 // Headers have the number of entries in bytes 2 and 3, and the place of the table, 1000h, from byte 8 on (AHCI 1.3.1,
 // 4.2.2). An entry has the place of a frame, and the number of its bytes less one (4.2.3). The page comes to the port's
-// scratch frame, frame 9.
+// scratch frame, frame 18.
 const IDENTIFY: Slot = (
     [5, 0, 1, 0, 0, 0, 0, 0, 0, 0x10, 0, 0, 0, 0, 0, 0],
     [
         0x27, 0x80, 0xec, 0, 0, 0, 0, 0, 0, 0, 0, 0, 0, 0, 0, 0, 0, 0, 0, 0,
     ],
-    [0, 0x90, 0, 0, 0, 0, 0, 0, 0, 0, 0, 0, 0xff, 1, 0, 0],
+    [0, 0x20, 1, 0, 0, 0, 0, 0, 0, 0, 0, 0, 0xff, 1, 0, 0],
     NO_ENTRY,
 );
 
@@ -166,40 +186,40 @@ const READ_HEADER: [u8; 16] = [5, 0, 1, 0, 0, 0, 0, 0, 0, 0x10, 0, 0, 0, 0, 0, 0
 
 const WRITE_HEADER: [u8; 16] = [0x45, 0, 1, 0, 0, 0, 0, 0, 0, 0x10, 0, 0, 0, 0, 0, 0];
 
-/// All of frame 40, all of the 32 frames from 45 on, and three sectors of frame 41.
-const FRAME_40: [u8; 16] = [0, 0x80, 2, 0, 0, 0, 0, 0, 0, 0, 0, 0, 0xff, 0x0f, 0, 0];
+/// All of frame 76, all of the 32 frames from 81 on, and three sectors of frame 77.
+const FRAME_76: [u8; 16] = [0, 0xc0, 4, 0, 0, 0, 0, 0, 0, 0, 0, 0, 0xff, 0x0f, 0, 0];
 
-const FRAMES_FROM_45: [u8; 16] = [0, 0xd0, 2, 0, 0, 0, 0, 0, 0, 0, 0, 0, 0xff, 0xff, 1, 0];
+const FRAMES_FROM_81: [u8; 16] = [0, 0x10, 5, 0, 0, 0, 0, 0, 0, 0, 0, 0, 0xff, 0xff, 1, 0];
 
-const FRAME_41: [u8; 16] = [0, 0x90, 2, 0, 0, 0, 0, 0, 0, 0, 0, 0, 0xff, 0x05, 0, 0];
+const FRAME_77: [u8; 16] = [0, 0xd0, 4, 0, 0, 0, 0, 0, 0, 0, 0, 0, 0xff, 0x05, 0, 0];
 
-/// A read of eight sectors from 100 on into frame 40, by READ DMA EXT.
+/// A read of eight sectors from 100 on into frame 76, by READ DMA EXT.
 const SHORT_READ: Slot = (
     READ_HEADER,
     [
         0x27, 0x80, 0x25, 0, 0x64, 0, 0, 0x40, 0, 0, 0, 0, 8, 0, 0, 0, 0, 0, 0, 0,
     ],
-    FRAME_40,
+    FRAME_76,
     NO_ENTRY,
 );
 
-/// A read of 256 sectors from 100 on into frames 45 to 76, by READ DMA EXT: one entry has them all.
+/// A read of 256 sectors from 100 on into frames 81 to 112, by READ DMA EXT: one entry has them all.
 const LONG_READ: Slot = (
     [5, 0, 1, 0, 0, 0, 0, 0, 0, 0x10, 0, 0, 0, 0, 0, 0],
     [
         0x27, 0x80, 0x25, 0, 0x64, 0, 0, 0x40, 0, 0, 0, 0, 0, 1, 0, 0, 0, 0, 0, 0,
     ],
-    FRAMES_FROM_45,
+    FRAMES_FROM_81,
     NO_ENTRY,
 );
 
-/// A write of three sectors from 100 on from frame 41, by WRITE DMA EXT.
+/// A write of three sectors from 100 on from frame 77, by WRITE DMA EXT.
 const WRITE: Slot = (
     WRITE_HEADER,
     [
         0x27, 0x80, 0x35, 0, 0x64, 0, 0, 0x40, 0, 0, 0, 0, 3, 0, 0, 0, 0, 0, 0, 0,
     ],
-    FRAME_41,
+    FRAME_77,
     NO_ENTRY,
 );
 
@@ -210,17 +230,47 @@ const QUEUED_SHORT_READ: Slot = (
     [
         0x27, 0x80, 0x60, 8, 0x64, 0, 0, 0x40, 0, 0, 0, 0, 0, 0, 0, 0, 0, 0, 0, 0,
     ],
-    FRAME_40,
+    FRAME_76,
     NO_ENTRY,
 );
 
-/// The long read by READ FPDMA QUEUED, in slot 5, whose table stands at 2400h.
+/// The long read by READ FPDMA QUEUED, in slot 5, whose table stands at 3A80h.
 const QUEUED_LONG_READ: Slot = (
-    [5, 0, 1, 0, 0, 0, 0, 0, 0, 0x24, 0, 0, 0, 0, 0, 0],
+    [5, 0, 1, 0, 0, 0, 0, 0, 0x80, 0x3a, 0, 0, 0, 0, 0, 0],
     [
         0x27, 0x80, 0x60, 0, 0x64, 0, 0, 0x40, 0, 0, 0, 1, 0x28, 0, 0, 0, 0, 0, 0, 0,
     ],
-    FRAMES_FROM_45,
+    FRAMES_FROM_81,
+    NO_ENTRY,
+);
+
+/// A read of 1,024 sectors by READ FPDMA QUEUED, in slot 0, into frames 76 to 203: one entry has the 512 KiB.
+const WIDE_READ: Slot = (
+    READ_HEADER,
+    [
+        0x27, 0x80, 0x60, 0, 0x64, 0, 0, 0x40, 0, 0, 0, 4, 0, 0, 0, 0, 0, 0, 0, 0,
+    ],
+    [0, 0xc0, 4, 0, 0, 0, 0, 0, 0, 0, 0, 0, 0xff, 0xff, 7, 0],
+    NO_ENTRY,
+);
+
+/// The same from frame 203 down to 76: of the 128 entries the first is of frame 203, and the last of frame 76.
+const FALLING_READ: Slot = (
+    [5, 0, 0x80, 0, 0, 0, 0, 0, 0, 0x10, 0, 0, 0, 0, 0, 0],
+    [
+        0x27, 0x80, 0x60, 0, 0x64, 0, 0, 0x40, 0, 0, 0, 4, 0, 0, 0, 0, 0, 0, 0, 0,
+    ],
+    [0, 0xb0, 12, 0, 0, 0, 0, 0, 0, 0, 0, 0, 0xff, 0x0f, 0, 0],
+    FRAME_76,
+);
+
+/// The wide read by READ DMA EXT, where commands are plain.
+const PLAIN_WIDE_READ: Slot = (
+    READ_HEADER,
+    [
+        0x27, 0x80, 0x25, 0, 0x64, 0, 0, 0x40, 0, 0, 0, 0, 0, 4, 0, 0, 0, 0, 0, 0,
+    ],
+    [0, 0xc0, 4, 0, 0, 0, 0, 0, 0, 0, 0, 0, 0xff, 0xff, 7, 0],
     NO_ENTRY,
 );
 
@@ -230,17 +280,17 @@ const QUEUED_WRITE: Slot = (
     [
         0x27, 0x80, 0x61, 3, 0x64, 0, 0, 0x40, 0, 0, 0, 0, 0, 0, 0, 0, 0, 0, 0, 0,
     ],
-    FRAME_41,
+    FRAME_77,
     NO_ENTRY,
 );
 
-/// A trim, by DATA SET MANAGEMENT with one block, which stands at 9000h, in the port's scratch frame.
+/// A trim, by DATA SET MANAGEMENT with one block, which stands at 12000h, in the port's scratch frame.
 const TRIM: Slot = (
     WRITE_HEADER,
     [
         0x27, 0x80, 6, 1, 0, 0, 0, 0, 0, 0, 0, 0, 1, 0, 0, 0, 0, 0, 0, 0,
     ],
-    [0, 0x90, 0, 0, 0, 0, 0, 0, 0, 0, 0, 0, 0xff, 1, 0, 0],
+    [0, 0x20, 1, 0, 0, 0, 0, 0, 0, 0, 0, 0, 0xff, 1, 0, 0],
     NO_ENTRY,
 );
 
@@ -250,7 +300,7 @@ const FLUSH: Slot = (
     [
         0x27, 0x80, 0xea, 0, 0, 0, 0, 0, 0, 0, 0, 0, 0, 0, 0, 0, 0, 0, 0, 0,
     ],
-    [0, 0x90, 0, 0, 0, 0, 0, 0, 0, 0, 0, 0, 0xff, 1, 0, 0],
+    [0, 0x20, 1, 0, 0, 0, 0, 0, 0, 0, 0, 0, 0xff, 1, 0, 0],
     NO_ENTRY,
 );
 
@@ -269,29 +319,48 @@ const SERVICE: [Access; 6] = [
 #[test]
 fn commands_stand_in_memory(rt: HostRuntime) -> Result<(), Fail> {
     check(&rt, PLAIN, &[], 0, IDENTIFY, &SERVICE[..4])?;
-    let eight = [request(Op::Read, 100, 8, 40, 1)];
+    let eight = [request(Op::Read, 100, 8, 76, 1)];
     check(&rt, PLAIN, &eight, 0, SHORT_READ, &SERVICE)?;
-    let most = [request(Op::Read, 100, 256, 45, 32)];
+    let most = [request(Op::Read, 100, 256, 81, 32)];
     check(&rt, PLAIN, &most, 0, LONG_READ, &SERVICE)?;
-    let three = [request(Op::Write, 100, 3, 41, 1)];
+    let three = [request(Op::Write, 100, 3, 77, 1)];
     check(&rt, PLAIN, &three, 0, WRITE, &SERVICE)
 }
 
 #[test]
 fn queued_commands_stand_in_memory(rt: HostRuntime) -> Result<(), Fail> {
-    let eight = [request(Op::Read, 100, 8, 40, 1)];
+    let eight = [request(Op::Read, 100, 8, 76, 1)];
     check(&rt, QUEUED, &eight, 0, QUEUED_SHORT_READ, &SERVICE)?;
-    let three = [request(Op::Write, 100, 3, 41, 1)];
+    let three = [request(Op::Write, 100, 3, 77, 1)];
     check(&rt, QUEUED, &three, 0, QUEUED_WRITE, &SERVICE)?;
     let six = [
-        request(Op::Read, 100, 1, 40, 1),
-        request(Op::Read, 100, 1, 41, 1),
-        request(Op::Read, 100, 1, 42, 1),
-        request(Op::Read, 100, 1, 43, 1),
-        request(Op::Read, 100, 1, 44, 1),
-        request(Op::Read, 100, 256, 45, 32),
+        request(Op::Read, 100, 1, 76, 1),
+        request(Op::Read, 100, 1, 77, 1),
+        request(Op::Read, 100, 1, 78, 1),
+        request(Op::Read, 100, 1, 79, 1),
+        request(Op::Read, 100, 1, 80, 1),
+        request(Op::Read, 100, 256, 81, 32),
     ];
     check(&rt, QUEUED, &six, 5, QUEUED_LONG_READ, &SERVICE)
+}
+
+/// A read of 1,024 sectors from 100 on into the frames from 203 down to 76.
+fn falling_read() -> Request {
+    let mut read = request(Op::Read, 100, 1024, 76, 128);
+    let mut falling = ArrayVec::new();
+    for frame in read.frames.as_slice().iter().rev() {
+        let _full = falling.try_push(*frame).is_err();
+    }
+    read.frames = falling;
+    read
+}
+
+#[test]
+fn the_widest_commands_stand_in_memory(rt: HostRuntime) -> Result<(), Fail> {
+    let wide = [request(Op::Read, 100, 1024, 76, 128)];
+    check(&rt, PLAIN, &wide, 0, PLAIN_WIDE_READ, &SERVICE)?;
+    check(&rt, QUEUED, &wide, 0, WIDE_READ, &SERVICE)?;
+    check(&rt, QUEUED, &[falling_read()], 0, FALLING_READ, &SERVICE)
 }
 
 #[test]
@@ -302,7 +371,7 @@ fn trims_and_flushes_stand_in_memory(rt: HostRuntime) -> Result<(), Fail> {
     check(&rt, QUEUED, &flush, 0, FLUSH, &SERVICE)?;
     // One entry of the block names 200 sectors from 120 on; the next one is zero.
     let (watched, _before) = served(&rt, QUEUED, &trim)?;
-    let block: [u8; 16] = piece(watched.adapter.memory(), 0x9000);
+    let block: [u8; 16] = piece(watched.adapter.memory(), 0x1_2000);
     let wanted = [0x78, 0, 0, 0, 0, 0, 0xc8, 0, 0, 0, 0, 0, 0, 0, 0, 0];
     assert_eq!(rt; block, wanted);
     Ok(())
@@ -321,8 +390,8 @@ fn issues(alloc: Global, text: &str, lies: [Lie; 2]) -> Result<(usize, usize), F
     };
     let mut server = server;
     let before = server.adapter().accesses.len();
-    let first = server.submit(&request(Op::Read, 100, 8, 40, 1)).is_ok();
-    let second = server.submit(&request(Op::Read, 108, 8, 41, 1)).is_ok();
+    let first = server.submit(&request(Op::Read, 100, 8, 76, 1)).is_ok();
+    let second = server.submit(&request(Op::Read, 108, 8, 77, 1)).is_ok();
     let watched = server.close();
     if !first || !second {
         return Err(Fail::from("a read is refused"));
@@ -391,7 +460,7 @@ fn fises_stand_in_memory(rt: HostRuntime) -> Result<(), Fail> {
     };
     let mut server = server;
     let booted = piece(server.adapter().memory(), 0x400);
-    let accepted = server.submit(&request(Op::Write, 100, 3, 41, 1)).is_ok();
+    let accepted = server.submit(&request(Op::Write, 100, 3, 77, 1)).is_ok();
     let ended = server.device(&DeviceStep::Finish(Port(0), ata_types::Slot(0)));
     let written = piece(server.adapter().memory(), 0x400);
     let _model = server.close();
@@ -411,8 +480,8 @@ fn unspelled_calls_are_answered(rt: HostRuntime) -> Result<(), Fail> {
     let mut server = server;
     let asked = server.submit(&request(Op::Flush, 0, 8, 0, 0));
     let past_all = server.state(Port(4));
-    let at_end = server.client_store(ClientId(1), Frame(40), 4096, &[]);
-    let past_end = server.client_store(ClientId(1), Frame(40), 4097, &[]);
+    let at_end = server.client_store(ClientId(1), Frame(76), 4096, &[]);
+    let past_end = server.client_store(ClientId(1), Frame(76), 4097, &[]);
     let _model = server.close();
     assert_eq!(rt;
         (asked, past_all, at_end, past_end),
@@ -443,7 +512,7 @@ fn area_after_a_fault(alloc: Global, text: &str) -> Result<[u8; 256], Fail> {
     };
     let mut server = server;
     let slot = ata_types::Slot(0);
-    let accepted = server.submit(&request(Op::Write, 100, 3, 41, 1)).is_ok();
+    let accepted = server.submit(&request(Op::Write, 100, 3, 77, 1)).is_ok();
     let taken = server.device(&DeviceStep::Fetch(Port(0), slot));
     let failed = server.device(&DeviceStep::Fault(Port(0), slot, 0x40));
     let area = piece(server.adapter().memory(), 0x400);

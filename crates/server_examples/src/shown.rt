@@ -30,7 +30,7 @@ fn new_server(alloc: Global) -> Result<Server<Model<MemStore>>, Fail>
 #[test]
 fn a_read_is_answered_ok(rt: HostRuntime) -> Result<(), Fail> {
     let mut server = new_server(rt.alloc())?;
-    let shown = serves_a_read(rt.alloc(), &mut server, request(Op::Read, 100, 8, 40, 1));
+    let shown = serves_a_read(rt.alloc(), &mut server, request(Op::Read, 100, 8, 76, 1));
     let _model = server.close();
     assert!(rt; shown);
     Ok(())
@@ -39,7 +39,7 @@ fn a_read_is_answered_ok(rt: HostRuntime) -> Result<(), Fail> {
 #[test]
 fn a_read_goes_again_after_a_fatal_error(rt: HostRuntime) -> Result<(), Fail> {
     let mut server = new_server(rt.alloc())?;
-    let shown = serves_a_read_anew(rt.alloc(), &mut server, request(Op::Read, 100, 8, 40, 1));
+    let shown = serves_a_read_anew(rt.alloc(), &mut server, request(Op::Read, 100, 8, 76, 1));
     let _model = server.close();
     assert!(rt; shown);
     Ok(())
@@ -48,8 +48,8 @@ fn a_read_goes_again_after_a_fatal_error(rt: HostRuntime) -> Result<(), Fail> {
 #[test]
 fn a_reset_releases_the_frame_of_a_dead_port(rt: HostRuntime) -> Result<(), Fail> {
     let mut server = new_server(rt.alloc())?;
-    let asked = request(Op::Read, 100, 8, 40, 1);
-    let shown = releases_a_frame(rt.alloc(), &mut server, asked, ClientId(1), Frame(40));
+    let asked = request(Op::Read, 100, 8, 76, 1);
+    let shown = releases_a_frame(rt.alloc(), &mut server, asked, ClientId(1), Frame(76));
     let _model = server.close();
     assert!(rt; shown);
     Ok(())

@@ -3,7 +3,7 @@ ghost use Rattle.std.specs.Prelude.{◌≡◌, ◌≤◌, IfOk};
 ghost use Rattle.adapter.specs.Idle.{IsIdle};
 
 use adapter::{Adapter, DeviceStep, DiskPage, Stepped};
-use ata_types::{DRIVER_BYTES, PORTS, Port};
+use ata_types::{DRIVER_BYTES, FEWEST_FRAMES, PORTS, Port};
 use device_model::{Model, ModelConfig, Trim};
 use hba_regs::Reg;
 use sector_store::MemStore;
@@ -14,12 +14,13 @@ use std::test::Fail;
 pub const ALL_PORTS: u8 = 0x0f;
 
 const CONFIG: ModelConfig = ModelConfig {
-    frames: 41,
+    frames: FEWEST_FRAMES,
     pi: ALL_PORTS,
     slots: 32,
     ncq: true,
     depth: 32,
     trim: Trim::Full,
+    cache: false,
 };
 
 /// An idle adapter with the ports of this PI, and a disk of so many sectors in port 0.
@@ -58,9 +59,9 @@ pub enum Access {
     Store,
 }
 
-/// The end of what a port's slots 0 to 5 need: their headers from 0 on, and their tables of 400h bytes each from 1000h
-/// on, of which the last's 32 entries end here.
-pub const LOW: usize = 0x2680;
+/// The end of what a port's slots 0 to 5 need: their headers from 0 on, and their tables of 880h bytes each from 1000h
+/// on, of which the last's 128 entries end here.
+pub const LOW: usize = 0x4300;
 
 /// An adapter that notes its calls, and what is stored in the first bytes of memory.
 #[derive(Drop)]

@@ -58,18 +58,18 @@ fn port(rt: &impl Abort, state: PortState, sectors: u64, trims: bool) -> ArrayVe
     ports
 }
 
-/// Client 1 has frames 40 to 79 and may do all to sectors 100 to 163; client 2 has frames 80 to 119 and may read 140 to
-/// 199. Port 0 is ready, with a disk of 70,000 sectors.
+/// Client 1 has frames 76 to 115 and may do all to sectors 100 to 163; client 2 has frames 116 to 127 and may read 140
+/// to 199. Port 0 is ready, with a disk of 70,000 sectors.
 fn tables(rt: &impl Abort) -> Tables {
     let mut rows = ArrayVec::new();
     assert!(rt; rows.try_push(row(1, 100, 64, true)).is_ok());
     assert!(rt; rows.try_push(row(2, 140, 60, false)).is_ok());
     let mut owners = ArrayVec::new();
     let mut lent = ArrayVec::new();
-    for frame in 0..120 {
-        let owner = if frame < 40 {
+    for frame in 0..128 {
+        let owner = if frame < 76 {
             None
-        } else if frame < 80 {
+        } else if frame < 116 {
             Some(ClientId(1))
         } else {
             Some(ClientId(2))
@@ -98,7 +98,7 @@ fn lend(rt: &impl Abort, tables: &mut Tables, frame: usize, id: u64) {
 #[derive(Clone, Copy)]
 enum Setting {
     Usual,
-    /// Frame 41 is lent.
+    /// Frame 77 is lent.
     Lent,
     /// Client 1 has so many unanswered requests.
     Unanswered(u32),
@@ -116,7 +116,7 @@ fn set(rt: &impl Abort, setting: Setting) -> Tables {
     let mut tables = tables(rt);
     match setting {
         Setting::Usual => {}
-        Setting::Lent => lend(rt, &mut tables, 41, 1),
+        Setting::Lent => lend(rt, &mut tables, 77, 1),
         Setting::Unanswered(count) => {
             for _ in 0..count {
                 assert!(rt; tables.unanswered.try_push(ClientId(1)).is_ok());
@@ -197,18 +197,19 @@ type Asked = (
 );
 
 const REQUESTS: &[Asked] = &[
-    (USUAL, 1, 0, Op::Read, 156, 8, &[40], None),
-    (USUAL, 1, 0, Op::Read, 157, 8, &[40], OUTSIDE_GRANT),
-    (USUAL, 1, 0, Op::Read, u64::MAX, 8, &[40], OUTSIDE_GRANT),
-    (USUAL, 1, 0, Op::Read, 100, 257, &[40], BAD_COUNT),
+    (USUAL, 1, 0, Op::Read, 156, 8, &[76], None),
+    (USUAL, 1, 0, Op::Read, 157, 8, &[76], OUTSIDE_GRANT),
+    (USUAL, 1, 0, Op::Read, u64::MAX, 8, &[76], OUTSIDE_GRANT),
+    (USUAL, 1, 0, Op::Read, 100, 257, &[76], OUTSIDE_GRANT),
+    (USUAL, 1, 0, Op::Read, 100, 1025, &[76], BAD_COUNT),
     (USUAL, 1, 0, Op::Read, 100, 0, &[], BAD_COUNT),
-    (USUAL, 2, 0, Op::Write, 140, 8, &[80], NO_RIGHT),
-    (USUAL, 2, 1, Op::Write, 140, 8, &[80], NO_GRANT),
-    (USUAL, 1, 0, Op::Write, 100, 8, &[40], None),
-    (USUAL, 1, 0, Op::Write, 120, 8, &[40], None),
-    (USUAL, 1, 0, Op::Trim, 100, 8, &[40], FRAME_COUNT),
-    (USUAL, 0, 0, Op::Read, 100, 8, &[40], NO_GRANT),
-    (USUAL, 1, 0, Op::Read, 100, 16, &[41, 41], FRAME_TWICE_1),
+    (USUAL, 2, 0, Op::Write, 140, 8, &[116], NO_RIGHT),
+    (USUAL, 2, 1, Op::Write, 140, 8, &[116], NO_GRANT),
+    (USUAL, 1, 0, Op::Write, 100, 8, &[76], None),
+    (USUAL, 1, 0, Op::Write, 120, 8, &[76], None),
+    (USUAL, 1, 0, Op::Trim, 100, 8, &[76], FRAME_COUNT),
+    (USUAL, 0, 0, Op::Read, 100, 8, &[76], NO_GRANT),
+    (USUAL, 1, 0, Op::Read, 100, 16, &[77, 77], FRAME_TWICE_1),
     (
         USUAL,
         1,
@@ -216,13 +217,13 @@ const REQUESTS: &[Asked] = &[
         Op::Read,
         100,
         24,
-        &[41, 80, 41],
+        &[77, 116, 77],
         FRAME_FOREIGN_1,
     ),
     (USUAL, 1, 0, Op::Read, 100, 8, &[2000], FRAME_FOREIGN_0),
     (USUAL, 1, 0, Op::Read, 100, 8, &[0], FRAME_FOREIGN_0),
-    (LENT, 1, 0, Op::Read, 110, 8, &[41], FRAME_LENT_0),
-    (FIFTEEN, 1, 0, Op::Read, 100, 1, &[56], None),
+    (LENT, 1, 0, Op::Read, 110, 8, &[77], FRAME_LENT_0),
+    (FIFTEEN, 1, 0, Op::Read, 100, 1, &[92], None),
     (
         SIXTEEN,
         1,
@@ -230,12 +231,21 @@ const REQUESTS: &[Asked] = &[
         Op::Read,
         100,
         1,
-        &[56],
+        &[92],
         Some(Refusal::ClientFull),
     ),
-    (SIXTEEN, 2, 0, Op::Read, 140, 1, &[80], None),
-    (LAST_BUT_ONE, 2, 0, Op::Read, 140, 1, &[80], None),
-    (LAST, 2, 0, Op::Read, 140, 1, &[80], Some(Refusal::IdsSpent)),
+    (SIXTEEN, 2, 0, Op::Read, 140, 1, &[116], None),
+    (LAST_BUT_ONE, 2, 0, Op::Read, 140, 1, &[116], None),
+    (
+        LAST,
+        2,
+        0,
+        Op::Read,
+        140,
+        1,
+        &[116],
+        Some(Refusal::IdsSpent),
+    ),
     (
         ABSENT,
         2,
@@ -243,7 +253,7 @@ const REQUESTS: &[Asked] = &[
         Op::Read,
         140,
         1,
-        &[80],
+        &[116],
         Some(Refusal::PortNotReady(PortState::Absent)),
     ),
     (
@@ -253,7 +263,7 @@ const REQUESTS: &[Asked] = &[
         Op::Read,
         140,
         1,
-        &[80],
+        &[116],
         Some(Refusal::PortNotReady(PortState::Foreign)),
     ),
     (
@@ -263,7 +273,7 @@ const REQUESTS: &[Asked] = &[
         Op::Read,
         140,
         1,
-        &[80],
+        &[116],
         Some(Refusal::PortNotReady(PortState::Unfit(6))),
     ),
     (
@@ -273,7 +283,7 @@ const REQUESTS: &[Asked] = &[
         Op::Read,
         140,
         1,
-        &[80],
+        &[116],
         Some(Refusal::PortNotReady(PortState::Dead)),
     ),
     (
@@ -283,10 +293,10 @@ const REQUESTS: &[Asked] = &[
         Op::Read,
         140,
         1,
-        &[80],
+        &[116],
         Some(Refusal::PortNotReady(PortState::Absent)),
     ),
-    (SMALL, 1, 0, Op::Read, 142, 8, &[40], None),
+    (SMALL, 1, 0, Op::Read, 142, 8, &[76], None),
     (
         SMALL,
         1,
@@ -294,7 +304,7 @@ const REQUESTS: &[Asked] = &[
         Op::Read,
         143,
         8,
-        &[40],
+        &[76],
         Some(Refusal::OutsideDisk),
     ),
     (
@@ -330,16 +340,16 @@ fn requests_are_told_the_first_refusal(rt: HostRuntime) {
 #[test]
 fn each_fault_of_an_access_is_told(rt: HostRuntime) {
     let mut tables = tables(&rt);
-    lend(&rt, &mut tables, 41, 1);
+    lend(&rt, &mut tables, 77, 1);
     let cases: [(u8, u16, u32, usize, Option<MemFault>); 10] = [
-        (1, 40, 0, 4096, None),
-        (1, 40, 4096, 0, None),
-        (1, 40, 1, 4096, Some(MemFault::OutsideFrame)),
-        (1, 40, u32::MAX, usize::MAX, Some(MemFault::OutsideFrame)),
-        (1, 41, 0, 1, Some(MemFault::FrameLent)),
-        (1, 41, 4096, 1, Some(MemFault::FrameLent)),
-        (2, 41, 0, 1, Some(MemFault::FrameForeign)),
-        (1, 80, 4096, 1, Some(MemFault::FrameForeign)),
+        (1, 76, 0, 4096, None),
+        (1, 76, 4096, 0, None),
+        (1, 76, 1, 4096, Some(MemFault::OutsideFrame)),
+        (1, 76, u32::MAX, usize::MAX, Some(MemFault::OutsideFrame)),
+        (1, 77, 0, 1, Some(MemFault::FrameLent)),
+        (1, 77, 4096, 1, Some(MemFault::FrameLent)),
+        (2, 77, 0, 1, Some(MemFault::FrameForeign)),
+        (1, 116, 4096, 1, Some(MemFault::FrameForeign)),
         (1, 0, 0, 1, Some(MemFault::FrameForeign)),
         (0, 2000, 0, 0, Some(MemFault::FrameForeign)),
     ];

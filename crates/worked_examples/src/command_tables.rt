@@ -24,7 +24,7 @@ fn ends_in_zeros(first: [u8; 14]) -> [u8; 20] {
 }
 
 /// Name, the fields code, features, count, LBA and device, and the bytes of the FIS up to its zeros.
-const COMMANDS: [(&str, (u8, u16, u16, u32, u8), [u8; 14]); 9] = [
+const COMMANDS: [(&str, (u8, u16, u16, u32, u8), [u8; 14]); 11] = [
     (
         "READ FPDMA QUEUED of 8 sectors at 100 in slot 0",
         (0x60, 8, 0, 100, 0x40),
@@ -49,6 +49,16 @@ const COMMANDS: [(&str, (u8, u16, u16, u32, u8), [u8; 14]); 9] = [
         "READ DMA EXT of 256 sectors at 100",
         (0x25, 0, 256, 100, 0x40),
         [0x27, 0x80, 0x25, 0, 0x64, 0, 0, 0x40, 0, 0, 0, 0, 0, 1],
+    ),
+    (
+        "READ FPDMA QUEUED of 1024 sectors at 100 in slot 31",
+        (0x60, 1024, 31 << 3, 100, 0x40),
+        [0x27, 0x80, 0x60, 0, 0x64, 0, 0, 0x40, 0, 0, 0, 4, 0xf8, 0],
+    ),
+    (
+        "WRITE DMA EXT of 1024 sectors at 100",
+        (0x35, 0, 1024, 100, 0x40),
+        [0x27, 0x80, 0x35, 0, 0x64, 0, 0, 0x40, 0, 0, 0, 0, 0, 4],
     ),
     (
         "WRITE DMA EXT of 3 sectors at 100",
@@ -80,24 +90,24 @@ fn commands_are_spelled(rt: HostRuntime) {
     }
 }
 
-/// Name, whether the device reads memory, the entries, the place of the table, and the first bytes and byte 9 of the
-/// header.
-const HEADERS: &[(&str, bool, u16, u32, [u8; 4], u8)] = &[
+/// Name, whether the device reads memory, the entries, the place of the table, the first bytes of the header,
+/// and bytes 8 and 9.
+const HEADERS: &[(&str, bool, u16, u32, [u8; 4], [u8; 2])] = &[
     (
         "a trim of one block",
         true,
         1,
         0x1000,
         [0x45, 0, 1, 0],
-        0x10,
+        [0, 0x10],
     ),
     (
         "a read into 32 frames in slot 5",
         false,
         32,
-        0x2400,
+        0x3a80,
         [5, 0, 0x20, 0],
-        0x24,
+        [0x80, 0x3a],
     ),
     (
         "a read into two runs of frames",
@@ -105,18 +115,18 @@ const HEADERS: &[(&str, bool, u16, u32, [u8; 4], u8)] = &[
         2,
         0x1000,
         [5, 0, 2, 0],
-        0x10,
+        [0, 0x10],
     ),
-    ("a flush", false, 0, 0x1000, [5, 0, 0, 0], 0x10),
+    ("a flush", false, 0, 0x1000, [5, 0, 0, 0], [0, 0x10]),
 ];
 
-// The table of slot 0 stands at 1000h, and that of slot 5 at 2400h.
+// The table of slot 0 stands at 1000h, and that of slot 5 at 3A80h.
 #[test]
 fn headers_are_spelled(rt: HostRuntime) {
     for (name, writes, entries, table, first, place) in HEADERS {
         let mut bytes = [0; 32];
         bytes[..4].copy_from_slice(first);
-        bytes[9] = *place;
+        bytes[8..10].copy_from_slice(place);
         // (a table stands at a multiple of 128)
         if *table % 128 == 0 {
             let found = header(*writes, *entries, *table);
@@ -132,15 +142,15 @@ fn entry(address: u32, bytes: u32) -> Prd {
     Prd { address, bytes }
 }
 
-// Frames share an entry where each follows the one before it. Frame 40 begins at 28000h.
+// Frames share an entry where each follows the one before it. Frame 76 begins at 4C000h.
 #[test]
 fn neighbouring_frames_share_an_entry(rt: HostRuntime) {
-    let three = prds(&[Frame(40), Frame(41), Frame(42)], 17 * 512);
-    assert_eq!(rt; three.as_slice(), [entry(0x2_8000, 0x2200)].as_slice());
-    let parted = prds(&[Frame(40), Frame(41), Frame(43)], 24 * 512);
-    let wanted = [entry(0x2_8000, 0x2000), entry(0x2_b000, 0x1000)];
+    let three = prds(&[Frame(76), Frame(77), Frame(78)], 17 * 512);
+    assert_eq!(rt; three.as_slice(), [entry(0x4_c000, 0x2200)].as_slice());
+    let parted = prds(&[Frame(76), Frame(77), Frame(79)], 24 * 512);
+    let wanted = [entry(0x4_c000, 0x2000), entry(0x4_f000, 0x1000)];
     assert_eq!(rt; parted.as_slice(), wanted.as_slice());
-    let falling = prds(&[Frame(41), Frame(40)], 16 * 512);
-    let wanted = [entry(0x2_9000, 0x1000), entry(0x2_8000, 0x1000)];
+    let falling = prds(&[Frame(77), Frame(76)], 16 * 512);
+    let wanted = [entry(0x4_d000, 0x1000), entry(0x4_c000, 0x1000)];
     assert_eq!(rt; falling.as_slice(), wanted.as_slice());
 }

@@ -10,20 +10,20 @@ const TWO: ClientId = ClientId(2);
 #[test]
 fn a_frame_is_lent_until_its_loan_is_given_back(rt: HostRuntime) -> Result<(), Fail> {
     let mut table = FrameTable::new(&[
-        (ONE, Frame(40), 40),
-        (TWO, Frame(80), 40),
+        (ONE, Frame(76), 40),
+        (TWO, Frame(116), 40),
         (ONE, Frame(2000), 0),
     ]);
-    let frames = [Frame(46), Frame(45)];
+    let frames = [Frame(82), Frame(81)];
     match table.check(ONE, &frames) {
         Ok(()) => {
             let loan = table.lend(ONE, &frames, RequestId(7));
             let told = (loan.request(), loan.frames().first().copied());
-            let lent = (table.check(ONE, &[Frame(45)]), table.lent_to(Frame(46)));
-            let free = table.check(ONE, &[Frame(44)]);
+            let lent = (table.check(ONE, &[Frame(81)]), table.lent_to(Frame(82)));
+            let free = table.check(ONE, &[Frame(80)]);
             table.give_back(loan);
             let again = table.check(ONE, &frames);
-            assert_eq!(rt; told, (RequestId(7), Some(Frame(46))));
+            assert_eq!(rt; told, (RequestId(7), Some(Frame(82))));
             assert_eq!(rt; lent, (Err(FrameFault::FrameLent(0)), Some(RequestId(7))));
             assert_eq!(rt; (free, again), (Ok(()), Ok(())));
             Ok(())
@@ -34,32 +34,32 @@ fn a_frame_is_lent_until_its_loan_is_given_back(rt: HostRuntime) -> Result<(), F
 
 /// A client, the frames that it names, and the first fault of them.
 const NAMED: &[(ClientId, &[Frame], Result<(), FrameFault>)] = &[
-    (ONE, &[Frame(40), Frame(79)], Ok(())),
-    (TWO, &[Frame(80)], Ok(())),
+    (ONE, &[Frame(76), Frame(115)], Ok(())),
+    (TWO, &[Frame(116)], Ok(())),
     (
         TWO,
-        &[Frame(119), Frame(120)],
+        &[Frame(155), Frame(156)],
         Err(FrameFault::FrameForeign(1)),
     ),
-    (ONE, &[Frame(41), Frame(41)], Err(FrameFault::FrameTwice(1))),
-    (ONE, &[Frame(80)], Err(FrameFault::FrameForeign(0))),
+    (ONE, &[Frame(77), Frame(77)], Err(FrameFault::FrameTwice(1))),
+    (ONE, &[Frame(116)], Err(FrameFault::FrameForeign(0))),
     (
         ONE,
-        &[Frame(41), Frame(41), Frame(80)],
+        &[Frame(77), Frame(77), Frame(116)],
         Err(FrameFault::FrameForeign(2)),
     ),
     (ONE, &[Frame(2000)], Err(FrameFault::FrameForeign(0))),
-    (ClientId(0), &[Frame(40)], Err(FrameFault::FrameForeign(0))),
+    (ClientId(0), &[Frame(76)], Err(FrameFault::FrameForeign(0))),
     (ClientId(0), &[], Ok(())),
 ];
 
 #[test]
 fn the_first_fault_is_told(rt: HostRuntime) {
-    let table = FrameTable::new(&[(ONE, Frame(40), 40), (TWO, Frame(80), 40)]);
+    let table = FrameTable::new(&[(ONE, Frame(76), 40), (TWO, Frame(116), 40)]);
     for (client, frames, want) in NAMED {
         assert_eq!(rt; table.check(*client, frames), *want, "{frames:?}");
     }
-    for (frame, owner) in [(79, Some(ONE)), (80, Some(TWO)), (120, None)] {
+    for (frame, owner) in [(115, Some(ONE)), (116, Some(TWO)), (156, None)] {
         assert_eq!(rt; table.owner(Frame(frame)), owner);
     }
 }

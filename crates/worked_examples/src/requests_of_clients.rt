@@ -31,7 +31,7 @@ fn said(
     frames: &[Frame],
 ) -> Result<Result<(), Rule>, Fail> {
     let grants = Grants::from_rows(alloc, &[ROW])?;
-    let table = FrameTable::new(&[(ClientId(1), Frame(40), 40)]);
+    let table = FrameTable::new(&[(ClientId(1), Frame(76), 40)]);
     let Ok(frames) = ArrayVec::try_from(frames) else {
         return Err(Fail::from("too many frames"));
     };
@@ -48,7 +48,7 @@ fn said(
 
 #[test]
 fn trims_and_flushes_have_no_frames(rt: HostRuntime) -> Result<(), Fail> {
-    let two = [Frame(41), Frame(42)];
+    let two = [Frame(77), Frame(78)];
     let cases: [(Op, u64, u32, &[Frame], _); 5] = [
         (Op::Read, 100, 9, &two, Ok(())),
         (Op::Trim, 100, 8, &[], Ok(())),

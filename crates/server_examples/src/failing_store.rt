@@ -1,0 +1,79 @@
+// A disk in memory of which one call fails, as one of a file may.
+ghost use Rattle.std.specs.Prelude.{◌≡◌, Some, true, false};
+ghost use Rattle.sector_store.specs.Stores.{FailsOn};
+
+use sector_store::{Failures, MemStore, SectorStore};
+
+/// Sectors in memory, of whose calls one fails.
+#[derive(Drop)]
+pub struct FailingStore {
+    memory: MemStore,
+    /// Calls on sectors that are there, before the one that fails.
+    before: u64,
+    /// For contracts alone.
+    failed: Failures,
+}
+
+impl FailingStore {
+    /// One whose next call on a sector that is there fails, once so many have come.
+    pub fn new(memory: MemStore, before: u64) -> FailingStore {
+        FailingStore {
+            memory,
+            before,
+            failed: Failures {
+                calls: 0,
+                sector: 0,
+                is_write: false,
+            },
+        }
+    }
+
+    /// Whether this call on a sector that is there fails. It is noted then.
+    fn fails(&mut self, is_write: bool, sector: u64) -> bool
+        ensures memory { self.new.memory ≡ self.old.memory }
+        ensures serves { result ≡ false → self.new.failed ≡ self.old.failed }
+        ensures fails { result ≡ true → FailsOn is_write sector (Some self.old.failed) (Some self.new.failed) }
+    {
+        let fails = self.before == 0;
+        // No other one fails.
+        self.before = self.before.wrapping_sub(1);
+        if fails {
+            self.failed = Failures {
+                calls: self.failed.calls.wrapping_add(1),
+                sector,
+                is_write,
+            };
+        }
+        fails
+    }
+}
+
+impl SectorStore for FailingStore {
+    ghost size = { λ s. ⟦<MemStore as SectorStore>⟧.size s.memory };
+
+    ghost told = { λ s. ⟦<MemStore as SectorStore>⟧.told s.memory };
+
+    ghost failures = { λ s. Some s.failed };
+
+    ghost tells_sectors = { λ s. s.memory.are_sectors };
+
+    ghost fits = { λ s. s.memory.few };
+
+    fn sectors(&self) -> u64 {
+        self.memory.sectors()
+    }
+
+    fn read(&mut self, sector: u64, out: &mut [u8; 512]) -> bool {
+        if sector < self.memory.sectors() && self.fails(false, sector) {
+            return false;
+        }
+        self.memory.read(sector, out)
+    }
+
+    fn write(&mut self, sector: u64, bytes: &[u8; 512]) -> bool {
+        if sector < self.memory.sectors() && self.fails(true, sector) {
+            return false;
+        }
+        self.memory.write(sector, bytes)
+    }
+}
