@@ -43,32 +43,32 @@ cut_disk() {
 }
 
 cp fresh.img disk.img
-compare 'a read of an image that was cut' 'move 0 0 identify 0 00009000
+compare 'a read of an image that was cut' 'move 0 0 identify 0 00012000
 ok 1
-move 0 0 read 100 00028000
-move 0 0 read 101 00028200
-move 0 0 read 102 00028400
+move 0 0 read 100 0004c000
+move 0 0 read 101 0004c200
+move 0 0 read 102 0004c400
 did
 no
 no
-move 0 0 log 0 00009000
+move 0 0 log 0 00012000
 reply 1 DeviceError 41 40' \
-    "$(played_around '' 'read 1 0 100 8 40\ndev finish 0 0\ndev finish 0 0\ndev move 0 0\nservice\n' cut_disk)"
+    "$(played_around '' 'read 1 0 100 8 76\ndev finish 0 0\ndev finish 0 0\ndev move 0 0\nservice\n' cut_disk)"
 compare 'it is as long as it was cut' $((512 * 103 + 10)) "$(stat -c %s disk.img)"
 cp fresh.img disk.img
-compare 'a write to an image that was cut' 'move 0 0 identify 0 00009000
+compare 'a write to an image that was cut' 'move 0 0 identify 0 00012000
 stored
 ok 1
-move 0 0 write 103 00028000
+move 0 0 write 103 0004c000
 did
 reply 1 Ok
 ok 2
-move 0 0 read 103 00029000
+move 0 0 read 103 0004d000
 did
 reply 2 Ok
 bytes c0c0' \
-    "$(played_around '' 'store 1 40 0 c0c0\nwrite 1 0 103 1 40\ndev finish 0 0\nservice\n'\
-'read 1 0 103 1 41\ndev finish 0 0\nservice\nload 1 41 0 2\n' cut_disk)"
+    "$(played_around '' 'store 1 76 0 c0c0\nwrite 1 0 103 1 76\ndev finish 0 0\nservice\n'\
+'read 1 0 103 1 77\ndev finish 0 0\nservice\nload 1 77 0 2\n' cut_disk)"
 compare 'it is longer again' $((512 * 104)) "$(stat -c %s disk.img)"
 
 # The file may be written up to the end of sector 101, and then further.
@@ -81,20 +81,20 @@ cp fresh.img wanted.img
 for sector in 100 101; do
     clear_sector wanted.img $sector
 done
-compare 'a write that the system refuses fails, and its client is told' 'move 0 0 identify 0 00009000
+compare 'a write that the system refuses fails, and its client is told' 'move 0 0 identify 0 00012000
 ok 1
-move 0 0 write 100 00028000
-move 0 0 write 101 00028200
+move 0 0 write 100 0004c000
+move 0 0 write 101 0004c200
 did
 no
 no
-move 0 0 log 0 00009000
+move 0 0 log 0 00012000
 reply 1 DeviceError 41 40
 no
 no
 quiet' \
     "$(limit=51
-    played_around 'write 1 0 100 3 40\ndev finish 0 0\ndev finish 0 0\ndev move 0 0\nservice\ndev done 0 0\n' \
+    played_around 'write 1 0 100 3 76\ndev finish 0 0\ndev finish 0 0\ndev move 0 0\nservice\ndev done 0 0\n' \
         'dev finish 0 0\nservice\n' lift_limit)"
 compare 'and the sector that was left is as it was' "$(bytes_of wanted.img)" "$(bytes_of disk.img)"
 compare 'an image that is not there is not made' $'blockd: image\nnot there' \
@@ -107,7 +107,7 @@ compare 'an image that runs' 'blockd: image' \
 
 # Some of the program's first three files are closed: the image must not come in their place, where output would be
 # written into it.
-printf 'load 1 40 0 64\n%.0s' {1..3000} >loads.script
+printf 'load 1 76 0 64\n%.0s' {1..3000} >loads.script
 zeros=$(printf '00%.0s' {1..64})
 wanted_loads=$(printf "bytes $zeros\n%.0s" {1..3000}; echo 'status 0')
 echo 'no line' >bad.script

@@ -7,7 +7,7 @@ source scripts/comparing.sh
 
 # A grant of 256 sectors, and 32 frames for them.
 sed 's/^first = 100$/first = 0/; s/^count = 64$/count = 256/' blockd.toml >wide.toml
-frames=$(seq -s , 40 71)
+frames=$(seq -s , 76 107)
 
 # So many reads of 256 sectors, one after another.
 reads() {
@@ -56,7 +56,7 @@ compare '100,000 lines' "$({ printf 'state Ready\n%.0s' {1..100000}; echo 'statu
     printf 'frames = 1024\nslots = 32\nncq = true\ndepth = 32\ntrim = "full"\n'
     printf '[[port]]\nnumber = %d\n' {0..3}
     for client in {1..8}; do
-        printf '[[client]]\nid = %d\nfirst_frame = %d\nframes = 123\n' "$client" $((40 + 123 * (client - 1)))
+        printf '[[client]]\nid = %d\nfirst_frame = %d\nframes = 118\n' "$client" $((76 + 118 * (client - 1)))
         for number in {0..7}; do
             printf '[[grant]]\nclient = %d\nnumber = %d\nport = %d\nfirst = 0\ncount = 256\nrights = "rwtf"\n' \
                 "$client" "$number" $((number % 4))
@@ -84,9 +84,9 @@ compare 'a stack of 80 KiB' "$(cat first.output; echo 'status 0')" \
 # The output's device is full: the image is what the lines before left, and no later line is played.
 cp fresh.img disk.img
 (
-    printf 'store 1 40 0 c0c0\nwrite 1 0 100 1 40\ndev finish 0 0\nservice\n'
+    printf 'store 1 76 0 c0c0\nwrite 1 0 100 1 76\ndev finish 0 0\nservice\n'
     printf 'state 0\n%.0s' {1..10000}
-    printf 'store 1 40 0 d1d1\nwrite 1 0 101 1 40\ndev finish 0 0\nservice\n'
+    printf 'store 1 76 0 d1d1\nwrite 1 0 101 1 76\ndev finish 0 0\nservice\n'
 ) >writes.script
 status=0
 "$blockd" --config blockd.toml --image disk.img --script writes.script >/dev/full 2>told || status=$?

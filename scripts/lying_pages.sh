@@ -29,7 +29,7 @@ compare 'a page of IDENTIFY DEVICE with a bit turned, in each byte' \
 # Nobody is named, so nobody is told a fault, and all three are issued again, in slots 0 to 2.
 for ((offset = 0; offset < 512; offset++)); do
     printf 'dev lie 0 log %d 01\n' "$offset" >&3
-    printf 'read 1 0 %d 8 %d\n' 100 40 108 41 116 42 >&3
+    printf 'read 1 0 %d 8 %d\n' 100 76 108 77 116 78 >&3
     printf 'dev fetch 0 1\ndev fault 0 1 40\nservice\n' >&3
     printf 'dev finish 0 %d\n' 0 1 2 >&3
     printf 'service\ndev truth 0\n' >&3

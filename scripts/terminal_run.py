@@ -16,7 +16,7 @@ import termios
 import time
 
 ROOT = pathlib.Path(__file__).resolve().parent.parent
-SCRIPT = "state 0\nstore 1 40 0 c0c0\nwrite 1 0 100 1 40\ndev finish 0 0\nservice\n"
+SCRIPT = "state 0\nstore 1 76 0 c0c0\nwrite 1 0 100 1 76\ndev finish 0 0\nservice\n"
 ANSWERS = "state Ready\nstored\nok 1\ndid\nreply 1 Ok\n"
 # The first byte of sector 100 in the image, before and after the write.
 PLACE, BEFORE, AFTER = 100 * 512, 100, 0xC0

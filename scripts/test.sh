@@ -5,7 +5,7 @@
 # - the edits that the prover must refuse;
 # - the cases of the built program, and runs of it with refused memory, cut files, and changes by chance;
 # - tests that are run without a proof: a full book on four ports, disks in several ports of the model, disks that fail,
-#   a run that is stopped, and surprises by the device at each moment of the worked cases;
+#   a run that is stopped, disks that lose their caches, and surprises by the device at each moment of the worked cases;
 # - the server over QEMU's adapter, and over one behind Linux's VFIO, where QEMU is installed;
 # - the edits that the compiler must refuse;
 # - names in the documents, columns and sizes, the table of crates, and the number of definitions behind the promise.
@@ -53,6 +53,7 @@ part "four ports" scripts/unproved.sh four_ports
 part "own disks" scripts/unproved.sh own_disks
 part "failing disks" scripts/unproved.sh failing_disks
 part "stopped runs" scripts/unproved.sh stopped_runs
+part "lost caches" scripts/unproved.sh lost_caches
 part "surprises" scripts/surprises.py
 part "QEMU's adapter" examples/qemu/test.sh
 part "a PCI adapter" examples/vfio/test.sh

@@ -1,13 +1,15 @@
 #!/usr/bin/env python3
-"""Plays the sweep of examples/surprise_removal over wrong servers: each has one of the wrong bodies of crates/*/edits,
-and the sweep has to find it. Each line of examples/surprise_removal/wrong names an edit, and a case that is enough to
-find it by; names of edits behind the command leave the others out. It is no part of the check, since each wrong server
-is compiled anew: a whole run, two at a time, took 11 minutes on a busy machine with four processors, 75 to 150 seconds
-for each. The last line is 'N passed, M failed'.
+"""Plays examples/surprise_removal and examples/lost_caches over wrong servers: each has one of the wrong bodies of
+crates/*/edits, and the test has to find it. Each line of its file `wrong` names an edit, and what it is found by: a
+case that is enough; or, of lost caches, in how many runs: each in which a flush matters, or some of them. Names of
+edits behind the command leave the others out. It is no part of the check, since each wrong server is compiled anew: a
+whole run, two at a time, took 15 minutes on a busy machine with four processors, 75 to 150 seconds for each. The last
+line is 'N passed, M failed'.
 """
 import concurrent.futures
 import os
 import pathlib
+import re
 import shutil
 import subprocess
 import sys
@@ -15,7 +17,12 @@ import tempfile
 import time
 
 ROOT = pathlib.Path(__file__).resolve().parent.parent
-LISTED = ROOT / "examples/surprise_removal/wrong"
+TESTS = ("surprise_removal", "lost_caches")
+# Of lost caches: in how many runs a flush matters, and in how many of them its write is missing.
+AT_STAKE = re.compile(r": (\d+) runs in which a flush matters$", re.MULTILINE)
+MISSING = re.compile(r": (\d+) in which its write is missing$", re.MULTILINE)
+# So many runs have to have such a flush, or else the test would find next to nothing.
+ENOUGH = 100
 # A wrong server takes the compiler one processor, and about 2 GB of memory.
 RUNS = min(2, os.cpu_count() or 1)
 
@@ -37,26 +44,45 @@ def change(tree, name):
     path.write_text("\n".join(text), encoding="utf-8")
 
 
-def played(name, case):
-    """Plays a case over a wrong server: whether it is found, and what is told of it."""
+def told_by_sweep(printed):
+    """What the sweep tells of a wrong server, if it finds it: what a case prints is compared, too, and isn't meant."""
+    told = [line for line in printed.splitlines() if "NOT so" in line and "prints what its file says" not in line]
+    return told[0] if told else None
+
+
+def told_by_losses(printed, how_often):
+    """The same of lost caches: queued and plain, in each run in which a flush matters, or in some of them."""
+    at_stake, missing = (list(map(int, of.findall(printed))) for of in (AT_STAKE, MISSING))
+    is_enough = len(at_stake) == len(missing) == 2 and min(at_stake) > ENOUGH
+    is_found = {"each": at_stake == missing, "some": sum(missing) > 0}[how_often]
+    return f"missing in {missing} of {at_stake} runs" if is_enough and is_found else None
+
+
+def played(test, name, by):
+    """Plays a test over a wrong server: whether it is found, and what is told of it."""
     begin = time.monotonic()
     with tempfile.TemporaryDirectory() as scratch:
         tree = pathlib.Path(scratch) / "tree"
         shutil.copytree(ROOT, tree, ignore=shutil.ignore_patterns("out", ".git", "__pycache__"))
         change(tree, name)
-        words = [tree / "scripts/unproved.sh", "surprise_removal", case]
+        words = [tree / "scripts/unproved.sh", test, *([by] if test == "surprise_removal" else [])]
         run = subprocess.run(words, stdin=subprocess.DEVNULL, capture_output=True, text=True)
-    # (what the case prints is compared, too: that isn't the judge's)
-    told = [line for line in run.stdout.splitlines() if "NOT so" in line and "prints what its file says" not in line]
+    told = told_by_sweep(run.stdout) if test == "surprise_removal" else told_by_losses(run.stdout, by)
     is_found = bool(run.returncode and told)
-    said = told[0] if is_found else f"NOT found by '{case}': {run.stdout[-200:]}{run.stderr[-500:]}"
+    said = told if is_found else f"NOT found by {test}, '{by}': {run.stdout[-200:]}{run.stderr[-500:]}"
     return is_found, f"{name}: {said} ({time.monotonic() - begin:.0f} s)"
+
+
+def listed(test):
+    """The wrong servers of a test, and what each is found by."""
+    lines = (ROOT / "examples" / test / "wrong").read_text(encoding="utf-8").splitlines()
+    return [(test, *line.split(": ", 1)) for line in lines]
 
 
 def main():
     """Plays all wrong servers, or those that are named."""
-    listed = [line.split(": ", 1) for line in LISTED.read_text(encoding="utf-8").splitlines()]
-    chosen = [(name, case) for name, case in listed if name in sys.argv[1:] or not sys.argv[1:]]
+    all_listed = [row for test in TESTS for row in listed(test)]
+    chosen = [row for row in all_listed if row[1] in sys.argv[1:] or not sys.argv[1:]]
     passed = 0
     with concurrent.futures.ThreadPoolExecutor(RUNS) as pool:
         for is_found, said in pool.map(lambda it: played(*it), chosen):

@@ -92,6 +92,15 @@ ask "outl 0xcfc 0x$registers"
 ask "outl 0xcf8 0x8000fa04"
 ask "outw 0xcfc 0x6"
 
+# A PC has other things than memory in bytes A0000h to FFFFFh. They are made memory, since the server's frames begin at
+# 0: by PAM0 to PAM6, and by the SMRAM register with D_OPEN set (Intel 3 Series, 5.1.22 to 5.1.29; remembered).
+ask "outl 0xcf8 0x80000090"
+ask "outl 0xcfc 0x33333330"
+ask "outl 0xcf8 0x80000094"
+ask "outl 0xcfc 0x00333333"
+ask "outl 0xcf8 0x8000009c"
+ask "outb 0xcfd 0x4a"
+
 status=0
 "${program[@]}" "$config" "$script" "$scratch/to" "$scratch/from" "$registers" "${models[@]}" || status=$?
 exec 3>&- 4<&-

@@ -22,14 +22,26 @@ import sys
 import tempfile
 
 HERE = pathlib.Path(__file__).resolve().parent
-SECTOR, FRAME, SECTORS = 512, 4096, 512
-CLIENTS, CLIENT_FRAMES, FIRST_FRAME = 8, 15, 40
-MOST_UNANSWERED, MOST_COUNT, FAILURES = 16, 256, 100
+SECTOR, FRAME, SECTORS = 512, 4096, 2048
+FRAMES, FIRST_FRAME = 512, 76
+# A line names so many frames at most.
+MOST_FRAMES = 128
+# The frames of each client, behind one another's. The first has room for two of the widest requests.
+CLIENT_FRAMES = [0, 300, 15, 15, 15, 15, 15, 15, 15]
+CLIENTS = len(CLIENT_FRAMES) - 1
+MOST_UNANSWERED, MOST_COUNT, FAILURES = 16, 1024, 100
+# How often the first client's request is a wide one, and of how many sectors it is then.
+WIDE, WIDE_COUNTS = 0.1, (256, 257, 512, 1000, 1023, 1024, 1024, 1025)
 # How often a grant is revoked, of the times that requests were made and answered.
 REVOCATIONS = 0.03
 # The numbers of the grants that are revoked now and then.
 REVOCABLE = range(16, 19)
 RIGHTS = {"read": "r", "write": "w", "trim": "t", "flush": "f"}
+
+
+def frames_of_client(client):
+    first = FIRST_FRAME + sum(CLIENT_FRAMES[:client])
+    return range(first, first + CLIENT_FRAMES[client])
 
 
 def first_bytes(port, sector):
@@ -60,12 +72,12 @@ class Grants:
 
 
 def configuration(ports, grants):
-    text = 'frames = 160\nslots = 32\nncq = true\ndepth = 32\ntrim = "none"\n'
+    text = f'frames = {FRAMES}\nslots = 32\nncq = true\ndepth = 32\ntrim = "none"\n'
     for port in range(ports):
         text += f"[[port]]\nnumber = {port}\n"
     for client in range(1, CLIENTS + 1):
-        first = FIRST_FRAME + CLIENT_FRAMES * (client - 1)
-        text += f"[[client]]\nid = {client}\nfirst_frame = {first}\nframes = {CLIENT_FRAMES}\n"
+        own = frames_of_client(client)
+        text += f"[[client]]\nid = {client}\nfirst_frame = {own.start}\nframes = {len(own)}\n"
     return text + grants.text()
 
 
@@ -78,10 +90,15 @@ class Writer:
         self.lines = []
 
     def frames_of(self, client, count):
-        first = FIRST_FRAME + CLIENT_FRAMES * (client - 1)
-        frames = self.random.sample(range(first, first + CLIENT_FRAMES), min(count, CLIENT_FRAMES))
+        """So many of the client's frames at random; of many, as often neighbours, which one PRD covers."""
+        own = frames_of_client(client)
+        count = min(count, len(own), MOST_FRAMES)
+        frames = self.random.sample(own, count)
+        if count > 16 and self.random.random() < 0.5:
+            first = self.random.randrange(own.start, own.stop - count + 1)
+            frames = list(range(first, first + count))
         if frames and self.random.random() < 0.01:
-            frames[0] = self.random.randrange(200)
+            frames[0] = self.random.randrange(FRAMES)
         if len(frames) > 1 and self.random.random() < 0.01:
             frames[1] = frames[0]
         return frames
@@ -92,8 +109,7 @@ class Writer:
         self.lines.append(f"store {client} {frame} {offset} {data.hex()}")
 
     def load(self, client):
-        first = FIRST_FRAME + CLIENT_FRAMES * (client - 1)
-        frame = self.random.choice(range(first, first + CLIENT_FRAMES))
+        frame = self.random.choice(frames_of_client(client))
         offset = SECTOR * self.random.randrange(8) + self.random.randrange(SECTOR - 64)
         self.lines.append(f"load {client} {frame} {offset} {self.random.randrange(1, 65)}")
 
@@ -106,6 +122,8 @@ class Writer:
             self.lines.append(f"flush {client} {grant}")
             return
         count = self.random.choice([1, 1, 2, 3, 5, 8, 8, 13, 16])
+        if client == 1 and self.random.random() < WIDE:
+            count = self.random.choice(WIDE_COUNTS)
         first = self.random.randrange(SECTORS - count + (2 if self.random.random() < 0.02 else 0))
         if kind == "trim":
             self.lines.append(f"trim {client} {grant} {first} {count}")
@@ -179,9 +197,7 @@ class Shadow:
         self.differences.append(f"line {place}: {text}")
 
     def owner(self, frame):
-        if FIRST_FRAME <= frame < FIRST_FRAME + CLIENTS * CLIENT_FRAMES:
-            return (frame - FIRST_FRAME) // CLIENT_FRAMES + 1
-        return None
+        return next((client for client in range(1, CLIENTS + 1) if frame in frames_of_client(client)), None)
 
     def bytes_of(self, frame):
         return self.frames.setdefault(frame, bytearray(FRAME))

@@ -27,7 +27,7 @@ plays() {
 scratch=$(mktemp -d)
 trap 'rm -rf "$scratch"' EXIT
 count plays
-count ./soak.py --requests 26000
-count ./soak.py --requests 10000 --failures
+count ./soak.py --requests 12000
+count ./soak.py --requests 5000 --failures
 echo "$passed passed, $failed failed"
 [[ $failed == 0 ]]

@@ -2,7 +2,7 @@
 # Plays a script over the disk for which prepare.sh wrote the folder, and whose adapter take.sh took: `run.sh FOLDER
 # SCRIPT [WORDS..]`, with further words for `host`. It prints what each line of the script answers; what `host` says
 # goes to FOLDER/said. The status is 0 where the script was played to its end and nothing strayed. FOLLOW and HOST name
-# other programs than crates/follow/out/follow and out/host; FRAMES says how many frames the configuration has (160).
+# other programs than crates/follow/out/follow and out/host; FRAMES says how many frames the configuration has (512).
 set -eu
 here=$(cd "$(dirname "$0")" && pwd)
 host=${HOST:-$here/out/host} follow=${FOLLOW:-$here/../../crates/follow/out/follow}
@@ -31,7 +31,7 @@ play() {
 
 host_process='' play_process=''
 trap 'kill $host_process $play_process 2>/dev/null' INT TERM
-"$host" "$(cat "$folder/function")" "${FRAMES:-160}" "$folder/to" "$folder/from" "$@" 2>"$folder/said" &
+"$host" "$(cat "$folder/function")" "${FRAMES:-512}" "$folder/to" "$folder/from" "$@" 2>"$folder/said" &
 host_process=$!
 play &
 play_process=$!

@@ -2,12 +2,12 @@
 # Takes a PCI AHCI function, as 0000:00:17.0, from the driver that it has, and binds it to vfio-pci: `take.sh FUNCTION`;
 # or gives it back: `take.sh --back FUNCTION`. It does nothing, and says why, where a disk of the function is mounted or
 # in use, where its IOMMU group isn't viable, where no IOMMU is on, and where a reserved region lies over the frames.
-# SYS and PROC name other places than /sys and /proc, FRAMES how many frames there are (160), and HOST the program that
+# SYS and PROC name other places than /sys and /proc, FRAMES how many frames there are (512), and HOST the program that
 # says whether a block device is in use.
 set -eu
 here=$(cd "$(dirname "$0")" && pwd)
 sys=${SYS:-/sys} proc=${PROC:-/proc} host=${HOST:-$here/out/host}
-frames=${FRAMES:-160}
+frames=${FRAMES:-512}
 
 refuse() {
     echo "take.sh: $*" >&2

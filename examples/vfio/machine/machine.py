@@ -133,7 +133,7 @@ def files(root, mode, soaks):
     job.mkdir()
     (job / "mode").write_text(mode)
     (job / "commands").write_text(commands())
-    (job / "long.script").write_text("read 1 0 100 8 40\ndev finish 0 0\nservice\n" * 10000)
+    (job / "long.script").write_text("read 1 0 100 8 76\ndev finish 0 0\nservice\n" * 10000)
     for it in soaks:
         it.write(job / it.name)
 

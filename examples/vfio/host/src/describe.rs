@@ -84,11 +84,11 @@ impl Described {
         let (depth, trim) = (page::depth(&self.identify), page::trim(&self.identify));
         format!(
             "# The disk {} in port {} of {}, as port 0.\n\
-             frames = 160\nslots = {slots}\nncq = {ncq}\ndepth = {depth}\ntrim = \"{trim}\"\n\
+             frames = 512\nslots = {slots}\nncq = {ncq}\ndepth = {depth}\ntrim = \"{trim}\"\n\
              [[port]]\nnumber = 0\nserial = \"IMAGEDISK\"\n\
-             [[client]]\nid = 1\nfirst_frame = 40\nframes = 40\n\
+             [[client]]\nid = 1\nfirst_frame = 76\nframes = 40\n\
              [[grant]]\nclient = 1\nnumber = 0\nport = 0\nfirst = 100\ncount = 64\nrights = \"rwf\"\n\
-             [[client]]\nid = 2\nfirst_frame = 80\nframes = 40\n\
+             [[client]]\nid = 2\nfirst_frame = 116\nframes = 40\n\
              [[grant]]\nclient = 2\nnumber = 0\nport = 0\nfirst = 140\ncount = 60\nrights = \"r\"\n",
             self.serial(),
             self.port,

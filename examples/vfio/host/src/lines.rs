@@ -11,7 +11,7 @@ const MOST_BYTES: usize = 64;
 // Where the server keeps the command of slot 0, and the pages that the disk sends, of port 0 (docs/ARCHITECTURE.md,
 // "Memory"): the third byte of a Register FIS is the command.
 const COMMAND: usize = 0x1002;
-const PAGE: usize = 0x9000;
+const PAGE: usize = 0x1_2000;
 const IDENTIFY_DEVICE: u8 = 0xec;
 /// What `follow` calls the disk of port 0.
 const TOLD: &str = "IMAGEDISK";

@@ -77,8 +77,8 @@ impl Serve {
     }
 
     fn is_possible(&self) -> Result<(), String> {
-        if !(41..=1024).contains(&self.frames) || self.registers < 4096 * self.frames as u64 {
-            return Err("there are 41 to 1024 frames, and the registers begin behind them".into());
+        if !(77..=1024).contains(&self.frames) || self.registers < 4096 * self.frames as u64 {
+            return Err("there are 77 to 1024 frames, and the registers begin behind them".into());
         }
         if self.port >= MOST_PORTS {
             return Err(format!("ports are 0 to {}", MOST_PORTS - 1));
@@ -102,7 +102,7 @@ mod tests {
         };
         assert_eq!((serve.port, serve.serial.as_deref(), serve.as_told.len()), (5, Some("SD-123"), 1));
         assert_eq!(asked("unused /dev/sda"), Ok(Asked::Unused("/dev/sda".into())));
-        for words in ["f 40 to from", "f 160 to from --port 32", "f 160 to from --port", "f 160 to", "f x to from"] {
+        for words in ["f 76 to from", "f 160 to from --port 32", "f 160 to from --port", "f 160 to", "f x to from"] {
             assert!(asked(words).is_err(), "{words}");
         }
     }
