@@ -15,3 +15,4 @@ pub mod Asked
 pub mod OneCommand
 pub mod ReadDone
 pub mod FirstRead
+pub mod Counted

@@ -1,5 +1,5 @@
 // The calls of an adapter, and of one whose device can be told what to do.
-ghost use Rattle.std.specs.Prelude.{◌≡◌, length, true, false};
+ghost use Rattle.std.specs.Prelude.{ℕ, ◌+◌, ◌≡◌, length, true, false};
 ghost use Rattle.adapter.specs.Device.{Device};
 ghost use Rattle.adapter.specs.Asked.{Asked};
 ghost use Rattle.adapter.specs.Idle.{TellsDisks};
@@ -18,25 +18,32 @@ pub trait Adapter {
     /// The state of registers, memory, ports and disks.
     ghost device: { Self → Device };
 
+    /// How many accesses were made of it: readings and writes of registers, loads and stores of bytes.
+    ghost access_count: { Self → ℕ };
+
     /// The value of a register.
     fn read(&mut self, r: Reg) -> u32
         requires { MayRead r (device self.old) }
-        ensures { Reads r result (device self.old) (device self.new) };
+        ensures does { Reads r result (device self.old) (device self.new) }
+        ensures counted { access_count self.new ≡ access_count self.old + 1 };
 
     /// Writes a register.
     fn write(&mut self, r: Reg, v: u32)
         requires { Stays (MayWrite r v) (device self.old) }
-        ensures { Writes r v (device self.old) (device self.new) };
+        ensures does { Writes r v (device self.old) (device self.new) }
+        ensures counted { access_count self.new ≡ access_count self.old + 1 };
 
     /// Copies bytes of memory, from an address on.
     fn load(&mut self, addr: u32, out: &mut [u8])
         requires { Stays (IsFree addr (length out.old)) (device self.old) }
-        ensures { Loads addr out.new (device self.old) (device self.new) };
+        ensures does { Loads addr out.new (device self.old) (device self.new) }
+        ensures counted { access_count self.new ≡ access_count self.old + 1 };
 
     /// Puts bytes into memory, from an address on.
     fn store(&mut self, addr: u32, bytes: &[u8])
         requires { Stays (IsFree addr (length bytes.now)) (device self.old) }
-        ensures { Stores addr bytes.now (device self.old) (device self.new) };
+        ensures does { Stores addr bytes.now (device self.old) (device self.new) }
+        ensures counted { access_count self.new ≡ access_count self.old + 1 };
 
     /// The adapter tells its disks' sectors only where each of its disks does.
     ghost tells: { (a : Self) → TellsDisks (device a) };
@@ -115,5 +122,6 @@ pub trait Stepped: Adapter {
     fn step(&mut self, s: &DeviceStep) -> bool
         ensures asked { result ≡ true → Asked s.now (Self.device self.old) (Self.device self.new) }
         ensures steps { Steps (Self.device self.old) (Self.device self.new) }
-        ensures refused { result ≡ false → Self.device self.new ≡ Self.device self.old };
+        ensures refused { result ≡ false → Self.device self.new ≡ Self.device self.old }
+        ensures counted { Self.access_count self.new ≡ Self.access_count self.old };
 }

@@ -2,3 +2,4 @@ pub mod Places
 pub mod Runs
 pub mod Bytes
 pub mod Written
+pub mod Costs

@@ -21,6 +21,8 @@ ghost use Rattle.command_table.specs.Written.{IsStoreWithBlock, IsTable, IsTable
 ghost use Rattle.command_table.specs.Places.{places_of};
 ghost use Rattle.command_table.specs.Runs.{AreJoined, IsLongestRun};
 ghost use Rattle.command_table.specs.Bytes.{Stores, part};
+ghost use Rattle.adapter.specs.Counted.{MakesAtMost};
+ghost use Rattle.command_table.specs.Costs.{BLOCK_ACCESSES, TABLE_ACCESSES};
 
 pub mod laws;
 
@@ -161,7 +163,8 @@ fn store_table<A: Adapter>(adapter: &mut A, at: u32, command: &Command, prds: &[
     requires lba { command.now.lba < 2 ^ 48 }
     requires few { length prds.now ≤ MOST_REQUEST_FRAMES }
     requires allowed { All IsAllowed prds.now }
-    ensures { StoresTable at command.now prds.now (A.device adapter.old) (A.device adapter.new) }
+    ensures stores { StoresTable at command.now prds.now (A.device adapter.old) (A.device adapter.new) }
+    ensures cost { MakesAtMost 1 (A.access_count adapter.old) (A.access_count adapter.new) }
 {
     let size = TABLE_HEAD as usize + PRD_BYTES as usize * prds.len();
     if size <= SHORT_TABLE {
@@ -200,6 +203,7 @@ pub fn write_table<A: Adapter>(
         (bytes_at (A.device adapter.new).memory (list_of port.0 + HEADER_BYTES * slot.0) HEADER_BYTES) ≡ 0 }
     ensures says { (m : Meaning) (places : List ℕ) → IsTableFor slot.0 command.now prds.now m places
         → Told (A.device adapter.new).memory (list_of port.0) port.0 slot.0 m places }
+    ensures cost { MakesAtMost TABLE_ACCESSES (A.access_count adapter.old) (A.access_count adapter.new) }
 {
     let list = PORT_BYTES * u32::from(port.0);
     let table = list + TABLES + TABLE_BYTES * u32::from(slot.0);
@@ -229,6 +233,7 @@ pub fn write_table_with_block<A: Adapter>(
         → pieces_moved m.operation m.count ≡ 1 → Told (A.device adapter.new).memory (list_of port.0) port.0 0 m
         (scratch_of port.0 ∷ []) }
     ensures block { bytes_at (A.device adapter.new).memory (scratch_of port.0) 512 ≡ block.now }
+    ensures cost { MakesAtMost BLOCK_ACCESSES (A.access_count adapter.old) (A.access_count adapter.new) }
 {
     other_ports_are_left();
     let scratch = Frame(PORT_FRAMES * u16::from(port.0) + SCRATCH_FRAME);

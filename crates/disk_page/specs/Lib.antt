@@ -1,3 +1,4 @@
 pub mod Asking
 pub mod Laws
 pub mod Waiting
+pub mod Costs

@@ -18,6 +18,8 @@ ghost use Rattle.agreement.specs.Slots.{Own, Uses, op_of, put};
 ghost use Rattle.command_table.specs.Written.{IsUnused};
 ghost use Rattle.disk_page.specs.Asking.{operation_of, AreInVain, MayAsk, IsAsking, LeavesRunning, Reads, AgreesAfter};
 ghost use Rattle.disk_page.specs.Waiting.{IsWaiting};
+ghost use Rattle.adapter.specs.Counted.{MakesAtMost};
+ghost use Rattle.disk_page.specs.Costs.{ASK_ACCESSES, PAGE_ACCESSES};
 
 mod lawful;
 pub mod laws;
@@ -78,6 +80,7 @@ fn ask<A: Adapter>(adapter: &mut A, port: Port, page: Page)
     ensures there { HasPort (A.device adapter.new) port.0 }
     ensures later { length (A.device adapter.old).tape ≤ length (A.device adapter.new).tape }
     ensures det { ((A.device adapter.new).port port.0).sctl_det ≡ 0 }
+    ensures cost { MakesAtMost ASK_ACCESSES (A.access_count adapter.old) (A.access_count adapter.new) }
 {
     laws_hold();
     let scratch = Frame(PORT_FRAMES * u16::from(port.0) + SCRATCH_FRAME);
@@ -101,6 +104,7 @@ fn wait<A: Adapter>(adapter: &mut A, port: Port) -> bool
     ensures still { result ≡ false → ((A.device adapter.new).port port.0).notes.command_count ≡ READINGS }
     ensures vain { result ≡ false → IsTold (AreInVain port READINGS) (IsAsking port) AnyUse (A.device adapter.old)
         (A.device adapter.new) }
+    ensures cost { MakesAtMost READINGS (A.access_count adapter.old) (A.access_count adapter.new) }
 {
     laws_hold();
     for _reading in 0..READINGS {
@@ -131,6 +135,7 @@ pub fn read_page<A: Adapter>(adapter: &mut A, port: Port, page: Page) -> Option<
         → ((A.device adapter.new).port port.0).halt ≡ NotHalted) }
     ensures silent { (o : Operation) → op_of o ≡ None → o ≢ operation_of page
         → SendsNone port.0 o (A.device adapter.old) (A.device adapter.new) }
+    ensures cost { MakesAtMost PAGE_ACCESSES (A.access_count adapter.old) (A.access_count adapter.new) }
 {
     laws_hold();
     ask(adapter, port, page);

@@ -3,3 +3,4 @@ pub mod Recovery
 pub mod Parts
 pub mod Laws
 pub mod Witness
+pub mod Costs

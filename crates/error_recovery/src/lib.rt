@@ -19,6 +19,10 @@ ghost use Rattle.agreement.specs.Slots.{Uses};
 ghost use Rattle.disk_page.specs.Asking.{AgreesAfter, LeavesRunning, MayAsk};
 ghost use Rattle.error_recovery.specs.Parts.{GetsStuck, GoesOn, HasRoom, MayGoOn, Quiets, ReadsLog, Resumes};
 ghost use Rattle.error_recovery.specs.Recovery.{FitsFor, GivesUp, IsAloneIn, IsNamed, MayRecover, Parts, Recovers};
+ghost use Rattle.adapter.specs.Counted.{MakesAtMost};
+ghost use Rattle.disk_page.specs.Costs.{PAGE_ACCESSES};
+ghost use Rattle.port_control.specs.Costs.{START_ACCESSES, STOP_ACCESSES};
+ghost use Rattle.error_recovery.specs.Costs.{NAMING_ACCESSES, QUIET_ACCESSES, RECOVER_ACCESSES};
 
 mod lawful;
 pub mod laws;
@@ -74,6 +78,7 @@ fn quiet<A: Adapter>(adapter: &mut A, port: Port) -> Option<Quieted>
     ensures quiets { IfSome result (λ q. Quiets port q.fault.0 q.shown.0 (A.device adapter.old)
         (A.device adapter.new)) }
     ensures sticks { IfNone result (GetsStuck port (A.device adapter.old) (A.device adapter.new)) }
+    ensures cost { MakesAtMost QUIET_ACCESSES (A.access_count adapter.old) (A.access_count adapter.new) }
 {
     laws_hold();
     let fault = TaskFile(adapter.read(Reg::Px(port, PortReg::Tfd)));
@@ -93,6 +98,7 @@ fn go_on<A: Adapter>(adapter: &mut A, stopped: Stopped) -> Running
     requires may { MayGoOn stopped.port.0 (A.device adapter.old) }
     ensures names { result.port ≡ stopped.port }
     ensures goes { GoesOn stopped.port (A.device adapter.old) (A.device adapter.new) }
+    ensures cost { MakesAtMost START_ACCESSES (A.access_count adapter.old) (A.access_count adapter.new) }
 {
     laws_hold();
     let receiving = keep_receiving(adapter, stopped);
@@ -113,6 +119,7 @@ fn read_log<A: Adapter>(adapter: &mut A, port: Port, outstanding: u32) -> Option
     ensures reads { ReadsLog port outstanding result (A.device adapter.old) (A.device adapter.new) }
     ensures running { IfSome result (λ _. ((A.device adapter.new).port port.0).halt ≡ NotHalted) }
     ensures silent { SendsNone port.0 Identify (A.device adapter.old) (A.device adapter.new) }
+    ensures cost { MakesAtMost PAGE_ACCESSES (A.access_count adapter.old) (A.access_count adapter.new) }
 {
     let Some(page) = read_page(adapter, port, Page::Errors) else {
         return None;
@@ -164,6 +171,7 @@ fn finish_plain<A: Adapter>(adapter: &mut A, quieted: Quieted, outstanding: u32)
     ensures recovers { (old : Device) → Resumes quieted.stopped.port outstanding false quieted.fault.0 quieted.shown.0
         old (A.device adapter.old)
         → Recovers quieted.stopped.port outstanding false result old (A.device adapter.new) }
+    ensures cost { MakesAtMost START_ACCESSES (A.access_count adapter.old) (A.access_count adapter.new) }
 {
     laws_hold();
     let failed = fault_of(outstanding, quieted.fault);
@@ -193,6 +201,7 @@ fn finish_queued<A: Adapter>(adapter: &mut A, quieted: Quieted, outstanding: u32
     ensures recovers { (old : Device) → Resumes quieted.stopped.port outstanding true quieted.fault.0 quieted.shown.0
         old (A.device adapter.old)
         → Recovers quieted.stopped.port outstanding true result old (A.device adapter.new) }
+    ensures cost { MakesAtMost NAMING_ACCESSES (A.access_count adapter.old) (A.access_count adapter.new) }
 {
     laws_hold();
     if is_occupied(quieted.shown) {
@@ -247,6 +256,7 @@ pub fn recover<A: Adapter>(adapter: &mut A, port: Port, outstanding: u32, queued
     requires alone { IsAloneIn queued outstanding }
     ensures on { IsOn (A.device adapter.new) }
     ensures recovers { Recovers port outstanding queued result (A.device adapter.old) (A.device adapter.new) }
+    ensures cost { MakesAtMost RECOVER_ACCESSES (A.access_count adapter.old) (A.access_count adapter.new) }
 {
     laws_hold();
     let Some(quieted) = quiet(adapter, port) else {
@@ -270,6 +280,7 @@ pub fn give_up<A: Adapter>(adapter: &mut A, port: Port, outstanding: u32) -> Rec
     ensures on { IsOn (A.device adapter.new) }
     ensures gives_up { (queued : Bool) → GivesUp port outstanding queued result (A.device adapter.old)
         (A.device adapter.new) }
+    ensures cost { MakesAtMost STOP_ACCESSES (A.access_count adapter.old) (A.access_count adapter.new) }
 {
     laws_hold();
     match stop(adapter, port) {

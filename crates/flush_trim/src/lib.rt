@@ -19,6 +19,8 @@ ghost use Rattle.command_table.specs.Written.{IsUnused};
 ghost use Rattle.ncq.specs.Tasks.{HasBlockOf, IssuesTask, RunsItsList, addresses_of, meaning_of};
 ghost use Rattle.flush_trim.specs.Block.{IsCut, entry_first, entry_length, first_of, length_of};
 ghost use Rattle.flush_trim.specs.Tasks.{flush_of, trim_of};
+ghost use Rattle.adapter.specs.Counted.{MakesAtMost};
+ghost use Rattle.command_table.specs.Costs.{BLOCK_ACCESSES, TABLE_ACCESSES};
 
 use adapter::{Adapter, Command};
 use ata_types::{DATA_SET_MANAGEMENT, DRIVER_BYTES, FLUSH_CACHE_EXT, Port, Range, Slot};
@@ -119,6 +121,7 @@ pub fn issue_flush<A: Adapter>(adapter: &mut A, port: Port)
         → IsStored (A.device adapter.new) port.0 0 (meaning_of (flush_of range))
         (addresses_of port.0 Flush range.count frames) }
     ensures set { ((A.device adapter.new).port port.0).ci 0 ≡ true }
+    ensures cost { MakesAtMost (TABLE_ACCESSES + 1) (A.access_count adapter.old) (A.access_count adapter.new) }
 {
     writing_issues();
     write_table(adapter, port, SLOT, &flush_command(), &[]);
@@ -143,6 +146,7 @@ pub fn issue_trim<A: Adapter>(adapter: &mut A, port: Port, range: &Range)
         (addresses_of port.0 Trim range.now.count frames) }
     ensures block { HasBlockOf Trim range.now port.0 (A.device adapter.new).memory }
     ensures set { ((A.device adapter.new).port port.0).ci 0 ≡ true }
+    ensures cost { MakesAtMost (BLOCK_ACCESSES + 1) (A.access_count adapter.old) (A.access_count adapter.new) }
 {
     writing_issues();
     write_table_with_block(adapter, port, &trim_command(), &trim_block(range));

@@ -21,6 +21,9 @@ ghost use Rattle.port_boot.specs.States.{IsBootable};
 ghost use Rattle.port_control.specs.Ports.{IsStopped};
 ghost use Rattle.host_boot.specs.Again.{BootsAgain, BootsIfThere, BootsStopped};
 ghost use Rattle.host_boot.specs.Taken.{Boots, HaltsFound, WroteControl, StandsBehind, GoesThrough, IsOfHost, IsSurvey, LeavesPorts, TakesOver};
+ghost use Rattle.adapter.specs.Counted.{MakesAtMost};
+ghost use Rattle.port_boot.specs.Costs.{BOOT_ACCESSES};
+ghost use Rattle.host_boot.specs.Costs.{BOOT_AGAIN_ACCESSES, BOOT_IF_THERE_ACCESSES, FIRST_BOOT_ACCESSES, TAKE_OVER_ACCESSES};
 
 use adapter::Adapter;
 use ata_types::{DRIVER_BYTES, PORTS, Port, PortState, READINGS};
@@ -76,6 +79,7 @@ fn power_on<A: Adapter>(adapter: &mut A)
     ensures switches { Writes Ghc 0x80000000 (A.device adapter.old) (A.device adapter.new) }
     ensures leaves { LeavesPorts (A.device adapter.old) (A.device adapter.new) }
     ensures followed { IsFollowed IsOfHost AnyUse (A.device adapter.old) (A.device adapter.new) }
+    ensures cost { MakesAtMost 1 (A.access_count adapter.old) (A.access_count adapter.new) }
 {
     laws_hold();
     adapter.write(Reg::Ghc, GlobalControl::AE.0);
@@ -90,6 +94,7 @@ fn survey<A: Adapter>(adapter: &mut A) -> (Capabilities, u32)
     ensures surveys { IsDrivenBy IsSurvey (A.device adapter.old) (A.device adapter.new) }
     ensures capable { result.0.0 ≡ (A.device adapter.new).cap }
     ensures there { result.1 ≡ (A.device adapter.new).pi }
+    ensures cost { MakesAtMost 2 (A.access_count adapter.old) (A.access_count adapter.new) }
 {
     laws_hold();
     let capabilities = Capabilities(adapter.read(Reg::Cap));
@@ -103,6 +108,7 @@ fn boot_stopped<A: Adapter>(adapter: &mut A, stopped: Stopped, wanted: &Wanted) 
     requires stopped { IsStopped ((A.device adapter.old).port stopped.port.0) }
     ensures on { IsOn (A.device adapter.new) }
     ensures boots { BootsStopped wanted.now stopped.port result (A.device adapter.old) (A.device adapter.new) }
+    ensures cost { MakesAtMost BOOT_ACCESSES (A.access_count adapter.old) (A.access_count adapter.new) }
 {
     match boot(adapter, stopped, &wanted.serial()) {
         Ok(info) => Found::Ready(info),
@@ -124,6 +130,7 @@ fn boot_port<A: Adapter>(adapter: &mut A, port: Port, implemented: u32, wanted: 
     ensures halts { HaltsFound result port.0 (A.device adapter.new) }
     ensures boots { Boots port result (A.device adapter.old) (A.device adapter.new) }
     ensures way { GoesThrough port result (A.device adapter.old) (A.device adapter.new) }
+    ensures cost { MakesAtMost FIRST_BOOT_ACCESSES (A.access_count adapter.old) (A.access_count adapter.new) }
 {
     laws_hold();
     if *wanted == Wanted::Nothing || !is_set(implemented, u32::from(port.0)) {
@@ -143,6 +150,7 @@ fn enable_interrupts<A: Adapter>(adapter: &mut A)
     ensures enables { Writes Ghc 0x80000002 (A.device adapter.old) (A.device adapter.new) }
     ensures leaves { LeavesPorts (A.device adapter.old) (A.device adapter.new) }
     ensures followed { IsFollowed IsOfHost AnyUse (A.device adapter.old) (A.device adapter.new) }
+    ensures cost { MakesAtMost 1 (A.access_count adapter.old) (A.access_count adapter.new) }
 {
     laws_hold();
     adapter.write(Reg::Ghc, GlobalControl::AE.0 | GlobalControl::IE.0);
@@ -155,6 +163,7 @@ pub fn take_over<A: Adapter>(adapter: &mut A, wanted: &[Wanted; PORTS]) -> Host
     requires room { DRIVER_BYTES ≤ (A.device adapter.old).size }
     ensures taken { TakesOver wanted.now result (A.device adapter.old) (A.device adapter.new) }
     ensures four { length result.ports ≡ 4 }
+    ensures cost { MakesAtMost TAKE_OVER_ACCESSES (A.access_count adapter.old) (A.access_count adapter.new) }
 {
     laws_hold();
     power_on(adapter);
@@ -178,6 +187,7 @@ pub fn boot_again<A: Adapter>(adapter: &mut A, stopped: Stopped, wanted: &Wanted
     requires stopped { IsStopped ((A.device adapter.old).port stopped.port.0) }
     ensures on { IsOn (A.device adapter.new) }
     ensures boots { BootsAgain wanted.now stopped.port result (A.device adapter.old) (A.device adapter.new) }
+    ensures cost { MakesAtMost BOOT_AGAIN_ACCESSES (A.access_count adapter.old) (A.access_count adapter.new) }
 {
     laws_hold();
     let capabilities = Capabilities(adapter.read(Reg::Cap));
@@ -198,6 +208,7 @@ pub fn boot_if_there<A: Adapter>(adapter: &mut A, stopped: Stopped, wanted: &Wan
     requires saw { ((A.device adapter.old).port stopped.port.0).notes.link_count ≡ READINGS }
     ensures on { IsOn (A.device adapter.new) }
     ensures boots { BootsIfThere wanted.now stopped.port result (A.device adapter.old) (A.device adapter.new) }
+    ensures cost { MakesAtMost BOOT_IF_THERE_ACCESSES (A.access_count adapter.old) (A.access_count adapter.new) }
 {
     laws_hold();
     let capabilities = Capabilities(adapter.read(Reg::Cap));

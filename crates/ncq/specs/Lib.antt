@@ -2,3 +2,4 @@ pub mod Issuing
 pub mod Masks
 pub mod Tasks
 pub mod Witness
+pub mod Costs

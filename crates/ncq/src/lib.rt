@@ -18,6 +18,8 @@ ghost use Rattle.hba_regs.specs.declared.reg.Reg.TheVariants.{Px};
 ghost use Rattle.ncq.specs.Issuing.{IsArmedFor};
 ghost use Rattle.ncq.specs.Masks.{AreClear, ReadsDone, SeesClear};
 ghost use Rattle.ncq.specs.Tasks.{Arms, IsFit, IsTransfer, IssuesTask, RunsItsList, addresses_of, meaning_of, operation_of};
+ghost use Rattle.adapter.specs.Counted.{MakesAtMost};
+ghost use Rattle.ncq.specs.Costs.{ARM_ACCESSES, DONE_ACCESSES, ISSUE_ACCESSES};
 
 mod finding;
 mod issuing;
@@ -98,7 +100,8 @@ fn arm<A: Adapter>(adapter: &mut A, port: Port, own: u32, queued: bool)
     requires on { IsOn (A.device adapter.old) }
     requires there { HasPort (A.device adapter.old) port.0 }
     requires started { ((A.device adapter.old).port port.0).st ≡ true }
-    ensures { Arms queued port own (A.device adapter.old) (A.device adapter.new) }
+    ensures arms { Arms queued port own (A.device adapter.old) (A.device adapter.new) }
+    ensures cost { MakesAtMost 1 (A.access_count adapter.old) (A.access_count adapter.new) }
 {
     writing_is_permitted();
     if queued {
@@ -123,7 +126,9 @@ fn prepare<A: Adapter>(
     requires agreed { AgreesWith (IsUnused port.0 slot.0) (A.device adapter.old) }
     requires may { RunsItsList port.0 (A.device adapter.old) }
     requires fits { IsFit transfer.now frames.now }
-    ensures { IsArmedFor port slot.0 transfer.now frames.now result (A.device adapter.old) (A.device adapter.new) }
+    ensures armed { IsArmedFor port slot.0 transfer.now frames.now result (A.device adapter.old)
+        (A.device adapter.new) }
+    ensures cost { MakesAtMost ARM_ACCESSES (A.access_count adapter.old) (A.access_count adapter.new) }
 {
     let prds = prds(frames, SECTOR_BYTES * transfer.range.count);
     write_table(
@@ -156,6 +161,7 @@ pub fn issue<A: Adapter>(adapter: &mut A, port: Port, slot: Slot, transfer: &Tas
         (addresses_of port.0 transfer.now.op transfer.now.range.count frames.now) }
     ensures set { ((A.device adapter.new).port port.0).ci slot.0 ≡ true }
     ensures active { transfer.now.queued ≡ true → ((A.device adapter.new).port port.0).sact slot.0 ≡ true }
+    ensures cost { MakesAtMost ISSUE_ACCESSES (A.access_count adapter.old) (A.access_count adapter.new) }
 {
     let own = prepare(adapter, port, slot, transfer, frames);
     writing_issues();
@@ -178,6 +184,7 @@ pub fn done<A: Adapter>(adapter: &mut A, port: Port, mask: u32) -> u32
     ensures on { IsOn (A.device adapter.new) }
     ensures finds { ReadsDone port mask result (A.device adapter.old) (A.device adapter.new) }
     ensures seen { SeesClear port mask result (A.device adapter.old) }
+    ensures cost { MakesAtMost DONE_ACCESSES (A.access_count adapter.old) (A.access_count adapter.new) }
 {
     adapter_stays();
     reading_finds_done();

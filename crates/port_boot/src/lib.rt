@@ -14,6 +14,9 @@ ghost use Rattle.agreement.specs.Halting.{HaltsAsTaken};
 ghost use Rattle.port_control.specs.Engines.{Stops, StopsReceiving};
 ghost use Rattle.port_control.specs.Ports.{IsStopped, HasStopped};
 ghost use Rattle.port_boot.specs.States.{told_causes, TellsFault, Fits, IsFit, Judges, EndsAs, IsReady, IsBooting, IsBoot, IsBootTo, IsBootable, IsOfBoot, IsBroughtUp, IsHaltedAs, GetsAsked, GetsReady, EndsEarly, EndsLate, IsEarly, IsLate, ShowsNews, RunsOn, StopsOnWay, StopsThen};
+ghost use Rattle.adapter.specs.Counted.{MakesAtMost};
+ghost use Rattle.port_control.specs.Costs.{STOP_ACCESSES};
+ghost use Rattle.port_boot.specs.Costs.{BOOT_ACCESSES, IDENTIFY_ACCESSES, RISE_ACCESSES};
 
 use adapter::Adapter;
 use ata_types::{Port, PortState};
@@ -91,6 +94,7 @@ fn bring_up<A: Adapter>(adapter: &mut A, stopped: Stopped) -> Result<Running, Po
         ≤ ((A.device adapter.new).port stopped.port.0).notes.sctl_written_at) }
     ensures early { IfErr result (λ state. (state ≡ PortState.Dead)
         ⊎ EndsEarly stopped.port state (A.device adapter.old) (A.device adapter.new)) }
+    ensures cost { MakesAtMost RISE_ACCESSES (A.access_count adapter.old) (A.access_count adapter.new) }
 {
     laws_hold();
     let Ok(receiving) = receive(adapter, stopped) else {
@@ -114,6 +118,7 @@ fn halt<A: Adapter>(adapter: &mut A, port: Port, state: PortState) -> PortState
     ensures on { IsOn (A.device adapter.new) }
     ensures has { HasStopped ((A.device adapter.old).port port.0) ((A.device adapter.new).port port.0) }
     ensures halted { IsHaltedAs port state result (A.device adapter.old) (A.device adapter.new) }
+    ensures cost { MakesAtMost STOP_ACCESSES (A.access_count adapter.old) (A.access_count adapter.new) }
 {
     match stop(adapter, port) {
         Ok(_) => state,
@@ -150,6 +155,7 @@ fn identify_disk<A: Adapter>(
     ensures runs_on { OnOk result (RunsOn port.0 (A.device adapter.old) (A.device adapter.new)) }
     ensures stops { IfErr result (λ state. StopsThen port (A.device adapter.old) (A.device adapter.new)) }
     ensures late { IfErr result (λ state. IsEarly state → ⊥) }
+    ensures cost { MakesAtMost IDENTIFY_ACCESSES (A.access_count adapter.old) (A.access_count adapter.new) }
 {
     laws_hold();
     let Some(page) = read_page(adapter, port, Page::Identity) else {
@@ -196,6 +202,7 @@ pub fn boot<A: Adapter>(
         (A.device adapter.new)) }
     ensures late { IfErr result (λ state. IsLate state
         → EndsLate stopped.port (A.device adapter.old) (A.device adapter.new)) }
+    ensures cost { MakesAtMost BOOT_ACCESSES (A.access_count adapter.old) (A.access_count adapter.new) }
 {
     laws_hold();
     let running = bring_up(adapter, stopped)?;

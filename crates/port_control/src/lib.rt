@@ -19,6 +19,8 @@ ghost use Rattle.agreement.specs.Recovering.{IsLinked, RunsLinked};
 ghost use Rattle.agreement.specs.Started.{IsUp, IsComingUp, IsStarted};
 ghost use Rattle.port_control.specs.Engines.{FailsToStopReceiving, StopsReceiving};
 ghost use Rattle.port_control.specs.Ports.{FailsToHalt, FailsToReceive, Halts, Receives, WritesCommand, IsPlacing, IsClearing, IsResetting, IsUsable, IsStopped, ReceivesFises, IsRunning, SawDevice, SawIdle, Shows, SameBeside, HasStopped, HasLink, ShowsIdle, ReadsWithout, ReadsUntil, ClearsErrors, FindsSignature, Looks, WasReset, HasClearErrors, FindsAwaited, IsFound, Forgets, ShowsSignature, SameButStart, programmed};
+ghost use Rattle.adapter.specs.Counted.{MakesAtMost};
+ghost use Rattle.port_control.specs.Costs.{AWAIT_DEVICE_ACCESSES, CLEAR_ACCESSES, COMRESET_ACCESSES, FORGET_ACCESSES, RECEIVE_ACCESSES, SHOW_ACCESSES, START_ACCESSES, STOP_ACCESSES};
 
 use adapter::Adapter;
 use ata_types::{DRIVER_BYTES, PORT_BYTES, Port, READINGS, RECEIVED};
@@ -110,6 +112,7 @@ pub fn stop<A: Adapter>(adapter: &mut A, port: Port) -> Result<Stopped, PortFaul
     ensures halts { OnOk result (Halts port (A.device adapter.old) (A.device adapter.new)) }
     ensures fault { IfErr result (λ fault. fault ≡ PortFault.EngineStuck) }
     ensures fails { OnErr result (FailsToHalt port (A.device adapter.old) (A.device adapter.new)) }
+    ensures cost { MakesAtMost STOP_ACCESSES (A.access_count adapter.old) (A.access_count adapter.new) }
 {
     laws_hold();
     let command = PortCommand(adapter.read(Reg::Px(port, PortReg::Cmd)));
@@ -137,6 +140,7 @@ fn stop_receiving<A: Adapter>(adapter: &mut A, port: Port) -> bool
     ensures same { SameBeside ((A.device adapter.old).port port.0) ((A.device adapter.new).port port.0) }
     ensures fallen { result ≡ true → ((A.device adapter.new).port port.0).fr ≡ false }
     ensures stuck { result ≡ false → Shows PortFault.EngineStuck ((A.device adapter.new).port port.0).notes }
+    ensures cost { MakesAtMost STOP_ACCESSES (A.access_count adapter.old) (A.access_count adapter.new) }
 {
     laws_hold();
     let command = PortCommand(adapter.read(Reg::Px(port, PortReg::Cmd)));
@@ -159,6 +163,7 @@ fn place<A: Adapter>(adapter: &mut A, port: Port)
     ensures quiet { IsAfterReset ((A.device adapter.new).port port.0) }
     ensures bases { ((A.device adapter.new).port port.0).bases ≡ programmed port.0 }
     ensures same { SameBeside ((A.device adapter.old).port port.0) ((A.device adapter.new).port port.0) }
+    ensures cost { MakesAtMost 4 (A.access_count adapter.old) (A.access_count adapter.new) }
 {
     laws_hold();
     let list = PORT_BYTES * u32::from(port.0);
@@ -176,6 +181,7 @@ fn start_receiving<A: Adapter>(adapter: &mut A, port: Port)
     ensures followed { IsFollowed (IsControl WritesCommand port) AnyUse (A.device adapter.old) (A.device adapter.new) }
     ensures receives { ReceivesFises port.0 ((A.device adapter.new).port port.0) }
     ensures same { SameBeside ((A.device adapter.old).port port.0) ((A.device adapter.new).port port.0) }
+    ensures cost { MakesAtMost START_ACCESSES (A.access_count adapter.old) (A.access_count adapter.new) }
 {
     laws_hold();
     let command = PortCommand(adapter.read(Reg::Px(port, PortReg::Cmd)));
@@ -204,6 +210,7 @@ pub fn receive<A: Adapter>(
     ensures receives { OnOk result (Receives stopped.port (A.device adapter.old) (A.device adapter.new)) }
     ensures fault { IfErr result (λ fault. (fault.0 ≡ PortFault.EngineStuck) × (fault.1 ≡ stopped)) }
     ensures fails { OnErr result (FailsToReceive stopped.port (A.device adapter.old) (A.device adapter.new)) }
+    ensures cost { MakesAtMost RECEIVE_ACCESSES (A.access_count adapter.old) (A.access_count adapter.new) }
 {
     laws_hold();
     let port = stopped.port;
@@ -225,6 +232,7 @@ fn send_comreset<A: Adapter>(adapter: &mut A, port: Port)
     ensures awaited { IsAwaited ((A.device adapter.new).port port.0) }
     ensures coming { NoneComes port.0 (A.device adapter.old) (A.device adapter.new) → IsComingUp
         ((A.device adapter.new).port port.0) }
+    ensures cost { MakesAtMost 2 (A.access_count adapter.old) (A.access_count adapter.new) }
 {
     laws_hold();
     adapter.write(Reg::Px(port, PortReg::Sctl), SataControl::SEND_COMRESET);
@@ -243,6 +251,7 @@ fn wait_for_device<A: Adapter>(adapter: &mut A, port: Port) -> bool
         (A.device adapter.new) }
     ensures up { result ≡ true → NoneComes port.0 (A.device adapter.old) (A.device adapter.new)
         → IsComingUp ((A.device adapter.old).port port.0) → IsUp ((A.device adapter.new).port port.0) }
+    ensures cost { MakesAtMost READINGS (A.access_count adapter.old) (A.access_count adapter.new) }
 {
     laws_hold();
     for _reading in 0..READINGS {
@@ -265,6 +274,7 @@ fn clear_errors<A: Adapter>(adapter: &mut A, port: Port)
     ensures clears { ClearsErrors port (A.device adapter.old) (A.device adapter.new) }
     ensures clear { ((A.device adapter.old).port port.0).link_due ≡ false → HasClearErrors port.0
         (A.device adapter.old) (A.device adapter.new) }
+    ensures cost { MakesAtMost CLEAR_ACCESSES (A.access_count adapter.old) (A.access_count adapter.new) }
 {
     laws_hold();
     adapter.write(Reg::Px(port, PortReg::Serr), ALL_ONES);
@@ -284,6 +294,7 @@ pub fn forget_errors<A: Adapter>(adapter: &mut A, port: Port) -> TaskFile
     ensures followed { IsFollowed (IsControl IsClearing port) AnyUse (A.device adapter.old) (A.device adapter.new) }
     ensures on { IsOn (A.device adapter.new) }
     ensures forgets { Forgets port result.0 (A.device adapter.old) (A.device adapter.new) }
+    ensures cost { MakesAtMost FORGET_ACCESSES (A.access_count adapter.old) (A.access_count adapter.new) }
 {
     laws_hold();
     clear_errors(adapter, port);
@@ -305,6 +316,7 @@ pub fn shows_device<A: Adapter>(adapter: &mut A, port: Port) -> bool
     ensures none { result ≡ false → ((A.device adapter.old).port port.0).notes.link_count ≡ READINGS
         → Shows PortFault.NoDevice
         ((A.device adapter.new).port port.0).notes }
+    ensures cost { MakesAtMost SHOW_ACCESSES (A.access_count adapter.old) (A.access_count adapter.new) }
 {
     laws_hold();
     adapter.write(Reg::Px(port, PortReg::Serr), ALL_ONES);
@@ -327,6 +339,7 @@ fn wait_until_idle<A: Adapter>(adapter: &mut A, port: Port) -> bool
     ensures quiet { IsAwaited ((A.device adapter.old).port port.0) → IsUnflagged ((A.device adapter.old).port port.0)
         → bit ((A.device adapter.new).port port.0).notes.last_tfd 3 ≡ false
         → IsQuiet ((A.device adapter.new).port port.0) }
+    ensures cost { MakesAtMost READINGS (A.access_count adapter.old) (A.access_count adapter.new) }
 {
     laws_hold();
     for _reading in 0..READINGS {
@@ -356,6 +369,7 @@ fn look<A: Adapter>(adapter: &mut A, port: Port) -> Result<(), PortFault>
     ensures signature { OnOk result (ShowsSignature ((A.device adapter.new).port port.0)) }
     ensures signature_at_fault { IfErr result (λ fault. (signature : ℕ) → fault ≡ PortFault.NotAta signature
         → ShowsSignature ((A.device adapter.new).port port.0)) }
+    ensures cost { MakesAtMost AWAIT_DEVICE_ACCESSES (A.access_count adapter.old) (A.access_count adapter.new) }
 {
     laws_hold();
     if !wait_for_device(adapter, port) {
@@ -419,6 +433,7 @@ pub fn comreset<A: Adapter>(
         (A.device adapter.old) (A.device adapter.new)) }
     ensures signature_at_fault { IfErr result (λ fault. (signature : ℕ) → fault.0 ≡ PortFault.NotAta signature
         → ShowsSignature ((A.device adapter.new).port receiving.port.0)) }
+    ensures cost { MakesAtMost COMRESET_ACCESSES (A.access_count adapter.old) (A.access_count adapter.new) }
 {
     laws_hold();
     let port = receiving.port;
@@ -471,6 +486,7 @@ pub fn start<A: Adapter>(
         → ((A.device adapter.new).port receiving.port.0).link_due ≡ false }
     ensures changes { ((A.device adapter.old).port receiving.port.0).link_due ≡ false → ChangesByDisks
         receiving.port.0 (A.device adapter.old) (A.device adapter.new) }
+    ensures cost { MakesAtMost START_ACCESSES (A.access_count adapter.old) (A.access_count adapter.new) }
 {
     laws_hold();
     let port = receiving.port;

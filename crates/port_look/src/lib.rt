@@ -13,6 +13,8 @@ ghost use Rattle.agreement.specs.Driven.{AnyUse, IsFollowed};
 ghost use Rattle.hba_regs.specs.Bits.{bit};
 ghost use Rattle.port_look.specs.Glances.{FindsChange, FindsDevice};
 ghost use Rattle.port_look.specs.Looks.{look_of, IsLooking, LooksAt};
+ghost use Rattle.adapter.specs.Counted.{MakesAtMost};
+ghost use Rattle.port_look.specs.Costs.{FIND_ACCESSES, LOOK_ACCESSES};
 
 use adapter::Adapter;
 use ata_types::Port;
@@ -88,6 +90,7 @@ pub fn look_at<A: Adapter>(adapter: &mut A, port: Port) -> Look
     ensures on { IsOn (A.device adapter.new) }
     ensures looks { LooksAt port result (A.device adapter.old) (A.device adapter.new) }
     ensures followed { IsFollowed (IsLooking port) AnyUse (A.device adapter.old) (A.device adapter.new) }
+    ensures cost { MakesAtMost LOOK_ACCESSES (A.access_count adapter.old) (A.access_count adapter.new) }
 {
     laws_hold();
     let interrupts = PortInterrupts(adapter.read(Reg::Px(port, PortReg::Is)));
@@ -105,6 +108,7 @@ pub fn finds_device<A: Adapter>(adapter: &mut A, port: Port) -> bool
     ensures on { IsOn (A.device adapter.new) }
     ensures finds { FindsDevice port result (A.device adapter.old) (A.device adapter.new) }
     ensures followed { IsFollowed (IsLooking port) AnyUse (A.device adapter.old) (A.device adapter.new) }
+    ensures cost { MakesAtMost 1 (A.access_count adapter.old) (A.access_count adapter.new) }
 {
     laws_hold();
     let status = SataStatus(adapter.read(Reg::Px(port, PortReg::Ssts)));
@@ -120,6 +124,7 @@ pub fn finds_change<A: Adapter>(adapter: &mut A, port: Port) -> bool
     ensures on { IsOn (A.device adapter.new) }
     ensures finds { FindsChange port result (A.device adapter.old) (A.device adapter.new) }
     ensures followed { IsFollowed (IsLooking port) AnyUse (A.device adapter.old) (A.device adapter.new) }
+    ensures cost { MakesAtMost FIND_ACCESSES (A.access_count adapter.old) (A.access_count adapter.new) }
 {
     laws_hold();
     let interrupts = PortInterrupts(adapter.read(Reg::Px(port, PortReg::Is)));

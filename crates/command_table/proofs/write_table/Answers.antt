@@ -49,8 +49,8 @@ store_table-requires-clause-free g c =
 pub store-requires : goal.store-requires
 store-requires g c =
     let r = c.requires in
-    let first = table_stored _ _ _ _ _ _ _ c.from-list.ensures c.from.ensures c.store_table.ensures.stored in
-    let here = table_bounds c.args.port.0 c.args.slot.0 (length c.args.prds.now) c.store_table.ensures.bytes r.few in
+    let first = table_stored _ _ _ _ _ _ _ c.from-list.ensures c.from.ensures c.store_table.ensures.stores.stored in
+    let here = table_bounds c.args.port.0 c.args.slot.0 (length c.args.prds.now) c.store_table.ensures.stores.bytes r.few in
     let size = store_size c.args.port.0 c.args.slot.0 r.port r.slot _ _ _ _ here first in
     let room : DRIVER_BYTES ≤ (g.A.Adapter.device c.store_table.new.adapter).size = let had = r.room in omega (arith, size, had) in
     let F : ℕ → ℕ → Type 0 = λ p s. Stays (IsFree (PORT_BYTES * p + 32 * s) (length c.header-head.result)) (g.A.Adapter.device c.store_table.new.adapter) in
@@ -61,18 +61,18 @@ store-requires g c =
 pub returns-clause-on : goal.returns-clause-on
 returns-clause-on g c =
     let r = c.requires in
-    let first = table_stored _ _ _ _ _ _ _ c.from-list.ensures c.from.ensures c.store_table.ensures.stored in
-    let second = header_stored _ _ _ _ _ _ _ c.from-list.ensures c.from-2.ensures c.store.ensures in
-    let here = table_bounds c.args.port.0 c.args.slot.0 (length c.args.prds.now) c.store_table.ensures.bytes r.few in
+    let first = table_stored _ _ _ _ _ _ _ c.from-list.ensures c.from.ensures c.store_table.ensures.stores.stored in
+    let second = header_stored _ _ _ _ _ _ _ c.from-list.ensures c.from-2.ensures c.store.ensures.does in
+    let here = table_bounds c.args.port.0 c.args.slot.0 (length c.args.prds.now) c.store_table.ensures.stores.bytes r.few in
     let there = header_bounds c.args.port.0 c.args.slot.0 c.header-head.result c.header-head.ensures.says.size c.header-head.ensures.none_moved in
     store_on c.args.port.0 c.args.slot.0 r.port r.slot _ _ _ _ there second (store_on c.args.port.0 c.args.slot.0 r.port r.slot _ _ _ _ here first r.on)
 
 pub returns-clause-followed : goal.returns-clause-followed
 returns-clause-followed g c =
     let r = c.requires in
-    let first = table_stored _ _ _ _ _ _ _ c.from-list.ensures c.from.ensures c.store_table.ensures.stored in
-    let second = header_stored _ _ _ _ _ _ _ c.from-list.ensures c.from-2.ensures c.store.ensures in
-    let here = table_bounds c.args.port.0 c.args.slot.0 (length c.args.prds.now) c.store_table.ensures.bytes r.few in
+    let first = table_stored _ _ _ _ _ _ _ c.from-list.ensures c.from.ensures c.store_table.ensures.stores.stored in
+    let second = header_stored _ _ _ _ _ _ _ c.from-list.ensures c.from-2.ensures c.store.ensures.does in
+    let here = table_bounds c.args.port.0 c.args.slot.0 (length c.args.prds.now) c.store_table.ensures.stores.bytes r.few in
     let there = header_bounds c.args.port.0 c.args.slot.0 c.header-head.result c.header-head.ensures.says.size c.header-head.ensures.none_moved in
     followed_then (IsTableStore c.args.port.0 c.args.slot.0) (IsUnused c.args.port.0 c.args.slot.0) _ _ _
     (store_followed c.args.port.0 c.args.slot.0 r.port r.slot _ _ _ _ here first)
@@ -82,21 +82,21 @@ pub returns-clause-says : goal.returns-clause-says
 returns-clause-says g c =
     let r = c.requires in
     let few = r.few in
-    let first = table_stored _ _ _ _ _ _ _ c.from-list.ensures c.from.ensures c.store_table.ensures.stored in
-    let second = header_stored _ _ _ _ _ _ _ c.from-list.ensures c.from-2.ensures c.store.ensures in
-    let size = c.store_table.ensures.table.size in
-    let cut = length-take (TABLE_HEAD + PRD_BYTES * length c.args.prds.now) c.store_table.ensures.bytes in
+    let first = table_stored _ _ _ _ _ _ _ c.from-list.ensures c.from.ensures c.store_table.ensures.stores.stored in
+    let second = header_stored _ _ _ _ _ _ _ c.from-list.ensures c.from-2.ensures c.store.ensures.does in
+    let size = c.store_table.ensures.stores.table.size in
+    let cut = length-take (TABLE_HEAD + PRD_BYTES * length c.args.prds.now) c.store_table.ensures.stores.bytes in
     let H : ℕ → ℕ → Type 0 = λ p s. SpellsHeader c.header-head.result c.is_write.result (length c.args.prds.now) (PORT_BYTES * p + TABLES + TABLE_BYTES * s) in
     let heads : SpellsHeader c.header-head.result c.is_write.result (length c.args.prds.now) (table_of c.args.port.0 c.args.slot.0) =
     at_places H c.args.port.0 c.args.slot.0 _ _ c.from-list.ensures c.from.ensures c.header-head.ensures.says in
-    stored_says c.args.port.0 c.args.slot.0 r.port r.slot r.agreed.0 r.agreed.1 _ _ _ r.on r.agreed.2 c.args.prds.now c.store_table.ensures.bytes c.header-head.result few size
-    (omega (arith, cut, size, few)) first second c.is_write.result c.args.command.now c.is_write.ensures c.store_table.ensures.table.fis c.store_table.ensures.table.entries heads c.header-head.ensures.none_moved
+    stored_says c.args.port.0 c.args.slot.0 r.port r.slot r.agreed.0 r.agreed.1 _ _ _ r.on r.agreed.2 c.args.prds.now c.store_table.ensures.stores.bytes c.header-head.result few size
+    (omega (arith, cut, size, few)) first second c.is_write.result c.args.command.now c.is_write.ensures c.store_table.ensures.stores.table.fis c.store_table.ensures.stores.table.entries heads c.header-head.ensures.none_moved
 
 pub returns-clause-none_moved : goal.returns-clause-none_moved
 returns-clause-none_moved g c =
     let r = c.requires in
     let heads = c.header-head.ensures in
-    let second = header_stored _ _ _ _ _ _ _ c.from-list.ensures c.from-2.ensures c.store.ensures in
+    let second = header_stored _ _ _ _ _ _ _ c.from-list.ensures c.from-2.ensures c.store.ensures.does in
     let there = header_bounds c.args.port.0 c.args.slot.0 c.header-head.result heads.says.size heads.none_moved in
     let at : ℕ = list_of c.args.port.0 + 32 * c.args.slot.0 in
     let P : ℕ → Type 0 = λ n. bytes_at (g.A.Adapter.device c.store.new.self).memory at n ≡ c.header-head.result in

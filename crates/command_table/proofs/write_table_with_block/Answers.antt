@@ -21,12 +21,12 @@ store-requires g c =
 
 pub returns-clause-on : goal.returns-clause-on
 returns-clause-on g c =
-    block_on c.args.port.0 _ c.requires.port (at_scratch c.args.port.0 _ _ c.from.ensures c.from-2.ensures) c.args.block.now c.told-block _ _ c.store.ensures c.write_table.ensures.on
+    block_on c.args.port.0 _ c.requires.port (at_scratch c.args.port.0 _ _ c.from.ensures c.from-2.ensures) c.args.block.now c.told-block _ _ c.store.ensures.does c.write_table.ensures.on
 
 pub returns-clause-followed : goal.returns-clause-followed
 returns-clause-followed g c =
     with_block c.args.port.0 _ _ _ c.write_table.ensures.followed
-    (block_followed c.args.port.0 _ c.requires.port (at_scratch c.args.port.0 _ _ c.from.ensures c.from-2.ensures) c.args.block.now c.told-block _ _ c.store.ensures)
+    (block_followed c.args.port.0 _ c.requires.port (at_scratch c.args.port.0 _ _ c.from.ensures c.from-2.ensures) c.args.block.now c.told-block _ _ c.store.ensures.does)
 
 pub returns-clause-says : goal.returns-clause-says
 returns-clause-says g c = λ m meaning fields one.
@@ -35,10 +35,10 @@ returns-clause-says g c = λ m meaning fields one.
     let table : IsTableFor 0 c.args.command.now c.prds-prds.result.items m (scratch_of c.args.port.0 ∷ []) =
     table_for_block m c.args.command.now c.prds-prds.result.items c.args.port.0 _ (let port = c.from.ensures in omega (arith, port)) meaning fields one (prds.whole refl) (prds.places refl) in
     let P : List Prd → Type 0 = λ es. IsTableFor 0 c.args.command.now es m (scratch_of c.args.port.0 ∷ []) in
-    block_told c.args.port.0 _ r.port (at_scratch c.args.port.0 _ _ c.from.ensures c.from-2.ensures) c.args.block.now c.told-block _ _ c.store.ensures r.agreed.0
+    block_told c.args.port.0 _ r.port (at_scratch c.args.port.0 _ _ c.from.ensures c.from-2.ensures) c.args.block.now c.told-block _ _ c.store.ensures.does r.agreed.0
     (table_agrees c.args.port.0 r.agreed.0 _ _ r.agreed.1 c.write_table.ensures.followed r.agreed.2) c.write_table.ensures.on m (scratch_of c.args.port.0 ∷ [])
     (c.write_table.ensures.says m (scratch_of c.args.port.0 ∷ []) (subst P (sym c.as_slice.ensures.value) table))
 
 pub returns-clause-block : goal.returns-clause-block
 returns-clause-block g c =
-    block_there c.args.port.0 _ c.requires.port (at_scratch c.args.port.0 _ _ c.from.ensures c.from-2.ensures) c.args.block.now c.told-block _ _ c.store.ensures
+    block_there c.args.port.0 _ c.requires.port (at_scratch c.args.port.0 _ _ c.from.ensures c.from-2.ensures) c.args.block.now c.told-block _ _ c.store.ensures.does

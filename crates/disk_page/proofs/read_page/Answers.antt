@@ -32,7 +32,7 @@ returns-clause-on g c =
     let waiting = c.wait.ensures.waiting _ _ _ _ asked in
     let clear = c.wait.ensures.over c.if-not-wait.false _ _ _ _ asked in
     let L : ℕ → Type 0 = λ place. Loads place c.load.new.out (g.A.Adapter.device c.wait.new.adapter) (g.A.Adapter.device c.load.new.self) in
-    let load : Loads (scratch_of c.args.port.0) c.load.new.out (g.A.Adapter.device c.wait.new.adapter) (g.A.Adapter.device c.load.new.self) = subst L at c.load.ensures in
+    let load : Loads (scratch_of c.args.port.0) c.load.new.out (g.A.Adapter.device c.wait.new.adapter) (g.A.Adapter.device c.load.new.self) = subst L at c.load.ensures.does in
     let size = c.load.auto.out in
     load_on c.laws_hold.ensures c.args.port _ _ _ _ _ r.there.0 waiting clear _ _ load size
 
@@ -44,7 +44,7 @@ returns-clause-reads g c =
     let waiting = c.wait.ensures.waiting _ _ _ _ asked in
     let clear = c.wait.ensures.over c.if-not-wait.false _ _ _ _ asked in
     let L : ℕ → Type 0 = λ place. Loads place c.load.new.out (g.A.Adapter.device c.wait.new.adapter) (g.A.Adapter.device c.load.new.self) in
-    let load : Loads (scratch_of c.args.port.0) c.load.new.out (g.A.Adapter.device c.wait.new.adapter) (g.A.Adapter.device c.load.new.self) = subst L at c.load.ensures in
+    let load : Loads (scratch_of c.args.port.0) c.load.new.out (g.A.Adapter.device c.wait.new.adapter) (g.A.Adapter.device c.load.new.self) = subst L at c.load.ensures.does in
     let size = c.load.auto.out in
     let followed =
     asked_then c.laws_hold.ensures c.args.port (λ uses. put uses c.args.port.0 0 (Own (operation_of c.args.page))) _ _ _
@@ -71,7 +71,7 @@ returns-clause-agrees g c = λ uses free agreed.
     let waiting = c.wait.ensures.waiting _ _ _ _ asked in
     let clear = c.wait.ensures.over c.if-not-wait.false _ _ _ _ asked in
     let L : ℕ → Type 0 = λ place. Loads place c.load.new.out (g.A.Adapter.device c.wait.new.adapter) (g.A.Adapter.device c.load.new.self) in
-    let load : Loads (scratch_of c.args.port.0) c.load.new.out (g.A.Adapter.device c.wait.new.adapter) (g.A.Adapter.device c.load.new.self) = subst L at c.load.ensures in
+    let load : Loads (scratch_of c.args.port.0) c.load.new.out (g.A.Adapter.device c.wait.new.adapter) (g.A.Adapter.device c.load.new.self) = subst L at c.load.ensures.does in
     let size = c.load.auto.out in
     c.laws_hold.ensures.agrees_released uses c.args.port.0 (operation_of c.args.page) _ free (load_clear c.laws_hold.ensures c.args.port _ _ _ _ _ r.there.0 waiting clear _ _ load size).over
     (load_agrees c.laws_hold.ensures c.args.port _ _ _ _ _ r.there.0 waiting clear _ _ load size)
@@ -84,7 +84,7 @@ returns-clause-running g c = λ (uses, free, agreed).
     let waiting = c.wait.ensures.waiting _ _ _ _ asked in
     let clear = c.wait.ensures.over c.if-not-wait.false _ _ _ _ asked in
     let L : ℕ → Type 0 = λ place. Loads place c.load.new.out (g.A.Adapter.device c.wait.new.adapter) (g.A.Adapter.device c.load.new.self) in
-    let load : Loads (scratch_of c.args.port.0) c.load.new.out (g.A.Adapter.device c.wait.new.adapter) (g.A.Adapter.device c.load.new.self) = subst L at c.load.ensures in
+    let load : Loads (scratch_of c.args.port.0) c.load.new.out (g.A.Adapter.device c.wait.new.adapter) (g.A.Adapter.device c.load.new.self) = subst L at c.load.ensures.does in
     load_running c.laws_hold.ensures c.args.port _ _ _ _ _ r.there.0 waiting clear _ _ load c.load.auto.out
     (λ slot other. c.laws_hold.ensures.put_others uses c.args.port.0 0 (Own (operation_of c.args.page)) c.args.port.0 slot (λ same here. other here) ∙ free slot)
 
@@ -101,5 +101,5 @@ returns-clause-silent g c = λ o page differs.
     let waiting = c.wait.ensures.waiting _ _ _ _ asked in
     let clear = c.wait.ensures.over c.if-not-wait.false _ _ _ _ asked in
     let L : ℕ → Type 0 = λ place. Loads place c.load.new.out (g.A.Adapter.device c.wait.new.adapter) (g.A.Adapter.device c.load.new.self) in
-    let load : Loads (scratch_of c.args.port.0) c.load.new.out (g.A.Adapter.device c.wait.new.adapter) (g.A.Adapter.device c.load.new.self) = subst L at c.load.ensures in
+    let load : Loads (scratch_of c.args.port.0) c.load.new.out (g.A.Adapter.device c.wait.new.adapter) (g.A.Adapter.device c.load.new.self) = subst L at c.load.ensures.does in
     load_silent c.laws_hold.ensures c.args.port _ _ _ _ _ r.there.0 waiting clear _ _ load c.load.auto.out o page differs

@@ -6,29 +6,34 @@ use Rattle.disk_page.proofs.Asking.{pending_first, pending_again, pending_over}
 use Rattle.disk_page.proofs.wait.Goals as goal
 
 pub loop-reading-init : goal.loop-reading-init
-loop-reading-init g c = pending_first c.laws_hold.ensures c.args.port _ c.requires.on c.requires.there c.requires.det
+loop-reading-init g c = record {
+  known = pending_first c.laws_hold.ensures c.args.port _ c.requires.on c.requires.there c.requires.det;
+  cost = omega arith;
+}
 
 pub loop-reading-preserved : goal.loop-reading-preserved
-loop-reading-preserved g c =
-    pending_again c.laws_hold.ensures c.args.port _ c.loop-reading._reading c.read-issued.result _ _ c.loop-reading-test.true c.loop-reading.invariant c.read-issued.ensures (sym c.is_set.ensures ∙ c.if-not-is_set.false)
+loop-reading-preserved g c = record {
+  known = pending_again c.laws_hold.ensures c.args.port _ c.loop-reading._reading c.read-issued.result _ _ c.loop-reading-test.true c.loop-reading.invariant.known c.read-issued.ensures.does (sym c.is_set.ensures ∙ c.if-not-is_set.false);
+  cost = omega arith;
+}
 
 pub returns-then-not-is_set-clause-on : goal.returns-then-not-is_set-clause-on
 returns-then-not-is_set-clause-on g c =
-    (pending_over c.laws_hold.ensures c.args.port _ c.loop-reading._reading c.read-issued.result _ _ c.loop-reading.invariant c.read-issued.ensures (sym c.is_set.ensures ∙ c.if-not-is_set.true)).on
+    (pending_over c.laws_hold.ensures c.args.port _ c.loop-reading._reading c.read-issued.result _ _ c.loop-reading.invariant.known c.read-issued.ensures.does (sym c.is_set.ensures ∙ c.if-not-is_set.true)).on
 
 pub returns-then-not-is_set-clause-followed : goal.returns-then-not-is_set-clause-followed
 returns-then-not-is_set-clause-followed g c =
-    (pending_over c.laws_hold.ensures c.args.port _ c.loop-reading._reading c.read-issued.result _ _ c.loop-reading.invariant c.read-issued.ensures (sym c.is_set.ensures ∙ c.if-not-is_set.true)).followed
+    (pending_over c.laws_hold.ensures c.args.port _ c.loop-reading._reading c.read-issued.result _ _ c.loop-reading.invariant.known c.read-issued.ensures.does (sym c.is_set.ensures ∙ c.if-not-is_set.true)).followed
 
 pub returns-then-not-is_set-clause-waiting : goal.returns-then-not-is_set-clause-waiting
 returns-then-not-is_set-clause-waiting g c =
-    (pending_over c.laws_hold.ensures c.args.port _ c.loop-reading._reading c.read-issued.result _ _ c.loop-reading.invariant c.read-issued.ensures (sym c.is_set.ensures ∙ c.if-not-is_set.true)).waiting
+    (pending_over c.laws_hold.ensures c.args.port _ c.loop-reading._reading c.read-issued.result _ _ c.loop-reading.invariant.known c.read-issued.ensures.does (sym c.is_set.ensures ∙ c.if-not-is_set.true)).waiting
 
 pub returns-then-not-is_set-clause-over : goal.returns-then-not-is_set-clause-over
 returns-then-not-is_set-clause-over g c = λ _.
-    (pending_over c.laws_hold.ensures c.args.port _ c.loop-reading._reading c.read-issued.result _ _ c.loop-reading.invariant c.read-issued.ensures (sym c.is_set.ensures ∙ c.if-not-is_set.true)).over
+    (pending_over c.laws_hold.ensures c.args.port _ c.loop-reading._reading c.read-issued.result _ _ c.loop-reading.invariant.known c.read-issued.ensures.does (sym c.is_set.ensures ∙ c.if-not-is_set.true)).over
 
 pub returns-clause-vain : goal.returns-clause-vain
 returns-clause-vain g c = λ _.
     let all : c.loop-reading._reading ≡ READINGS = omega arith in
-    subst (λ (n : ℕ). IsTold (AreInVain c.args.port n) (IsAsking c.args.port) AnyUse (g.A.Adapter.device c.args.adapter.now) (g.A.Adapter.device c.loop-reading.adapter)) all c.loop-reading.invariant.told
+    subst (λ (n : ℕ). IsTold (AreInVain c.args.port n) (IsAsking c.args.port) AnyUse (g.A.Adapter.device c.args.adapter.now) (g.A.Adapter.device c.loop-reading.adapter)) all c.loop-reading.invariant.known.told

@@ -1,4 +1,4 @@
-use Rattle.std.proofs.Common.{List, []}
+use Rattle.std.proofs.Common.{List, [], arith}
 use Rattle.ata_types.specs.declared.range.Range.{Range}
 use Rattle.ata_types.specs.declared.request.Frame.{Frame}
 use Rattle.ncq.specs.Issuing.{IsIssued}
@@ -24,10 +24,11 @@ returns g c =
     let issued : (range : Range) (frames : List Frame) → IsIssued c.args.port 0 (flush_of range) frames (g.A.Adapter.device c.args.adapter.now) (g.A.Adapter.device c.write.new.self) = λ range frames.
     (c.writing_issues.ensures c.args.port 0 (flush_of range) frames _ _ _
     (armed_flush c.args.port range frames _ _ _ q.on q.there q.agreed q.may table.on c.bit_of-own.ensures table.followed (table.says flush [] (flush_table _ c.flush_command.ensures)))).1 _
-    c.write.ensures in
+    c.write.ensures.does in
     record {
       on = (issued nowhere []).on;
       issues = λ range frames. (issued range frames).issues;
       stored = λ range frames. (issued range frames).stored;
       set = (issued nowhere []).set;
+      cost = omega arith;
     }

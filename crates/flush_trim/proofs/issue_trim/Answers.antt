@@ -1,4 +1,4 @@
-use Rattle.std.proofs.Common.{List, [], refl, ap, ◌∙◌}
+use Rattle.std.proofs.Common.{List, [], refl, ap, ◌∙◌, arith}
 use Rattle.ata_types.specs.declared.request.Frame.{Frame}
 use Rattle.adapter.specs.Trim.{trim_sectors}
 use Rattle.ncq.specs.Issuing.{IsIssued}
@@ -21,11 +21,12 @@ returns g c =
     let issued : (frames : List Frame) → IsIssued c.args.port 0 (trim_of c.args.range.now) frames (g.A.Adapter.device c.args.adapter.now) (g.A.Adapter.device c.write.new.self) = λ frames.
     (c.writing_issues.ensures c.args.port 0 (trim_of c.args.range.now) frames _ _ _
     (armed_trim c.args.port c.args.range.now frames _ _ _ q.on q.there q.agreed q.may table.on c.bit_of.ensures table.followed (table.says trim is_trim c.trim_command.ensures refl)
-    (ap trim_sectors table.block ∙ c.trim_block.ensures.means))).1 _ c.write.ensures in
+    (ap trim_sectors table.block ∙ c.trim_block.ensures.means))).1 _ c.write.ensures.does in
     record {
       on = (issued []).on;
       issues = λ frames. (issued frames).issues;
       stored = λ frames. (issued frames).stored;
       block = (issued []).block;
       set = (issued []).set;
+      cost = omega arith;
     }

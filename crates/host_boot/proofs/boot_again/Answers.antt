@@ -4,13 +4,13 @@ use Rattle.host_boot.proofs.Leaving.{cap_leaves}
 use Rattle.host_boot.proofs.boot_again.Goals as goal
 
 pub boot_stopped-found-requires-clause-bootable : goal.boot_stopped-found-requires-clause-bootable
-boot_stopped-found-requires-clause-bootable g c = asked_bootable c.laws_hold.ensures _ _ _ c.read.ensures c.args.stopped.port c.requires.bootable
+boot_stopped-found-requires-clause-bootable g c = asked_bootable c.laws_hold.ensures _ _ _ c.read.ensures.does c.args.stopped.port c.requires.bootable
 
 pub boot_stopped-found-requires-clause-stopped : goal.boot_stopped-found-requires-clause-stopped
 boot_stopped-found-requires-clause-stopped g c =
     let port = c.args.stopped.port in
-    asked_stopped c.laws_hold.ensures _ _ _ c.read.ensures port (cap_leaves c.laws_hold.ensures _ c.requires.bootable.on.no_reset port.0 _ _ c.read.ensures) c.requires.stopped
+    asked_stopped c.laws_hold.ensures _ _ _ c.read.ensures.does port (cap_leaves c.laws_hold.ensures _ c.requires.bootable.on.no_reset port.0 _ _ c.read.ensures.does) c.requires.stopped
 
 pub returns-clause-boots : goal.returns-clause-boots
 returns-clause-boots g c =
-    asked_boots c.laws_hold.ensures _ _ _ c.read.ensures c.args.stopped.port _ c.args.wanted.now _ c.boot_stopped-found.ensures.boots (ap (λ (n : ℕ). n + 1) c.last_slot.ensures) c.has_ncq.ensures
+    asked_boots c.laws_hold.ensures _ _ _ c.read.ensures.does c.args.stopped.port _ c.args.wanted.now _ c.boot_stopped-found.ensures.boots (ap (λ (n : ℕ). n + 1) c.last_slot.ensures) c.has_ncq.ensures

@@ -14,23 +14,23 @@ use Rattle.host_boot.proofs.boot_if_there.Goals as goal
 use Rattle.host_boot.proofs.boot_if_there.Goals.{then-shows_device, else-shows_device}
 
 pub shows_device-requires-clause-on : goal.shows_device-requires-clause-on
-shows_device-requires-clause-on g c = (asked_bootable c.laws_hold.ensures _ _ _ c.read.ensures c.args.stopped.port c.requires.bootable).on
+shows_device-requires-clause-on g c = (asked_bootable c.laws_hold.ensures _ _ _ c.read.ensures.does c.args.stopped.port c.requires.bootable).on
 
 pub shows_device-requires-clause-there : goal.shows_device-requires-clause-there
 shows_device-requires-clause-there g c =
-    subst (λ (p : Port). HasPort (g.A.Adapter.device c.read.new.self) p.0) (sym c.port.ensures) (asked_bootable c.laws_hold.ensures _ _ _ c.read.ensures c.args.stopped.port c.requires.bootable).there
+    subst (λ (p : Port). HasPort (g.A.Adapter.device c.read.new.self) p.0) (sym c.port.ensures) (asked_bootable c.laws_hold.ensures _ _ _ c.read.ensures.does c.args.stopped.port c.requires.bootable).there
 
 pub shows_device-requires-clause-agreed : goal.shows_device-requires-clause-agreed
 shows_device-requires-clause-agreed g c =
-    let a = (asked_bootable c.laws_hold.ensures _ _ _ c.read.ensures c.args.stopped.port c.requires.bootable).agreed in
+    let a = (asked_bootable c.laws_hold.ensures _ _ _ c.read.ensures.does c.args.stopped.port c.requires.bootable).agreed in
     (a.0, tt, a.2)
 
 pub boot_stopped-found-requires-clause-bootable : goal.boot_stopped-found-requires-clause-bootable
 boot_stopped-found-requires-clause-bootable g c =
     let laws = c.laws_hold.ensures in
-    let asked = asked_bootable laws _ _ _ c.read.ensures c.args.stopped.port c.requires.bootable in
+    let asked = asked_bootable laws _ _ _ c.read.ensures.does c.args.stopped.port c.requires.bootable in
     let looks = subst (λ (p : Port). IsFollowed (IsControl IsClearing p) AnyUse (g.A.Adapter.device c.read.new.self) (g.A.Adapter.device c.shows_device.new.adapter)) c.port.ensures c.shows_device.ensures.followed in
-    seen_bootable laws _ _ _ c.read.ensures c.args.stopped.port _ looks c.shows_device.ensures.on asked
+    seen_bootable laws _ _ _ c.read.ensures.does c.args.stopped.port _ looks c.shows_device.ensures.on asked
 
 pub boot_stopped-found-requires-clause-stopped : goal.boot_stopped-found-requires-clause-stopped
 boot_stopped-found-requires-clause-stopped g c =
@@ -39,7 +39,7 @@ boot_stopped-found-requires-clause-stopped g c =
     let asked = g.A.Adapter.device c.read.new.self in
     let seen = g.A.Adapter.device c.shows_device.new.adapter in
     let stays = subst (λ (p : Port). IsStopped (asked.port p.0) → IsStopped (seen.port p.0)) c.port.ensures c.shows_device.ensures.stopped in
-    stays (asked_stopped laws _ _ _ c.read.ensures port (cap_leaves laws _ c.requires.bootable.on.no_reset port.0 _ _ c.read.ensures) c.requires.stopped)
+    stays (asked_stopped laws _ _ _ c.read.ensures.does port (cap_leaves laws _ c.requires.bootable.on.no_reset port.0 _ _ c.read.ensures.does) c.requires.stopped)
 
 pub returns-clause-boots : goal.returns-clause-boots
 returns-clause-boots g c =
@@ -56,12 +56,12 @@ returns-clause-boots g c =
           let there = subst (λ (p : Port). (seen.port p.0).ssts_det ≡ 3) c.port.ensures (c.shows_device.ensures.there w.if-shows_device.true) in
           let booted = subst (λ (f : Found). BootsStopped wanted port f seen (device w.boot_stopped-found.new.adapter)) (sym w.found-is) w.boot_stopped-found.ensures.boots in
           let boots = subst (λ a. BootsStopped wanted port c.if-shows_device.found seen (device a)) (sym w.adapter-is) booted in
-          seen_boots laws _ _ asked c.read.ensures port seen looks _ wanted _ there boots slots c.has_ncq.ensures
+          seen_boots laws _ _ asked c.read.ensures.does port seen looks _ wanted _ there boots slots c.has_ncq.ensures
       | else-shows_device w ↦
-          let left = cap_leaves laws _ c.requires.bootable.on.no_reset port.0 _ _ c.read.ensures in
+          let left = cap_leaves laws _ c.requires.bootable.on.no_reset port.0 _ _ c.read.ensures.does in
           let stays = subst (λ (p : Port). IsStopped (asked.port p.0) → IsStopped (seen.port p.0)) c.port.ensures c.shows_device.ensures.stopped in
           let none = subst (λ (p : Port). (asked.port p.0).notes.link_count ≡ READINGS → Shows NoDevice (seen.port p.0).notes) c.port.ensures (c.shows_device.ensures.none w.if-shows_device.false) in
-          let stopped = stays (asked_stopped laws _ _ _ c.read.ensures port left c.requires.stopped) in
+          let stopped = stays (asked_stopped laws _ _ _ c.read.ensures.does port left c.requires.stopped) in
           let full = ap (λ (n : Notes). n.link_count) left.notes ∙ c.requires.saw in
-          seen_absent laws _ _ asked c.read.ensures port seen looks _ wanted _ (ap device w.adapter-is) w.found-is stopped (none full)
+          seen_absent laws _ _ asked c.read.ensures.does port seen looks _ wanted _ (ap device w.adapter-is) w.found-is stopped (none full)
     ]

@@ -27,6 +27,7 @@ loop-number-init g c =
       };
       there = c.survey-implemented.ensures.there;
       capable = c.survey-implemented.ensures.capable;
+      cost = omega arith;
     }
 
 pub boot_port-requires-clause-on : goal.boot_port-requires-clause-on
@@ -58,6 +59,7 @@ loop-number-preserved g c =
           c.boot_port.ensures.way;
       there = c.loop-number.invariant.there ∙ sym same.pi;
       capable = c.loop-number.invariant.capable ∙ sym same.cap;
+      cost = omega arith;
     }
 
 pub enable_interrupts-requires : goal.enable_interrupts-requires
@@ -80,4 +82,5 @@ returns g c =
           (way_over c.loop-number.ports (g.A.Adapter.device c.args.adapter.now) d new c.loop-number.invariant.underway.long
           (subst (λ (n : ℕ). IsOnWay c.loop-number.ports n (g.A.Adapter.device c.args.adapter.now) d) four c.loop-number.invariant.way) c.enable_interrupts.ensures.enables);
       four = c.loop-number.invariant.underway.long;
+      cost = omega (arith, four);
     }

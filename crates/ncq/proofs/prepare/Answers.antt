@@ -14,8 +14,8 @@ arm-requires-clause-there g c = (c.stores_leave_the_port.ensures c.args.port c.a
 pub arm-requires-clause-started : goal.arm-requires-clause-started
 arm-requires-clause-started g c = (c.stores_leave_the_port.ensures c.args.port c.args.slot.0 _ _ c.requires.on c.requires.there c.requires.may c.write_table.ensures.followed).1.started
 
-pub returns : goal.returns
-returns g c =
+pub returns-clause-armed : goal.returns-clause-armed
+returns-clause-armed g c =
     let q = c.requires in
     let few = q.fits.few in
     let places : pieces c.prds-prds.result.items ≡ places_of c.args.frames.now c.args.transfer.now.range.count =
@@ -43,5 +43,5 @@ returns g c =
           c.write_table.ensures.says (meaning_of transfer) addresses (subst P (sym c.as_slice.ensures.value) table);
       block = no_block transfer.range port _ transfer.op q.fits.transfers;
       alone = c.bit_of-own.ensures;
-      arms = c.arm.ensures;
+      arms = c.arm.ensures.arms;
     }

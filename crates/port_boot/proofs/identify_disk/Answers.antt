@@ -33,25 +33,25 @@ halt-requires-in-Err-clause-agreed g c =
     (a.0, tt, a.2)
 
 pub returns-in-Ok-clause-on : goal.returns-in-Ok-clause-on
-returns-in-Ok-clause-on g c = let e = c.in-Some.ensures in enabled_on c.laws_hold.ensures c.args.port _ _ _ c.in-Some.page c.requires.up.1 e.on e.leaves e.reads e.agrees _ _ c.write.ensures
+returns-in-Ok-clause-on g c = let e = c.in-Some.ensures in enabled_on c.laws_hold.ensures c.args.port _ _ _ c.in-Some.page c.requires.up.1 e.on e.leaves e.reads e.agrees _ _ c.write.ensures.does
 
 pub returns-in-Ok-clause-ready : goal.returns-in-Ok-clause-ready
 returns-in-Ok-clause-ready g c =
     let e = c.in-Some.ensures in
-    enabled_ready c.laws_hold.ensures c.args.port _ _ _ c.in-Some.page c.requires.up.1 e.on e.leaves e.reads e.agrees _ _ c.write.ensures c.args.wanted.now _ c.causes.ensures c.in-Ok.ensures.fit
+    enabled_ready c.laws_hold.ensures c.args.port _ _ _ c.in-Some.page c.requires.up.1 e.on e.leaves e.reads e.agrees _ _ c.write.ensures.does c.args.wanted.now _ c.causes.ensures c.in-Ok.ensures.fit
 
 pub returns-in-Ok-clause-written : goal.returns-in-Ok-clause-written
 returns-in-Ok-clause-written g c =
     let e = c.in-Some.ensures in
-    enabled_since c.laws_hold.ensures c.args.port _ _ _ c.in-Some.page c.requires.up.1 e.on e.leaves e.reads e.agrees _ _ c.write.ensures
+    enabled_since c.laws_hold.ensures c.args.port _ _ _ c.in-Some.page c.requires.up.1 e.on e.leaves e.reads e.agrees _ _ c.write.ensures.does
 
 pub returns-in-Ok-clause-halts : goal.returns-in-Ok-clause-halts
 returns-in-Ok-clause-halts g c =
     let e = c.in-Some.ensures in
-    enabled_halts c.laws_hold.ensures c.args.port _ _ _ c.in-Some.page c.requires.up.1 e.on e.leaves e.reads e.agrees _ _ c.write.ensures e.running c.args.wanted.now _ c.causes.ensures c.in-Ok.ensures.fit
+    enabled_halts c.laws_hold.ensures c.args.port _ _ _ c.in-Some.page c.requires.up.1 e.on e.leaves e.reads e.agrees _ _ c.write.ensures.does e.running c.args.wanted.now _ c.causes.ensures c.in-Ok.ensures.fit
 
 pub returns-in-Ok-clause-boots : goal.returns-in-Ok-clause-boots
-returns-in-Ok-clause-boots g c = let e = c.in-Some.ensures in enabled_boots c.laws_hold.ensures c.args.port _ _ _ c.in-Some.page c.requires.up.1 e.on e.leaves e.reads e.agrees _ _ c.write.ensures
+returns-in-Ok-clause-boots g c = let e = c.in-Some.ensures in enabled_boots c.laws_hold.ensures c.args.port _ _ _ c.in-Some.page c.requires.up.1 e.on e.leaves e.reads e.agrees _ _ c.write.ensures.does
 
 pub returns-in-Err-clause-ended : goal.returns-in-Err-clause-ended
 returns-in-Err-clause-ended g c =
@@ -73,7 +73,7 @@ returns-in_default-clause-stops g c =
 pub returns-in-Ok-clause-runs_on : goal.returns-in-Ok-clause-runs_on
 returns-in-Ok-clause-runs_on g c =
     let e = c.in-Some.ensures in
-    told_runs_on c.laws_hold.ensures c.args.port _ _ _ c.requires.up.1 e.reads.1.driven _ _ e.on c.write.ensures
+    told_runs_on c.laws_hold.ensures c.args.port _ _ _ c.requires.up.1 e.reads.1.driven _ _ e.on c.write.ensures.does
 
 pub returns-in-Err-clause-stops : goal.returns-in-Err-clause-stops
 returns-in-Err-clause-stops g c =

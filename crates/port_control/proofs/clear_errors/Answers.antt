@@ -5,19 +5,19 @@ pub write-requires : goal.write-requires
 write-requires g c = serr_may c.laws_hold.ensures c.args.port 0xffffffff _ c.requires.usable
 
 pub write-requires-2 : goal.write-requires-2
-write-requires-2 g c = is_may c.laws_hold.ensures c.args.port 0xffffffff _ (clearing c.laws_hold.ensures c.args.port _ _ (g.A.Adapter.device c.args.adapter.now) c.requires.usable c.write.ensures)
+write-requires-2 g c = is_may c.laws_hold.ensures c.args.port 0xffffffff _ (clearing c.laws_hold.ensures c.args.port _ _ (g.A.Adapter.device c.args.adapter.now) c.requires.usable c.write.ensures.does)
 
 pub returns-clause-followed : goal.returns-clause-followed
-returns-clause-followed g c = clears c.laws_hold.ensures _ _ _ _ c.requires.usable c.write.ensures c.write-2.ensures
+returns-clause-followed g c = clears c.laws_hold.ensures _ _ _ _ c.requires.usable c.write.ensures.does c.write-2.ensures.does
 
 pub returns-clause-saw : goal.returns-clause-saw
-returns-clause-saw g c = cleared_saw c.laws_hold.ensures _ _ _ _ c.requires.usable c.write.ensures c.write-2.ensures
+returns-clause-saw g c = cleared_saw c.laws_hold.ensures _ _ _ _ c.requires.usable c.write.ensures.does c.write-2.ensures.does
 
 pub returns-clause-calm : goal.returns-clause-calm
-returns-clause-calm g c = cleared_calm c.laws_hold.ensures _ _ _ _ c.requires.usable c.write.ensures c.write-2.ensures
+returns-clause-calm g c = cleared_calm c.laws_hold.ensures _ _ _ _ c.requires.usable c.write.ensures.does c.write-2.ensures.does
 
 pub returns-clause-clear : goal.returns-clause-clear
-returns-clause-clear g c = cleared_clear c.laws_hold.ensures _ _ _ _ c.requires.usable c.write.ensures c.write-2.ensures
+returns-clause-clear g c = cleared_clear c.laws_hold.ensures _ _ _ _ c.requires.usable c.write.ensures.does c.write-2.ensures.does
 
 pub returns-clause-clears : goal.returns-clause-clears
-returns-clause-clears g c = cleared_by c.laws_hold.ensures _ _ _ _ c.requires.usable c.write.ensures c.write-2.ensures
+returns-clause-clears g c = cleared_by c.laws_hold.ensures _ _ _ _ c.requires.usable c.write.ensures.does c.write-2.ensures.does

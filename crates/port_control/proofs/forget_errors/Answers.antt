@@ -13,13 +13,13 @@ read-requires g c =
 
 pub returns-clause-followed : goal.returns-clause-followed
 returns-clause-followed g c =
-    forgets_followed c.laws_hold.ensures c.args.port _ _ _ _ (record { on = c.requires.on; there = c.requires.there; agreed = c.requires.agreed }) c.requires.receives c.requires.undue c.requires.det c.clear_errors.ensures.followed c.clear_errors.ensures.clears c.read.ensures
+    forgets_followed c.laws_hold.ensures c.args.port _ _ _ _ (record { on = c.requires.on; there = c.requires.there; agreed = c.requires.agreed }) c.requires.receives c.requires.undue c.requires.det c.clear_errors.ensures.followed c.clear_errors.ensures.clears c.read.ensures.does
 
 pub returns-clause-on : goal.returns-clause-on
 returns-clause-on g c =
-    forgets_on c.laws_hold.ensures c.args.port _ _ _ _ (record { on = c.requires.on; there = c.requires.there; agreed = c.requires.agreed }) c.requires.receives c.requires.undue c.requires.det c.clear_errors.ensures.followed c.clear_errors.ensures.clears c.read.ensures
+    forgets_on c.laws_hold.ensures c.args.port _ _ _ _ (record { on = c.requires.on; there = c.requires.there; agreed = c.requires.agreed }) c.requires.receives c.requires.undue c.requires.det c.clear_errors.ensures.followed c.clear_errors.ensures.clears c.read.ensures.does
 
 pub returns-clause-forgets : goal.returns-clause-forgets
 returns-clause-forgets g c =
-    forgets c.laws_hold.ensures c.args.port _ _ _ _ (record { on = c.requires.on; there = c.requires.there; agreed = c.requires.agreed }) c.requires.receives c.requires.undue c.requires.det c.clear_errors.ensures.followed c.clear_errors.ensures.clears c.read.ensures
+    forgets c.laws_hold.ensures c.args.port _ _ _ _ (record { on = c.requires.on; there = c.requires.there; agreed = c.requires.agreed }) c.requires.receives c.requires.undue c.requires.det c.clear_errors.ensures.followed c.clear_errors.ensures.clears c.read.ensures.does
     c.clear_errors.ensures.calm (c.clear_errors.ensures.clear c.requires.undue)

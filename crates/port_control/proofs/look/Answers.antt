@@ -55,14 +55,14 @@ read-signature-requires g c =
     (third.on, third.there)
 
 pub returns-then-signature-ne-ATA_SIGNATURE-clause-followed : goal.returns-then-signature-ne-ATA_SIGNATURE-clause-followed
-returns-then-signature-ne-ATA_SIGNATURE-clause-followed g c = followed_then c.laws_hold.ensures (Controlling Clearing c.args.port) _ _ _ (followed_then c.laws_hold.ensures (Controlling Clearing c.args.port) _ _ _ (followed_then c.laws_hold.ensures (Controlling Clearing c.args.port) _ _ _ c.wait_for_device.ensures.followed c.clear_errors.ensures.followed) c.wait_until_idle.ensures.followed) (looks c.laws_hold.ensures c.args.port Sig _ _ _ c.read-signature.ensures)
+returns-then-signature-ne-ATA_SIGNATURE-clause-followed g c = followed_then c.laws_hold.ensures (Controlling Clearing c.args.port) _ _ _ (followed_then c.laws_hold.ensures (Controlling Clearing c.args.port) _ _ _ (followed_then c.laws_hold.ensures (Controlling Clearing c.args.port) _ _ _ c.wait_for_device.ensures.followed c.clear_errors.ensures.followed) c.wait_until_idle.ensures.followed) (looks c.laws_hold.ensures c.args.port Sig _ _ _ c.read-signature.ensures.does)
 
 pub returns-then-signature-ne-ATA_SIGNATURE-clause-fault : goal.returns-then-signature-ne-ATA_SIGNATURE-clause-fault
 returns-then-signature-ne-ATA_SIGNATURE-clause-fault g c =
     let first = usable_after c.laws_hold.ensures Clearing c.args.port _ _ c.requires.usable c.wait_for_device.ensures.followed in
     let second = usable_after c.laws_hold.ensures Clearing c.args.port _ _ first c.clear_errors.ensures.followed in
     let third = usable_after c.laws_hold.ensures Clearing c.args.port _ _ second c.wait_until_idle.ensures.followed in
-    ((sig_saw c.laws_hold.ensures c.args.port _ _ _ third c.read-signature.ensures c.wait_until_idle.ensures.saw, sig_idle c.laws_hold.ensures c.args.port _ _ _ third c.read-signature.ensures (c.wait_until_idle.ensures.idle c.if-not-wait_until_idle.false), sig_last c.laws_hold.ensures c.args.port _ _ _ third c.read-signature.ensures, λ ata. absurd (omega arith)), λ (e : NotAta c.read-signature.result ≡ EngineStuck). absurd (cc))
+    ((sig_saw c.laws_hold.ensures c.args.port _ _ _ third c.read-signature.ensures.does c.wait_until_idle.ensures.saw, sig_idle c.laws_hold.ensures c.args.port _ _ _ third c.read-signature.ensures.does (c.wait_until_idle.ensures.idle c.if-not-wait_until_idle.false), sig_last c.laws_hold.ensures c.args.port _ _ _ third c.read-signature.ensures.does, λ ata. absurd (omega arith)), λ (e : NotAta c.read-signature.result ≡ EngineStuck). absurd (cc))
 
 pub returns-then-signature-ne-ATA_SIGNATURE-clause-found_at_fault : goal.returns-then-signature-ne-ATA_SIGNATURE-clause-found_at_fault
 returns-then-signature-ne-ATA_SIGNATURE-clause-found_at_fault g c = λ _.
@@ -71,26 +71,26 @@ returns-then-signature-ne-ATA_SIGNATURE-clause-found_at_fault g c = λ _.
     let second = usable_after c.laws_hold.ensures Clearing c.args.port _ _ first c.clear_errors.ensures.followed in
     let cleared = settles c.laws_hold.ensures c.args.port _ _ first.on c.clear_errors.ensures.followed.driven in
     let third = usable_after c.laws_hold.ensures Clearing c.args.port _ _ second c.wait_until_idle.ensures.followed in
-    let signed = settles c.laws_hold.ensures c.args.port _ _ second.on (followed_then c.laws_hold.ensures (Controlling Clearing c.args.port) _ _ _ c.wait_until_idle.ensures.followed (looks c.laws_hold.ensures c.args.port Sig _ _ _ c.read-signature.ensures)).driven in
+    let signed = settles c.laws_hold.ensures c.args.port _ _ second.on (followed_then c.laws_hold.ensures (Controlling Clearing c.args.port) _ _ _ c.wait_until_idle.ensures.followed (looks c.laws_hold.ensures c.args.port Sig _ _ _ c.read-signature.ensures.does)).driven in
     finds_device c.laws_hold.ensures c.args.port _ _ _ _ c.requires.receives seen cleared signed (c.wait_for_device.ensures.up c.if-not-wait_for_device.false) c.clear_errors.ensures.calm c.clear_errors.ensures.clear
-    (λ awaited unflagged. sig_quiet c.laws_hold.ensures c.args.port _ _ _ third c.read-signature.ensures (c.wait_until_idle.ensures.quiet awaited unflagged))
+    (λ awaited unflagged. sig_quiet c.laws_hold.ensures c.args.port _ _ _ third c.read-signature.ensures.does (c.wait_until_idle.ensures.quiet awaited unflagged))
 
 pub returns-then-signature-ne-ATA_SIGNATURE-clause-signature_at_fault : goal.returns-then-signature-ne-ATA_SIGNATURE-clause-signature_at_fault
 returns-then-signature-ne-ATA_SIGNATURE-clause-signature_at_fault g c = λ signature is.
     let first = usable_after c.laws_hold.ensures Clearing c.args.port _ _ c.requires.usable c.wait_for_device.ensures.followed in
     let second = usable_after c.laws_hold.ensures Clearing c.args.port _ _ first c.clear_errors.ensures.followed in
     let third = usable_after c.laws_hold.ensures Clearing c.args.port _ _ second c.wait_until_idle.ensures.followed in
-    sig_shown c.laws_hold.ensures c.args.port _ _ _ third c.read-signature.ensures
+    sig_shown c.laws_hold.ensures c.args.port _ _ _ third c.read-signature.ensures.does
 
 pub returns-clause-followed : goal.returns-clause-followed
-returns-clause-followed g c = followed_then c.laws_hold.ensures (Controlling Clearing c.args.port) _ _ _ (followed_then c.laws_hold.ensures (Controlling Clearing c.args.port) _ _ _ (followed_then c.laws_hold.ensures (Controlling Clearing c.args.port) _ _ _ c.wait_for_device.ensures.followed c.clear_errors.ensures.followed) c.wait_until_idle.ensures.followed) (looks c.laws_hold.ensures c.args.port Sig _ _ _ c.read-signature.ensures)
+returns-clause-followed g c = followed_then c.laws_hold.ensures (Controlling Clearing c.args.port) _ _ _ (followed_then c.laws_hold.ensures (Controlling Clearing c.args.port) _ _ _ (followed_then c.laws_hold.ensures (Controlling Clearing c.args.port) _ _ _ c.wait_for_device.ensures.followed c.clear_errors.ensures.followed) c.wait_until_idle.ensures.followed) (looks c.laws_hold.ensures c.args.port Sig _ _ _ c.read-signature.ensures.does)
 
 pub returns-clause-ready : goal.returns-clause-ready
 returns-clause-ready g c =
     let first = usable_after c.laws_hold.ensures Clearing c.args.port _ _ c.requires.usable c.wait_for_device.ensures.followed in
     let second = usable_after c.laws_hold.ensures Clearing c.args.port _ _ first c.clear_errors.ensures.followed in
     let third = usable_after c.laws_hold.ensures Clearing c.args.port _ _ second c.wait_until_idle.ensures.followed in
-    (sig_saw c.laws_hold.ensures c.args.port _ _ _ third c.read-signature.ensures c.wait_until_idle.ensures.saw, sig_idle c.laws_hold.ensures c.args.port _ _ _ third c.read-signature.ensures (c.wait_until_idle.ensures.idle c.if-not-wait_until_idle.false), sig_last c.laws_hold.ensures c.args.port _ _ _ third c.read-signature.ensures ∙ omega arith)
+    (sig_saw c.laws_hold.ensures c.args.port _ _ _ third c.read-signature.ensures.does c.wait_until_idle.ensures.saw, sig_idle c.laws_hold.ensures c.args.port _ _ _ third c.read-signature.ensures.does (c.wait_until_idle.ensures.idle c.if-not-wait_until_idle.false), sig_last c.laws_hold.ensures c.args.port _ _ _ third c.read-signature.ensures.does ∙ omega arith)
 
 pub returns-clause-found : goal.returns-clause-found
 returns-clause-found g c =
@@ -99,16 +99,16 @@ returns-clause-found g c =
     let second = usable_after c.laws_hold.ensures Clearing c.args.port _ _ first c.clear_errors.ensures.followed in
     let cleared = settles c.laws_hold.ensures c.args.port _ _ first.on c.clear_errors.ensures.followed.driven in
     let third = usable_after c.laws_hold.ensures Clearing c.args.port _ _ second c.wait_until_idle.ensures.followed in
-    let signed = settles c.laws_hold.ensures c.args.port _ _ second.on (followed_then c.laws_hold.ensures (Controlling Clearing c.args.port) _ _ _ c.wait_until_idle.ensures.followed (looks c.laws_hold.ensures c.args.port Sig _ _ _ c.read-signature.ensures)).driven in
+    let signed = settles c.laws_hold.ensures c.args.port _ _ second.on (followed_then c.laws_hold.ensures (Controlling Clearing c.args.port) _ _ _ c.wait_until_idle.ensures.followed (looks c.laws_hold.ensures c.args.port Sig _ _ _ c.read-signature.ensures.does)).driven in
     finds_device c.laws_hold.ensures c.args.port _ _ _ _ c.requires.receives seen cleared signed (c.wait_for_device.ensures.up c.if-not-wait_for_device.false) c.clear_errors.ensures.calm c.clear_errors.ensures.clear
-    (λ awaited unflagged. sig_quiet c.laws_hold.ensures c.args.port _ _ _ third c.read-signature.ensures (c.wait_until_idle.ensures.quiet awaited unflagged))
+    (λ awaited unflagged. sig_quiet c.laws_hold.ensures c.args.port _ _ _ third c.read-signature.ensures.does (c.wait_until_idle.ensures.quiet awaited unflagged))
 
 pub returns-clause-signature : goal.returns-clause-signature
 returns-clause-signature g c =
     let first = usable_after c.laws_hold.ensures Clearing c.args.port _ _ c.requires.usable c.wait_for_device.ensures.followed in
     let second = usable_after c.laws_hold.ensures Clearing c.args.port _ _ first c.clear_errors.ensures.followed in
     let third = usable_after c.laws_hold.ensures Clearing c.args.port _ _ second c.wait_until_idle.ensures.followed in
-    sig_shown c.laws_hold.ensures c.args.port _ _ _ third c.read-signature.ensures
+    sig_shown c.laws_hold.ensures c.args.port _ _ _ third c.read-signature.ensures.does
 
 pub returns-then-not-wait_until_idle-clause-looks_at_fault : goal.returns-then-not-wait_until_idle-clause-looks_at_fault
 returns-then-not-wait_until_idle-clause-looks_at_fault g c =
@@ -118,14 +118,14 @@ returns-then-not-wait_until_idle-clause-looks_at_fault g c =
 pub returns-then-signature-ne-ATA_SIGNATURE-clause-looks_at_fault : goal.returns-then-signature-ne-ATA_SIGNATURE-clause-looks_at_fault
 returns-then-signature-ne-ATA_SIGNATURE-clause-looks_at_fault g c =
     let link = finds_link c.args.port (c.wait_for_device.ensures.sees c.if-not-wait_for_device.false) c.clear_errors.ensures.clears in
-    finds_signature c.args.port _ link (c.wait_until_idle.ensures.waits c.if-not-wait_until_idle.false) c.read-signature.ensures
+    finds_signature c.args.port _ link (c.wait_until_idle.ensures.waits c.if-not-wait_until_idle.false) c.read-signature.ensures.does
 
 pub returns-clause-looks : goal.returns-clause-looks
 returns-clause-looks g c =
     let link = finds_link c.args.port (c.wait_for_device.ensures.sees c.if-not-wait_for_device.false) c.clear_errors.ensures.clears in
     let ata : c.read-signature.result ≡ 0x101 = omega arith in
     let F : ℕ → Type 0 = λ n. FindsSignature c.args.port n (g.A.Adapter.device c.args.adapter.now) (g.A.Adapter.device c.read-signature.new.self) in
-    subst F ata (finds_signature c.args.port _ link (c.wait_until_idle.ensures.waits c.if-not-wait_until_idle.false) c.read-signature.ensures)
+    subst F ata (finds_signature c.args.port _ link (c.wait_until_idle.ensures.waits c.if-not-wait_until_idle.false) c.read-signature.ensures.does)
 
 pub returns-then-not-wait_for_device-clause-looks_at_fault : goal.returns-then-not-wait_for_device-clause-looks_at_fault
 returns-then-not-wait_for_device-clause-looks_at_fault g c = c.wait_for_device.ensures.misses c.if-not-wait_for_device.true

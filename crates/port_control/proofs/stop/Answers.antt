@@ -6,37 +6,43 @@ use Rattle.port_control.proofs.stop.Goals as goal
 use Rattle.port_control.specs.Laws.RegisterSet.{Commanding}
 
 pub write-requires : goal.write-requires
-write-requires g c = stop_may c.laws_hold.ensures _ _ _ _ _ (record { on = c.requires.on; there = c.requires.there; agreed = c.requires.agreed }) c.read.ensures c.without_start.ensures.cleared c.without_start.ensures.others
+write-requires g c = stop_may c.laws_hold.ensures _ _ _ _ _ (record { on = c.requires.on; there = c.requires.there; agreed = c.requires.agreed }) c.read.ensures.does c.without_start.ensures.cleared c.without_start.ensures.others
 
 pub loop-reading-init : goal.loop-reading-init
 loop-reading-init g c = record {
-  told = stop_told c.laws_hold.ensures _ _ _ _ _ (record { on = c.requires.on; there = c.requires.there; agreed = c.requires.agreed }) c.read.ensures c.without_start.ensures.cleared c.without_start.ensures.others _ c.write.ensures;
-  usable = usable_after c.laws_hold.ensures Commanding c.args.port _ _ (record { on = c.requires.on; there = c.requires.there; agreed = c.requires.agreed }) (stop_told c.laws_hold.ensures _ _ _ _ _ (record { on = c.requires.on; there = c.requires.there; agreed = c.requires.agreed }) c.read.ensures c.without_start.ensures.cleared c.without_start.ensures.others _ c.write.ensures).followed;
-  has = stop_has c.laws_hold.ensures _ _ _ _ _ (record { on = c.requires.on; there = c.requires.there; agreed = c.requires.agreed }) c.read.ensures c.without_start.ensures.cleared c.without_start.ensures.others _ c.write.ensures;
-  low = omega arith;
-  high = λ h. absurd (omega (arith, h));
+  known = record {
+    told = stop_told c.laws_hold.ensures _ _ _ _ _ (record { on = c.requires.on; there = c.requires.there; agreed = c.requires.agreed }) c.read.ensures.does c.without_start.ensures.cleared c.without_start.ensures.others _ c.write.ensures.does;
+    usable = usable_after c.laws_hold.ensures Commanding c.args.port _ _ (record { on = c.requires.on; there = c.requires.there; agreed = c.requires.agreed }) (stop_told c.laws_hold.ensures _ _ _ _ _ (record { on = c.requires.on; there = c.requires.there; agreed = c.requires.agreed }) c.read.ensures.does c.without_start.ensures.cleared c.without_start.ensures.others _ c.write.ensures.does).followed;
+    has = stop_has c.laws_hold.ensures _ _ _ _ _ (record { on = c.requires.on; there = c.requires.there; agreed = c.requires.agreed }) c.read.ensures.does c.without_start.ensures.cleared c.without_start.ensures.others _ c.write.ensures.does;
+    low = omega arith;
+    high = λ h. absurd (omega (arith, h));
+  };
+  cost = omega arith;
 }
 
 pub returns-then-not-list_running-clause-on : goal.returns-then-not-list_running-clause-on
-returns-then-not-list_running-clause-on g c = (falling_on c.laws_hold.ensures _ _ _ _ _ _ c.loop-reading.invariant c.read-in-loop-reading.ensures).on
+returns-then-not-list_running-clause-on g c = (falling_on c.laws_hold.ensures _ _ _ _ _ _ c.loop-reading.invariant.known c.read-in-loop-reading.ensures.does).on
 
 pub returns-then-not-list_running-clause-has : goal.returns-then-not-list_running-clause-has
-returns-then-not-list_running-clause-has g c = has_still c.laws_hold.ensures _ _ _ _ _ _ c.loop-reading.invariant c.read-in-loop-reading.ensures
+returns-then-not-list_running-clause-has g c = has_still c.laws_hold.ensures _ _ _ _ _ _ c.loop-reading.invariant.known c.read-in-loop-reading.ensures.does
 
 pub returns-then-not-list_running-clause-halts : goal.returns-then-not-list_running-clause-halts
 returns-then-not-list_running-clause-halts g c =
     let clear = sym c.list_running.ensures ∙ c.if-not-list_running.true in
     record {
-      told = falls c.laws_hold.ensures _ _ _ _ _ _ c.loop-reading.invariant c.read-in-loop-reading.ensures clear;
-      stopped = fallen c.laws_hold.ensures _ _ _ _ _ _ c.loop-reading.invariant c.read-in-loop-reading.ensures clear;
+      told = falls c.laws_hold.ensures _ _ _ _ _ _ c.loop-reading.invariant.known c.read-in-loop-reading.ensures.does clear;
+      stopped = fallen c.laws_hold.ensures _ _ _ _ _ _ c.loop-reading.invariant.known c.read-in-loop-reading.ensures.does clear;
     }
 
 pub loop-reading-preserved : goal.loop-reading-preserved
-loop-reading-preserved g c = falls_still c.laws_hold.ensures _ _ _ _ _ _ c.loop-reading.invariant c.read-in-loop-reading.ensures (omega arith) (sym c.list_running.ensures ∙ c.if-not-list_running.false)
+loop-reading-preserved g c = record {
+  known = falls_still c.laws_hold.ensures _ _ _ _ _ _ c.loop-reading.invariant.known c.read-in-loop-reading.ensures.does (omega arith) (sym c.list_running.ensures ∙ c.if-not-list_running.false);
+  cost = omega arith;
+}
 
 pub returns-clause-fails : goal.returns-clause-fails
 returns-clause-fails g c =
-    let w = c.loop-reading.invariant in
+    let w = c.loop-reading.invariant.known in
     let all : c.loop-reading._reading ≡ READINGS = omega arith in
     let low = w.low in
     let high = w.high (omega (arith, all)) in

@@ -7,10 +7,10 @@ use Rattle.port_look.proofs.Stretching.{spared_on}
 use Rattle.port_look.proofs.finds_device.Goals as goal
 
 pub returns-clause-on : goal.returns-clause-on
-returns-clause-on g c = spared_on c.laws_hold.ensures (Reading (Px c.args.port Ssts) c.read.result) _ _ tt c.read.ensures c.requires.on
+returns-clause-on g c = spared_on c.laws_hold.ensures (Reading (Px c.args.port Ssts) c.read.result) _ _ tt c.read.ensures.does c.requires.on
 
 pub returns-clause-finds : goal.returns-clause-finds
-returns-clause-finds g c = record { status = c.read.result; reads = c.read.ensures; tells = c.shows_device.ensures }
+returns-clause-finds g c = record { status = c.read.result; reads = c.read.ensures.does; tells = c.shows_device.ensures }
 
 pub returns-clause-followed : goal.returns-clause-followed
-returns-clause-followed g c = (c.laws_hold.ensures.stretches.reads (Looking c.args.port) (Px c.args.port Ssts) c.read.result _ _ (inr refl) c.read.ensures).followed
+returns-clause-followed g c = (c.laws_hold.ensures.stretches.reads (Looking c.args.port) (Px c.args.port Ssts) c.read.result _ _ (inr refl) c.read.ensures.does).followed

@@ -1,0 +1,10 @@
+-- How many accesses the calls make, at most.
+use Rattle.std.specs.Prelude.{ℕ, ◌+◌}
+
+-- the table, and then the header
+abbrev pub TABLE_ACCESSES : ℕ
+TABLE_ACCESSES = 2
+
+-- and then the block
+abbrev pub BLOCK_ACCESSES : ℕ
+BLOCK_ACCESSES = TABLE_ACCESSES + 1

@@ -1,0 +1,25 @@
+-- How many accesses the calls make, at most.
+use Rattle.ata_types.specs.declared.limits.TheConstants.{PORTS, READINGS}
+use Rattle.std.specs.Prelude.{ℕ, ◌+◌, ◌*◌}
+use Rattle.port_boot.specs.Costs.{BOOT_ACCESSES}
+use Rattle.port_control.specs.Costs.{SHOW_ACCESSES, STOP_ACCESSES}
+
+-- a port is stopped, and booted
+abbrev pub FIRST_BOOT_ACCESSES : ℕ
+FIRST_BOOT_ACCESSES = STOP_ACCESSES + BOOT_ACCESSES
+
+-- GHC is written, CAP and PI are read, each port is stopped and booted, and GHC is written
+abbrev pub TAKE_OVER_ACCESSES : ℕ
+TAKE_OVER_ACCESSES = 4 + PORTS * FIRST_BOOT_ACCESSES
+
+-- CAP is read, and the port is booted
+abbrev pub BOOT_AGAIN_ACCESSES : ℕ
+BOOT_AGAIN_ACCESSES = 1 + BOOT_ACCESSES
+
+-- CAP is read, it is looked whether a device shows, and the port is booted
+abbrev pub BOOT_IF_THERE_ACCESSES : ℕ
+BOOT_IF_THERE_ACCESSES = 1 + SHOW_ACCESSES + BOOT_ACCESSES
+
+-- GHC is written, and read until HR is 0
+abbrev pub RESET_ACCESSES : ℕ
+RESET_ACCESSES = 1 + READINGS

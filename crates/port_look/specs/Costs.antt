@@ -1,0 +1,10 @@
+-- How many accesses the calls make.
+use Rattle.std.specs.Prelude.{ℕ}
+
+-- PxIS is read and written, IS is written, and PxSSTS read
+abbrev pub LOOK_ACCESSES : ℕ
+LOOK_ACCESSES = 4
+
+-- PxIS is read, and PxSSTS; or that alone
+abbrev pub FIND_ACCESSES : ℕ
+FIND_ACCESSES = 2
