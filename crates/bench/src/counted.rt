@@ -58,6 +58,8 @@ impl<A> Counted<A> {
 impl<A: Adapter> Adapter for Counted<A> {
     ghost device = { λ c. A.device c.adapter };
 
+    ghost access_count = { λ c. A.access_count c.adapter };
+
     fn read(&mut self, r: Reg) -> u32 {
         self.counts.reads = self.counts.reads.saturating_add(1);
         self.adapter.read(r)

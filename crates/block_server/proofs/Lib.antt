@@ -19,3 +19,5 @@ pub mod Mending
 pub mod Lent
 pub mod Restoring
 pub mod Revoking
+mod Counting
+mod Newest

@@ -11,3 +11,4 @@ pub mod Fates
 pub mod Recovery
 pub mod Resetting
 pub mod Revoking
+pub mod Costs

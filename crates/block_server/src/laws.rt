@@ -14,6 +14,7 @@ ghost use Rattle.block_server.specs.Running.{ask_of, said_of};
 ghost use Rattle.block_server.specs.View.{ServerView, server_of};
 ghost use Rattle.block_server.specs.declared.types.Event.{Event};
 ghost use Rattle.block_server.specs.declared.types.Said.{Said};
+ghost use Rattle.block_server.specs.Costs.{MOST_OF_NEW, MOST_OF_RESET, MOST_OF_REVOKE, MOST_OF_SERVICE, MOST_OF_SUBMIT, MOST_OF_TICK};
 
 use adapter::Stepped;
 use driver_history::laws::{
@@ -57,3 +58,13 @@ pub fn new_servers_run_well<A: Stepped>()
 {
     what_was_taken_over_may_be_served();
 }
+
+/// How many accesses the calls make at most, in numbers: by the 64 readings of a wait, 32 slots and four ports.
+pub fn most_accesses_are()
+    ensures new { MOST_OF_NEW ≡ 1632 }
+    ensures submit { MOST_OF_SUBMIT ≡ 4 }
+    ensures service { MOST_OF_SERVICE ≡ 2728 }
+    ensures tick { MOST_OF_TICK ≡ 2152 }
+    ensures reset { MOST_OF_RESET ≡ 2209 }
+    ensures revoke { MOST_OF_REVOKE ≡ 128 }
+{}

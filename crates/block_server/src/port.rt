@@ -1,5 +1,5 @@
 // What is due on a port is issued.
-ghost use Rattle.std.specs.Prelude.{◌≡◌, ◌<◌, ◌≤◌, ◌/◌, ◌%◌, [], length, map};
+ghost use Rattle.std.specs.Prelude.{◌≡◌, ◌<◌, ◌≤◌, ◌*◌, ◌/◌, ◌%◌, [], length, map};
 ghost use Rattle.adapter.specs.Rules.{HasPort, IsOn};
 ghost use Rattle.agreement.specs.Driven.{AgreesWith};
 ghost use Rattle.agreement.specs.Readying.{IsStored};
@@ -11,6 +11,9 @@ ghost use Rattle.request_queue.specs.Entries.{Held, asks, asks_of};
 ghost use Rattle.server_history.specs.Served.{IssuesAll, IssuesOne};
 ghost use Rattle.server_history.specs.Server.{Server};
 ghost use Rattle.std.specs.List.{Contains};
+ghost use Rattle.adapter.specs.Counted.{MakesAtMost};
+ghost use Rattle.ncq.specs.Costs.{ISSUE_ACCESSES};
+ghost use Rattle.block_server.specs.Costs.{ISSUES_ACCESSES};
 
 use adapter::Adapter;
 use ata_types::{DRIVER_BYTES, Frame, Op, Port, RequestId, Slot};
@@ -40,6 +43,7 @@ fn issue_task<A: Adapter>(adapter: &mut A, port: Port, slot: Slot, task: &Task, 
     ensures stored { IsStored (A.device adapter.new) port.0 slot.0 (meaning_of task.now)
         (addresses_of port.0 task.now.op task.now.range.count frames.now) }
     ensures block { HasBlockOf task.now.op task.now.range port.0 (A.device adapter.new).memory }
+    ensures cost { MakesAtMost ISSUE_ACCESSES (A.access_count adapter.old) (A.access_count adapter.new) }
 {
     match task.op {
         Op::Read => issue(adapter, port, slot, task, frames),
@@ -63,6 +67,7 @@ fn issue_one<A: Adapter>(
         × IsDue mode (asks_of book.old) (asks request.entry) }
     ensures issues { (s : Server) → Lends s (A.device adapter.old) book.old slots.old port mode
         → IssuesOne port id s (with_part s (A.device adapter.new) book.new slots.new port) }
+    ensures cost { MakesAtMost ISSUE_ACCESSES (A.access_count adapter.old) (A.access_count adapter.new) }
 {
     a_due_request_may_issue();
     an_id_is_one_request();
@@ -92,6 +97,9 @@ pub(crate) fn issue_due<A: Adapter>(
         → IssuesAll port s (with_part s (A.device adapter.new) book.new slots.new port) }
     ensures as_many { length book.new ≡ length book.old }
     ensures none { due_of mode port (asks_of book.old) ≡ [] → adapter.new ≡ adapter.old }
+    ensures each { MakesAtMost (ISSUE_ACCESSES * length (due_of mode port (asks_of book.old)))
+        (A.access_count adapter.old) (A.access_count adapter.new) }
+    ensures cost { MakesAtMost ISSUES_ACCESSES (A.access_count adapter.old) (A.access_count adapter.new) }
 {
     due_in_turn();
     operations_change_what_is_due();
@@ -118,6 +126,7 @@ pub(crate) fn issue_where_ready<A: Adapter>(
         → IssuesAll port s (with_part s (A.device adapter.new) book.new slots.new port) }
     ensures as_many { length book.new ≡ length book.old }
     ensures none { due_of mode port (asks_of book.old) ≡ [] → adapter.new ≡ adapter.old }
+    ensures cost { MakesAtMost ISSUES_ACCESSES (A.access_count adapter.old) (A.access_count adapter.new) }
 {
     a_mended_port_goes_on();
     if let Found::Ready(_) = found {

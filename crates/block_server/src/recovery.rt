@@ -18,6 +18,9 @@ ghost use Rattle.server_history.specs.Mended.{AreQueued, BootsAfter, IsFailed, I
 ghost use Rattle.server_history.specs.Server.{mode_found};
 ghost use Rattle.slots.specs.Uses.{use_at};
 ghost use Rattle.slots.specs.declared.Use.{Use as SlotUse};
+ghost use Rattle.adapter.specs.Counted.{MakesAtMost};
+ghost use Rattle.ncq.specs.Costs.{DONE_ACCESSES};
+ghost use Rattle.block_server.specs.Costs.{booting_accesses, mending_accesses};
 
 use super::answering::answer_done;
 use super::modes::{PLAIN, mode_of};
@@ -65,6 +68,7 @@ fn mend<A: Adapter>(
     ensures on { IsOn (A.device adapter.new) }
     ensures mends { (m : Mends port outstanding queued result (A.device adapter.old) (A.device adapter.new))
         × TellsMending trouble port outstanding queued result m.accesses (A.device adapter.old) (A.device adapter.new) }
+    ensures cost { MakesAtMost (mending_accesses trouble) (A.access_count adapter.old) (A.access_count adapter.new) }
 {
     match trouble {
         Trouble::Failed => recover(adapter, port, outstanding, queued),
@@ -90,6 +94,8 @@ pub(crate) fn mend_rest<A: Adapter>(
         → MendsRest port trouble replies.old.items replies.new.items result.0 result.1 s table.new book.new slots.new
         (A.device adapter.new) }
     ensures room { length replies.new.items + length book.new ≤ MOST_UNANSWERED }
+    ensures cost { MakesAtMost (DONE_ACCESSES + mending_accesses trouble)
+        (A.access_count adapter.old) (A.access_count adapter.new) }
 {
     looks_keep();
     a_troubled_port_may_be_mended();
@@ -157,6 +163,7 @@ fn boot_after<A: Adapter>(
     requires saw { ((A.device adapter.old).port stopped.port.0).notes.link_count ≡ READINGS }
     ensures on { IsOn (A.device adapter.new) }
     ensures boots { BootsAfter trouble wanted.now stopped.port result (A.device adapter.old) (A.device adapter.new) }
+    ensures cost { MakesAtMost (booting_accesses trouble) (A.access_count adapter.old) (A.access_count adapter.new) }
 {
     match trouble {
         Trouble::Lost => boot_if_there(adapter, stopped, wanted),
@@ -185,6 +192,7 @@ pub(crate) fn find_after<A: Adapter>(
         → stopped.port ≡ port) → IsFoundAfter wanted.now port trouble was.now next (A.device adapter.old)
         (A.device adapter.new) result.0 }
     ensures mode { result.1 ≡ mode_found (A.device adapter.new).cap result.0 }
+    ensures cost { MakesAtMost (booting_accesses trouble) (A.access_count adapter.old) (A.access_count adapter.new) }
 {
     match next {
         Next::Running(_) => (Found::Ready(*was), mode),

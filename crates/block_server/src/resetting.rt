@@ -1,11 +1,13 @@
 // What becomes of ports and requests where the adapter is reset.
-ghost use Rattle.std.specs.Prelude.{ℕ, ◌≡◌, ◌<◌, ◌≤◌, ◌+◌, ◌++◌, List, length};
+ghost use Rattle.std.specs.Prelude.{ℕ, ◌≡◌, ◌<◌, ◌≤◌, ◌+◌, ◌*◌, ◌++◌, List, length};
 ghost use Rattle.ata_types.specs.declared.request.Reply.{Reply};
 ghost use Rattle.block_server.specs.Resetting.{LendsBook, LendsPorts, with_book, with_issues};
 ghost use Rattle.host_boot.specs.Taken.{found_of};
 ghost use Rattle.server_history.specs.Resets.{IsProspectAnew, IssuePorts, SettlePorts, SettlesPort};
 ghost use Rattle.server_history.specs.Server.{Server, disk_of, remembered_at};
 ghost use Rattle.server_history.specs.Stalled.{stuck_found};
+ghost use Rattle.adapter.specs.Counted.{MakesAtMost};
+ghost use Rattle.block_server.specs.Costs.{ISSUES_ACCESSES};
 
 use super::fates::settle;
 use super::kept::KeptLoans;
@@ -151,6 +153,7 @@ pub(crate) fn issue_ports<A: Adapter>(
     requires lends { (s : Server) × LendsPorts s (A.device adapter.old) book.old slots.old modes.now ports.now }
     ensures issues { (s : Server) → LendsPorts s (A.device adapter.old) book.old slots.old modes.now ports.now
         → IssuePorts 0 ports.now s (with_issues s (A.device adapter.new) book.new slots.new) }
+    ensures cost { MakesAtMost (PORTS * ISSUES_ACCESSES) (A.access_count adapter.old) (A.access_count adapter.new) }
 {
     requests_keep();
     for number in 0..PORTS {

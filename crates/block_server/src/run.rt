@@ -17,6 +17,7 @@ impl<A: Adapter> Server<A> {
     ghost use Rattle.block_server.specs.Running.{said_of};
     ghost use Rattle.block_server.specs.View.{server_of};
     ghost use Rattle.server_history.specs.Histories.{AddsEvent};
+    ghost use Rattle.adapter.specs.Counted.{MakesAtMost};
 
     /// At most 64 bytes of a frame. A function of its own, since its caller's frame would have room for them else.
     #[inline(never)]
@@ -30,6 +31,7 @@ impl<A: Adapter> Server<A> {
         ensures adds { AddsEvent (server_of A.device self.old) (server_of A.device self.new)
             (LoadAt client frame offset (min count 64)) (said_of (Said.Loaded result)) }
         ensures wanted { self.new.wanted ≡ self.old.wanted }
+        ensures cost { MakesAtMost 1 (A.access_count self.old.adapter) (A.access_count self.new.adapter) }
     {
         let mut buffer = [0; FEW];
         let part = &mut buffer[..(count as usize).min(FEW)];
@@ -45,6 +47,8 @@ impl<A: Stepped> Server<A> {
     ghost use Rattle.block_server.specs.Running.{ask_of, said_of};
     ghost use Rattle.block_server.specs.View.{server_of};
     ghost use Rattle.server_history.specs.Histories.{AddsEvent};
+    ghost use Rattle.adapter.specs.Counted.{MakesAtMost};
+    ghost use Rattle.block_server.specs.Costs.{most_of, most_of_all};
 
     /// Makes the call. What a service, a tick, a reset that ends, or a revocation of a grant that is there answered is
     /// all that `replies` has then; of what it has after another call nothing is told.
@@ -52,6 +56,8 @@ impl<A: Stepped> Server<A> {
         ensures adds { AddsEvent (server_of A.device self.old) (server_of A.device self.new) (ask_of event.now)
             (said_of (with_replies result replies.new.items)) }
         ensures wanted { self.new.wanted ≡ self.old.wanted }
+        ensures cost { MakesAtMost (most_of event.now)
+            (A.access_count self.old.adapter) (A.access_count self.new.adapter) }
     {
         match event {
             Event::Submit(request) => Told::Submitted(self.submit(request)),
@@ -95,6 +101,8 @@ impl<A: Stepped> Server<A> {
             (said_in out.old) (said_in out.new)) }
         ensures last { OnOk result (1 ≤ length events.now → IsSome out.new.last) }
         ensures room { vec_capacity out.old.earlier ≤ vec_capacity out.new.earlier }
+        ensures cost { MakesAtMost (most_of_all events.now)
+            (A.access_count self.old.adapter) (A.access_count self.new.adapter) }
     {
         runs_keep_their_promise::<A>();
         for (at, event) in events.iter().enumerate() {

@@ -1,6 +1,7 @@
 // The server.
 ghost use Rattle.std.specs.Prelude.{[], ◌≡◌, ◌≢◌, false, ◌<◌, ◌≤◌, ◌+◌, ◌↔◌, ◌*◌, ◌++◌, List, ℕ, IsTrue, IfOk, IfErr, OnOk, MatchOption, Ok, length, map, option_map, slice_index_or, true};
 
+mod client_bytes;
 mod revoking;
 
 use crate::ServerError;
@@ -15,10 +16,10 @@ use crate::resetting::{disk_of, disks_of, issue_ports, settle_ports, stuck_ports
 use crate::trying::{find_anew, finds_news};
 use adapter::{Adapter, DeviceStep, Stepped};
 use ata_types::{
-    ClientId, FRAME_BYTES, Frame, MOST_UNANSWERED, MemFault, Op, PORTS, Port, PortState, Range,
-    Refusal, Replies, Request, RequestId,
+    MOST_UNANSWERED, Op, PORTS, Port, PortState, Range, Refusal, Replies, Request, RequestId,
 };
 use block_machine::Mode;
+use block_machine::laws::due_is_exact;
 use configuration::Config;
 use dma_frames::FrameTable;
 use grants::{Grants, decide};
@@ -32,8 +33,8 @@ use request_queue::{Book, Entry};
 use server_history::laws::{
     a_finished_port_settles, a_hung_port_is_restarted, a_mended_port_goes_on,
     a_new_server_has_begun, a_port_is_served, acceptances_add, an_unready_port_is_tried,
-    client_bytes_add, device_steps_add, looks_keep, open_bytes_are_free, refusals_add,
-    requests_get_older, requests_keep, services_add, ticks_add,
+    device_steps_add, looks_keep, refusals_add, requests_get_older, requests_keep, services_add,
+    ticks_add,
 };
 use server_history::resets::{a_reset_server_goes_on, resets_add};
 use server_history::stalled::{
@@ -80,16 +81,15 @@ impl<A: Adapter> Model for Server<A> {
 }
 
 impl<A: Adapter> Server<A> {
-    ghost use Rattle.block_machine.specs.Events.{Reset, Service, Served, Submit, Submitted, StoreAt, LoadAt, State, Shown, Tick, WasReset};
-    ghost use Rattle.block_machine.specs.Refusals.{IsAcceptable, IsFirstRefusal, IsOpen, IsFirstMemFault};
-    ghost use Rattle.block_server.specs.Calls.{AcceptsRequest, IsFor, Submits, Services, StoresFrame, LoadsFrame, TicksServer};
+    ghost use Rattle.block_machine.specs.Events.{Reset, Service, Served, Submit, Submitted, State, Shown, Tick, WasReset};
+    ghost use Rattle.block_machine.specs.Refusals.{IsAcceptable, IsFirstRefusal};
+    ghost use Rattle.block_server.specs.Calls.{AcceptsRequest, IsFor, Submits, Services, TicksServer};
     ghost use Rattle.block_server.specs.Made.{IsReadyFor, IsNew, Refuses};
     ghost use Rattle.block_server.specs.View.{server_of};
     ghost use Rattle.configuration.specs.Rules.{IsSound};
-    ghost use Rattle.dma_frames.specs.Table.{owner_of, lent_to};
     ghost use Rattle.host_boot.specs.Taken.{found_of};
     ghost use Rattle.request_queue.specs.Entries.{Held, IsOverdue};
-    ghost use Rattle.server_history.specs.Histories.{AddsEvent, store_said, load_said};
+    ghost use Rattle.server_history.specs.Histories.{AddsEvent};
     ghost use Rattle.ata_types.specs.declared.request.Reply.{Reply};
     ghost use Rattle.server_history.specs.Served.{AnswersDone};
     ghost use Rattle.server_history.specs.Turns.{ServesPort, TicksPort, TriesUnready, a_tick_older};
@@ -101,6 +101,8 @@ impl<A: Adapter> Server<A> {
     ghost use Rattle.agreement.specs.Agrees.{port_at};
     ghost use Rattle.agreement.specs.Slots.{IsOver};
     ghost use Rattle.ata_types.specs.declared.PortState.TheVariants.{Ready};
+    ghost use Rattle.adapter.specs.Counted.{MakesAtMost};
+    ghost use Rattle.block_server.specs.Costs.{ISSUES_ACCESSES, MOST_OF_NEW, MOST_OF_RESET, MOST_OF_SERVICE, MOST_OF_SUBMIT, MOST_OF_TICK, TURN_ACCESSES, trouble_accesses};
 
     /// A server of an idle adapter, by a configuration: who owns which frames, which grants there are, and which disks
     /// are wanted. Each port is booted in which a disk is wanted; nothing is asked yet.
@@ -113,6 +115,8 @@ impl<A: Adapter> Server<A> {
         ensures made { IfOk result (IsNew A.device config.now adapter) }
         ensures sound { OnOk result (IsSound config.now) }
         ensures refused { IfErr result (λ e. Refuses config.now e.0 × (e.1 ≡ adapter)) }
+        ensures cost { IfOk result (λ server. MakesAtMost MOST_OF_NEW
+            (A.access_count adapter) (A.access_count server.adapter)) }
     {
         let plan = match Plan::of(config) {
             Ok(plan) => plan,
@@ -266,9 +270,11 @@ impl<A: Adapter> Server<A> {
         ensures accepts { AcceptsRequest A.device self.old self.new r.now result }
         ensures adds { AddsEvent (server_of A.device self.old) (server_of A.device self.new) (Submit r.now)
             (Submitted (Ok result)) }
+        ensures cost { MakesAtMost MOST_OF_SUBMIT (A.access_count self.old.adapter) (A.access_count self.new.adapter) }
     {
         requests_keep();
         acceptances_add();
+        due_is_exact();
         let mode = self.mode(port);
         let id = RequestId(self.last + 1);
         let loan = self.table.lend(r.client, r.frames.as_slice(), id);
@@ -300,6 +306,7 @@ impl<A: Adapter> Server<A> {
         ensures submits { Submits A.device self.old self.new r.now result }
         ensures adds { AddsEvent (server_of A.device self.old) (server_of A.device self.new) (Submit r.now)
             (Submitted result) }
+        ensures cost { MakesAtMost MOST_OF_SUBMIT (A.access_count self.old.adapter) (A.access_count self.new.adapter) }
     {
         refusals_add();
         stalled_servers_admit_none();
@@ -322,6 +329,7 @@ impl<A: Adapter> Server<A> {
         ensures settled { IsSettled (server_of A.device self.new) }
         ensures ports { self.new.ports ≡ self.old.ports }
         ensures room { length replies.new.items + length self.new.book ≤ MOST_UNANSWERED }
+        ensures cost { MakesAtMost ISSUES_ACCESSES (A.access_count self.old.adapter) (A.access_count self.new.adapter) }
     {
         a_finished_port_settles();
         let mode = self.mode(port);
@@ -353,6 +361,8 @@ impl<A: Adapter> Server<A> {
         ensures settled { IsSettled (server_of A.device self.new) }
         ensures ports { (q : ℕ) → q ≢ port.0 → found_of self.new.ports q ≡ found_of self.old.ports q }
         ensures room { length replies.new.items + length self.new.book ≤ MOST_UNANSWERED }
+        ensures cost { MakesAtMost (trouble_accesses trouble)
+            (A.access_count self.old.adapter) (A.access_count self.new.adapter) }
     {
         a_mended_port_goes_on();
         a_port_is_served();
@@ -404,6 +414,7 @@ impl<A: Adapter> Server<A> {
         ensures settled { IsSettled (server_of A.device self.new) }
         ensures ports { (q : ℕ) → q ≢ port.0 → found_of self.new.ports q ≡ found_of self.old.ports q }
         ensures room { length replies.new.items + length self.new.book ≤ MOST_UNANSWERED }
+        ensures cost { MakesAtMost TURN_ACCESSES (A.access_count self.old.adapter) (A.access_count self.new.adapter) }
     {
         looks_keep();
         a_port_is_served();
@@ -435,6 +446,7 @@ impl<A: Adapter> Server<A> {
         ensures settled { IsSettled (server_of A.device self.new) }
         ensures ports { (q : ℕ) → q ≢ port.0 → found_of self.new.ports q ≡ found_of self.old.ports q }
         ensures book { self.new.book ≡ self.old.book }
+        ensures cost { MakesAtMost TURN_ACCESSES (A.access_count self.old.adapter) (A.access_count self.new.adapter) }
     {
         an_unready_port_is_tried();
         if !finds_news(&mut self.adapter, port, state) {
@@ -469,6 +481,7 @@ impl<A: Adapter> Server<A> {
         ensures services { Services A.device self.old self.new result.items }
         ensures adds { AddsEvent (server_of A.device self.old) (server_of A.device self.new) Service
             (Served result.items) }
+        ensures cost { MakesAtMost MOST_OF_SERVICE (A.access_count self.old.adapter) (A.access_count self.new.adapter) }
     {
         let mut replies = Replies::new();
         self.service_into(&mut replies);
@@ -480,6 +493,7 @@ impl<A: Adapter> Server<A> {
         ensures services { Services A.device self.old self.new replies.new.items }
         ensures adds { AddsEvent (server_of A.device self.old) (server_of A.device self.new) Service
             (Served replies.new.items) }
+        ensures cost { MakesAtMost MOST_OF_SERVICE (A.access_count self.old.adapter) (A.access_count self.new.adapter) }
     {
         services_add();
         the_book_stays_in_order();
@@ -506,6 +520,7 @@ impl<A: Adapter> Server<A> {
         ensures services { Services A.device self.old self.new replies.new.items }
         ensures adds { AddsEvent (server_of A.device self.old) (server_of A.device self.new) Service
             (Served replies.new.items) }
+        ensures cost { MakesAtMost 0 (A.access_count self.old.adapter) (A.access_count self.new.adapter) }
     {
         a_server_is_booked();
         stalled_services_add();
@@ -530,6 +545,7 @@ impl<A: Adapter> Server<A> {
         ensures settled { IsSettled (server_of A.device self.new) }
         ensures overdue { (number : ℕ) → number < 4 → IsTrue (slice_index_or result number false)
             ↔ IsOverdue (port_at number) self.new.book }
+        ensures cost { MakesAtMost 0 (A.access_count self.old.adapter) (A.access_count self.new.adapter) }
     {
         requests_get_older();
         self.book.tick(&ready_ports(&self.ports));
@@ -554,6 +570,8 @@ impl<A: Adapter> Server<A> {
         ensures settled { IsSettled (server_of A.device self.new) }
         ensures ports { (q : ℕ) → q ≢ port.0 → found_of self.new.ports q ≡ found_of self.old.ports q }
         ensures room { length replies.new.items + length self.new.book ≤ MOST_UNANSWERED }
+        ensures cost { MakesAtMost (trouble_accesses Trouble.Hung)
+            (A.access_count self.old.adapter) (A.access_count self.new.adapter) }
     {
         looks_keep();
         a_hung_port_is_restarted();
@@ -580,6 +598,7 @@ impl<A: Adapter> Server<A> {
         ensures ticks { TicksServer A.device self.old self.new result.items }
         ensures adds { AddsEvent (server_of A.device self.old) (server_of A.device self.new) Tick
             (Served result.items) }
+        ensures cost { MakesAtMost MOST_OF_TICK (A.access_count self.old.adapter) (A.access_count self.new.adapter) }
     {
         let mut replies = Replies::new();
         self.tick_into(&mut replies);
@@ -591,6 +610,7 @@ impl<A: Adapter> Server<A> {
         ensures ticks { TicksServer A.device self.old self.new replies.new.items }
         ensures adds { AddsEvent (server_of A.device self.old) (server_of A.device self.new) Tick
             (Served replies.new.items) }
+        ensures cost { MakesAtMost MOST_OF_TICK (A.access_count self.old.adapter) (A.access_count self.new.adapter) }
     {
         ticks_add();
         stalled_ticks_add();
@@ -631,6 +651,7 @@ impl<A: Adapter> Server<A> {
             Reset (WasReset (Some replies.items))) }
         ensures adds_stuck { IfErr result (λ why. AddsEvent (server_of A.device self.old) (server_of A.device self.new)
             Reset (WasReset None)) }
+        ensures cost { MakesAtMost MOST_OF_RESET (A.access_count self.old.adapter) (A.access_count self.new.adapter) }
     {
         let mut replies = Replies::new();
         self.reset_into(&mut replies)?;
@@ -642,6 +663,7 @@ impl<A: Adapter> Server<A> {
         ensures resets { DoesReset A.device self.old self.new replies.new.items result }
         ensures adds { AddsEvent (server_of A.device self.old) (server_of A.device self.new) Reset
             (reset_said result replies.new.items) }
+        ensures cost { MakesAtMost MOST_OF_RESET (A.access_count self.old.adapter) (A.access_count self.new.adapter) }
     {
         a_server_is_booked();
         booked_loans_are_lent();
@@ -682,77 +704,6 @@ impl<A: Adapter> Server<A> {
         Ok(())
     }
 
-    /// Where in memory so many bytes of a client's own frame begin, from an offset in bytes on. The first that applies
-    /// of `FrameForeign`, `FrameLent` and `OutsideFrame` is told.
-    fn open(
-        &self,
-        client: ClientId,
-        frame: Frame,
-        offset: u32,
-        length: usize,
-    ) -> Result<u32, MemFault>
-        ensures ok { IfOk result (λ address. IsOpen (owner_of self.now.table) (lent_to self.now.table) client frame
-            offset length × (address ≡ FRAME_BYTES * frame.0 + offset)) }
-        ensures err { IfErr result (IsFirstMemFault (owner_of self.now.table) (lent_to self.now.table) client frame
-            offset length) }
-    {
-        if self.table.owner(frame) != Some(client) {
-            return Err(MemFault::FrameForeign);
-        }
-        if self.table.lent_to(frame).is_some() {
-            return Err(MemFault::FrameLent);
-        }
-        if offset as u128 + length as u128 > FRAME_BYTES as u128 {
-            return Err(MemFault::OutsideFrame);
-        }
-        Ok(FRAME_BYTES * frame.0 as u32 + offset)
-    }
-
-    /// Copies bytes into a client's own frame, from an offset in bytes on. Not while the frame is lent.
-    ///
-    /// The first that applies of `FrameForeign`, `FrameLent` and `OutsideFrame` is told, and then nothing changes, and
-    /// no access is made. No byte may go past the end of the frame; none at all may be stored there.
-    pub fn client_store(
-        &mut self,
-        client: ClientId,
-        frame: Frame,
-        offset: u32,
-        bytes: &[u8],
-    ) -> Result<(), MemFault>
-        ensures stores { StoresFrame A.device self.old self.new client frame offset bytes.now result }
-        ensures adds { AddsEvent (server_of A.device self.old) (server_of A.device self.new)
-            (StoreAt client frame offset bytes.now) (store_said result) }
-    {
-        refusals_add();
-        a_server_is_booked();
-        open_bytes_are_free();
-        client_bytes_add();
-        let address = self.open(client, frame, offset, bytes.len())?;
-        self.adapter.store(address, bytes);
-        Ok(())
-    }
-
-    /// Copies bytes of a client's own frame out, from an offset in bytes on. Not while the frame is lent.
-    pub fn client_load(
-        &mut self,
-        client: ClientId,
-        frame: Frame,
-        offset: u32,
-        out: &mut [u8],
-    ) -> Result<(), MemFault>
-        ensures loads { LoadsFrame A.device self.old self.new client frame offset out.old out.new result }
-        ensures adds { AddsEvent (server_of A.device self.old) (server_of A.device self.new)
-            (LoadAt client frame offset (length out.old)) (load_said result out.new) }
-    {
-        refusals_add();
-        a_server_is_booked();
-        open_bytes_are_free();
-        client_bytes_add();
-        let address = self.open(client, frame, offset, out.len())?;
-        self.adapter.load(address, out);
-        Ok(())
-    }
-
     /// Ends the server. The adapter comes back as it is: what is issued stays issued.
     pub fn close(self) -> A
         ensures { result ≡ self.adapter }
@@ -785,12 +736,14 @@ impl<A: Stepped> Server<A> {
     ghost use Rattle.block_server.specs.Calls.{StepsDevice};
     ghost use Rattle.block_server.specs.View.{server_of};
     ghost use Rattle.server_history.specs.Histories.{AddsEvent};
+    ghost use Rattle.adapter.specs.Counted.{MakesAtMost};
 
     /// Has the device do a step, if that is possible.
     pub fn device(&mut self, step: &DeviceStep) -> bool
         ensures steps { StepsDevice A.device self.old self.new step.now result }
         ensures adds { AddsEvent (server_of A.device self.old) (server_of A.device self.new) (Told step.now)
             (Stepped result) }
+        ensures cost { MakesAtMost 0 (A.access_count self.old.adapter) (A.access_count self.new.adapter) }
     {
         device_steps_add();
         self.adapter.step(step)

@@ -1,5 +1,5 @@
 // A port that isn't ready is looked at, and booted again where its disk may have come, or may be another by now.
-ghost use Rattle.std.specs.Prelude.{true, ◌≡◌};
+ghost use Rattle.std.specs.Prelude.{true, ◌≡◌, ◌+◌};
 ghost use Rattle.adapter.specs.Device.{Device};
 ghost use Rattle.adapter.specs.Rules.{HasPort, IsOn};
 ghost use Rattle.agreement.specs.Driven.{AgreesWith, AnyUse, IsFollowed};
@@ -11,6 +11,10 @@ ghost use Rattle.port_control.specs.Ports.{IsStopped};
 ghost use Rattle.port_control.specs.declared.Stopped as stopped_token;
 ghost use Rattle.port_look.specs.Looks.{IsLooking};
 ghost use Rattle.server_history.specs.Tried.{IsLookedAt};
+ghost use Rattle.adapter.specs.Counted.{MakesAtMost};
+ghost use Rattle.host_boot.specs.Costs.{BOOT_AGAIN_ACCESSES};
+ghost use Rattle.port_control.specs.Costs.{STOP_ACCESSES};
+ghost use Rattle.port_look.specs.Costs.{FIND_ACCESSES};
 
 use super::modes::{PLAIN, mode_of};
 use adapter::Adapter;
@@ -30,6 +34,7 @@ pub(crate) fn finds_news<A: Adapter>(adapter: &mut A, port: Port, state: PortSta
     ensures on { IsOn (A.device adapter.new) }
     ensures looks { IsLookedAt state port result (A.device adapter.old) (A.device adapter.new) }
     ensures followed { IsFollowed (IsLooking port) AnyUse (A.device adapter.old) (A.device adapter.new) }
+    ensures cost { MakesAtMost FIND_ACCESSES (A.access_count adapter.old) (A.access_count adapter.new) }
 {
     looks_keep();
     match state {
@@ -52,6 +57,8 @@ pub(crate) fn find_anew<A: Adapter>(adapter: &mut A, port: Port, wanted: &Wanted
         → (token.port ≡ port) × IsBootable port stopped × IsStopped (stopped.port port.0) }
     ensures on { IsOn (A.device adapter.new) }
     ensures finds { FindsAnew wanted.now port result.0 result.1 (A.device adapter.old) (A.device adapter.new) }
+    ensures cost { MakesAtMost (STOP_ACCESSES + BOOT_AGAIN_ACCESSES)
+        (A.access_count adapter.old) (A.access_count adapter.new) }
 {
     let recovered = give_up(adapter, port, 0);
     match recovered.next {

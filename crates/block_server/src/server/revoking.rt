@@ -16,6 +16,8 @@ impl<A: Adapter> Server<A> {
     ghost use Rattle.block_server.specs.Revoking.{Revokes, revoke_said};
     ghost use Rattle.block_server.specs.View.{server_of};
     ghost use Rattle.server_history.specs.Histories.{AddsEvent};
+    ghost use Rattle.adapter.specs.Counted.{MakesAtMost};
+    ghost use Rattle.block_server.specs.Costs.{MOST_OF_REVOKE};
 
     /// Revokes the client's grant of this number.
     ///
@@ -37,6 +39,7 @@ impl<A: Adapter> Server<A> {
             (RevokeOf client number) (WasRevoked (Some replies.items))) }
         ensures adds_none { IfErr result (λ none. AddsEvent (server_of A.device self.old)
             (server_of A.device self.new) (RevokeOf client number) (WasRevoked None)) }
+        ensures cost { MakesAtMost MOST_OF_REVOKE (A.access_count self.old.adapter) (A.access_count self.new.adapter) }
     {
         let mut replies = Replies::new();
         self.revoke_into(client, number, &mut replies)?;
@@ -53,6 +56,7 @@ impl<A: Adapter> Server<A> {
         ensures revokes { Revokes A.device self.old self.new client number replies.new.items result }
         ensures adds { AddsEvent (server_of A.device self.old) (server_of A.device self.new) (RevokeOf client number)
             (revoke_said result replies.new.items) }
+        ensures cost { MakesAtMost MOST_OF_REVOKE (A.access_count self.old.adapter) (A.access_count self.new.adapter) }
     {
         accepted_requests_stay();
         the_book_stays_in_order();

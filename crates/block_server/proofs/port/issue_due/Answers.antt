@@ -1,7 +1,7 @@
 use Rattle.std.proofs.Common.{◌≡◌, ◌+◌, ◌≤◌, suc, List, [], ◌∷◌, drop, get_or, length, refl, sym, ap, ◌∙◌, subst, arith, rules}
 use Rattle.std.proofs.lemmas.List.{drop_all, drop_more, length-map}
 use Rattle.ata_types.specs.declared.request.RequestId.{RequestId}
-use Rattle.block_machine.specs.Due.{AreDueInTurn}
+use Rattle.block_machine.specs.Due.{AreDueInTurn, due_of}
 use Rattle.block_machine.specs.declared.due.Mode.{Mode}
 use Rattle.block_machine.specs.declared.due.Unanswered.{Unanswered}
 use Rattle.block_server.specs.Ports.{Lends, with_part}
@@ -26,6 +26,7 @@ loop-place-init g c =
           (c.due_in_turn.ensures c.args.mode port (asks_of book) (c.the_book_stays_in_order.ensures.asks book order));
       many = refl;
       same = λ _. refl;
+      cost = omega arith;
     }
 
 pub issue_one-requires-clause-lends : goal.issue_one-requires-clause-lends
@@ -79,6 +80,7 @@ loop-place-preserved g c =
           let p : Server = with_part s0 now book slots port in
           ap (λ (x : Server). length x.book) (one p (so_far.lends s0 l0)).server ∙ length-map book (at (get_or ids place (record { 0 = 0 })) issue) ∙ so_far.many;
       same = λ zero_is. absurd (omega (arith, zero_is));
+      cost = omega (arith, so_far.cost, c.issue_one.ensures.cost);
     }
 
 pub returns-clause-issues : goal.returns-clause-issues
@@ -94,3 +96,11 @@ returns-clause-issues g c = λ s l.
 
 pub returns-clause-none : goal.returns-clause-none
 returns-clause-none g c = search rules
+
+pub returns-clause-each : goal.returns-clause-each
+returns-clause-each g c =
+    let low = c.loop-place-test.false in
+    let e = c.len-place-end.ensures.value in
+    let ids = ap length c.issuable-due.ensures in
+    let many = length-map (due_of c.args.mode c.args.port (asks_of c.args.book.now)) (λ r. r.id) in
+    omega (arith, low, c.loop-place.invariant.cost, e, ids, many)

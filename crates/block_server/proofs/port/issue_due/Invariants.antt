@@ -1,4 +1,6 @@
-use Rattle.std.proofs.Common.{◌≡◌, drop, length}
+use Rattle.std.proofs.Common.{◌≡◌, ◌*◌, drop, length}
+use Rattle.adapter.specs.Counted.{MakesAtMost}
+use Rattle.ncq.specs.Costs.{ISSUE_ACCESSES}
 use Rattle.block_machine.specs.Due.{AreDueInTurn}
 use Rattle.block_server.specs.Ports.{Lends, with_part}
 use Rattle.request_queue.specs.Entries.{asks_of}
@@ -15,4 +17,5 @@ invariant-loop-place g l = record {
   turns : AreDueInTurn l.mode l.port (drop l.place l.due.items) (asks_of l.book);
   many : length l.book ≡ length l.fn.book;
   same : l.place ≡ 0 → l.adapter ≡ l.fn.adapter;
+  cost : MakesAtMost (ISSUE_ACCESSES * l.place) (g.A.Adapter.access_count l.fn.adapter) (g.A.Adapter.access_count l.adapter);
 }

@@ -51,6 +51,7 @@ returns g c = record {
       slot small c.in-Some.ensures.lowest (device c.issue_task.new.adapter)
       (subst T task_is (subst F lent_is c.issue_task.ensures.issues)) (subst TS task_is (subst FS lent_is c.issue_task.ensures.stored)) (subst B task_is c.issue_task.ensures.block) c.issue.new.self c.issue.ensures
       c.take.new.self (c.in-Some.ensures.taken ∙ ap (λ (t : Task). with_use c.args.slots.now slot (Some (record { id = c.args.id; queued = t.queued }))) task_is);
+  cost = c.issue_task.ensures.cost;
 }
 
 pub issue_task-requires-clause-agreed : goal.issue_task-requires-clause-agreed

@@ -1,4 +1,4 @@
-use Rattle.std.proofs.Common.{refl}
+use Rattle.std.proofs.Common.{arith, refl}
 use Rattle.block_server.proofs.Sending.{lends_ready, none_issued}
 use Rattle.block_server.proofs.port.issue_where_ready.Goals as goal
 
@@ -13,4 +13,5 @@ returns-in_default g c = record {
   issues = λ s l. none_issued c.a_mended_port_goes_on.ensures.undue s (g.A.Adapter.device c.args.adapter.now) c.args.book.now c.args.slots.now c.args.port c.args.mode c.args.found.now l c.in_default.not-Ready;
   as_many = refl;
   none = λ none. refl;
+  cost = omega arith;
 }

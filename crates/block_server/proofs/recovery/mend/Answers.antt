@@ -1,4 +1,4 @@
-use Rattle.std.proofs.Common.{ℕ, Bool, List, sym, subst, ◌≢◌, refl}
+use Rattle.std.proofs.Common.{ℕ, Bool, List, arith, sym, subst, ◌≢◌, refl}
 use Rattle.ata_types.specs.declared.Port.{Port}
 use Rattle.adapter.specs.Access.{Access}
 use Rattle.adapter.specs.Device.{Device}
@@ -6,6 +6,7 @@ use Rattle.error_recovery.specs.declared.Recovered.{Recovered}
 use Rattle.server_history.specs.Mended.{EndsGivenUp, TellsMending}
 use Rattle.port_look.specs.declared.Trouble.{Trouble}
 use Rattle.port_look.specs.declared.Trouble.TheVariants.{Broken, Failed, Hung, Lost}
+use Rattle.block_server.proofs.Counting.{mending_stops}
 use Rattle.block_server.proofs.recovery.mend.Goals as goal
 
 -- what is told of a port that was given up
@@ -32,4 +33,5 @@ returns-in_default g c =
         tells c.args.trouble c.args.port c.args.outstanding c.args.queued c.give_up.result u.mends.accesses (g.A.Adapter.device c.args.adapter.now) (g.A.Adapter.device c.give_up.new.adapter)
             c.in_default.not-Failed (u.nobody, u.halts),
       );
+      cost = let least = mending_stops c.args.trouble in omega (arith, least, c.give_up.ensures.cost);
     }

@@ -22,6 +22,7 @@ loop-number-init g c =
       lends = λ s l.
           subst (λ (x : Server). LendsPorts x (device c.args.adapter.now) c.args.book.now c.args.slots.now c.args.modes.now c.args.ports.now) (same s l) l;
       rest = λ s l new issues. subst (λ (x : Server). IssuePorts 0 c.args.ports.now x new) (sym (same s l)) issues;
+      cost = omega arith;
     }
 
 pub issue_due-requires : goal.issue_due-requires
@@ -64,10 +65,12 @@ loop-number-preserved g c =
               ports_are = l.ports_are;
             };
             rest = λ s l new issues. so_far.rest s l new (reviving.one_issued ports number low w.in-Ready.field-0 w.in-Ready.is (now s) (later s) new (all s l) issues);
+            cost = omega (arith, so_far.cost, w.issue_due.ensures.cost);
           })
       | in_default w ↦ rw (w.adapter-is, w.book-is, w.slots-is) (record {
         lends = so_far.lends;
         rest = λ s l new issues. so_far.rest s l new (reviving.none_issued ports number low w.in_default.not-Ready (with_issues s (device c.loop-number.adapter) c.loop-number.book c.loop-number.slots) new issues);
+        cost = omega (arith, so_far.cost);
       })
     ]
 
@@ -78,4 +81,5 @@ returns g c =
       issues = λ s l.
           let now = with_issues s (device c.loop-number.adapter) c.loop-number.book c.loop-number.slots in
           c.loop-number.invariant.rest s l now (reviving.none_to_issue c.args.ports.now c.loop-number.number (let four = c.told-ports in let large = c.loop-number-test.false in omega (arith, four, large)) now);
+      cost = omega (arith, c.loop-number.invariant.cost);
     }

@@ -1,4 +1,6 @@
-use Rattle.std.proofs.Common.{drop}
+use Rattle.std.proofs.Common.{◌*◌, drop}
+use Rattle.adapter.specs.Counted.{MakesAtMost}
+use Rattle.block_server.specs.Costs.{ISSUES_ACCESSES}
 use Rattle.block_server.specs.Resetting.{LendsPorts, with_issues}
 use Rattle.server_history.specs.Resets.{IssuePorts}
 use Rattle.server_history.specs.Server.{Server}
@@ -10,4 +12,5 @@ invariant-loop-number g l = record {
       → LendsPorts (with_issues s (g.A.Adapter.device l.adapter) l.book l.slots) (g.A.Adapter.device l.adapter) l.book l.slots l.fn.modes l.fn.ports;
   rest : (s : Server) → LendsPorts s (g.A.Adapter.device l.fn.adapter) l.fn.book l.fn.slots l.fn.modes l.fn.ports → (new : Server)
       → IssuePorts l.number (drop l.number l.fn.ports) (with_issues s (g.A.Adapter.device l.adapter) l.book l.slots) new → IssuePorts 0 l.fn.ports s new;
+  cost : MakesAtMost (ISSUES_ACCESSES * l.number) (g.A.Adapter.access_count l.fn.adapter) (g.A.Adapter.access_count l.adapter);
 }

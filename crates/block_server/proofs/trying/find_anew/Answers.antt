@@ -1,4 +1,4 @@
-use Rattle.std.proofs.Common.{true, refl, sym, subst}
+use Rattle.std.proofs.Common.{true, arith, refl, sym, subst}
 use Rattle.ata_types.specs.declared.Port.{Port}
 use Rattle.error_recovery.specs.declared.Next.{Next}
 use Rattle.host_boot.specs.Again.{BootsAgain}
@@ -49,4 +49,5 @@ returns-in_default g c =
         is = found_dead c.args.wanted.now c.args.port c.give_up-recovered.result.next stopped gives.halts c.in_default.not-Restart;
         mode_is = refl;
       };
+      cost = omega (arith, c.give_up-recovered.ensures.cost);
     }

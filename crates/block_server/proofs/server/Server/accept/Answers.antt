@@ -1,8 +1,10 @@
-use Rattle.std.proofs.Common.{ℕ, ◌≡◌, ◌+◌, List, Ok, refl, sym, ap, ◌∙◌, [], subst, arith, slice_index_or, slice_set, rules}
+use Rattle.std.proofs.Common.{ℕ, ◌≡◌, ◌≤◌, ◌+◌, ◌++◌, ◌∷◌, List, Ok, length, refl, sym, ap, ◌∙◌, [], subst, arith, slice_index_or, slice_set, rules}
 use Rattle.ata_types.specs.declared.request.Frame.{Frame}
 use Rattle.block_machine.specs.Events.{Submit, Submitted}
 use Rattle.block_machine.specs.Due.{due_of}
 use Rattle.block_machine.specs.declared.due.Mode.{Mode}
+use Rattle.block_machine.specs.declared.due.Unanswered.{Unanswered}
+use Rattle.ata_types.specs.declared.request.RequestId.{RequestId}
 use Rattle.block_machine.specs.Refusals.{IsAcceptable}
 use Rattle.block_machine.specs.Rules.{HasNoFault}
 use Rattle.dma_frames.specs.Table.{owner_of, lent_to}
@@ -10,12 +12,13 @@ use Rattle.block_server.specs.Calls.{AcceptsRequest, IsFor}
 use Rattle.block_server.specs.Ports.{with_part}
 use Rattle.block_server.specs.Seen.{seen}
 use Rattle.block_server.specs.View.{ServerView, server_of}
-use Rattle.request_queue.specs.Entries.{Held, asks_of}
+use Rattle.request_queue.specs.Entries.{Held, asks, asks_of}
 use Rattle.server_history.specs.Histories.{AddsEvent}
-use Rattle.server_history.specs.Served.{Accepts, accepting}
+use Rattle.server_history.specs.Served.{Accepts, accepted_as, accepting}
 use Rattle.server_history.specs.Server.{Server, mode_in, situation_of}
 use Rattle.block_server.proofs.Standing.{is_on, of_on}
 use Rattle.block_server.proofs.Accepting as accepted
+use Rattle.block_server.proofs.Newest as newest
 use Rattle.block_server.proofs.server.Server.accept.Given.{Over}
 use Rattle.block_server.proofs.server.Server.accept.Goals as goal
 use Rattle.block_server.proofs.server.Server.accept.Goals.{After-issue_due}
@@ -99,3 +102,22 @@ returns-clause-adds g c =
 
 pub accept-requires-clause-fresh : goal.accept-requires-clause-fresh
 accept-requires-clause-fresh g c = search rules
+
+-- of the requests, the one that is accepted may be due alone
+pub returns-clause-cost : goal.returns-clause-cost
+returns-clause-cost g c =
+    let s = server_of g.A.Adapter.device (seen c.self.inside) in
+    let settled = is_on g.A.Adapter.device (seen c.self.inside) c.args.self.now c.self.view_is c.requires.on c.self.invariant in
+    let id : RequestId = record { 0 = c.self.inside.last + 1 } in
+    let exact = c.due_is_exact.ensures in
+    let m = mode_in s c.args.port in
+    let book = asks_of s.book in
+    let its = asks (accepted_as c.args.port c.args.r.now id).entry in
+    let none : due_of m c.args.port book ≡ [] =
+    newest.none_of_them m c.args.port book (λ x has. (exact.own m c.args.port book x has, (exact.exact m c.args.port book x (exact.own m c.args.port book x has)).0 has)) (settled.issued c.args.port) in
+    let alone = newest.due_alone m book its refl c.args.port (newest.all_earlier s.book s.last its refl settled.kept.handed_out) none in
+    let there : asks_of c.accept.new.self ≡ book ++ its ∷ [] = ap asks_of c.accept.ensures ∙ newest.asks_more s.book (record { entry = (accepted_as c.args.port c.args.r.now id).entry; frames = c.lend-loan.result.frames }) in
+    let few : length (due_of m c.args.port (asks_of c.accept.new.self)) ≤ 1 = subst (λ (xs : List Unanswered). length (due_of m c.args.port xs) ≤ 1) (sym there) alone in
+    let one : length (due_of c.mode-mode.result c.args.port (asks_of c.accept.new.self)) ≤ 1 = subst (λ (m : Mode). length (due_of m c.args.port (asks_of c.accept.new.self)) ≤ 1) (mode_is g c) few in
+    let same = ap (λ (v : ServerView g.row.A.Denot). g.A.Adapter.access_count v.adapter) c.self.view_is in
+    omega (arith, one, same, c.issue_due.ensures.each)

@@ -42,7 +42,7 @@ went g c =
     let s = seen c.self.inside in
     let Q : ServerView g.row.A.Denot → Type 0 = λ v. IsOpen (owner_of v.table) (lent_to v.table) c.args.client c.args.frame c.args.offset (length c.args.out.now) in
     let opened = subst Q (sym c.self.view_is) c.in_ok-address.ensures.ok.0 in
-    let loads = subst (λ (at : ℕ). Loads at c.load.new.out (device s.adapter) (device c.load.new.self)) c.in_ok-address.ensures.ok.1 c.load.ensures in
+    let loads = subst (λ (at : ℕ). Loads at c.load.new.out (device s.adapter) (device c.load.new.self)) c.in_ok-address.ensures.ok.1 c.load.ensures.does in
     c.client_bytes_add.ensures.load s.stuck (server_of device s) (device c.load.new.self) c.args.client c.args.frame c.args.offset (length c.args.out.now) c.load.new.out c.self.invariant c.load.auto.out opened loads
 
 pub invariant_of-self : goal.invariant_of-self

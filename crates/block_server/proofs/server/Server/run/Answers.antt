@@ -1,5 +1,8 @@
 use Rattle.std.proofs.Common.{◌<◌, ◌≡◌, ◌+◌, ◌++◌, ◌∷◌, List, sym, ◌∙◌, ap, subst, [], append_assoc, length, length-append, take, arith, refl, rules}
 use Rattle.std.proofs.lemmas.List.{append-nil, take_all, take_more}
+use Rattle.adapter.specs.Counted.{MakesAtMost}
+use Rattle.block_server.specs.Costs.{most_of_all}
+use Rattle.block_server.proofs.Counting.{most_more, most_taken}
 use Rattle.block_server.specs.Promise.{RunsAsPromised, Simulates}
 use Rattle.block_server.specs.Sayings.{said_in, with_replies}
 use Rattle.block_server.specs.declared.types.Event.{Event}
@@ -12,6 +15,7 @@ loop-at-init g c = record {
   length = omega arith;
   last = λ some. absurd (omega (arith, some));
   room = omega arith;
+  cost = omega arith;
 }
 
 pub loop-at-preserved : goal.loop-at-preserved
@@ -34,6 +38,10 @@ loop-at-preserved g c =
       length = omega (arith, c.go_on.ensures.len, c.reserve.ensures.len, c.loop-at.invariant.length);
       last = λ some. refl;
       room = omega (arith, c.loop-at.invariant.room, c.reserve.ensures.capacity, c.go_on.ensures.capacity);
+      cost =
+          let M : List Event → Type 0 = λ events. MakesAtMost (most_of_all events) (g.A.Adapter.access_count c.args.self.now.adapter) (g.A.Adapter.access_count c.answer-told.new.self.adapter) in
+          let more = most_more (take c.loop-at.at c.args.events.now) event in
+          subst M calls (omega (arith, more, c.loop-at.invariant.cost, c.answer-told.ensures.cost));
     }
 
 pub returns-then-is_err-clause-ample : goal.returns-then-is_err-clause-ample
@@ -51,3 +59,9 @@ pub returns-then-is_err-clause-begun : goal.returns-then-is_err-clause-begun
 returns-then-is_err-clause-begun g c =
     let r = c.loop-at.invariant.ran in
     record { said = r.said; told = c.reserve.ensures.said ∙ r.told; each = r.each; keeps = r.keeps }
+
+pub returns-clause-cost : goal.returns-clause-cost
+returns-clause-cost g c = let all = most_taken c.loop-at.at c.args.events.now in omega (arith, all, c.loop-at.invariant.cost)
+
+pub returns-then-is_err-clause-cost : goal.returns-then-is_err-clause-cost
+returns-then-is_err-clause-cost g c = let all = most_taken c.loop-at.at c.args.events.now in omega (arith, all, c.loop-at.invariant.cost)

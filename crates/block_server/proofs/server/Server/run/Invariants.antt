@@ -1,5 +1,7 @@
 use Rattle.std.proofs.Common.{◌+◌, ◌≤◌, take, vec_len}
 use Rattle.std.specs.Prelude.{IsSome}
+use Rattle.adapter.specs.Counted.{MakesAtMost}
+use Rattle.block_server.specs.Costs.{most_of_all}
 use Rattle.std.specs.Vec.{vec_capacity}
 use Rattle.block_server.specs.Promise.{RunsAsPromised}
 use Rattle.block_server.specs.Sayings.{said_in}
@@ -11,4 +13,5 @@ invariant-loop-at g l = record {
   length : vec_len l.out.earlier ≤ vec_len l.fn.out.earlier + l.at;
   last : 1 ≤ l.at → IsSome l.out.last;
   room : vec_capacity l.fn.out.earlier ≤ vec_capacity l.out.earlier;
+  cost : MakesAtMost (most_of_all (take l.at l.events)) (g.A.Adapter.access_count l.fn.self.adapter) (g.A.Adapter.access_count l.self.adapter);
 }

@@ -31,6 +31,7 @@ loop-number-preserved g c =
             ports = λ q more. w.serve_port.ensures.ports q (λ same. omega (arith, more, same)) ∙ so_far.ports q (omega (arith, more));
             room = w.serve_port.ensures.room;
             on = w.serve_port.ensures.on;
+            cost = omega (arith, so_far.cost, w.serve_port.ensures.cost);
           })
       | in-Unready w ↦ rw (w.self-is, w.replies-is) (record {
         rest = λ later new more.
@@ -39,12 +40,14 @@ loop-number-preserved g c =
         ports = λ q more. w.try_port.ensures.ports q (λ same. omega (arith, more, same)) ∙ so_far.ports q (omega (arith, more));
         room = let same = ap length w.try_port.ensures.book in let room = so_far.room in omega (arith, same, room);
         on = w.try_port.ensures.on;
+        cost = omega (arith, so_far.cost, w.try_port.ensures.cost);
       })
       | in-Unserved w ↦ rw (w.self-is, w.replies-is) (record {
         rest = λ later new more. so_far.rest later new (no_turn ServesPort TriesUnready ports c.loop-number.number low s new later w.in-Unserved.is more);
         ports = λ q more. so_far.ports q (omega (arith, more));
         room = so_far.room;
         on = so_far.on;
+        cost = omega (arith, so_far.cost);
       })
     ]
 
@@ -82,4 +85,5 @@ loop-number-init g c =
       ports = λ q more. ap (λ (found : List Found). found_of found q) (sym ports);
       room = let all = c.the_book_stays_in_order.ensures.all c.self.inside.book (now_on g.A.Adapter.device refl c.if-self.false c.self.invariant).kept.ordered in let none = ap length c.clear.ensures in omega (arith, all, none, same);
       on = sym (ap (λ (v : ServerView g.row.A.Denot). v.stuck) c.self.view_is) ∙ c.if-self.false;
+      cost = let same = ap (λ (v : ServerView g.row.A.Denot). g.A.Adapter.access_count v.adapter) c.self.view_is in omega (arith, same);
     }

@@ -1,4 +1,6 @@
-use Rattle.std.proofs.Common.{ℕ, ◌≡◌, ◌+◌, ◌≤◌, ◌++◌, false, List, drop, length}
+use Rattle.std.proofs.Common.{ℕ, ◌≡◌, ◌+◌, ◌*◌, ◌≤◌, ◌++◌, false, List, drop, length}
+use Rattle.adapter.specs.Counted.{MakesAtMost}
+use Rattle.block_server.specs.Costs.{TURN_ACCESSES}
 use Rattle.host_boot.specs.Taken.{found_of}
 use Rattle.ata_types.specs.declared.request.Reply.{Reply}
 use Rattle.ata_types.specs.declared.limits.TheConstants.{MOST_UNANSWERED}
@@ -14,4 +16,5 @@ invariant-loop-number g l = record {
   ports : (q : ℕ) → l.number ≤ q → found_of l.self.ports q ≡ found_of l.ports q;
   room : length l.replies.items + length l.self.book ≤ MOST_UNANSWERED;
   on : l.self.stuck ≡ false;
+  cost : MakesAtMost (TURN_ACCESSES * l.number) (g.A.Adapter.access_count l.fn.self.adapter) (g.A.Adapter.access_count l.self.adapter);
 }

@@ -36,6 +36,7 @@ loop-place-preserved-in_default g c =
       room = so_far.room;
       on = so_far.on;
       settled = so_far.settled;
+      cost = omega (arith, so_far.cost);
     }
 
 pub tick_port-requires-clause-ready : goal.tick_port-requires-clause-ready
@@ -65,6 +66,7 @@ loop-place-preserved g c =
       room = c.tick_port.ensures.room;
       on = c.tick_port.ensures.on;
       settled = c.tick_port.ensures.settled;
+      cost = omega (arith, so_far.cost, c.tick_port.ensures.cost);
     }
 
 -- the ports had their turns
@@ -120,4 +122,5 @@ loop-place-init g c =
           let none = ap length c.clear.ensures in omega (arith, all, none);
       on = c.grow_older-overdue.ensures.on;
       settled = c.grow_older-overdue.ensures.settled;
+      cost = omega (arith, c.grow_older-overdue.ensures.cost);
     }

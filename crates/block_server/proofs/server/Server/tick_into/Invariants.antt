@@ -1,4 +1,7 @@
-use Rattle.std.proofs.Common.{ℕ, ◌≡◌, ◌+◌, ◌≤◌, ◌++◌, false, List, drop, length}
+use Rattle.std.proofs.Common.{ℕ, ◌≡◌, ◌+◌, ◌*◌, ◌≤◌, ◌++◌, false, List, drop, length}
+use Rattle.adapter.specs.Counted.{MakesAtMost}
+use Rattle.block_server.specs.Costs.{trouble_accesses}
+use Rattle.port_look.specs.declared.Trouble.TheVariants.{Hung}
 use Rattle.host_boot.specs.Taken.{found_of}
 use Rattle.ata_types.specs.declared.request.Reply.{Reply}
 use Rattle.ata_types.specs.declared.limits.TheConstants.{MOST_UNANSWERED}
@@ -14,5 +17,6 @@ invariant-loop-place g l = record {
   ports : (q : ℕ) → l.place ≤ q → found_of l.self.ports q ≡ found_of l.ports q;
   room : length l.replies.items + length l.self.book ≤ MOST_UNANSWERED;
   on : l.self.stuck ≡ false;
+  cost : MakesAtMost (trouble_accesses Hung * l.place) (g.A.Adapter.access_count l.fn.self.adapter) (g.A.Adapter.access_count l.self.adapter);
   settled : IsSettled (server_of g.A.Adapter.device l.self);
 }

@@ -1,0 +1,79 @@
+-- How many accesses of its adapter each call of a server makes, at most, whatever the device does.
+use Rattle.ata_types.specs.declared.limits.TheConstants.{PORTS, SLOTS}
+use Rattle.std.specs.Prelude.{ℕ, ◌+◌, ◌*◌, List, [], ◌∷◌}
+use Rattle.block_server.specs.declared.types.Event.{Event}
+use Rattle.block_server.specs.declared.types.Event.TheVariants.{Submit, ClientStore, ClientLoad, Service, Tick, Reset, Revoke, State, Device as Step}
+use Rattle.error_recovery.specs.Costs.{RECOVER_ACCESSES}
+use Rattle.host_boot.specs.Costs.{BOOT_AGAIN_ACCESSES, BOOT_IF_THERE_ACCESSES, RESET_ACCESSES, TAKE_OVER_ACCESSES}
+use Rattle.ncq.specs.Costs.{DONE_ACCESSES, ISSUE_ACCESSES}
+use Rattle.port_control.specs.Costs.{STOP_ACCESSES}
+use Rattle.port_look.specs.Costs.{LOOK_ACCESSES}
+use Rattle.port_look.specs.declared.Trouble.{Trouble}
+use Rattle.port_look.specs.declared.Trouble.TheVariants.{Failed, Hung, Lost}
+
+-- ---- the parts of calls
+
+-- what is due on a port is issued: a request in each of its slots, at most
+abbrev pub ISSUES_ACCESSES : ℕ
+ISSUES_ACCESSES = SLOTS * ISSUE_ACCESSES
+
+-- a port in such trouble is recovered where a command failed, and else stopped
+abbrev pub mending_accesses : Trouble → ℕ
+mending_accesses Failed = RECOVER_ACCESSES
+mending_accesses _ = STOP_ACCESSES
+
+-- and then it is booted: one whose disk was lost only where a device shows
+abbrev pub booting_accesses : Trouble → ℕ
+booting_accesses Lost = BOOT_IF_THERE_ACCESSES
+booting_accesses _ = BOOT_AGAIN_ACCESSES
+
+-- what is done is found out, the port is mended and booted, and what is due is issued
+abbrev pub trouble_accesses : Trouble → ℕ
+trouble_accesses trouble = DONE_ACCESSES + mending_accesses trouble + booting_accesses trouble + ISSUES_ACCESSES
+
+-- a port is looked at, and its trouble is a command that failed: no other turn of a port in a service has as many
+abbrev pub TURN_ACCESSES : ℕ
+TURN_ACCESSES = LOOK_ACCESSES + trouble_accesses Failed
+
+-- ---- the calls
+
+-- a new server takes its adapter over
+abbrev pub MOST_OF_NEW : ℕ
+MOST_OF_NEW = TAKE_OVER_ACCESSES
+
+-- a submit issues the request that it accepts, where that is due, and no other
+abbrev pub MOST_OF_SUBMIT : ℕ
+MOST_OF_SUBMIT = ISSUE_ACCESSES
+
+-- a service gives each port its turn
+abbrev pub MOST_OF_SERVICE : ℕ
+MOST_OF_SERVICE = PORTS * TURN_ACCESSES
+
+-- a tick mends each port that hangs
+abbrev pub MOST_OF_TICK : ℕ
+MOST_OF_TICK = PORTS * trouble_accesses Hung
+
+-- a reset ends, the adapter is taken over, and what is due on each port is issued
+abbrev pub MOST_OF_RESET : ℕ
+MOST_OF_RESET = RESET_ACCESSES + TAKE_OVER_ACCESSES + PORTS * ISSUES_ACCESSES
+
+-- a revocation issues what is due on the grant's port
+abbrev pub MOST_OF_REVOKE : ℕ
+MOST_OF_REVOKE = ISSUES_ACCESSES
+
+-- a call of a list: a client's bytes are stored or loaded by one access, and a step of the device is none
+abbrev pub most_of : Event → ℕ
+most_of (Submit request) = MOST_OF_SUBMIT
+most_of (ClientStore client frame offset bytes) = 1
+most_of (ClientLoad client frame offset length) = 1
+most_of Service = MOST_OF_SERVICE
+most_of Tick = MOST_OF_TICK
+most_of Reset = MOST_OF_RESET
+most_of (Revoke client number) = MOST_OF_REVOKE
+most_of (State port) = 0
+most_of (Step step) = 0
+
+-- all calls of a list
+abbrev pub most_of_all : List Event → ℕ
+most_of_all [] = 0
+most_of_all (event ∷ events) = most_of event + most_of_all events

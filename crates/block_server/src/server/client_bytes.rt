@@ -1,0 +1,91 @@
+// The calls by which a client's own bytes are stored and loaded.
+ghost use Rattle.std.specs.Prelude.{◌≡◌, ◌+◌, ◌*◌, IfErr, IfOk, length};
+
+use super::Server;
+use adapter::Adapter;
+use ata_types::{ClientId, FRAME_BYTES, Frame, MemFault};
+use server_history::laws::{client_bytes_add, open_bytes_are_free, refusals_add};
+use server_history::stalled::a_server_is_booked;
+
+impl<A: Adapter> Server<A> {
+    ghost use Rattle.adapter.specs.Counted.{MakesAtMost};
+    ghost use Rattle.block_machine.specs.Events.{LoadAt, StoreAt};
+    ghost use Rattle.block_machine.specs.Refusals.{IsFirstMemFault, IsOpen};
+    ghost use Rattle.block_server.specs.Calls.{LoadsFrame, StoresFrame};
+    ghost use Rattle.block_server.specs.View.{server_of};
+    ghost use Rattle.dma_frames.specs.Table.{lent_to, owner_of};
+    ghost use Rattle.server_history.specs.Histories.{AddsEvent, load_said, store_said};
+
+    /// Where in memory so many bytes of a client's own frame begin, from an offset in bytes on. The first that applies
+    /// of `FrameForeign`, `FrameLent` and `OutsideFrame` is told.
+    fn open(
+        &self,
+        client: ClientId,
+        frame: Frame,
+        offset: u32,
+        length: usize,
+    ) -> Result<u32, MemFault>
+        ensures ok { IfOk result (λ address. IsOpen (owner_of self.now.table) (lent_to self.now.table) client frame
+            offset length × (address ≡ FRAME_BYTES * frame.0 + offset)) }
+        ensures err { IfErr result (IsFirstMemFault (owner_of self.now.table) (lent_to self.now.table) client frame
+            offset length) }
+    {
+        if self.table.owner(frame) != Some(client) {
+            return Err(MemFault::FrameForeign);
+        }
+        if self.table.lent_to(frame).is_some() {
+            return Err(MemFault::FrameLent);
+        }
+        if offset as u128 + length as u128 > FRAME_BYTES as u128 {
+            return Err(MemFault::OutsideFrame);
+        }
+        Ok(FRAME_BYTES * frame.0 as u32 + offset)
+    }
+
+    /// Copies bytes into a client's own frame, from an offset in bytes on. Not while the frame is lent.
+    ///
+    /// The first that applies of `FrameForeign`, `FrameLent` and `OutsideFrame` is told, and then nothing changes, and
+    /// no access is made. No byte may go past the end of the frame; none at all may be stored there.
+    pub fn client_store(
+        &mut self,
+        client: ClientId,
+        frame: Frame,
+        offset: u32,
+        bytes: &[u8],
+    ) -> Result<(), MemFault>
+        ensures stores { StoresFrame A.device self.old self.new client frame offset bytes.now result }
+        ensures adds { AddsEvent (server_of A.device self.old) (server_of A.device self.new)
+            (StoreAt client frame offset bytes.now) (store_said result) }
+        ensures cost { MakesAtMost 1 (A.access_count self.old.adapter) (A.access_count self.new.adapter) }
+    {
+        refusals_add();
+        a_server_is_booked();
+        open_bytes_are_free();
+        client_bytes_add();
+        let address = self.open(client, frame, offset, bytes.len())?;
+        self.adapter.store(address, bytes);
+        Ok(())
+    }
+
+    /// Copies bytes of a client's own frame out, from an offset in bytes on. Not while the frame is lent.
+    pub fn client_load(
+        &mut self,
+        client: ClientId,
+        frame: Frame,
+        offset: u32,
+        out: &mut [u8],
+    ) -> Result<(), MemFault>
+        ensures loads { LoadsFrame A.device self.old self.new client frame offset out.old out.new result }
+        ensures adds { AddsEvent (server_of A.device self.old) (server_of A.device self.new)
+            (LoadAt client frame offset (length out.old)) (load_said result out.new) }
+        ensures cost { MakesAtMost 1 (A.access_count self.old.adapter) (A.access_count self.new.adapter) }
+    {
+        refusals_add();
+        a_server_is_booked();
+        open_bytes_are_free();
+        client_bytes_add();
+        let address = self.open(client, frame, offset, out.len())?;
+        self.adapter.load(address, out);
+        Ok(())
+    }
+}
