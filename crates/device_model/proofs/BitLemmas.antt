@@ -1,8 +1,10 @@
 -- Bits of `a | b` and `a & !b`, as functions of the place.
-use Rattle.std.proofs.Common.{ℕ, zero, suc, ◌≡◌, ◌<◌, ◌≤◌, ◌-◌, ◌^◌, ◌⊎◌, Bool, false, ap, ◌==◌, refl, sym, ◌∙◌, arith, min, inl, inr, ◌||◌, ◌&&◌, w32, ◌≢◌}
+use Rattle.std.proofs.Common.{ℕ, zero, suc, ◌≡◌, ◌<◌, ◌≤◌, ◌+◌, ◌-◌, ◌*◌, ◌/◌, ◌%◌, ◌^◌, ◌⊎◌, Bool, false, ap, ◌==◌, refl, sym, ◌∙◌, arith, min, inl, inr, ◌||◌, ◌&&◌, w32, ◌≢◌}
 use Rattle.std.specs.Prelude.{not, bit_and, bit_or}
 use Rattle.std.specs.Int.{bit_at, bit_not, trailing_zeros}
-use Rattle.std.proofs.lemmas.Nat.Bits.{bit_at_or, bit_at_and, bit_at-lt, bit_at_not, bit_at_above, bit_at-trailing_zeros}
+use Rattle.std.proofs.Math.Nat.{div-add-mod, div-eq_of_lt}
+use Rattle.std.proofs.lemmas.Nat.{mod_below, pow_pos}
+use Rattle.std.proofs.lemmas.Nat.Bits.{bit_at_or, bit_at_and, bit_at-lt, bit_at-suc, bit_at_not, bit_at_above, bit_at-trailing_zeros}
 use Rattle.std.proofs.lemmas.Bool.Decides.{eqb_tells}
 use Rattle.std.proofs.lemmas.Bool.{cases_lt}
 use Rattle.hba_regs.specs.Bits.{bit}
@@ -77,3 +79,32 @@ one_bit value new place set fits new_fits here others =
           | inl low ↦ others k low ne
           | inr high ↦ rw (bit_at_above new 32 k new_fits high, bit_at_above value 32 k fits high) refl
         ]
+
+-- a value that is shifted to zero has no bit set from there on
+pub shifted_clear : (value place k : ℕ) → value / 2 ^ place ≡ 0 → place ≤ k → bit value k ≡ false
+shifted_clear value place k gone high =
+    let whole : 2 ^ place * (value / 2 ^ place) + value % 2 ^ place ≡ value = div-add-mod value (2 ^ place) in
+    let none : 2 ^ place * 0 + value % 2 ^ place ≡ value = rw gone at whole in
+    let rest : value % 2 ^ place < 2 ^ place = mod_below value (2 ^ place) (pow_pos place) in
+    let small : value < 2 ^ place = omega (arith, none, rest) in
+    rw (bit_at_above value place k small high) refl
+
+-- a value of 32 bits with no bit set from a place on is below that power
+below_place : (value place : ℕ) → value < 2 ^ 32 → ((k : ℕ) → place ≤ k → bit value k ≡ false) → value < 2 ^ place
+below_place value zero fits none =
+    let nothing : value ≡ 0 = none_set value fits (λ k. none k (omega arith)) in
+    omega (arith, nothing)
+below_place value (suc place) fits none =
+    let split : 2 * (value / 2) + value % 2 ≡ value = div-add-mod value 2 in
+    let rest : value % 2 < 2 = mod_below value 2 (omega arith) in
+    let half : value / 2 < 2 ^ place =
+    below_place (value / 2) place (omega (arith, split, rest, fits))
+    (λ k high. ap (λ (b : ℕ). b == 1) (sym (bit_at-suc value k)) ∙ none (suc k) (omega (arith, high))) in
+    omega (arith, split, rest, half)
+
+-- a value of 32 bits with no bit set from a place on is shifted to zero
+pub clear_shifted : (value place : ℕ) → value < 2 ^ 32 → ((k : ℕ) → place ≤ k → bit value k ≡ false) →
+    value / 2 ^ place ≡ 0
+clear_shifted value place fits none =
+    let below : value < 2 ^ place = below_place value place fits none in
+    div-eq_of_lt below

@@ -1,17 +1,19 @@
 -- What is lasting stays so, as a sector is written whose old bytes are kept, and as old bytes are written back.
 use Rattle.std.proofs.Common.{ℕ, Bool, true, false, zero, suc, ◌≡◌, ◌≢◌, ◌<◌, ◌≤◌, ◌+◌, ◌∙◌, ◌⊎◌, take, List, [], ◌∷◌, ◌++◌, length, Option, None, Some, refl, sym, ap, subst, inl, inr, arith}
-use Rattle.std.specs.Prelude.{IfSome, All, if◌then◌else◌, is_some, nat_eq, option_map, slice_index_or, unwrap_or}
+use Rattle.std.specs.Prelude.{Contains, IfSome, if◌then◌else◌, is_some, nat_eq, option_map, slice_index_or, unwrap_or}
+use Rattle.std.proofs.lemmas.Bool.{cases_order}
 use Rattle.std.proofs.lemmas.Bool.Decides.{eqb_tells}
-use Rattle.std.proofs.lemmas.List.Elements.{All-from_get_or, All-head, All-tail}
 use Rattle.std.proofs.lemmas.Option.{same_Some}
 use Rattle.sector_store.specs.Stores.{FailsOn, replaced}
 use Rattle.sector_store.specs.declared.store.Failures.{Failures}
 use Rattle.device_model.proofs.Absurd.{fun_ext, some-none}
-use Rattle.device_model.proofs.OldSectors.{once}
-use Rattle.device_model.specs.Cached.{HasOldRoom, WritesBack, WritesOne, lasting_in}
+use Rattle.device_model.specs.Cached.{HasOldRoom, TurnsBack, WritesFail, lasting_in, sector_told}
 use Rattle.device_model.specs.declared.cache.Cache.{Cache}
-use Rattle.device_model.specs.OldSectors.{AreRising, KeepsOnly, no_old, old_of, with_old}
+use Rattle.device_model.specs.OldSectors.{AreRising, KeepsOnly, number_at, old_of, with_old}
 use Rattle.device_model.specs.declared.old_sectors.OldSector.{OldSector}
+
+below_or : (a b : ℕ) → (a < b) ⊎ (b ≤ a)
+below_or a b = elim (cases_order a b) [ inl same ↦ inr (omega (arith, same)) | inr other ↦ elim other [ inl lt ↦ inl lt | inr gt ↦ inr (omega (arith, gt)) ] ]
 
 same_one : (k : ℕ) → nat_eq k k ≡ true
 same_one k = elim (eqb_tells k k) [ inl same ↦ same.0 | inr other ↦ absurd (other.1 refl) ]
@@ -98,62 +100,270 @@ put_lasts was now k put told then_told noted on lasts written done puts kept = b
 
 -- ---- old bytes are written back
 
+-- A store was told to write an old sector back. It did, or that call failed; or there is no such sector.
+abbrev pub WritesOne : {S : Type 0} → (S → ℕ) → (S → Option (ℕ → List ℕ)) → (S → Option Failures) → OldSector → S → S → Type 0
+WritesOne size told failures old was now = (size now ≡ size was)
+    × (((old.sector < size was) × (told now ≡ option_map (λ f. replaced f old.sector old.bytes) (told was)) × (failures now ≡ failures was))
+    ⊎ (((old.sector < size was) × (told now ≡ told was) × FailsOn true old.sector (failures was) (failures now))
+    ⊎ ((size was ≤ old.sector) × (told now ≡ told was) × (failures now ≡ failures was))))
+
+-- these old sectors were written back one after another, in their order
+abbrev pub WritesBack : {S : Type 0} → (S → ℕ) → (S → Option (ℕ → List ℕ)) → (S → Option Failures) → List OldSector → S → S → Type 0
+WritesBack size told failures [] was now = now ≡ was
+WritesBack {S} size told failures (old ∷ rest) was now = (mid : S) × WritesOne size told failures old was mid × WritesBack size told failures rest mid now
+
 -- one more of them
 pub writes_more : {S : Type 0} (size : S → ℕ) (told : S → Option (ℕ → List ℕ)) (failures : S → Option Failures) (olds : List OldSector) (old : OldSector) (was mid now : S) →
     WritesBack size told failures olds was mid → WritesOne size told failures old mid now → WritesBack size told failures (olds ++ old ∷ []) was now
 writes_more size told failures [] old was mid now same one = (now, subst (λ x. WritesOne size told failures old x now) same one, refl)
 writes_more size told failures (o ∷ olds) old was mid now back one = (back.0, back.1, writes_more size told failures olds old back.0 mid now back.2 one)
 
+-- ---- what rises, after its first
+
+rest_rises : (o : OldSector) (olds : List OldSector) → AreRising (o ∷ olds) → AreRising olds
+rest_rises o olds rising i j lt inside = rising (suc i) (suc j) (omega (arith, lt)) (omega (arith, inside))
+
+-- all have this number at least
+abbrev AreFrom : ℕ → List OldSector → Type 0
+AreFrom low olds = (k : ℕ) → k < length olds → low ≤ number_at olds k
+
+rest_higher : (o : OldSector) (olds : List OldSector) → AreRising (o ∷ olds) → AreFrom (o.sector + 1) olds
+rest_higher o olds rising k inside = let up : o.sector < number_at olds k = rising 0 (suc k) (omega arith) (omega (arith, inside)) in omega (arith, up)
+
+-- what is lower has no old bytes
+lower_none : (olds : List OldSector) (low k : ℕ) → AreFrom low olds → k < low → old_of olds k ≡ None
+lower_none [] low k from lt = refl
+lower_none (o ∷ olds) low k from lt =
+    let first : low ≤ o.sector = from 0 (omega arith) in
+    let ne : o.sector ≢ k = λ same. omega (arith, first, lt, same) in
+    ap (λ b. if b then Some o.bytes else old_of olds k) (apart o.sector k ne)
+    ∙ lower_none olds low k (λ i inside. from (suc i) (omega (arith, inside))) lt
+
+-- ---- what a list contains
+
+none_there : (k : ℕ) → Contains [] k → ⊥
+none_there k at = omega (arith, at.1)
+
+more_there : (s k : ℕ) (l : List ℕ) → Contains l k → Contains (s ∷ l) k
+more_there s k l (i, inside, is) = (suc i, omega (arith, inside), is)
+
+first_there : (s : ℕ) (l : List ℕ) → Contains (s ∷ l) s
+first_there s l = (0, omega arith, refl)
+
+there_cases : (s k : ℕ) (l : List ℕ) → Contains (s ∷ l) k → (s ≡ k) ⊎ Contains l k
+there_cases s k l (zero, inside, is) = inl is
+there_cases s k l (suc i, inside, is) = inr (i, omega (arith, inside), is)
+
+pub is_there : (l : List ℕ) (k : ℕ) → Contains l k ⊎ (Contains l k → ⊥)
+is_there [] k = inr (none_there k)
+is_there (s ∷ l) k =
+    elim (eqb_tells s k) [
+      | inl same ↦ inl (subst (λ n. Contains (s ∷ l) n) same.1 (first_there s l))
+      | inr other ↦ elim (is_there l k) [
+        | inl at ↦ inl (more_there s k l at)
+        | inr never ↦ inr (λ at. elim (there_cases s k l at) [ inl is ↦ other.1 is | inr rest ↦ never rest ])
+      ]
+    ]
+
+-- ---- a sector after them all
+
+-- the same sector of a store that has replaced another one
+told_other : (told : Option (ℕ → List ℕ)) (s k : ℕ) (bytes : List ℕ) → k ≢ s → sector_told (option_map (λ f. replaced f s bytes) told) k ≡ sector_told told k
+told_other None s k bytes ne = refl
+told_other (Some f) s k bytes ne = ap Some (written_other f s k bytes ne)
+
+-- what an old sector says of others is what those after it say
+after_other : (o : OldSector) (olds : List OldSector) (told : Option (ℕ → List ℕ)) (k : ℕ) → k ≢ o.sector →
+    sector_told (option_map (with_old olds) told) k ≡ sector_told (option_map (with_old (o ∷ olds)) told) k
+after_other o olds None k ne = refl
+after_other o olds (Some f) k ne =
+    ap (λ (x : Option (List ℕ)). Some (unwrap_or x (f k))) (sym (ap (λ b. if b then Some o.bytes else old_of olds k) (apart o.sector k (λ same. ne (sym same)))))
+
+-- one that has none is as the store tells
+told_none : (olds : List OldSector) (told : Option (ℕ → List ℕ)) (k : ℕ) → old_of olds k ≡ None → sector_told (option_map (with_old olds) told) k ≡ sector_told told k
+told_none olds None k none = refl
+told_none olds (Some f) k none = ap (λ (x : Option (List ℕ)). Some (unwrap_or x (f k))) none
+
+-- one that was put back has its old bytes
+put_here : (o : OldSector) (olds : List OldSector) (told : Option (ℕ → List ℕ)) → old_of olds o.sector ≡ None →
+    sector_told (option_map (with_old olds) (option_map (λ f. replaced f o.sector o.bytes) told)) o.sector ≡ sector_told (option_map (with_old (o ∷ olds)) told) o.sector
+put_here o olds None none = refl
+put_here o olds (Some f) none =
+    ap (λ (x : Option (List ℕ)). Some (unwrap_or x (replaced f o.sector o.bytes o.sector))) none
+    ∙ (ap Some (written_here f o.sector o.bytes)
+    ∙ sym (ap (λ b. Some (unwrap_or (if b then Some o.bytes else old_of olds o.sector) (f o.sector))) (same_one o.sector)))
+
+-- and another one is as if the store hadn't replaced that
+put_there : (o : OldSector) (olds : List OldSector) (told : Option (ℕ → List ℕ)) (k : ℕ) → k ≢ o.sector →
+    sector_told (option_map (with_old olds) (option_map (λ f. replaced f o.sector o.bytes) told)) k ≡ sector_told (option_map (with_old (o ∷ olds)) told) k
+put_there o olds None k ne = refl
+put_there o olds (Some f) k ne =
+    ap (λ (x : List ℕ). Some (unwrap_or (old_of olds k) x)) (written_other f o.sector k o.bytes ne) ∙ after_other o olds (Some f) k ne
+
+-- ---- they all
+
+module _ {S : Type 0} (size : S → ℕ) (told : S → Option (ℕ → List ℕ)) (failures : S → Option Failures) where
+  -- a store has turned back into what these say, none of which has a lower number
+  record Turned (low : ℕ) (olds : List OldSector) (was now : S) : Type 0 where
+    failed : List ℕ
+    low_none : (k : ℕ) → Contains failed k → low ≤ k
+    few : 1 ≤ length failed → length failed + low ≤ size was
+    fails : WritesFail failed (failures was) (failures now)
+    sized : size now ≡ size was
+    back : (k : ℕ) → k < size was → (Contains failed k → ⊥) → sector_told (told now) k ≡ sector_told (option_map (with_old olds) (told was)) k
+    left : (k : ℕ) → (size was ≤ k) ⊎ Contains failed k → sector_told (told now) k ≡ sector_told (told was) k
+
+  -- one before them was put back
+  module _ (o : OldSector) (olds : List OldSector) (low : ℕ) (first : low ≤ o.sector) (high : AreFrom (o.sector + 1) olds) (was mid now : S) (same : size mid ≡ size was)
+      (rested : Turned (o.sector + 1) olds mid now) where
+    absent : old_of olds o.sector ≡ None
+    absent = lower_none olds (o.sector + 1) o.sector high (omega arith)
+
+    low_then : (k : ℕ) → Contains rested.failed k → low ≤ k
+    low_then k at = let up = rested.low_none k at in omega (arith, up, first)
+
+    few_then : 1 ≤ length rested.failed → length rested.failed + low ≤ size was
+    few_then some = let up = rested.few some in omega (arith, up, first, same)
+
+    turned_put : o.sector < size was → told mid ≡ option_map (λ f. replaced f o.sector o.bytes) (told was) → failures mid ≡ failures was → Turned low (o ∷ olds) was now
+    turned_put inside put serves =
+        record {
+          failed = rested.failed;
+          low_none = low_then;
+          few = few_then;
+          fails = subst (λ x. WritesFail rested.failed x (failures now)) serves rested.fails;
+          sized = rested.sized ∙ same;
+          back = λ k lt never. rested.back k (omega (arith, lt, same)) never ∙ (ap (λ x. sector_told (option_map (with_old olds) x) k) put ∙ here k (eqb_tells k o.sector));
+          left = λ k out. rested.left k (elim out [ inl past ↦ inl (omega (arith, past, same)) | inr at ↦ inr at ]) ∙ (ap (λ x. sector_told x k) put ∙ told_other (told was) o.sector k o.bytes (other k out));
+        }
+      where
+        here : (k : ℕ) → ((nat_eq k o.sector ≡ true) × (k ≡ o.sector)) ⊎ ((nat_eq k o.sector ≡ false) × (k ≢ o.sector)) →
+            sector_told (option_map (with_old olds) (option_map (λ f. replaced f o.sector o.bytes) (told was))) k ≡ sector_told (option_map (with_old (o ∷ olds)) (told was)) k
+        here k (inl is) =
+            subst (λ n. sector_told (option_map (with_old olds) (option_map (λ f. replaced f o.sector o.bytes) (told was))) n ≡ sector_told (option_map (with_old (o ∷ olds)) (told was)) n) (sym is.1) (put_here o olds (told was) absent)
+        here k (inr is) = put_there o olds (told was) k is.1
+
+        other : (k : ℕ) → (size was ≤ k) ⊎ Contains rested.failed k → k ≢ o.sector
+        other k (inl past) is = omega (arith, past, inside, is)
+        other k (inr at) is = let up = rested.low_none k at in omega (arith, up, is)
+
+    turned_failed : o.sector < size was → told mid ≡ told was → FailsOn true o.sector (failures was) (failures mid) → Turned low (o ∷ olds) was now
+    turned_failed inside kept fails =
+        record {
+          failed = o.sector ∷ rested.failed;
+          low_none = λ k at. elim (there_cases o.sector k rested.failed at) [ inl is ↦ omega (arith, first, is) | inr rest ↦ low_then k rest ];
+          few = λ _. few_more rested.failed rested.few;
+          fails = (failures mid, fails, rested.fails);
+          sized = rested.sized ∙ same;
+          back = λ k lt never.
+              rested.back k (omega (arith, lt, same)) (λ at. never (more_there o.sector k rested.failed at))
+              ∙ (ap (λ x. sector_told (option_map (with_old olds) x) k) kept
+              ∙ after_other o olds (told was) k (λ is. never (subst (λ n. Contains (o.sector ∷ rested.failed) n) (sym is) (first_there o.sector rested.failed))));
+          left = λ k out. left_so k out ∙ ap (λ x. sector_told x k) kept;
+        }
+      where
+        few_more : (l : List ℕ) → (1 ≤ length l → length l + (o.sector + 1) ≤ size mid) → length (o.sector ∷ l) + low ≤ size was
+        few_more [] few = omega (arith, inside, first)
+        few_more (s ∷ l) few = let up : length (s ∷ l) + (o.sector + 1) ≤ size mid = few (omega arith) in omega (arith, up, first, same)
+
+        itself : sector_told (told now) o.sector ≡ sector_told (told mid) o.sector
+        itself =
+            rested.back o.sector (omega (arith, inside, same)) (λ at. let up = rested.low_none o.sector at in omega (arith, up))
+            ∙ told_none olds (told mid) o.sector absent
+
+        left_so : (k : ℕ) → (size was ≤ k) ⊎ Contains (o.sector ∷ rested.failed) k → sector_told (told now) k ≡ sector_told (told mid) k
+        left_so k (inl past) = rested.left k (inl (omega (arith, past, same)))
+        left_so k (inr at) =
+            elim (there_cases o.sector k rested.failed at) [
+              | inl is ↦ subst (λ n. sector_told (told now) n ≡ sector_told (told mid) n) is itself
+              | inr rest ↦ rested.left k (inr rest)
+            ]
+
+    turned_past : size was ≤ o.sector → told mid ≡ told was → failures mid ≡ failures was → Turned low (o ∷ olds) was now
+    turned_past past kept serves =
+        record {
+          failed = rested.failed;
+          low_none = low_then;
+          few = few_then;
+          fails = subst (λ x. WritesFail rested.failed x (failures now)) serves rested.fails;
+          sized = rested.sized ∙ same;
+          back = λ k lt never.
+              rested.back k (omega (arith, lt, same)) never
+              ∙ (ap (λ x. sector_told (option_map (with_old olds) x) k) kept ∙ after_other o olds (told was) k (λ is. omega (arith, past, lt, is)));
+          left = λ k out. rested.left k (elim out [ inl up ↦ inl (omega (arith, up, same)) | inr at ↦ inr at ]) ∙ ap (λ x. sector_told x k) kept;
+        }
+
+    turned_one : WritesOne size told failures o was mid → Turned low (o ∷ olds) was now
+    turned_one one =
+        elim one.1 [
+          | inl put ↦ turned_put put.0 put.1 put.2
+          | inr rest ↦ elim rest [ inl failed ↦ turned_failed failed.0 failed.1 failed.2 | inr past ↦ turned_past past.0 past.1 past.2 ]
+        ]
+
+  turned : (olds : List OldSector) (low : ℕ) → AreRising olds → AreFrom low olds → (was now : S) → WritesBack size told failures olds was now → Turned low olds was now
+  turned [] low rising from was now same =
+      record {
+        failed = [];
+        low_none = λ k at. absurd (none_there k at);
+        few = λ some. absurd (omega (arith, some));
+        fails = ap failures same;
+        sized = ap size same;
+        back = λ k lt never. ap (λ (s : S). sector_told (told s) k) same ∙ sym (told_none [] (told was) k refl);
+        left = λ k out. ap (λ (s : S). sector_told (told s) k) same;
+      }
+  turned (o ∷ olds) low rising from was now (mid, one, back) =
+      let high : AreFrom (o.sector + 1) olds = rest_higher o olds rising in
+      turned_one o olds low (from 0 (omega arith)) high was mid now one.0
+      (turned olds (o.sector + 1) (rest_rises o olds rising) high mid now back) one
+
+  pub writes_turn : (olds : List OldSector) → AreRising olds → (was now : S) → WritesBack size told failures olds was now →
+      TurnsBack size told failures (option_map (with_old olds) (told was)) was now
+  writes_turn olds rising was now back =
+      let t = turned olds 0 rising (λ _ _. omega arith) was now back in
+      record {
+        failed = t.failed;
+        few = few_of t.failed t.few;
+        fails = t.fails;
+        sized = t.sized;
+        back = t.back;
+        left = t.left;
+      }
+    where
+      few_of : (l : List ℕ) → (1 ≤ length l → length l + 0 ≤ size was) → length l ≤ size was
+      few_of [] few = omega arith
+      few_of (s ∷ l) few = let up : length (s ∷ l) + 0 ≤ size was = few (omega arith) in omega (arith, up)
+
+  -- each sector is as it was, or as it was to be
+  pub turned_each : (into : Option (ℕ → List ℕ)) (was now : S) → TurnsBack size told failures into was now → (k : ℕ) →
+      (sector_told (told now) k ≡ sector_told (told was) k) ⊎ (sector_told (told now) k ≡ sector_told into k)
+  turned_each into was now t k =
+      elim (is_there t.failed k) [
+        | inl at ↦ inl (t.left k (inr at))
+        | inr never ↦ elim (below_or k (size was)) [ inl lt ↦ inr (t.back k lt never) | inr past ↦ inl (t.left k (inl past)) ]
+      ]
+
 -- each sector is as it was, or has its old bytes
 abbrev pub IsBack : List OldSector → (was now : ℕ → List ℕ) → Type 0
 IsBack olds was now = (k : ℕ) → (now k ≡ was k) ⊎ (old_of olds k ≡ Some (now k))
-
-back_one : (olds : List OldSector) (old : OldSector) (was now : ℕ → List ℕ) → old_of olds old.sector ≡ Some old.bytes → IsBack olds was now →
-    IsBack olds was (replaced now old.sector old.bytes)
-back_one olds old was now there back k =
-    elim (eqb_tells k old.sector) [
-      | inl here ↦
-          let put = replaced now old.sector old.bytes in
-          inr (subst (λ n. old_of olds n ≡ Some (put n)) (sym here.1) (there ∙ ap Some (sym (written_here now old.sector old.bytes))))
-      | inr apart ↦
-          let same = written_other now old.sector k old.bytes apart.1 in
-          elim (back k) [ inl kept ↦ inl (same ∙ kept) | inr put ↦ inr (put ∙ ap Some (sym same)) ]
-    ]
 
 -- what a store tells then
 abbrev pub TellsBack : List OldSector → (was now : Option (ℕ → List ℕ)) → Type 0
 TellsBack olds was now = ((was ≡ None) × (now ≡ None)) ⊎ ((f : ℕ → List ℕ) × (g : ℕ → List ℕ) × (was ≡ Some f) × (now ≡ Some g) × IsBack olds f g)
 
-tells_same : (olds : List OldSector) (was : Option (ℕ → List ℕ)) → TellsBack olds was was
-tells_same olds None = inl (refl, refl)
-tells_same olds (Some f) = inr (f, f, refl, refl, λ k. inl refl)
+each_back : (olds : List OldSector) (was now : Option (ℕ → List ℕ)) →
+    ((k : ℕ) → (sector_told now k ≡ sector_told was k) ⊎ (sector_told now k ≡ sector_told (option_map (with_old olds) was) k)) → TellsBack olds was now
+each_back olds None None each = inl (refl, refl)
+each_back olds None (Some g) each = absurd (elim (each 0) [ inl same ↦ some-none refl same | inr back ↦ some-none refl back ])
+each_back olds (Some f) None each = absurd (elim (each 0) [ inl same ↦ some-none refl (sym same) | inr back ↦ some-none refl (sym back) ])
+each_back olds (Some f) (Some g) each = inr (f, g, refl, refl, λ k. elim (each k) [ inl same ↦ inl (same_Some (g k) (f k) same) | inr back ↦ by k (old_of olds k) refl (same_Some (g k) (with_old olds f k) back) ])
+  where
+    by : (k : ℕ) (x : Option (List ℕ)) → old_of olds k ≡ x → g k ≡ with_old olds f k → (g k ≡ f k) ⊎ (old_of olds k ≡ Some (g k))
+    by k (Some b) has is = inr (has ∙ ap Some (sym (is ∙ ap (λ (x : Option (List ℕ)). unwrap_or x (f k)) has)))
+    by k None none is = inl (is ∙ ap (λ (x : Option (List ℕ)). unwrap_or x (f k)) none)
 
-tells_put : (olds : List OldSector) (old : OldSector) (was mid now : Option (ℕ → List ℕ)) → old_of olds old.sector ≡ Some old.bytes → TellsBack olds was mid →
-    now ≡ option_map (λ f. replaced f old.sector old.bytes) mid → TellsBack olds was now
-tells_put olds old was mid now there (inl none) put = inl (none.0, put ∙ ap (option_map (λ f. replaced f old.sector old.bytes)) none.1)
-tells_put olds old was mid now there (inr (f, g, is, at, back)) put =
-    inr (f, replaced g old.sector old.bytes, is, put ∙ ap (option_map (λ f. replaced f old.sector old.bytes)) at, back_one olds old f g there back)
-
-module _ {S : Type 0} (size : S → ℕ) (told : S → Option (ℕ → List ℕ)) (failures : S → Option Failures) (olds : List OldSector) where
-  each_tells : (some : List OldSector) (first was now : S) → All (λ (o : OldSector). old_of olds o.sector ≡ Some o.bytes) some → WritesBack size told failures some was now →
-      TellsBack olds (told first) (told was) → TellsBack olds (told first) (told now)
-  each_tells [] first was now there same so = subst (λ x. TellsBack olds (told first) (told x)) (sym same) so
-  each_tells (o ∷ rest) first was now there (mid, one, back) so =
-      let P : OldSector → Type 0 = λ o. old_of olds o.sector ≡ Some o.bytes in
-      each_tells rest first mid now (All-tail P o rest there) back (by one.1)
-    where
-      by : ((told mid ≡ option_map (λ f. replaced f o.sector o.bytes) (told was)) × (failures mid ≡ failures was))
-          ⊎ ((told mid ≡ told was) × (o.sector < size was → FailsOn true o.sector (failures was) (failures mid))) → TellsBack olds (told first) (told mid)
-      by (inl put) = let P : OldSector → Type 0 = λ o. old_of olds o.sector ≡ Some o.bytes in tells_put olds o (told first) (told was) (told mid) (All-head P o rest there) so put.0
-      by (inr failed) = subst (λ x. TellsBack olds (told first) x) (sym failed.0) so
-
-  pub back_size : (some : List OldSector) (was now : S) → WritesBack size told failures some was now → size now ≡ size was
-  back_size [] was now same = ap size same
-  back_size (o ∷ rest) was now (mid, one, back) = back_size rest mid now back ∙ one.0
-
-  pub back_tells : AreRising olds → (was now : S) → WritesBack size told failures olds was now → TellsBack olds (told was) (told now)
-  back_tells rising was now back =
-      each_tells olds was was now (All-from_get_or (λ (o : OldSector). old_of olds o.sector ≡ Some o.bytes) olds no_old (λ k inside. once olds rising k inside)) back (tells_same olds (told was))
+pub turned_tells : {S : Type 0} (size : S → ℕ) (told : S → Option (ℕ → List ℕ)) (failures : S → Option Failures) (olds : List OldSector) (was now : S) →
+    TurnsBack size told failures (option_map (with_old olds) (told was)) was now → TellsBack olds (told was) (told now)
+turned_tells size told failures olds was now t = each_back olds (told was) (told now) (turned_each size told failures (option_map (with_old olds) (told was)) was now t)
 
 -- so they tell as before
 pub back_some : (olds : List OldSector) (was now : Option (ℕ → List ℕ)) → TellsBack olds was now → is_some now ≡ is_some was
@@ -197,10 +407,12 @@ take_more (o ∷ olds) (suc place) d inside =
 
 -- what a write has made of a store
 pub wrote_one : {S : Type 0} (size : S → ℕ) (told : S → Option (ℕ → List ℕ)) (failures : S → Option Failures) (old : OldSector) (done : Bool) (was now : S) → size now ≡ size was →
-    (done ≡ true → told now ≡ option_map (λ f. replaced f old.sector old.bytes) (told was)) → (done ≡ true → failures now ≡ failures was) → (done ≡ false → told now ≡ told was) →
+    (done ≡ true → old.sector < size was) → (done ≡ true → told now ≡ option_map (λ f. replaced f old.sector old.bytes) (told was)) →
+    ((done ≡ true) ⊎ (size was ≤ old.sector) → failures now ≡ failures was) → (done ≡ false → told now ≡ told was) →
     (done ≡ false → old.sector < size was → FailsOn true old.sector (failures was) (failures now)) → WritesOne size told failures old was now
-wrote_one size told failures old true was now sized puts serves kept fails = (sized, inl (puts refl, serves refl))
-wrote_one size told failures old false was now sized puts serves kept fails = (sized, inr (kept refl, fails refl))
+wrote_one size told failures old true was now sized inside puts serves kept fails = (sized, inl (inside refl, puts refl, serves (inl refl)))
+wrote_one size told failures old false was now sized inside puts serves kept fails =
+    (sized, inr (elim (below_or old.sector (size was)) [ inl lt ↦ inl (lt, kept refl, fails refl lt) | inr past ↦ inr (past, kept refl, serves (inr past)) ]))
 
 -- where there is room for some, there is for fewer
 pub less_room : (c : Cache) (more less : ℕ) → less ≤ more → HasOldRoom c more → HasOldRoom c less

@@ -13,7 +13,7 @@ use Rattle.adapter.specs.Steps.{Can, Steps}
 use Rattle.adapter.specs.Steps.Step.{Fault}
 use Rattle.sector_store.specs.declared.store.Failures.{Failures}
 use Rattle.device_model.specs.Does.{AnswersStep, AsksStore, ClearsFewer, Completes, Did, FailsToClear, FailsToMove, GoesOnSo, HasFailed, IsLeftOut, LacksMemory, NeedsAddresses, NoneFails, StepKeeps, Possible, asked_port, says_failed}
-use Rattle.device_model.specs.Disks.{bay_of, caches, disk_in, disk_of, failures_of, identity_of, says_of, which_of}
+use Rattle.device_model.specs.Disks.{bay_of, caches, disk_in_bay, disk_of, failures_of, identity_of, says_of, which_of}
 use Rattle.device_model.specs.Modelled.{device_at}
 use Rattle.device_model.specs.Paged.{GainsPages}
 use Rattle.device_model.proofs.TwoDisks.{each_port, failures_kept, identity_kept}
@@ -180,7 +180,7 @@ module _ {S : Type 0} (size : S → ℕ) (told : S → Option (ℕ → List ℕ)
       others q ne = step.others q (λ is. ne (is ∙ at))
 
       disks : (q : ℕ) (which : Which) → disk_of new q which ≡ disk_of mid q which
-      disks q which = each_port (option_map (λ (x : Bay S). disk_in x which)) mid new p.0 (of_port (λ m k. disk_of m k which) (step.disks which)) others q
+      disks q which = each_port (option_map (λ (x : Bay S). disk_in_bay x which)) mid new p.0 (of_port (λ m k. disk_of m k which) (step.disks which)) others q
 
       unserved : (device_at size told old).size ≤ 2 ^ 32 → ⊥
       unserved small_enough = room (step.why (needs small_enough) possible).0

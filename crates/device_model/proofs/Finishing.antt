@@ -14,7 +14,7 @@ use Rattle.adapter.specs.declared.command.Operation.TheVariants.{Trim}
 use Rattle.device_model.proofs.Absurd.{some-none, some_one, true-false}
 use Rattle.device_model.proofs.Places.{changed_same}
 use Rattle.adapter.proofs.SaysLemmas.{says_meaning, says_places}
-use Rattle.device_model.specs.Does.{HasCleared, HasEnded}
+use Rattle.device_model.specs.Does.{HasCleared, HasEndedSlot}
 use Rattle.device_model.specs.Finishing.{HasDisk, HasMove, IsCovered, IsGoing, MayFinish}
 use Rattle.device_model.specs.Sent.{SendsEnd}
 use Rattle.device_model.specs.Slots.{CanClear, HoldsAt, IsNext}
@@ -216,7 +216,7 @@ module _ (port slot : ℕ) where
   no_more_going true since new goes same = let g = goes refl in no_more_after (suc g.0) since new g.1
   no_more_going false since new goes same = subst (IsIssuedNoMore since) (sym (same refl)) (no_more_yet since)
 
-  pub done_ended : (since old new : Device) → IsIssuedNoMore since old → Ends (SendsEnd slot) port slot old new → HasEnded since new port slot
+  pub done_ended : (since old new : Device) → IsIssuedNoMore since old → Ends (SendsEnd slot) port slot old new → HasEndedSlot since new port slot
   done_ended since old new was e =
       let f : DoesDone port slot old e.mid = e.done in
       let o : Operation = f.t.meaning.operation in

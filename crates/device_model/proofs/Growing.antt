@@ -10,7 +10,7 @@ use Rattle.adapter.specs.declared.command.Operation.TheVariants as operation
 use Rattle.adapter.specs.declared.access.DeviceStep.{DeviceStep}
 use Rattle.sector_store.specs.declared.store.Failures.{Failures}
 use Rattle.device_model.specs.Cached.{HasOldRoom, KeepsTheSame}
-use Rattle.device_model.specs.Disks.{HasOldRoomAt, HasOldRoomIn, HasOldRoomOf, bay_of, disk_in, disk_of, lasting_of}
+use Rattle.device_model.specs.Disks.{HasOldRoomAt, HasOldRoomIn, HasOldRoomOf, bay_of, disk_in_bay, disk_of, lasting_of}
 use Rattle.device_model.specs.Does.{HasCleared, IsLeftOut, LacksMemory, NeedsAddresses, Possible, StepKeeps, asked_port, cleared_on_disk}
 use Rattle.device_model.specs.Modelled.{device_at, outside_at}
 use Rattle.device_model.specs.OldSectors.{with_old}
@@ -49,7 +49,7 @@ module _ {S : Type 0} (size : S → ℕ) (told : S → Option (ℕ → List ℕ)
   pub grown_disks : (q : ℕ) (w : Which) → q ≡ port → disk_of new q w ≡ disk_of m q w
   grown_disks q w at =
       subst (λ k. disk_of new k w ≡ disk_of m k w) (sym at)
-      (ap (option_map (λ (x : Bay S). disk_in x w)) (seated_here m new port a grown was items) ∙ sym (ap (option_map (λ (x : Bay S). disk_in x w)) was))
+      (ap (option_map (λ (x : Bay S). disk_in_bay x w)) (seated_here m new port a grown was items) ∙ sym (ap (option_map (λ (x : Bay S). disk_in_bay x w)) was))
 
   pub grown_keeps : new.queue ≡ m.queue → new.accesses ≡ m.accesses → StepKeeps size m new
   grown_keeps queue accesses = store_keeps m new port a grown was items refl size refl same.is_on queue accesses

@@ -1,6 +1,6 @@
 -- The disk that was last in is put in again, and what was in its cache is lost.
-use Rattle.std.proofs.Common.{ℕ, Bool, true, false, Option, Some, List, [], ◌∷◌, ◌++◌, ◌≡◌, ◌≢◌, ◌<◌, ◌⊎◌, ◌&&◌, ◌∙◌, refl, ap, sym, subst, inl, inr}
-use Rattle.std.specs.Prelude.{if◌then◌else◌, is_some, nat_eq, option_map, slice_set}
+use Rattle.std.proofs.Common.{ℕ, Bool, true, false, Option, Some, List, [], ◌∷◌, ◌++◌, ◌≡◌, ◌≢◌, ◌<◌, ◌≤◌, ◌+◌, ◌%◌, ◌^◌, ◌⊎◌, ◌&&◌, ◌∙◌, length, refl, ap, sym, subst, inl, inr, arith}
+use Rattle.std.specs.Prelude.{Contains, if◌then◌else◌, is_some, nat_eq, option_map, slice_set}
 use Rattle.adapter.specs.Asked.{DoesPlug}
 use Rattle.adapter.specs.Device.{Device, Disk}
 use Rattle.adapter.specs.Steps.{after}
@@ -10,9 +10,9 @@ use Rattle.ata_types.specs.declared.Port.{Port}
 use Rattle.sector_store.specs.Stores.{AreSectors}
 use Rattle.sector_store.specs.declared.store.Failures.{Failures}
 use Rattle.std.proofs.lemmas.Option.{same_Some}
-use Rattle.device_model.specs.Cached.{lasting_in}
-use Rattle.device_model.specs.Disks.{IsLost, bay_of, disk_in, disk_number, identity, is_same, lasting_of, plugged_as}
-use Rattle.device_model.specs.Does.{AreLost, Did, IsLeftOut, LacksMemory, Possible}
+use Rattle.device_model.specs.Cached.{TurnsBack, WritesFail, lasting_in, sector_told}
+use Rattle.device_model.specs.Disks.{LosesCache, bay_of, disk_in_bay, disk_number, identity, is_same, lasting_of, plugged_as}
+use Rattle.device_model.specs.Does.{LosesCacheIn, Did, IsLeftOut, LacksMemory, Possible}
 use Rattle.device_model.specs.Modelled.{device_at, media_of, outside_at, tells}
 use Rattle.device_model.specs.OldSectors.{with_old}
 use Rattle.device_model.specs.Whole.{Outside, device_of, outside_plugged}
@@ -22,7 +22,7 @@ use Rattle.device_model.specs.declared.disks.Which.{Which}
 use Rattle.device_model.specs.declared.model.Model.{Model}
 use Rattle.device_model.specs.declared.old_sectors.OldSector.{OldSector}
 use Rattle.device_model.proofs.Absurd.{true-false}
-use Rattle.device_model.proofs.Caching.{back_holds, back_lasts, back_size, back_some, back_tells}
+use Rattle.device_model.proofs.Caching.{TellsBack, is_there, back_holds, back_lasts, back_some, turned_tells}
 use Rattle.device_model.proofs.Plugging.{plug_noted, plugged_so}
 use Rattle.device_model.proofs.TwoDisks.{has_disks, kept_in, kept_out, not_same, same_self, seated_behind, seated_here, seated_keeps, seated_others, seated_same}
 
@@ -30,38 +30,96 @@ use Rattle.device_model.proofs.TwoDisks.{has_disks, kept_in, kept_out, not_same,
 abbrev pub with_back : {S : Type 0} → Bay S → S → Bay S
 with_back b store = record b { disk = record b.disk { store = store } }
 
-module _ {S : Type 0} (size : S → ℕ) (told : S → Option (ℕ → List ℕ)) (failures : S → Option Failures) (a b : Bay S) (lost : IsLost size told failures a b) where
+module _ {S : Type 0} (size : S → ℕ) (told : S → Option (ℕ → List ℕ)) (failures : S → Option Failures) (a b : Bay S) (lost : LosesCache size told failures a b) where
   -- ---- what such a disk tells, with a cache or without
 
   abbrev olds : List OldSector
   olds = a.cache.kept.sectors.items
 
+  -- with one what is lasting is what it tells, with its old sectors
+  with_cache : a.cache.is_on ≡ true → lasting_of told a ≡ option_map (with_old olds) (told a.disk.store)
+  with_cache e = ap (λ on. if on then option_map (with_old olds) (told a.disk.store) else told a.lasting.value) e
+
+  tells_back : a.cache.is_on ≡ true → TellsBack olds (told a.disk.store) (told b.disk.store)
+  tells_back e =
+      let P : Option (ℕ → List ℕ) → Type 0 = λ into. TurnsBack size told failures into a.disk.store b.disk.store in
+      turned_tells size told failures olds a.disk.store b.disk.store (subst P (with_cache e) (lost.back e))
+
   lost_size : (on : Bool) → a.cache.is_on ≡ on → size b.disk.store ≡ size a.disk.store
-  lost_size true e = back_size size told failures olds olds a.disk.store b.disk.store (lost.back e)
+  lost_size true e = (lost.back e).sized
   lost_size false e = ap size (lost.as_it_was e)
 
   lost_tells : (on : Bool) → a.cache.is_on ≡ on → is_some (told b.disk.store) ≡ is_some (told a.disk.store)
-  lost_tells true e = back_some olds (told a.disk.store) (told b.disk.store) (back_tells size told failures olds a.cache.kept.rising a.disk.store b.disk.store (lost.back e))
+  lost_tells true e = back_some olds (told a.disk.store) (told b.disk.store) (tells_back e)
   lost_tells false e = ap (λ (s : S). is_some (told s)) (lost.as_it_was e)
 
   lost_lasts : (on : Bool) → a.cache.is_on ≡ on → lasting_in a.cache (told b.disk.store) (told a.lasting.value) ≡ lasting_of told a
   lost_lasts true e =
       let Q : Option (ℕ → List ℕ) → Bool → Option (ℕ → List ℕ) = λ x on. if on then option_map (with_old olds) x else told a.lasting.value in
       ap (Q (told b.disk.store)) e
-      ∙ (back_lasts olds (told a.disk.store) (told b.disk.store) (back_tells size told failures olds a.cache.kept.rising a.disk.store b.disk.store (lost.back e)) ∙ sym (ap (Q (told a.disk.store)) e))
+      ∙ (back_lasts olds (told a.disk.store) (told b.disk.store) (tells_back e) ∙ sym (ap (Q (told a.disk.store)) e))
   lost_lasts false e = ap (λ (s : S). lasting_in a.cache (told s) (told a.lasting.value)) (lost.as_it_was e)
 
   lost_holds : (on : Bool) → a.cache.is_on ≡ on → (last comes : ℕ → List ℕ) → told a.disk.store ≡ Some last → told b.disk.store ≡ Some comes → (k : ℕ) →
       (comes k ≡ last k) ⊎ (option_map (λ (f : ℕ → List ℕ). f k) (lasting_of told a) ≡ Some (comes k))
   lost_holds true e last comes is at k =
-      elim (back_holds olds (told a.disk.store) (told b.disk.store) last comes (back_tells size told failures olds a.cache.kept.rising a.disk.store b.disk.store (lost.back e)) is at k) [
+      elim (back_holds olds (told a.disk.store) (told b.disk.store) last comes (tells_back e) is at k) [
         | inl same ↦ inl same
         | inr held ↦
-            let now : lasting_of told a ≡ option_map (with_old olds) (told a.disk.store) = ap (λ on. if on then option_map (with_old olds) (told a.disk.store) else told a.lasting.value) e in
-            inr (ap (option_map (λ (f : ℕ → List ℕ). f k)) now ∙ held)
+            inr (ap (option_map (λ (f : ℕ → List ℕ). f k)) (with_cache e) ∙ held)
       ]
   lost_holds false e last comes is at k =
       inl (ap (λ (f : ℕ → List ℕ). f k) (same_Some comes last (sym at ∙ (ap told (lost.as_it_was e) ∙ is))))
+
+-- ---- where no call has failed
+
+again_never : (calls n : ℕ) → 1 ≤ n → n < 2 ^ 64 → calls ≡ (calls + n) % 2 ^ 64 → ⊥
+again_never calls n some few same = omega (arith, some, few, same)
+
+-- what a store tells of writes of which so many have failed, one at least
+counted : (l : List ℕ) (was now : Option Failures) → WritesFail l was now → 1 ≤ length l →
+    (f : Failures) × (g : Failures) × (was ≡ Some f) × (now ≡ Some g) × (g.calls ≡ (f.calls + length l) % 2 ^ 64)
+counted [] was now fail some = absurd (omega (arith, some))
+counted (s ∷ []) was now (mid, (f, is, next), same) some = (f, record { calls = (f.calls + 1) % 2 ^ 64; sector = s; is_write = true }, is, same ∙ next, refl)
+counted (s ∷ t ∷ l) was now (mid, (f, is, next), fail) some =
+    let more = counted (t ∷ l) mid now fail (omega arith) in
+    let h : Failures = more.0 in
+    let g : Failures = more.1 in
+    let at : h.calls ≡ (f.calls + 1) % 2 ^ 64 = ap (λ (x : Failures). x.calls) (same_Some h (record { calls = (f.calls + 1) % 2 ^ 64; sector = s; is_write = true }) (sym more.2 ∙ next)) in
+    let up : g.calls ≡ (h.calls + length (t ∷ l)) % 2 ^ 64 = more.4 in
+    (f, g, is, more.3, omega (arith, at, up))
+
+none_failed : (l : List ℕ) (was now : Option Failures) → WritesFail l was now → length l < 2 ^ 64 → now ≡ was → (k : ℕ) → Contains l k → ⊥
+none_failed l was now fail few same k at =
+    let c = counted l was now fail (omega (arith, at.1)) in
+    let f : Failures = c.0 in
+    let g : Failures = c.1 in
+    let one : g.calls ≡ f.calls = ap (λ (x : Failures). x.calls) (same_Some g f (sym c.3 ∙ (same ∙ c.2))) in
+    again_never f.calls (length l) (omega (arith, at.1)) few (sym one ∙ c.4)
+
+module _ {S : Type 0} (size : S → ℕ) (told : S → Option (ℕ → List ℕ)) (failures : S → Option Failures) (into : Option (ℕ → List ℕ)) (was now : S) (t : TurnsBack size told failures into was now)
+    (fits : size was < 2 ^ 64) where
+  pub all_back : failures now ≡ failures was → (k : ℕ) → k < size was → sector_told (told now) k ≡ sector_told into k
+  all_back same k lt = t.back k lt (none_failed t.failed (failures was) (failures now) t.fails (let few = t.few in omega (arith, few, fits)) same k)
+
+  -- one that isn't was not written back, since a call has failed
+  pub each_back_or : (k : ℕ) → k < size was →
+      (sector_told (told now) k ≡ sector_told into k) ⊎ ((sector_told (told now) k ≡ sector_told (told was) k) × (failures now ≢ failures was))
+  each_back_or k lt =
+      elim (is_there t.failed k) [
+        | inl at ↦ inr (t.left k (inr at), λ same. none_failed t.failed (failures was) (failures now) t.fails (let few = t.few in omega (arith, few, fits)) same k at)
+        | inr never ↦ inl (t.back k lt never)
+      ]
+
+-- a LosePlug that was done
+pub lost_of : {S : Type 0} (size : S → ℕ) (told : S → Option (ℕ → List ℕ)) (failures : S → Option Failures) (old new : Model S) (p : Port) (a b : Bay S) →
+    bay_of old p.0 ≡ Some a → bay_of new p.0 ≡ Some b → Did size told failures (asked.LosePlug p) old new → LosesCache size told failures a b
+lost_of {S} size told failures old new p a b was is did =
+    let both : Option (Bay S) → Option (Bay S) → Type 0 = λ x y. LosesCacheIn size told failures x y in
+    elim did.came [
+      | inl whole ↦ subst (both (Some a)) is (subst (λ x. both x (bay_of new p.0)) was (whole.loses refl))
+      | inr never ↦ absurd never
+    ]
 
 module _ {S : Type 0} (size : S → ℕ) (told : S → Option (ℕ → List ℕ)) (failures : S → Option Failures) (m new : Model S) (p : Port)
     (held : new.held ≡ m.held) (queue : new.queue ≡ m.queue) (accesses : new.accesses ≡ m.accesses) (a b : Bay S) (was : bay_of m p.0 ≡ Some a)
@@ -70,7 +128,7 @@ module _ {S : Type 0} (size : S → ℕ) (told : S → Option (ℕ → List ℕ)
   pub lose_left : b ≡ a → ((o : Outside) → device_of new.hardware o ≡ device_of m.hardware o) → Possible (asked.LosePlug p) (device_at size told m) →
       LacksMemory (asked.LosePlug p) (device_at size told m) m.hardware m.bays.items → new.hardware.starved ≡ true → IsLeftOut size told failures (asked.LosePlug p) m new
   lose_left rest same may lacks starved =
-      let kept : (w : Which) → disk_in b w ≡ disk_in a w = λ (w : Which). ap (λ (x : Bay S). disk_in x w) rest in
+      let kept : (w : Which) → disk_in_bay b w ≡ disk_in_bay a w = λ (w : Which). ap (λ (x : Bay S). disk_in_bay x w) rest in
       record {
         device = ap (λ (o : Outside). device_of new.hardware o) (seated_behind m new p.0 a b was items size told (ap (λ (x : Bay S). media_of size told (Some x)) rest)
             (ap (λ (x : Bay S). tells told (Some x)) rest))
@@ -79,14 +137,14 @@ module _ {S : Type 0} (size : S → ℕ) (told : S → Option (ℕ → List ℕ)
         says = seated_same m new p.0 a b was items (option_map (λ (x : Bay S). x.says)) (ap (λ (x : Bay S). Some x.says) rest) p.0;
         which = seated_same m new p.0 a b was items (option_map (λ (x : Bay S). x.which)) (ap (λ (x : Bay S). Some x.which) rest) p.0;
         others = seated_others m new p.0 a b was items;
-        disks = λ w. seated_same m new p.0 a b was items (option_map (λ (x : Bay S). disk_in x w)) (ap Some (kept w)) p.0;
+        disks = λ w. seated_same m new p.0 a b was items (option_map (λ (x : Bay S). disk_in_bay x w)) (ap Some (kept w)) p.0;
         why = λ _ _. (lacks, starved);
         keeps = seated_keeps m new p.0 a b was items size (λ w _. kept w) (λ w. ap (identity size) (kept w)) (ap (λ (x : Bay S). x.cache.is_on) rest) queue accesses;
         starved_on = λ _. starved;
         starved_since = λ _. inr (may, lacks);
       }
 
-  module _ (lost : IsLost size told failures a b) (rest : b ≡ record (with_back a b.disk.store) { later = b.later })
+  module _ (lost : LosesCache size told failures a b) (rest : b ≡ record (with_back a b.disk.store) { later = b.later })
       (later : (disk : Which → S → Disk) → plugged_as disk b.later ≡ plugged_as disk a.later ++ disk a.which b.disk.store ∷ []) where
     which_is : b.which ≡ a.which
     which_is = ap (λ (x : Bay S). x.which) rest
@@ -111,11 +169,11 @@ module _ {S : Type 0} (size : S → ℕ) (told : S → Option (ℕ → List ℕ)
     first : b.first ≡ a.first
     first = ap (λ (x : Bay S). x.first) rest
 
-    lost_out : (w : Which) → w ≢ a.which → disk_in b w ≡ disk_in a w
-    lost_out w ne = ap (λ (x : Bay S). disk_in x w) rest ∙ kept_out (is_same w a.which) (record a.disk { store = b.disk.store }) a.disk a.other (not_same w a.which ne)
+    lost_out : (w : Which) → w ≢ a.which → disk_in_bay b w ≡ disk_in_bay a w
+    lost_out w ne = ap (λ (x : Bay S). disk_in_bay x w) rest ∙ kept_out (is_same w a.which) (record a.disk { store = b.disk.store }) a.disk a.other (not_same w a.which ne)
 
-    lost_kept : {X : Type 0} (f : ModelDisk S → X) → f (record a.disk { store = b.disk.store }) ≡ f a.disk → (w : Which) → f (disk_in b w) ≡ f (disk_in a w)
-    lost_kept f same w = ap (λ (x : Bay S). f (disk_in x w)) rest ∙ kept_in f (is_same w a.which) (record a.disk { store = b.disk.store }) a.disk a.other same
+    lost_kept : {X : Type 0} (f : ModelDisk S → X) → f (record a.disk { store = b.disk.store }) ≡ f a.disk → (w : Which) → f (disk_in_bay b w) ≡ f (disk_in_bay a w)
+    lost_kept f same w = ap (λ (x : Bay S). f (disk_in_bay x w)) rest ∙ kept_in f (is_same w a.which) (record a.disk { store = b.disk.store }) a.disk a.other same
 
     pub did_lose : p.0 < 4 → ((d : Device) → d ≡ device_at size told m → ((d.port p.0).present ≡ false)) → ((s : S) → AreSectors (size s) (told s)) →
         ((o : Outside) (disk : Disk) → disk.name ≡ disk_number a.which → true ≡ nat_eq disk.name (o.media p.0).disk.name → device_of new.hardware (outside_plugged o p.0 disk) ≡ after (Plug p.0 disk) (device_of m.hardware o)) →
@@ -128,7 +186,7 @@ module _ {S : Type 0} (size : S → ℕ) (told : S → Option (ℕ → List ℕ)
         device_of new.hardware (outside_plugged o p.0 disk) ≡ after (Plug p.0 disk) (device_of m.hardware o) =
         λ o disk named same. did o disk named (sym (ap (λ (w : Which). is_same w a.which) which_is ∙ same_self a.which) ∙ same) in
         let P : ℕ → Type 0 = λ n. DoesPlug p.0 n (device_at size told m) (device_at size told new) in
-        let both : Option (Bay S) → Option (Bay S) → Type 0 = λ x y. AreLost size told failures x y in (
+        let both : Option (Bay S) → Option (Bay S) → Type 0 = λ x y. LosesCacheIn size told failures x y in (
           may,
           record {
             came = inl (record {

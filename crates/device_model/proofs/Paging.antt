@@ -27,7 +27,7 @@ use Rattle.device_model.specs.Modelled.{device_at}
 use Rattle.device_model.specs.Sent.{SendsEnd}
 use Rattle.device_model.specs.Slots.{IsNext}
 use Rattle.device_model.specs.View.{operation_of, taken_of}
-use Rattle.device_model.specs.Disks.{disk_in, disk_of}
+use Rattle.device_model.specs.Disks.{disk_in_bay, disk_of}
 use Rattle.device_model.specs.Whole.{HasDisks, Outside, device_of}
 use Rattle.device_model.specs.declared.bay.Bay.{Bay}
 use Rattle.device_model.specs.declared.disks.Which.{Which}
@@ -139,9 +139,9 @@ pub finish_keeps : {S : Type 0} (size : S → ℕ) (told : S → Option (ℕ →
     AnswersStep size told failures (asked.Finish p s) answer old new → HasPage (device_at size told old) p.0 s.0 → (q : ℕ) (w : Which) →
     disk_of new q w ≡ disk_of old q w
 finish_keeps {S} size told failures old new p s true a has q w =
-    each_port (option_map (λ (b : Bay S). disk_in b w)) old new p.0
+    each_port (option_map (λ (b : Bay S). disk_in_bay b w)) old new p.0
     (a.1.disks (λ asks. page_asks_none (device_at size told old) p.0 s.0 _ _ has asks.4 asks.5) w) a.1.others q
-finish_keeps {S} size told failures old new p s false a has q w = each_port (option_map (λ (b : Bay S). disk_in b w)) old new p.0 (a.disks w) a.others q
+finish_keeps {S} size told failures old new p s false a has q w = each_port (option_map (λ (b : Bay S). disk_in_bay b w)) old new p.0 (a.disks w) a.others q
 
 -- a Move of what a Finish has begun asks for one only where the Finish does
 pub finish_moves : (p : Port) (s : Slot) (did : Bool) (old new : Device) (left clears : ℕ) → HasDisks old p.0 → 1 ≤ left →

@@ -12,7 +12,7 @@ use Rattle.adapter.specs.declared.tape.Entry.TheVariants as entry
 use Rattle.ata_types.specs.declared.Port.{Port}
 use Rattle.sector_store.specs.Stores.{AreSectors}
 use Rattle.sector_store.specs.declared.store.Failures.{Failures}
-use Rattle.device_model.specs.Disks.{bay_of, disk_in, disk_number, disk_over, identity, is_same, lasting_of, plugged_as}
+use Rattle.device_model.specs.Disks.{bay_of, disk_in_bay, disk_number, disk_over, identity, is_same, lasting_of, plugged_as}
 use Rattle.device_model.specs.Does.{Did, IsLeftOut, LacksMemory, Possible}
 use Rattle.device_model.specs.Modelled.{device_at, media_of, outside_at, tells}
 use Rattle.device_model.specs.Tells.{bay_told, each_tells}
@@ -46,7 +46,7 @@ module _ {S : Type 0} (size : S → ℕ) (told : S → Option (ℕ → List ℕ)
       Possible (asked.Plug p number) (device_at size told m) → LacksMemory (asked.Plug p number) (device_at size told m) m.hardware m.bays.items →
       new.hardware.starved ≡ true → IsLeftOut size told failures (asked.Plug p number) m new
   plug_left number rest same may lacks starved =
-      let kept : (w : Which) → disk_in b w ≡ disk_in a w = λ (w : Which). ap (λ (x : Bay S). disk_in x w) rest in
+      let kept : (w : Which) → disk_in_bay b w ≡ disk_in_bay a w = λ (w : Which). ap (λ (x : Bay S). disk_in_bay x w) rest in
       record {
         device = ap (λ (o : Outside). device_of new.hardware o) (seated_behind m new p.0 a b was items size told (ap (λ (x : Bay S). media_of size told (Some x)) rest)
             (ap (λ (x : Bay S). tells told (Some x)) rest))
@@ -55,7 +55,7 @@ module _ {S : Type 0} (size : S → ℕ) (told : S → Option (ℕ → List ℕ)
         says = seated_same m new p.0 a b was items (option_map (λ (x : Bay S). x.says)) (ap (λ (x : Bay S). Some x.says) rest) p.0;
         which = seated_same m new p.0 a b was items (option_map (λ (x : Bay S). x.which)) (ap (λ (x : Bay S). Some x.which) rest) p.0;
         others = seated_others m new p.0 a b was items;
-        disks = λ w. seated_same m new p.0 a b was items (option_map (λ (x : Bay S). disk_in x w)) (ap Some (kept w)) p.0;
+        disks = λ w. seated_same m new p.0 a b was items (option_map (λ (x : Bay S). disk_in_bay x w)) (ap Some (kept w)) p.0;
         why = λ _ _. (lacks, starved);
         keeps = seated_keeps m new p.0 a b was items size (λ w _. kept w) (λ w. ap (identity size) (kept w)) (ap (λ (x : Bay S). x.cache.is_on) rest) queue accesses;
         starved_on = λ _. starved;
@@ -120,7 +120,7 @@ module _ {S : Type 0} (size : S → ℕ) (told : S → Option (ℕ → List ℕ)
         gains_one size m new (entry.Plug p (disk_number b.which)) (ap (λ (d : Device). d.tape) (did (outside_at size told m) put_disk name same_named)) (λ x e. absurd (cc e))
 
   -- one of the two is put in by its number, with the sectors that it had
-  module _ (number : DiskNumber) (which : Which) (found : disk_number which ≡ number.0) (which_is : b.which ≡ which) (kept : (w : Which) → disk_in b w ≡ disk_in a w)
+  module _ (number : DiskNumber) (which : Which) (found : disk_number which ≡ number.0) (which_is : b.which ≡ which) (kept : (w : Which) → disk_in_bay b w ≡ disk_in_bay a w)
       (later : (disk : Which → S → Disk) → plugged_as disk b.later ≡ plugged_as disk a.later ++ disk which b.disk.store ∷ [])
       (says : b.says ≡ a.says) (first : b.first ≡ a.first) (cached : b.cache.is_on ≡ a.cache.is_on)
       (lasting : lasting_of told b ≡ (if is_same which a.which then lasting_of told a else told b.disk.store)) where
@@ -156,7 +156,7 @@ module _ {S : Type 0} (size : S → ℕ) (told : S → Option (ℕ → List ℕ)
           record {
             came = inl (record {
               asked = plugged_so tells_so first later_so lasts_so that_so number.0 name free are so;
-              fine = λ _ q w. seated_same m new p.0 a b was items (λ x. option_map (λ (y : ModelDisk S). failures y.store) (option_map (λ (y : Bay S). disk_in y w) x))
+              fine = λ _ q w. seated_same m new p.0 a b was items (λ x. option_map (λ (y : ModelDisk S). failures y.store) (option_map (λ (y : Bay S). disk_in_bay y w) x))
                   (ap (λ (y : ModelDisk S). Some (failures y.store)) (kept w)) q;
               says = seated_same m new p.0 a b was items (option_map (λ (x : Bay S). x.says)) (ap Some says) p.0;
               ends = λ _. tt;
@@ -168,7 +168,7 @@ module _ {S : Type 0} (size : S → ℕ) (told : S → Option (ℕ → List ℕ)
                 ∙ sym (ap (λ x. option_map (λ (_ : Which). if nat_eq number.0 0 then Disk0 else Disk1) (option_map (λ (y : Bay S). y.which) x)) was));
             others = seated_others m new p.0 a b was items;
             pages = plug_noted tells_so first later_so lasts_so that_so number.0 name so;
-            disks = λ _ w. seated_same m new p.0 a b was items (option_map (λ (x : Bay S). disk_in x w)) (ap Some (kept w)) p.0;
+            disks = λ _ w. seated_same m new p.0 a b was items (option_map (λ (x : Bay S). disk_in_bay x w)) (ap Some (kept w)) p.0;
             keeps = seated_keeps m new p.0 a b was items size (λ w _. kept w) (λ w. ap (identity size) (kept w)) cached queue accesses;
             starved = starved;
           },

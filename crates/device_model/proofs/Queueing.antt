@@ -34,7 +34,7 @@ module _ {S : Type 0} (size : S → ℕ) (told : S → Option (ℕ → List ℕ)
       Steps-trans (answers_steps size told failures s old d.1 d.0 d.2) (each_steps done d.1 new d.3)
 
   pub begins_steps : (old new : Model S) → BeginsAccess size told failures old new → Steps (device_at size told old) (device_at size told new)
-  begins_steps old new b = each_steps (due new.accesses old.queue.items) (record old { accesses = new.accesses; queue = new.queue }) new b.does
+  begins_steps old new b = each_steps (due new.accesses.shown old.queue.items) (record old { accesses = new.accesses; queue = new.queue }) new b.does
 
 -- these steps lead from the one model to the other, whatever is queued in both
 abbrev pub DoneSo : {S : Type 0} → (S → ℕ) → (S → Option (ℕ → List ℕ)) → (S → Option Failures) → Model S → Model S → List DeviceStep → Type 0

@@ -13,14 +13,15 @@ use Rattle.adapter.specs.Steps.{Can, IsAlone, WorksOn, admits, begun, with_fetch
 use Rattle.adapter.specs.Steps.Step.{Fetch}
 use Rattle.adapter.specs.declared.command.Operation.{Operation}
 use Rattle.adapter.specs.declared.command.Prd.{Prd}
-use Rattle.device_model.proofs.Absurd.{some-none, some_one}
+use Rattle.device_model.proofs.Absurd.{some-none, some_one, true-false}
 use Rattle.adapter.proofs.SaysLemmas.{says_meaning, says_places, cut_length, cut_index}
 use Rattle.device_model.specs.Finishing.{HasPage, FindsPage, IsInside, AreInside, IsCovered, IsRest, MayFinish, MayPage, sends_page}
 use Rattle.device_model.specs.Fetched.{IsNew, bytes_of}
 use Rattle.device_model.specs.Cached.{HasOldRoom}
 use Rattle.device_model.specs.Trims.{WillClear, changes_ahead}
 use Rattle.device_model.specs.Slots.{IsOpenTo, MayTake, HasUntaken, HoldsAt}
-use Rattle.device_model.specs.View.{Media, halt_of, operation_of, port_of, taken_of, blank}
+use Rattle.device_model.specs.Bits.{bits_of}
+use Rattle.device_model.specs.View.{Media, halt_of, held_in, operation_of, port_of, taken_of, blank}
 use Rattle.device_model.specs.Whole.{Outside, device_of}
 use Rattle.device_model.specs.declared.port.PortModel.{PortModel}
 use Rattle.device_model.specs.declared.port.TakenCommand.{TakenCommand}
@@ -372,3 +373,10 @@ module _ (h : Hardware) (port slot : ℕ) where
   pub page_barred : MayTakeNone first slot → (o : Outside) → MayPage (device_of h o) port slot → ⊥
   page_barred never o may =
       never (o.media port) may.meaning.operation (fetch_takes h o port port slot may.meaning may.places refl may.can)
+
+-- nothing is issued or taken there
+pub page_unused : (h : Hardware) (port slot : ℕ) → bits_of (slice_index_or h.ports port blank).ci slot ≡ false → held_in (slice_index_or h.ports port blank).taken slot ≡ None →
+    (o : Outside) → FindsPage (device_of h o) port slot None
+page_unused h port slot unissued untaken o =
+    let never : MayTakeNone (slice_index_or h.ports port blank) slot = λ m operation may. true-false may.fetchable.issued unissued in
+    (page_barred h port slot never o, page_unheld h port slot _ refl (λ r held kind ends. some-none held.held untaken) never o)

@@ -19,7 +19,7 @@ use Rattle.adapter.specs.declared.tape.Move.{Move}
 use Rattle.ata_types.specs.declared.Port.{Port}
 use Rattle.ata_types.specs.declared.Slot.{Slot}
 use Rattle.sector_store.specs.declared.store.Failures.{Failures}
-use Rattle.device_model.specs.Disks.{AreEnded, EndsOnly, IsEnded, SaysOnly, bay_of, disk_in, lasting_of, says_of, which_of}
+use Rattle.device_model.specs.Disks.{EndsCommandIn, EndsOnly, EndsCommand, SaysOnly, bay_of, disk_in_bay, lasting_of, says_of, which_of}
 use Rattle.device_model.specs.Does.{AnswersStep, EndsIt, IsLeftOut, is_losing, MayBeFetched, StepKeeps, LacksMemory, Possible, asked_fault, asked_port, says_after, says_failed, which_after}
 use Rattle.device_model.specs.Finishing.{HasRoom, IsPassed}
 use Rattle.device_model.specs.Held.{held_after}
@@ -52,15 +52,15 @@ fault_sent port at slot error kept queued old mid new f kind here sent = record 
 }
 
 -- the bay of a port becomes one whose command has ended
-ended_put : {S : Type 0} (o : Operation) (x bay : Option (Bay S)) → AreEnded o x bay →
-    (put : Bay S → Bay S) × (bay ≡ option_map put x) × ((b : Bay S) → x ≡ Some b → IsEnded o b (put b))
+ended_put : {S : Type 0} (o : Operation) (x bay : Option (Bay S)) → EndsCommandIn o x bay →
+    (put : Bay S → Bay S) × (bay ≡ option_map put x) × ((b : Bay S) → x ≡ Some b → EndsCommand o b (put b))
 ended_put o None bay is = ((λ b. b), is, λ b e. some-none e refl)
 ended_put o (Some a) None is = absurd is
-ended_put o (Some a) (Some c) is = ((λ _. c), refl, λ b e. subst (λ x. IsEnded o x c) (some_one e) is)
+ended_put o (Some a) (Some c) is = ((λ _. c), refl, λ b e. subst (λ x. EndsCommand o x c) (some_one e) is)
 
 module _ {S : Type 0} (size : S → ℕ) (told : S → Option (ℕ → List ℕ)) where
   -- what such a one leaves
-  ended_rest : (o : Operation) (a b : Bay S) → IsEnded o a b → (b ≡ record a { lasting = b.lasting; cache = b.cache }) × (b.cache.is_on ≡ a.cache.is_on)
+  ended_rest : (o : Operation) (a b : Bay S) → EndsCommand o a b → (b ≡ record a { lasting = b.lasting; cache = b.cache }) × (b.cache.is_on ≡ a.cache.is_on)
   ended_rest operation.Flush a b is = (is.1 ∙ (λ i. record a { lasting = (sym (ap (λ (x : Bay S). x.lasting) is.1)) i; cache = b.cache }), is.0.is_on)
   ended_rest operation.Identify a b is = (is ∙ (λ i. record a { lasting = (sym is i).lasting; cache = (sym is i).cache }), ap (λ (x : Bay S). x.cache.is_on) is)
   ended_rest operation.ReadLog a b is = (is ∙ (λ i. record a { lasting = (sym is i).lasting; cache = (sym is i).cache }), ap (λ (x : Bay S). x.cache.is_on) is)
@@ -77,7 +77,7 @@ module _ {S : Type 0} (size : S → ℕ) (told : S → Option (ℕ → List ℕ)
   none_older true items (Some f) none = ap (λ (l : List OldSector). Some (with_old l f)) none
 
   -- what is behind a port once a command has ended
-  ended_some : (o : Operation) (a b : Bay S) → IsEnded o a b → media_of size told (Some b) ≡ media_ended (media_of size told (Some a)) o
+  ended_some : (o : Operation) (a b : Bay S) → EndsCommand o a b → media_of size told (Some b) ≡ media_ended (media_of size told (Some a)) o
   ended_some operation.Flush a b is =
       let lasts : lasting_of told b ≡ told a.disk.store =
       ap (λ (x : Bay S). lasting_in b.cache (told x.disk.store) (told x.lasting.value)) is.1 ∙ none_older b.cache.is_on b.cache.kept.sectors.items (told a.disk.store) is.0.items in
@@ -94,7 +94,7 @@ module _ {S : Type 0} (size : S → ℕ) (told : S → Option (ℕ → List ℕ)
   ended_some operation.WriteQueued a b is = ap (λ (x : Bay S). media_of size told (Some x)) is
   ended_some operation.Trim a b is = ap (λ (x : Bay S). media_of size told (Some x)) is
 
-  ended_media : (o : Operation) (x bay : Option (Bay S)) → AreEnded o x bay → media_of size told bay ≡ media_ended (media_of size told x) o
+  ended_media : (o : Operation) (x bay : Option (Bay S)) → EndsCommandIn o x bay → media_of size told bay ≡ media_ended (media_of size told x) o
   ended_media o None bay is = ap (media_of size told) is ∙ ended_none o
     where
       ended_none : (o : Operation) → media_of size told None ≡ media_ended (media_of size told None) o
@@ -240,8 +240,8 @@ module _ {S : Type 0} (size : S → ℕ) (told : S → Option (ℕ → List ℕ)
         record {
           came = inl (record {
             asked = subst P (sym behind_then) d;
-            fine = λ _ q w. put_same put m last p.0 items (λ x. option_map (λ (y : ModelDisk S). failures y.store) (option_map (λ (y : Bay S). disk_in y w) x))
-                (λ b e. ap (λ (x : Bay S). Some (failures (disk_in x w).store)) (rest b e).0) q;
+            fine = λ _ q w. put_same put m last p.0 items (λ x. option_map (λ (y : ModelDisk S). failures y.store) (option_map (λ (y : Bay S). disk_in_bay y w) x))
+                (λ b e. ap (λ (x : Bay S). Some (failures (disk_in_bay x w).store)) (rest b e).0) q;
             says = put_same put m last p.0 items (option_map (λ (y : Bay S). y.says)) (λ b e. ap (λ (x : Bay S). Some x.says) (rest b e).0) p.0;
             ends = λ _. tt;
             loses = λ yes. true-false yes refl;
@@ -250,8 +250,8 @@ module _ {S : Type 0} (size : S → ℕ) (told : S → Option (ℕ → List ℕ)
           which = put_same put m last p.0 items (option_map (λ (y : Bay S). y.which)) (λ b e. ap (λ (x : Bay S). Some x.which) (rest b e).0) p.0;
           others = put_others put m last p.0 items;
           pages = gains_done size behind (outside_ended behind p.0 o) p.0 s.0 m last d;
-          disks = λ _ w. put_same put m last p.0 items (option_map (λ (y : Bay S). disk_in y w)) (λ b e. ap (λ (x : Bay S). Some (disk_in x w)) (rest b e).0) p.0;
-          keeps = put_keeps put m last p.0 items size (λ b e w. ap (λ (x : Bay S). disk_in x w) (rest b e).0) (λ b e. (rest b e).1) refl refl;
+          disks = λ _ w. put_same put m last p.0 items (option_map (λ (y : Bay S). disk_in_bay y w)) (λ b e. ap (λ (x : Bay S). Some (disk_in_bay x w)) (rest b e).0) p.0;
+          keeps = put_keeps put m last p.0 items size (λ b e w. ap (λ (x : Bay S). disk_in_bay x w) (rest b e).0) (λ b e. (rest b e).1) refl refl;
           starved = starved;
         },
       )
@@ -310,7 +310,7 @@ module _ {S : Type 0} (size : S → ℕ) (told : S → Option (ℕ → List ℕ)
           record {
             came = inl (record {
               asked = done _ _ (subst P (sym (saying_outside name m last at only size told)) f);
-              fine = λ _ q w. saying_same name m last at only (λ x. option_map (λ (y : ModelDisk S). failures y.store) (option_map (λ (y : Bay S). disk_in y w) x)) (λ b. refl) q;
+              fine = λ _ q w. saying_same name m last at only (λ x. option_map (λ (y : ModelDisk S). failures y.store) (option_map (λ (y : Bay S). disk_in_bay y w) x)) (λ b. refl) q;
               says = saying_here name m last at only ∙ said true queued;
               ends = λ _. ends _ _;
               loses = λ yes. true-false yes safe;
@@ -319,7 +319,7 @@ module _ {S : Type 0} (size : S → ℕ) (told : S → Option (ℕ → List ℕ)
             which = saying_same name m last at only (option_map (λ (y : Bay S). y.which)) (λ b. refl) at ∙ which;
             others = saying_others name m last at only;
             pages = gains_one size m last (fault_entry at s.0 error kept) noted (λ x e. absurd (cc e));
-            disks = λ _ w. saying_same name m last at only (option_map (λ (y : Bay S). disk_in y w)) (λ b. refl) at;
+            disks = λ _ w. saying_same name m last at only (option_map (λ (y : Bay S). disk_in_bay y w)) (λ b. refl) at;
             keeps = saying_keeps name m last at only size refl refl;
             starved = starved;
           },
@@ -438,7 +438,7 @@ module _ {S : Type 0} (size : S → ℕ) (told : S → Option (ℕ → List ℕ)
         record {
           came = inl (record {
             asked = done _ _ (ap (λ (o : Outside). device_of m.hardware o) (saying_outside name m lied port only size told));
-            fine = λ _ q w. saying_same name m lied port only (λ x. option_map (λ (y : ModelDisk S). failures y.store) (option_map (λ (y : Bay S). disk_in y w) x)) (λ b. refl) q;
+            fine = λ _ q w. saying_same name m lied port only (λ x. option_map (λ (y : ModelDisk S). failures y.store) (option_map (λ (y : Bay S). disk_in_bay y w) x)) (λ b. refl) q;
             says = saying_here name m lied port only ∙ says;
             ends = λ _. ends _ _;
             loses = λ yes. true-false yes safe;
@@ -447,7 +447,7 @@ module _ {S : Type 0} (size : S → ℕ) (told : S → Option (ℕ → List ℕ)
           which = saying_same name m lied port only (option_map (λ (y : Bay S). y.which)) (λ b. refl) port ∙ which;
           others = saying_others name m lied port only;
           pages = gains_none size m lied refl;
-          disks = λ _ w. saying_same name m lied port only (option_map (λ (y : Bay S). disk_in y w)) (λ b. refl) port;
+          disks = λ _ w. saying_same name m lied port only (option_map (λ (y : Bay S). disk_in_bay y w)) (λ b. refl) port;
           keeps = saying_keeps name m lied port only size refl refl;
           starved = refl;
         },

@@ -8,7 +8,7 @@ use Rattle.adapter.specs.Memory.{changed}
 use Rattle.adapter.specs.Steps.{disk_after, disk_cleared, next_sector}
 use Rattle.device_model.proofs.Places.{fun_ext, changed_same, changed_other}
 use Rattle.sector_store.specs.declared.store.Failures.{Failures}
-use Rattle.device_model.specs.Disks.{bay_of, disk_in, disk_number, disk_of, disk_over, failing, failures_of, has_cache, identity, identity_of, is_same, lasting_of, says_of, which_of}
+use Rattle.device_model.specs.Disks.{bay_of, disk_in_bay, disk_number, disk_of, disk_over, failing, failures_of, has_cache, identity, identity_of, is_same, lasting_of, says_of, which_of}
 use Rattle.device_model.specs.Does.{NoneFails, StepKeeps}
 use Rattle.device_model.specs.Modelled.{all_tell, device_at, media_of, outside_at, tells}
 use Rattle.device_model.specs.View.{Media, media_after, media_cleared, operation_of, taken_of}
@@ -64,10 +64,10 @@ and_turned false false = refl
 module _ {S : Type 0} where
   -- ---- the two of a port
 
-  in_is : (b : Bay S) → disk_in b b.which ≡ b.disk
+  in_is : (b : Bay S) → disk_in_bay b b.which ≡ b.disk
   in_is b = ap (λ x. if x then b.disk else b.other) (same_self b.which)
 
-  by_number : (f : ModelDisk S → Bool) (b : Bay S) → f (disk_in b Disk0) && f (disk_in b Disk1) ≡ (f b.disk && f b.other)
+  by_number : (f : ModelDisk S → Bool) (b : Bay S) → f (disk_in_bay b Disk0) && f (disk_in_bay b Disk1) ≡ (f b.disk && f b.other)
   by_number f b = by b.which
     where
       by : (w : Which) → f (if is_same Disk0 w then b.disk else b.other) && f (if is_same Disk1 w then b.disk else b.other) ≡ (f b.disk && f b.other)
@@ -75,12 +75,12 @@ module _ {S : Type 0} where
       by Disk1 = and_turned (f b.other) (f b.disk)
 
   -- what holds of both disks holds whichever is in
-  pub both_turned : (f : ModelDisk S → Bool) (old new : Bay S) → ((w : Which) → disk_in new w ≡ disk_in old w) → f new.disk && f new.other ≡ (f old.disk && f old.other)
+  pub both_turned : (f : ModelDisk S → Bool) (old new : Bay S) → ((w : Which) → disk_in_bay new w ≡ disk_in_bay old w) → f new.disk && f new.other ≡ (f old.disk && f old.other)
   both_turned f old new each = sym (by_number f new) ∙ ((λ i. f (each Disk0 i) && f (each Disk1 i)) ∙ by_number f old)
 
   -- what is kept of both disks is kept of the one that is in
-  pub in_kept : {X : Type 0} (f : ModelDisk S → X) (old new : Bay S) → new.which ≡ old.which → ((w : Which) → f (disk_in new w) ≡ f (disk_in old w)) → f new.disk ≡ f old.disk
-  in_kept f old new same each = sym (ap f (in_is new)) ∙ (each new.which ∙ (ap (λ w. f (disk_in old w)) same ∙ ap f (in_is old)))
+  pub in_kept : {X : Type 0} (f : ModelDisk S → X) (old new : Bay S) → new.which ≡ old.which → ((w : Which) → f (disk_in_bay new w) ≡ f (disk_in_bay old w)) → f new.disk ≡ f old.disk
+  in_kept f old new same each = sym (ap f (in_is new)) ∙ (each new.which ∙ (ap (λ w. f (disk_in_bay old w)) same ∙ ap f (in_is old)))
 
   pub kept_in : {X : Type 0} (f : ModelDisk S → X) (b : Bool) (new old other : ModelDisk S) → f new ≡ f old → f (if b then new else other) ≡ f (if b then old else other)
   kept_in f true new old other same = same
@@ -159,7 +159,7 @@ module _ {S : Type 0} where
   -- what is the same of both disks, and which is in, is the same of the disk that is in
   pub in_both : {X Y : Type 0} (f : ModelDisk S → X) (g : X → Y) (none : Y) (x y : Option (Bay S)) →
       option_map (λ (b : Bay S). b.which) y ≡ option_map (λ (b : Bay S). b.which) x →
-      ((w : Which) → option_map f (option_map (λ (b : Bay S). disk_in b w) y) ≡ option_map f (option_map (λ (b : Bay S). disk_in b w) x)) →
+      ((w : Which) → option_map f (option_map (λ (b : Bay S). disk_in_bay b w) y) ≡ option_map f (option_map (λ (b : Bay S). disk_in_bay b w) x)) →
       (F : Option (Bay S) → Y) → F None ≡ none → ((b : Bay S) → F (Some b) ≡ g (f b.disk)) → F y ≡ F x
   in_both f g none None None which each F empty some = refl
   in_both f g none None (Some b) which each F empty some = some-none refl which
@@ -192,7 +192,7 @@ module _ {S : Type 0} where
     pub seated_same : {X : Type 0} (f : Option (Bay S) → X) → f (Some b) ≡ f (Some a) → (q : ℕ) → f (bay_of new q) ≡ f (bay_of m q)
     seated_same f same = each_port f m new port (ap f seated_here ∙ (same ∙ ap f (sym was))) seated_others
 
-    seated_out : (w : Which) → ((w ≢ a.which) → disk_in b w ≡ disk_in a w) → (q : ℕ) → which_of m q ≢ Some w → disk_of new q w ≡ disk_of m q w
+    seated_out : (w : Which) → ((w ≢ a.which) → disk_in_bay b w ≡ disk_in_bay a w) → (q : ℕ) → which_of m q ≢ Some w → disk_of new q w ≡ disk_of m q w
     seated_out w out q ne =
         elim (eqb_tells q port) [
           | inl same ↦
@@ -200,15 +200,15 @@ module _ {S : Type 0} where
               subst Q (sym same.1)
               (λ other.
               let apart : w ≢ a.which = λ e. other (ap (option_map (λ (x : Bay S). x.which)) was ∙ ap Some (sym e)) in
-              ap (option_map (λ (x : Bay S). disk_in x w)) seated_here ∙ (ap Some (out apart) ∙ ap (option_map (λ (x : Bay S). disk_in x w)) (sym was))) ne
-          | inr differ ↦ ap (option_map (λ (x : Bay S). disk_in x w)) (seated_others q differ.1)
+              ap (option_map (λ (x : Bay S). disk_in_bay x w)) seated_here ∙ (ap Some (out apart) ∙ ap (option_map (λ (x : Bay S). disk_in_bay x w)) (sym was))) ne
+          | inr differ ↦ ap (option_map (λ (x : Bay S). disk_in_bay x w)) (seated_others q differ.1)
         ]
 
-    pub seated_keeps : (size : S → ℕ) → ((w : Which) → w ≢ a.which → disk_in b w ≡ disk_in a w) → ((w : Which) → identity size (disk_in b w) ≡ identity size (disk_in a w)) →
+    pub seated_keeps : (size : S → ℕ) → ((w : Which) → w ≢ a.which → disk_in_bay b w ≡ disk_in_bay a w) → ((w : Which) → identity size (disk_in_bay b w) ≡ identity size (disk_in_bay a w)) →
         b.cache.is_on ≡ a.cache.is_on → new.queue ≡ m.queue → new.accesses ≡ m.accesses → StepKeeps size m new
     seated_keeps size out same cached queue accesses = record {
       out = λ q w ne. seated_out w (out w) q ne;
-      identities = λ q w. seated_same (λ x. option_map (identity size) (option_map (λ (y : Bay S). disk_in y w) x)) (ap Some (same w)) q;
+      identities = λ q w. seated_same (λ x. option_map (identity size) (option_map (λ (y : Bay S). disk_in_bay y w) x)) (ap Some (same w)) q;
       caches = seated_same has_cache cached;
       queue = queue;
       accesses = accesses;
@@ -254,11 +254,11 @@ module _ {S : Type 0} where
     store_which : b.which ≡ a.which
     store_which = ap (λ (x : Bay S). x.which) rest
 
-    pub store_out : (w : Which) → w ≢ a.which → disk_in b w ≡ disk_in a w
-    store_out w ne = ap (λ (x : Bay S). disk_in x w) rest ∙ kept_out (is_same w a.which) (record a.disk { store = b.disk.store }) a.disk a.other (not_same w a.which ne)
+    pub store_out : (w : Which) → w ≢ a.which → disk_in_bay b w ≡ disk_in_bay a w
+    store_out w ne = ap (λ (x : Bay S). disk_in_bay x w) rest ∙ kept_out (is_same w a.which) (record a.disk { store = b.disk.store }) a.disk a.other (not_same w a.which ne)
 
-    pub store_kept : {X : Type 0} (f : ModelDisk S → X) → f (record a.disk { store = b.disk.store }) ≡ f a.disk → (w : Which) → f (disk_in b w) ≡ f (disk_in a w)
-    store_kept f same w = ap (λ (x : Bay S). f (disk_in x w)) rest ∙ kept_in f (is_same w a.which) (record a.disk { store = b.disk.store }) a.disk a.other same
+    pub store_kept : {X : Type 0} (f : ModelDisk S → X) → f (record a.disk { store = b.disk.store }) ≡ f a.disk → (w : Which) → f (disk_in_bay b w) ≡ f (disk_in_bay a w)
+    store_kept f same w = ap (λ (x : Bay S). f (disk_in_bay x w)) rest ∙ kept_in f (is_same w a.which) (record a.disk { store = b.disk.store }) a.disk a.other same
 
     pub store_keeps : (size : S → ℕ) → size b.disk.store ≡ size a.disk.store → b.cache.is_on ≡ a.cache.is_on → new.queue ≡ m.queue → new.accesses ≡ m.accesses → StepKeeps size m new
     store_keeps size sectors =
@@ -266,7 +266,7 @@ module _ {S : Type 0} where
 
     pub store_fine : (failures : S → Option Failures) → failures b.disk.store ≡ failures a.disk.store → NoneFails failures m new
     store_fine failures fine q w =
-        seated_same m new port a b was items (λ x. option_map (λ (y : ModelDisk S). failures y.store) (option_map (λ (y : Bay S). disk_in y w) x))
+        seated_same m new port a b was items (λ x. option_map (λ (y : ModelDisk S). failures y.store) (option_map (λ (y : Bay S). disk_in_bay y w) x))
         (ap Some (store_kept (λ (y : ModelDisk S). failures y.store) fine w)) q
 
     -- which is in and what they say stays, of each port
@@ -374,11 +374,11 @@ module _ {S : Type 0} where
               | inr differ ↦ ap (media_of size told) (put_others q differ.1) ∙ sym (changed_other was_media port (media (was_media port)) q differ.1)
             ]
 
-    pub put_keeps : (size : S → ℕ) → ((b : Bay S) → bay_of m port ≡ Some b → (w : Which) → disk_in (put b) w ≡ disk_in b w) →
+    pub put_keeps : (size : S → ℕ) → ((b : Bay S) → bay_of m port ≡ Some b → (w : Which) → disk_in_bay (put b) w ≡ disk_in_bay b w) →
         ((b : Bay S) → bay_of m port ≡ Some b → (put b).cache.is_on ≡ b.cache.is_on) → new.queue ≡ m.queue → new.accesses ≡ m.accesses → StepKeeps size m new
     put_keeps size same cached queue accesses = record {
-      out = λ q w _. put_same (option_map (λ (b : Bay S). disk_in b w)) (λ b is. ap Some (same b is w)) q;
-      identities = λ q w. put_same (λ x. option_map (identity size) (option_map (λ (b : Bay S). disk_in b w) x)) (λ b is. ap (λ (d : ModelDisk S). Some (identity size d)) (same b is w)) q;
+      out = λ q w _. put_same (option_map (λ (b : Bay S). disk_in_bay b w)) (λ b is. ap Some (same b is w)) q;
+      identities = λ q w. put_same (λ x. option_map (identity size) (option_map (λ (b : Bay S). disk_in_bay b w) x)) (λ b is. ap (λ (d : ModelDisk S). Some (identity size d)) (same b is w)) q;
       caches = put_same has_cache cached;
       queue = queue;
       accesses = accesses;

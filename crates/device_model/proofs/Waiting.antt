@@ -10,7 +10,7 @@ use Rattle.adapter.specs.Steps.Step.{Fetch}
 use Rattle.adapter.specs.declared.access.DeviceStep.{DeviceStep}
 use Rattle.adapter.specs.declared.access.DeviceStep.TheVariants as asked
 use Rattle.sector_store.specs.declared.store.Failures.{Failures}
-use Rattle.device_model.specs.Disks.{disk_in, disk_number, disk_of, which_of}
+use Rattle.device_model.specs.Disks.{disk_in_bay, disk_number, disk_of, which_of}
 use Rattle.device_model.specs.Does.{AnswersStep, AsksStore, ClearsFewer, StepFails, FailsToClear, FailsToMove, Possible, PutsIn, asked_port, which_after}
 use Rattle.device_model.specs.Modelled.{device_at}
 use Rattle.device_model.specs.Queue.{DoesEach}
@@ -213,7 +213,7 @@ module _ {S : Type 0} (size : S → ℕ) (told : S → Option (ℕ → List ℕ)
       | inl here ↦
           let P : ℕ → Type 0 = λ k. disk_of new k w ≡ disk_of old k w in
           subst P (sym here.1) (a.1.disks (none_moves s w old never here.1 empty) w)
-      | inr there ↦ ap (option_map (λ (b : Bay S). disk_in b w)) (a.1.others q there.1)
+      | inr there ↦ ap (option_map (λ (b : Bay S). disk_in_bay b w)) (a.1.others q there.1)
     ],
   )
     where
@@ -221,7 +221,7 @@ module _ {S : Type 0} (size : S → ℕ) (told : S → Option (ℕ → List ℕ)
       after same here = let P : ℕ → Type 0 = λ k. which_of new k ≡ which_after s (which_of old k) in sym (subst P (sym here) a.1.which) ∙ same
   last_stays s false old new w empty never a = (
     λ _. ap (λ (d : Device). (d.port q).present) a.device ∙ empty,
-    each_port (option_map (λ (b : Bay S). disk_in b w)) old new (asked_port s) (a.disks w) a.others q,
+    each_port (option_map (λ (b : Bay S). disk_in_bay b w)) old new (asked_port s) (a.disks w) a.others q,
   )
 
   one_waits : (s : DeviceStep) (answer : Bool) (old new : Model S) (w : Which) → IsOut w old → (PutsIn (Some w) q w s → ⊥) → AnswersStep size told failures s answer old new →

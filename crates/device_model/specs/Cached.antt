@@ -1,11 +1,10 @@
 -- A volatile write cache: what is lasting of a disk that has one, and what is lost (FLUSH CACHE EXT, ACS-3).
-use Rattle.std.specs.Prelude.{ℕ, Bool, true, false, ◌≡◌, ◌+◌, ◌<◌, ◌≤◌, ◌⊎◌, List, [], ◌∷◌, Option, if◌then◌else◌, option_map}
+use Rattle.std.specs.Prelude.{ℕ, Bool, true, false, ◌≡◌, ◌+◌, ◌<◌, ◌≤◌, ◌⊎◌, List, [], ◌∷◌, Option, Contains, if◌then◌else◌, length, option_map}
 use Rattle.std.specs.Vec.{vec_len, vec_capacity}
-use Rattle.sector_store.specs.Stores.{FailsOn, replaced}
+use Rattle.sector_store.specs.Stores.{FailsOn}
 use Rattle.sector_store.specs.declared.store.Failures.{Failures}
 use Rattle.device_model.specs.OldSectors.{with_old}
 use Rattle.device_model.specs.declared.cache.Cache.{Cache}
-use Rattle.device_model.specs.declared.old_sectors.OldSector.{OldSector}
 
 -- Without growing, it has room for the old bytes of so many sectors more, if it keeps any.
 abbrev pub HasOldRoom : Cache → ℕ → Type 0
@@ -32,16 +31,26 @@ abbrev pub CallFails : (cached changes : Bool) → ℕ → (was now : Option Fai
 CallFails cached changes sector was now =
     FailsOn changes sector was now ⊎ ((cached ≡ true) × (changes ≡ true) × FailsOn false sector was now)
 
--- A store was told to write an old sector back. It did, or that call failed.
-abbrev pub WritesOne : {S : Type 0} → (S → ℕ) → (S → Option (ℕ → List ℕ)) → (S → Option Failures) → OldSector → S → S
-    → Type 0
-WritesOne size told failures old was now = (size now ≡ size was)
-    × (((told now ≡ option_map (λ f. replaced f old.sector old.bytes) (told was)) × (failures now ≡ failures was))
-    ⊎ ((told now ≡ told was) × (old.sector < size was → FailsOn true old.sector (failures was) (failures now))))
+-- ---- what is lost
 
--- these old sectors were written back one after another, in their order
-abbrev pub WritesBack : {S : Type 0} → (S → ℕ) → (S → Option (ℕ → List ℕ)) → (S → Option Failures) → List OldSector → S
-    → S → Type 0
-WritesBack size told failures [] was now = now ≡ was
-WritesBack {S} size told failures (old ∷ rest) was now =
-    (mid : S) × WritesOne size told failures old was mid × WritesBack size told failures rest mid now
+-- one sector, of those that a store tells
+abbrev pub sector_told : Option (ℕ → List ℕ) → ℕ → Option (List ℕ)
+sector_told told sector = option_map (λ f. f sector) told
+
+-- one write more has failed of each of these sectors, in this order
+abbrev pub WritesFail : List ℕ → (was now : Option Failures) → Type 0
+WritesFail [] was now = now ≡ was
+WritesFail (sector ∷ rest) was now = (mid : Option Failures) × FailsOn true sector was mid × WritesFail rest mid now
+
+-- The sectors of a store were to become these again. They did, but for some of which a write has failed: these, no more
+-- than there are, are as they were, and so is what is told past the last sector.
+pub record TurnsBack {S : Type 0} (size : S → ℕ) (told : S → Option (ℕ → List ℕ)) (failures : S → Option Failures)
+    (into : Option (ℕ → List ℕ)) (was now : S) : Type 0 where
+  pub failed : List ℕ
+  pub few : length failed ≤ size was
+  pub fails : WritesFail failed (failures was) (failures now)
+  pub sized : size now ≡ size was
+  pub back : (sector : ℕ) → sector < size was → (Contains failed sector → ⊥)
+      → sector_told (told now) sector ≡ sector_told into sector
+  pub left : (sector : ℕ) → (size was ≤ sector) ⊎ Contains failed sector
+      → sector_told (told now) sector ≡ sector_told (told was) sector

@@ -5,7 +5,7 @@ use Rattle.adapter.specs.Device.{Disk}
 use Rattle.adapter.specs.declared.command.Operation.{Operation}
 use Rattle.adapter.specs.declared.command.Operation.TheVariants.{Flush}
 use Rattle.sector_store.specs.declared.store.Failures.{Failures}
-use Rattle.device_model.specs.Cached.{HasOldRoom, KeepsNone, WritesBack, lasting_in}
+use Rattle.device_model.specs.Cached.{HasOldRoom, KeepsNone, TurnsBack, lasting_in}
 use Rattle.device_model.specs.declared.bay.Bay.{Bay}
 use Rattle.device_model.specs.declared.bay.Description.{Description}
 use Rattle.device_model.specs.declared.disks.Disks.{Disks}
@@ -51,8 +51,8 @@ port_0_alone image blank =
 -- ---- those of a port
 
 -- A port has the disk that is in, or was last, and the other one.
-abbrev pub disk_in : {S : Type 0} → Bay S → Which → ModelDisk S
-disk_in b which = if is_same which b.which then b.disk else b.other
+abbrev pub disk_in_bay : {S : Type 0} → Bay S → Which → ModelDisk S
+disk_in_bay b which = if is_same which b.which then b.disk else b.other
 
 -- the disks that were put in one after another, each as it is made of which one it was and of its store then
 abbrev pub plugged_as : {S : Type 0} → (Which → S → Disk) → Plugged S → List Disk
@@ -82,7 +82,7 @@ says_of {S} m port = option_map (λ (b : Bay S). b.says) (bay_of m port)
 
 -- the one or the other of them
 abbrev pub disk_of : {S : Type 0} → Model S → ℕ → Which → Option (ModelDisk S)
-disk_of {S} m port which = option_map (λ (b : Bay S). disk_in b which) (bay_of m port)
+disk_of {S} m port which = option_map (λ (b : Bay S). disk_in_bay b which) (bay_of m port)
 
 -- what is fixed of the disk that is in, or was last
 abbrev pub identity_of : {S : Type 0} → (S → ℕ) → Model S → ℕ → Option Identity
@@ -123,27 +123,27 @@ HasOldRoomAt m port more = HasOldRoomOf m.bays.items port more
 
 -- The disks of a port after such a command has ended: a flush makes lasting what the disk that is in holds, and nothing
 -- older is kept any more.
-abbrev pub IsEnded : {S : Type 0} → Operation → (old new : Bay S) → Type 0
-IsEnded Flush old new = KeepsNone old.cache new.cache
+abbrev pub EndsCommand : {S : Type 0} → Operation → (old new : Bay S) → Type 0
+EndsCommand Flush old new = KeepsNone old.cache new.cache
     × (new ≡ record old { lasting = record { marker = record {}; value = old.disk.store }; cache = new.cache })
-IsEnded _ old new = new ≡ old
+EndsCommand _ old new = new ≡ old
 
 -- the same of a port that has disks, or none
-abbrev pub AreEnded : {S : Type 0} → Operation → (old new : Option (Bay S)) → Type 0
-AreEnded operation None new = new ≡ None
-AreEnded operation (Some old) None = ⊥
-AreEnded operation (Some old) (Some new) = IsEnded operation old new
+abbrev pub EndsCommandIn : {S : Type 0} → Operation → (old new : Option (Bay S)) → Type 0
+EndsCommandIn operation None new = new ≡ None
+EndsCommandIn operation (Some old) None = ⊥
+EndsCommandIn operation (Some old) (Some new) = EndsCommand operation old new
 
 -- a command of this port has ended, and nothing else is another
 abbrev pub EndsOnly : {S : Type 0} → Operation → ℕ → (old new : List (Option (Bay S))) → Type 0
 EndsOnly {S} operation port old new =
-    (bay : Option (Bay S)) × AreEnded operation (slice_index_or old port None) bay × (new ≡ slice_set old port bay)
+    (bay : Option (Bay S)) × EndsCommandIn operation (slice_index_or old port None) bay × (new ≡ slice_set old port bay)
 
--- What was in a cache is lost: what its disk held before is written back. Without one the disk is as it was.
-pub record IsLost {S : Type 0} (size : S → ℕ) (told : S → Option (ℕ → List ℕ)) (failures : S → Option Failures)
+-- What was in a cache is lost: its disk is turned back into what is lasting of it. Without one the disk is as it was.
+pub record LosesCache {S : Type 0} (size : S → ℕ) (told : S → Option (ℕ → List ℕ)) (failures : S → Option Failures)
     (old new : Bay S) : Type 0 where
   pub back : old.cache.is_on ≡ true
-      → WritesBack size told failures old.cache.kept.sectors.items old.disk.store new.disk.store
+      → TurnsBack size told failures (lasting_of told old) old.disk.store new.disk.store
   pub as_it_was : old.cache.is_on ≡ false → new.disk.store ≡ old.disk.store
 
 -- what the disks of this port say is another, if it has some, and nothing else

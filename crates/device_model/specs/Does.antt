@@ -14,7 +14,7 @@ use Rattle.ata_types.specs.declared.Port.{Port}
 use Rattle.ata_types.specs.declared.Slot.{Slot}
 use Rattle.sector_store.specs.declared.store.Failures.{Failures}
 use Rattle.device_model.specs.Cached.{CallFails}
-use Rattle.device_model.specs.Disks.{HasOldRoomOf, IsLost, bay_of, caches, disk_number, disk_of, failures_of, identity, says_of, which_of}
+use Rattle.device_model.specs.Disks.{HasOldRoomOf, LosesCache, bay_of, caches, disk_number, disk_of, failures_of, identity, says_of, which_of}
 use Rattle.device_model.specs.Finishing.{HasMove, HasRoom, MayFinish}
 use Rattle.device_model.specs.Held.{held_after}
 use Rattle.device_model.specs.Modelled.{device_at}
@@ -39,7 +39,7 @@ MayBeFetched d port slot =
     ((meaning : Meaning) × (places : List ℕ) × Can (Fetch port slot meaning places) d)
     ⊎ Can (FetchFault port slot false 0) d
 
--- The step may be done now, memory to note it aside. There are ports 0 to 3 with slots 0 to 31; what is said of a page
+-- The step may be done now, memory for it aside. There are ports 0 to 3 with slots 0 to 31; what is said of a page
 -- of a port without disks says nothing, and is done; a page has 512 bytes; and disks 0 and 1 can be put into a port
 -- that has disks, where none is in. A Finish is possible where each of its moves and clears is. A sector may be past
 -- the disk: its command fails then.
@@ -69,7 +69,8 @@ cleared_on_disk size most t = min (span most t) (size - next_uncleared t)
 -- the sectors that it changes. A Finish notes each of its moves and clears, and the end; a Fetch a fault alone. A Clear
 -- notes what it clears, and then a fault, where the store fails behind some sectors: it asks room for both before it
 -- clears any, so that no command is cleared in part without its fault. The other steps note nothing, and a Move, a
--- Clear and a Finish alone change sectors.
+-- Clear and a Finish alone change sectors. Room for old bytes is asked for each sector that is to be written or
+-- cleared, also for one that has some already; and of a Finish also for those past the disk, at which it is to fail.
 abbrev pub LacksMemory : {S : Type 0} → DeviceStep → Device → Hardware → List (Option (Bay S)) → Type 0
 LacksMemory (asked.Fetch p s) d h bays = Can (FetchFault p.0 s.0 false 0) d × (HasRoom h 1 → ⊥)
 LacksMemory (asked.Move p s) d h bays = (t : Taken) × HasMove d p.0 s.0 t
@@ -251,15 +252,15 @@ is_losing (asked.LosePlug p) = true
 is_losing step = false
 
 -- What was in the cache of the disk that is put in again is lost.
-abbrev pub AreLost : {S : Type 0} → (S → ℕ) → (S → Option (ℕ → List ℕ)) → (S → Option Failures) → Option (Bay S)
+abbrev pub LosesCacheIn : {S : Type 0} → (S → ℕ) → (S → Option (ℕ → List ℕ)) → (S → Option Failures) → Option (Bay S)
     → Option (Bay S) → Type 0
-AreLost size told failures (Some old) (Some new) = IsLost size told failures old new
-AreLost size told failures _ _ = ⊥
+LosesCacheIn size told failures (Some old) (Some new) = LosesCache size told failures old new
+LosesCacheIn size told failures _ _ = ⊥
 
 -- The slot's command has ended since this state, just now, as the tape tells last: it is taken no more, and its bit is
 -- clear, of PxSACT if it was queued, and else of PxCI. A queued one has its bit of PxCI clear, too, if it was taken
 -- since then, or had it clear then: to set it again for a command that is taken breaks the rules of the hardware.
-pub record HasEnded (since d : Device) (port slot : ℕ) : Type 0 where
+pub record HasEndedSlot (since d : Device) (port slot : ℕ) : Type 0 where
   pub operation : Operation
   pub before : List Entry
   pub last : d.tape ≡ before ++ done_entry port slot operation ∷ []
@@ -282,7 +283,7 @@ answer_of _ = true
 -- a Finish ends its command, and a Clear clears all that can be cleared at once
 abbrev pub EndsIt : DeviceStep → Device → Device → Type 0
 EndsIt (asked.Clear p s most) old new = HasCleared old new p.0 s.0 most
-EndsIt (asked.Finish p s) old new = HasEnded old new p.0 s.0
+EndsIt (asked.Finish p s) old new = HasEndedSlot old new p.0 s.0
 EndsIt step old new = Unit {0}
 
 -- A step is done whole: the device did what it was asked, and sent the FIS of a command that ended or failed. No call
@@ -295,7 +296,8 @@ pub record Completes {S : Type 0} (size : S → ℕ) (told : S → Option (ℕ �
   pub fine : is_losing s ≡ false → NoneFails failures old new
   pub says : says_of new (asked_port s) ≡ says_after s (device_at size told old) (says_of old (asked_port s))
   pub ends : (device_at size told old).size ≤ 2 ^ 32 → EndsIt s (device_at size told old) (device_at size told new)
-  pub loses : is_losing s ≡ true → AreLost size told failures (bay_of old (asked_port s)) (bay_of new (asked_port s))
+  pub loses : is_losing s ≡ true
+      → LosesCacheIn size told failures (bay_of old (asked_port s)) (bay_of new (asked_port s))
 
 -- its command fails
 abbrev pub HasFailed : {S : Type 0} → (S → ℕ) → (S → Option (ℕ → List ℕ)) → (S → Option Failures) → DeviceStep → Model S
@@ -324,8 +326,9 @@ pub record Did {S : Type 0} (size : S → ℕ) (told : S → Option (ℕ → Lis
   pub starved : new.hardware.starved ≡ old.hardware.starved
 
 -- A step that is left: the device is as it was, each disk, and what the disks say. A step that is possible is left only
--- where there was no room to note it without growing, and that is told as want of memory. That is told where it was,
--- and else only where the step was possible and there was no such room.
+-- where there was no room without growing to note it, or for the old bytes of the sectors that it changes, and that is
+-- told as want of memory. That is told where it was, and else only where the step was possible and there was no such
+-- room.
 pub record IsLeftOut {S : Type 0} (size : S → ℕ) (told : S → Option (ℕ → List ℕ)) (failures : S → Option Failures)
     (s : DeviceStep) (old new : Model S) : Type 0 where
   pub device : device_at size told new ≡ device_at size told old

@@ -151,9 +151,10 @@ pub record IsNewModel {S : Type 0} (size : S → ℕ) (told : S → Option (ℕ 
   pub bays : (port : ℕ) → IsNewBay config (given_for disks port) (bay_of m port)
   pub held : m.held ≡ none_held
   pub queue : m.queue.items ≡ []
-  pub accesses : m.accesses ≡ 0
+  pub accesses : m.accesses.shown ≡ 0
+  pub made : m.accesses.count.made ≡ 0
   pub sated : m.hardware.starved ≡ false
 
--- a step of the device was left out, since there was no memory to note it
+-- a step of the device was left out, since there was no memory to note it, or to keep what sectors held that it changes
 abbrev pub is_starved : {S : Type 0} → Model S → Bool
 is_starved m = m.hardware.starved

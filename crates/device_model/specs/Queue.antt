@@ -35,9 +35,10 @@ DoesEach {S} size told failures (s ∷ steps) old new =
 -- wait on as they were, and each of those is done, in their order, or left.
 pub record BeginsAccess {S : Type 0} (size : S → ℕ) (told : S → Option (ℕ → List ℕ)) (failures : S → Option Failures)
     (old new : Model S) : Type 0 where
-  pub counted : new.accesses ≡ min (old.accesses + 1) (2 ^ 64 - 1)
-  pub waiting : new.queue.items ≡ not_due new.accesses old.queue.items
-  pub does : DoesEach size told failures (due new.accesses old.queue.items)
+  pub counted : new.accesses.shown ≡ min (old.accesses.shown + 1) (2 ^ 64 - 1)
+  pub made : new.accesses.count.made ≡ old.accesses.count.made + 1
+  pub waiting : new.queue.items ≡ not_due new.accesses.shown old.queue.items
+  pub does : DoesEach size told failures (due new.accesses.shown old.queue.items)
       (record old { accesses = new.accesses; queue = new.queue }) new
 
 -- An access that changes the hardware alone: it begins so, and then changes the device so. The rest of the model stays,

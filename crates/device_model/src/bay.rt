@@ -4,7 +4,7 @@ ghost use Rattle.adapter.specs.Commands.{is_ranged, reads_memory};
 ghost use Rattle.adapter.specs.Device.{Disk, IsSector};
 ghost use Rattle.adapter.specs.Steps.{disk_after, disk_cleared};
 ghost use Rattle.device_model.specs.Cached.{CallFails, HasOldRoom, KeepsTheSame, lasting_in};
-ghost use Rattle.device_model.specs.Disks.{EndsOnly, IsEnded, IsLost, SaysOnly, disk_in, disk_over, identity, is_same, lasting_of, plugged_as};
+ghost use Rattle.device_model.specs.Disks.{EndsOnly, EndsCommand, LosesCache, SaysOnly, disk_in_bay, disk_over, identity, is_same, lasting_of, plugged_as};
 ghost use Rattle.device_model.specs.Exchanged.{Exchanges, IsExchanged, piece_of};
 ghost use Rattle.device_model.specs.Finishing.{HasRoomAhead, IsBegun, IsUnbegun};
 ghost use Rattle.device_model.specs.Paged.{IsItsLog, IsItsPage, IsTurned, lying, naming, no_lies, truthful};
@@ -324,7 +324,7 @@ impl<S: SectorStore> Bay<S> {
 
     /// Such a command has ended: a flush makes lasting what the disk that is in holds.
     pub fn end(&mut self, transfer: Transfer)
-        ensures { IsEnded (operation_of transfer) self.old self.new }
+        ensures { EndsCommand (operation_of transfer) self.old self.new }
     {
         match transfer {
             Transfer::Flush => {
@@ -338,7 +338,7 @@ impl<S: SectorStore> Bay<S> {
     /// Has a disk stand as the one that is in. It has the sectors that it had; of another one they are lasting.
     fn turn_to(&mut self, which: Which)
         ensures which { self.new.which ≡ which }
-        ensures disks { (w : Which) → disk_in self.new w ≡ disk_in self.old w }
+        ensures disks { (w : Which) → disk_in_bay self.new w ≡ disk_in_bay self.old w }
         ensures lasting { lasting_of S.told self.new
             ≡ (if is_same which self.old.which then lasting_of S.told self.old else S.told self.new.disk.store) }
         ensures cached { self.new.cache.is_on ≡ self.old.cache.is_on }
@@ -353,15 +353,15 @@ impl<S: SectorStore> Bay<S> {
         if self.which != which {
             mem::swap(&mut self.disk, &mut self.other);
             self.which = which;
-            self.lasting = Snapshot::of(&self.disk.store);
-            self.cache.forget();
+            // Of another disk all is lasting, as after a flush.
+            self.end(Transfer::Flush);
         }
     }
 
     /// Puts a disk in, as it was when it was taken out.
     pub fn put_in(&mut self, which: Which)
         ensures which { self.new.which ≡ which }
-        ensures disks { (w : Which) → disk_in self.new w ≡ disk_in self.old w }
+        ensures disks { (w : Which) → disk_in_bay self.new w ≡ disk_in_bay self.old w }
         ensures later { (disk : Which → S → Disk) → plugged_as disk self.new.later
             ≡ plugged_as disk self.old.later ++ disk which self.new.disk.store ∷ [] }
         ensures lasting { lasting_of S.told self.new
@@ -383,7 +383,7 @@ impl<S: SectorStore> Bay<S> {
     /// Puts the disk in again that was last in, and what was in its cache is lost. What it may lose is kept: another
     /// one that is put in so loses the same.
     pub fn put_back(&mut self)
-        ensures loses { IsLost S.size S.told S.failures self.old self.new }
+        ensures loses { LosesCache S.size S.told S.failures self.old self.new }
         ensures later { (disk : Which → S → Disk) → plugged_as disk self.new.later
             ≡ plugged_as disk self.old.later ++ disk self.old.which self.new.disk.store ∷ [] }
         ensures rest { self.new ≡ record self.old

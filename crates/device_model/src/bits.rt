@@ -1,5 +1,5 @@
 // Bits of registers.
-ghost use Rattle.std.specs.Prelude.{◌≡◌, ◌<◌, ◌^◌, ◌&&◌, not, if◌then◌else◌};
+ghost use Rattle.std.specs.Prelude.{◌≡◌, ◌↔◌, ◌<◌, ◌≤◌, ◌^◌, ◌&&◌, ℕ, IsTrue, true, false, not, if◌then◌else◌};
 ghost use Rattle.adapter.specs.Memory.{changed};
 ghost use Rattle.device_model.specs.Bits.{bits_of};
 
@@ -11,6 +11,14 @@ pub fn bit_if(set: bool, place: u32) -> u32
     ensures { result ≡ (if set then 2 ^ place else 0) }
 {
     if set { 1 << place } else { 0 }
+}
+
+/// Whether no bit is a one from this place on.
+pub fn is_clear_from(value: u32, place: u32) -> bool
+    requires { place < 32 }
+    ensures { IsTrue result ↔ ((k : ℕ) → place ≤ k → bits_of value k ≡ false) }
+{
+    value >> place == 0
 }
 
 /// The value with this bit as said.

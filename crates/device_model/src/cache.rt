@@ -3,7 +3,7 @@
 ghost use Rattle.std.specs.Prelude.{◌≡◌, ◌<◌, ◌≤◌, ◌+◌, ◌⊎◌, ℕ, List, Option, true, false, option_map, length, is_some, []};
 ghost use Rattle.std.specs.Vec.{vec_len, vec_capacity};
 ghost use Rattle.sector_store.specs.Stores.{FailsOn, replaced};
-ghost use Rattle.device_model.specs.Cached.{CallFails, HasOldRoom, KeepsNone, KeepsTheSame, WritesBack, lasting_in};
+ghost use Rattle.device_model.specs.Cached.{CallFails, HasOldRoom, KeepsNone, KeepsTheSame, TurnsBack, lasting_in};
 ghost use Rattle.device_model.specs.OldSectors.{with_old};
 
 use crate::old_sectors::OldSectors;
@@ -110,7 +110,8 @@ pub fn put_sector<S: SectorStore>(
 
 /// Writes back what is kept, the lowest sector first. A sector on which the store fails keeps what it holds.
 pub fn write_back<S: SectorStore>(store: &mut S, kept: &OldSectors)
-    ensures { WritesBack S.size S.told S.failures kept.now.sectors.items store.old store.new }
+    ensures { TurnsBack S.size S.told S.failures (option_map (with_old kept.now.sectors.items) (S.told store.old))
+        store.old store.new }
 {
     for old in kept.as_slice() {
         let _written = store.write(old.sector, &old.bytes);

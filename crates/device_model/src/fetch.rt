@@ -11,11 +11,11 @@ ghost use Rattle.device_model.specs.Finishing.{sends_page};
 ghost use Rattle.device_model.specs.View.{operation_of, taken_of};
 
 use crate::port::{TakenCommand, Transfer};
-use crate::prds::{MOST_PRDS, PrdTable};
+use crate::prds::PrdTable;
 use adapter::Prd;
 use ata_types::{
-    DATA_SET_MANAGEMENT, FLUSH_CACHE_EXT, HEADER_BYTES, IDENTIFY_DEVICE, READ_DMA_EXT,
-    READ_FPDMA_QUEUED, READ_LOG_EXT, TABLE_ALIGNMENT, TABLE_HEAD, WRITE_DMA_EXT,
+    DATA_SET_MANAGEMENT, FLUSH_CACHE_EXT, HEADER_BYTES, IDENTIFY_DEVICE, MOST_REQUEST_FRAMES,
+    READ_DMA_EXT, READ_FPDMA_QUEUED, READ_LOG_EXT, TABLE_ALIGNMENT, TABLE_HEAD, WRITE_DMA_EXT,
     WRITE_FPDMA_QUEUED,
 };
 use byteorder::{ByteOrder, LittleEndian};
@@ -299,7 +299,7 @@ fn prd_at(memory: &[u8], at: usize) -> Option<Prd>
 /// Reads so many PRDs of whole pieces from an address on; `false` says that they don't stand there.
 fn read_prds(memory: &[u8], at: usize, number: usize, prds: &mut PrdTable) -> bool
     requires low { at < 2 ^ 32 + TABLE_HEAD }
-    requires few { number ≤ 128 }
+    requires few { number ≤ MOST_REQUEST_FRAMES }
     requires empty { prds.old ≡ [] }
     ensures found { result ≡ true → ArePrds (bytes_of memory.now) at number prds.new }
     ensures only { result ≡ false → (es : List Prd) → length es ≡ number → HasPrds (bytes_of memory.now) at es
@@ -316,7 +316,7 @@ fn read_prds(memory: &[u8], at: usize, number: usize, prds: &mut PrdTable) -> bo
 
 /// How many pieces PRDs have.
 pub fn count_pieces(prds: &[Prd]) -> u32
-    requires { length prds.now ≤ 128 }
+    requires { length prds.now ≤ MOST_REQUEST_FRAMES }
     ensures { result ≡ length (pieces prds.now) }
 {
     let mut count = 0;
@@ -328,7 +328,7 @@ pub fn count_pieces(prds: &[Prd]) -> u32
 
 /// The address of a piece, if PRDs have so many.
 pub fn piece_at(prds: &[Prd], number: u32) -> Option<u64>
-    requires { length prds.now ≤ 128 }
+    requires { length prds.now ≤ MOST_REQUEST_FRAMES }
     ensures found { IfSome result (λ address. (number < length (pieces prds.now))
         × (address ≡ slice_index (pieces prds.now) number)) }
     ensures room { IfSome result (λ _. number + 1 < 2 ^ 32) }
@@ -376,7 +376,7 @@ fn decode_command(
     };
     let entries = usize::from(header.entries);
     let table = header.table as usize;
-    if entries > MOST_PRDS
+    if entries > MOST_REQUEST_FRAMES
         || !read_prds(
             memory,
             table + TABLE_HEAD as usize,
@@ -396,6 +396,21 @@ fn decode_command(
     command.block = None;
     command.cleared = 0;
     true
+}
+
+/// Whether the bytes of a slot may say a command that sends a page: `false` where their code is another one's. No more
+/// than the code is looked at, since slots are before each reading of a register.
+pub fn may_say_page(memory: &[u8], list: u32, slot: u8) -> bool
+    requires { slot < 32 }
+    ensures { result ≡ false → (m : Meaning) (places : List ℕ) → sends_page m.operation ≡ true
+        → Says (bytes_of memory.now) list slot m places → ⊥ }
+{
+    let header = header_bytes(memory, header_place(list, slot));
+    let fis = fis_bytes(memory, &header);
+    match transfer_coded(fis[2]) {
+        Some(transfer) => transfer.sends_page(),
+        None => false,
+    }
 }
 
 /// The command that the bytes of a slot say, if it is one that sends a page: its code tells.

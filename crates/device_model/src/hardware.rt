@@ -28,7 +28,7 @@ pub struct Hardware {
     pub ae: bool,
     pub ie: bool,
     pub tape: Vec<Entry>,
-    /// Whether a step was left out since there was no memory to note it.
+    /// Whether a step was left out since there was no memory to note it, or to keep what sectors held that it changes.
     pub starved: bool,
 }
 

@@ -1,5 +1,5 @@
 // Laws of the definitions, for callers: the clause is the theorem. These functions do nothing.
-ghost use Rattle.std.specs.Prelude.{◌≡◌, ◌≢◌, ◌+◌, ◌<◌, ◌≤◌, true, false, is_some, ℕ, Bool, List, Some, All};
+ghost use Rattle.std.specs.Prelude.{◌≡◌, ◌≢◌, ◌+◌, ◌<◌, ◌≤◌, ◌⊎◌, true, false, is_some, ℕ, Bool, List, Some, All};
 ghost use Rattle.ata_types.specs.declared.Port.{Port};
 ghost use Rattle.ata_types.specs.declared.Slot.{Slot};
 ghost use Rattle.adapter.specs.Commands.{Meaning, is_queued};
@@ -9,13 +9,15 @@ ghost use Rattle.adapter.specs.Steps.{Can, IsFinished, WorksOn, next_place};
 ghost use Rattle.adapter.specs.Steps.Step.{Clear, Fetch, Move};
 ghost use Rattle.adapter.specs.declared.access.DeviceStep.{DeviceStep};
 ghost use Rattle.adapter.specs.declared.access.DeviceStep.TheVariants as asked;
-ghost use Rattle.device_model.specs.Disks.{disk_of, which_of};
+ghost use Rattle.device_model.specs.Cached.{sector_told};
+ghost use Rattle.device_model.specs.Disks.{bay_of, disk_of, lasting_of, which_of};
 ghost use Rattle.device_model.specs.Does.{Did, Possible, PutsIn};
 ghost use Rattle.device_model.specs.Finishing.{HasDisk};
 ghost use Rattle.device_model.specs.Held.{IsPortHeld};
 ghost use Rattle.device_model.specs.Modelled.{device_at};
 ghost use Rattle.device_model.specs.Queue.{DoesEach};
 ghost use Rattle.device_model.specs.Settled.{DoesOwn};
+ghost use Rattle.device_model.specs.declared.bay.Bay.{Bay};
 ghost use Rattle.device_model.specs.declared.disks.Which.{Which};
 
 use crate::Model;
@@ -90,4 +92,20 @@ pub fn queued_commands_go_on_side_by_side<S: SectorStore>()
         × (Did S.size S.told S.failures (asked.Done p slot) old new → WorksOn ((device_at S.size S.told new).port p.0)
         other.0 u u.meaning.operation
         × Possible (asked.Done p other) (device_at S.size S.told new)) }
+{}
+
+/// What a LosePlug leaves on a disk with a cache, of a store that tells its sectors: in each sector what is lasting of
+/// it, or what it held, and then some call on the store has failed. So all is lasting where none has. (Which sectors'
+/// writes have failed says `TurnsBack`.)
+pub fn lost_caches_leave_what_is_lasting<S: SectorStore>()
+    ensures each { (old new : Model S) (p : Port) (a b : Bay S) → bay_of old p.0 ≡ Some a → bay_of new p.0 ≡ Some b
+        → a.cache.is_on ≡ true → Did S.size S.told S.failures (asked.LosePlug p) old new → (sector : ℕ)
+        → sector < S.size a.disk.store →
+        (sector_told (S.told b.disk.store) sector ≡ sector_told (lasting_of S.told a) sector)
+        ⊎ ((sector_told (S.told b.disk.store) sector ≡ sector_told (S.told a.disk.store) sector)
+        × (S.failures b.disk.store ≢ S.failures a.disk.store)) }
+    ensures whole { (old new : Model S) (p : Port) (a b : Bay S) → bay_of old p.0 ≡ Some a → bay_of new p.0 ≡ Some b
+        → a.cache.is_on ≡ true → Did S.size S.told S.failures (asked.LosePlug p) old new
+        → S.failures b.disk.store ≡ S.failures a.disk.store → (sector : ℕ) → sector < S.size a.disk.store →
+        sector_told (S.told b.disk.store) sector ≡ sector_told (lasting_of S.told a) sector }
 {}

@@ -15,6 +15,7 @@ mod bits;
 mod cache;
 mod clearing;
 mod config;
+mod counting;
 mod disks;
 mod fetch;
 mod halt;

@@ -27,6 +27,7 @@ ghost use Rattle.device_model.specs.Whole.{HasDisks, HasRegister};
 use crate::bay::{Bay, PAGE_BYTES, end_in, end_lies, lie_of, log_failed};
 use crate::clearing::Run;
 use crate::config::{ModelConfig, NoMemory};
+use crate::counting::Accesses;
 use crate::disks::{Disks, PortDisks, Which};
 use crate::hardware::Hardware;
 use crate::port::{PortModel, Transfer};
@@ -88,7 +89,7 @@ pub struct Model<S> {
     /// In the order in which they were queued.
     queue: Vec<Queued>,
     /// How many accesses were made.
-    accesses: u64,
+    accesses: Accesses,
 }
 
 /// Whether a port has disks.
@@ -199,7 +200,7 @@ impl<S: SectorStore> Model<S> {
             bays: bays_for(alloc, disks, config)?,
             held: [false; PORTS],
             queue: Vec::new(alloc),
-            accesses: 0,
+            accesses: Accesses::none(),
         })
     }
 
@@ -228,8 +229,9 @@ impl<S: SectorStore> Model<S> {
     }
 
     /// Whether a step of the device, one that was asked for, that was queued or that the model does by itself, was left
-    /// out since memory to note it was refused. (The contracts say that there was no room without growing.) From then
-    /// on this is `true`, and what the model answers is no longer what an adapter with memory would.
+    /// out since memory was refused: to note it on the tape, or to keep what sectors held that it changes. (The
+    /// contracts say that there was no room without growing.) From then on this is `true`, and what the model answers
+    /// is no longer what an adapter with memory would.
     pub fn starved(&self) -> bool
         ensures { result ≡ self.now.hardware.starved }
     {
@@ -241,10 +243,10 @@ impl<S: SectorStore> Model<S> {
     pub fn queue_step(&mut self, n: u64, step: DeviceStep) -> Result<(), NoMemory>
         ensures same { self.new ≡ record self.old { queue = self.new.queue } }
         ensures queued { OnOk result (self.new.queue.items ≡ self.old.queue.items
-            ++ record { access = min (self.old.accesses + max n 1) (2 ^ 64 - 1); step = step } ∷ []) }
+            ++ record { access = min (self.old.accesses.shown + max n 1) (2 ^ 64 - 1); step = step } ∷ []) }
         ensures kept { OnErr result (self.new.queue.items ≡ self.old.queue.items) }
     {
-        let access = self.accesses.saturating_add(n.max(1));
+        let access = self.accesses.shown.saturating_add(n.max(1));
         self.queue
             .push(Queued { access, step })
             .map_err(|_full| NoMemory)
@@ -683,11 +685,11 @@ impl<S: SectorStore> Model<S> {
     fn do_queued(&mut self)
         ensures { BeginsAccess S.size S.told S.failures self.old self.new }
     {
-        self.accesses = self.accesses.saturating_add(1);
+        self.accesses.add();
         let mut place = 0;
         for _queued in 0..self.queue.len() {
             let queued = self.queue[place];
-            if queued.access > self.accesses {
+            if queued.access > self.accesses.shown {
                 place += 1;
             } else {
                 self.queue.remove(place);
@@ -709,6 +711,8 @@ fn capabilities(pi: u8, slots: u8, ncq: bool) -> u32
 impl<S: SectorStore> Adapter for Model<S> {
     ghost device = { λ m. device_at S.size S.told m };
 
+    ghost access_count = { λ m. m.accesses.count.made };
+
     /// Before the value is read, a pending reset ends unless all four ports are held, and ends all holds; and on each
     /// port that isn't held, CR and FR fall if they may, and the link comes up if it may. Then each IDENTIFY DEVICE and
     /// READ LOG EXT of such a port is done that can be done to its end, and one that can't, but may be taken, is taken.
@@ -716,6 +720,7 @@ impl<S: SectorStore> Adapter for Model<S> {
     fn read(&mut self, r: Reg) -> u32
         requires { MayRead r (device_at S.size S.told self.old) }
         ensures reads { Reads r result (device_at S.size S.told self.old) (device_at S.size S.told self.new) }
+        ensures counted { self.new.accesses.count.made ≡ self.old.accesses.count.made + 1 }
         ensures settled { IsSettled self.new.held (device_at S.size S.told self.new) }
         ensures left { NoneIsLeft self.new.held self.new.hardware.starved (device_at S.size S.told self.new) }
         ensures alone { DoesRead S.size S.told S.failures r result self.old self.new }
@@ -731,6 +736,7 @@ impl<S: SectorStore> Adapter for Model<S> {
     fn write(&mut self, r: Reg, v: u32)
         requires { Stays (MayWrite r v) (device_at S.size S.told self.old) }
         ensures writes { Writes r v (device_at S.size S.told self.old) (device_at S.size S.told self.new) }
+        ensures counted { self.new.accesses.count.made ≡ self.old.accesses.count.made + 1 }
         ensures alone { DoesThen S.size S.told S.failures (written r v) self.old self.new }
     {
         self.do_queued();
@@ -740,6 +746,7 @@ impl<S: SectorStore> Adapter for Model<S> {
     fn load(&mut self, addr: u32, out: &mut [u8])
         requires { Stays (IsFree addr (length out.old)) (device_at S.size S.told self.old) }
         ensures loads { Loads addr out.new (device_at S.size S.told self.old) (device_at S.size S.told self.new) }
+        ensures counted { self.new.accesses.count.made ≡ self.old.accesses.count.made + 1 }
         ensures alone { BeginsAccess S.size S.told S.failures self.old self.new }
     {
         self.do_queued();
@@ -749,6 +756,7 @@ impl<S: SectorStore> Adapter for Model<S> {
     fn store(&mut self, addr: u32, bytes: &[u8])
         requires { Stays (IsFree addr (length bytes.now)) (device_at S.size S.told self.old) }
         ensures stores { Stores addr bytes.now (device_at S.size S.told self.old) (device_at S.size S.told self.new) }
+        ensures counted { self.new.accesses.count.made ≡ self.old.accesses.count.made + 1 }
         ensures alone { DoesThen S.size S.told S.failures (λ d. record d { memory = patched d.memory addr bytes.now })
             self.old self.new }
     {
@@ -761,13 +769,14 @@ impl<S: SectorStore> Adapter for Model<S> {
 
 impl<S: SectorStore> Stepped for Model<S> {
     /// Beside what every such adapter says: it is done if it is possible, no call on a store fails, and there is memory
-    /// to note it; and nothing but what it asks is another. Disks 0 and 1 alone are put in, and only into a port that
-    /// has disks.
+    /// to note it, and to keep what sectors held that it changes, where disks have a cache; and nothing but what it
+    /// asks is another. Disks 0 and 1 alone are put in, and only into a port that has disks.
     fn step(&mut self, s: &DeviceStep) -> bool
         ensures steps { Steps (device_at S.size S.told self.old) (device_at S.size S.told self.new) }
         ensures refused { result ≡ false → device_at S.size S.told self.new ≡ device_at S.size S.told self.old }
         ensures asked { result ≡ true → Asked s.now (device_at S.size S.told self.old)
             (device_at S.size S.told self.new) }
+        ensures counted { self.new.accesses.count.made ≡ self.old.accesses.count.made }
         ensures answers { AnswersStep S.size S.told S.failures s.now result self.old self.new }
     {
         self.do_step(s)

@@ -2,33 +2,32 @@
 ghost use Rattle.std.specs.Prelude.{◌≡◌, ◌<◌, ◌≤◌, ◌++◌, ◌∷◌, [], length, take};
 
 use adapter::Prd;
+use ata_types::MOST_REQUEST_FRAMES;
 use std::marker::Model;
-
-/// How many PRDs a command has at the most that the model takes.
-pub const MOST_PRDS: usize = 128;
 
 const NO_PRD: Prd = Prd {
     address: 0,
     bytes: 0,
 };
 
-/// The PRDs of a command, in their order (AHCI 1.3.1, 4.2.3.3): there is room for 128, and those that there are stand
-/// first. So what goes over them has no more to do than there are.
+/// The PRDs of a command, in their order (AHCI 1.3.1, 4.2.3.3): there is room for as many as the longest request has
+/// frames, and those that there are stand first. So what goes over them has no more to do than there are.
 #[derive(Debug, Drop)]
 pub struct PrdTable {
-    room: [Prd; MOST_PRDS],
+    room: [Prd; MOST_REQUEST_FRAMES],
     number: usize,
 }
 
 impl Model for PrdTable {
     ghost use Rattle.std.specs.Prelude.{◌≤◌, List, take};
     ghost use Rattle.adapter.specs.declared.command.Prd.{Prd};
+    ghost use Rattle.ata_types.specs.declared.limits.TheConstants.{MOST_REQUEST_FRAMES};
 
     ghost Value = { List Prd };
 
     ghost view = { λ t. take t.number t.room };
 
-    ghost invariant = { λ t. t.number ≤ 128 };
+    ghost invariant = { λ t. t.number ≤ MOST_REQUEST_FRAMES };
 }
 
 impl PrdTable {
@@ -37,14 +36,14 @@ impl PrdTable {
         ensures { result ≡ [] }
     {
         PrdTable {
-            room: [NO_PRD; MOST_PRDS],
+            room: [NO_PRD; MOST_REQUEST_FRAMES],
             number: 0,
         }
     }
 
     /// One more.
     pub fn push(&mut self, prd: Prd)
-        requires { length self.old < 128 }
+        requires { length self.old < MOST_REQUEST_FRAMES }
         ensures { self.new ≡ self.old ++ prd ∷ [] }
     {
         self.room[self.number] = prd;
@@ -54,7 +53,7 @@ impl PrdTable {
     /// Those that there are.
     pub fn as_slice(&self) -> &[Prd]
         ensures same { result.now ≡ self.now }
-        ensures few { length result.now ≤ 128 }
+        ensures few { length result.now ≤ MOST_REQUEST_FRAMES }
     {
         &self.room[..self.number]
     }

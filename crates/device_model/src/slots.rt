@@ -1,13 +1,14 @@
 // The slots of a port: which command is taken, and how it goes on.
-ghost use Rattle.std.specs.Prelude.{◌≡◌, ◌<◌, ◌^◌, ◌+◌, ℕ, None, Some, true, false, slice_index_or, IfSome, List};
+ghost use Rattle.std.specs.Prelude.{◌≡◌, ◌↔◌, ◌<◌, ◌≤◌, ◌^◌, ◌+◌, ◌||◌, ℕ, IsTrue, None, Some, true, false, is_some, slice_index_or, IfSome, List};
 ghost use Rattle.adapter.specs.Steps.{IsAlone, IsFetchable, IsWorking, admits, with_clear, with_done, with_fault, with_fetch, with_flush, with_move};
 ghost use Rattle.adapter.specs.declared.command.Operation.{Operation};
+ghost use Rattle.device_model.specs.Bits.{bits_of};
 ghost use Rattle.device_model.specs.Fetched.{IsNew};
 ghost use Rattle.device_model.specs.Slots.{IsOpenTo, MayTake, HasUntaken, HoldsAt};
 ghost use Rattle.device_model.specs.View.{Media, cause_of, halt_of, held_in, kept_by, media_after, media_cleared, media_ended, operation_of, port_of, taken_of, blank};
 ghost use Rattle.device_model.specs.declared.port.TakenCommand.{TakenCommand};
 
-use crate::bits::with_bit_as;
+use crate::bits::{is_clear_from, with_bit_as};
 use crate::clearing::Run;
 use crate::halt::Halting;
 use crate::port::{PortModel, TakenCommand, Transfer};
@@ -107,6 +108,23 @@ impl PortModel {
         self.tfd = Some(u16::from(failed_status(busy)) + 256 * u16::from(error));
         self.is = with_bit_as(self.is, TFES, true);
         self.halting = self.halting.after_fault(queued);
+    }
+
+    /// Whether a command is issued or taken in a slot.
+    pub fn is_used(&self, slot: u8) -> bool
+        requires { slot < 32 }
+        ensures { result ≡ (bits_of self.now.ci slot || is_some (held_in self.now.taken slot)) }
+    {
+        is_set(self.ci, u32::from(slot)) || self.taken.is_taken(slot)
+    }
+
+    /// Whether no command is issued or taken in a slot, and in those after it.
+    pub fn is_unused_from(&self, slot: u8) -> bool
+        requires { slot < 32 }
+        ensures { IsTrue result ↔ ((k : ℕ) → slot ≤ k
+            → (bits_of self.now.ci k ≡ false) × (held_in self.now.taken k ≡ None)) }
+    {
+        is_clear_from(self.ci, u32::from(slot)) && self.taken.is_empty_from(slot)
     }
 
     /// Whether the port works on such commands.

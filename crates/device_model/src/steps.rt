@@ -21,7 +21,9 @@ ghost use Rattle.device_model.specs.Whole.{Outside, device_of, outside_after, ou
 ghost use Rattle.device_model.specs.declared.port.TakenCommand.{TakenCommand};
 
 use crate::cache::Cache;
-use crate::fetch::{count_pieces, piece_at, read_command, read_into, read_page, says_command};
+use crate::fetch::{
+    count_pieces, may_say_page, piece_at, read_command, read_into, read_page, says_command,
+};
 use crate::hardware::Hardware;
 use crate::port::{TakenCommand, Transfer};
 use crate::slots::{FAILED_STATUS, failed_status, has_untaken, working_on};
@@ -297,7 +299,13 @@ impl Hardware {
         requires slot { slot < 32 }
         ensures { (o : Outside) → FindsPage (device_of self.now o) port slot result }
     {
+        if !self.ports[port].is_used(slot) {
+            return None;
+        }
         if has_untaken(&self.ports, port, slot) {
+            if !may_say_page(&self.memory, self.ports[port].addresses.clb, slot) {
+                return None;
+            }
             return self.says_page(port, slot);
         }
         let command = working_on(&self.ports, port, slot)?;
@@ -312,21 +320,23 @@ impl Hardware {
     }
 
     /// The first slot of a port with an IDENTIFY DEVICE or READ LOG EXT that may be taken, or can be done to its end.
-    /// There is none where no command is issued or taken.
+    /// It is looked for as far as commands are issued or taken.
     pub fn next_page(&self, port: u8) -> Option<FoundPage>
         requires { port < 4 }
         ensures port { IfSome result (λ found. found.port ≡ port) }
         ensures small { IfSome result (λ found. found.slot < 32) }
         ensures found { IfSome result (λ found. (o : Outside) → FindsPage (device_of self.now o) port found.slot
             (Some found.ends)) }
+        ensures first { IfSome result (λ found. (o : Outside) (slot : ℕ) → slot < found.slot
+            → FindsPage (device_of self.now o) port slot None) }
         ensures none { result ≡ None → (o : Outside) (slot : ℕ) → slot < 32
             → FindsPage (device_of self.now o) port slot None }
     {
         let place = usize::from(port);
-        if self.ports[place].ci == 0 && self.ports[place].taken.is_empty() {
-            return None;
-        }
         for slot in 0..32 {
+            if self.ports[place].is_unused_from(slot) {
+                return None;
+            }
             if let Some(ends) = self.has_page(place, slot) {
                 return Some(FoundPage { port, slot, ends });
             }
@@ -538,7 +548,8 @@ impl Hardware {
     }
 
     /// Takes the command that the bytes of a slot say, which may be taken, where each of its moves and clears is
-    /// possible and the tape finds memory for them and the end. Want of memory is told.
+    /// possible, the tape finds memory for them and the end, and the cache of the port's disks for what the sectors
+    /// held that they change. Want of memory is told.
     #[inline(never)]
     fn begin_said(&mut self, port: u8, slot: u8, cache: &mut Cache) -> Option<Begun>
         requires port { port < 4 }
@@ -572,8 +583,8 @@ impl Hardware {
     }
 
     /// Begins to do a slot's command to its end, where each move and each clear that it has left is possible: the tape
-    /// finds memory for them and the end, and the cache of the port's disks for what these held that they change, and
-    /// the command is taken, unless it is already. Want of memory is told.
+    /// finds memory for them and the end, and the cache of the port's disks for what the sectors held that they change,
+    /// and the command is taken, unless it is already. Want of memory is told.
     pub fn begin(&mut self, port: u8, slot: u8, cache: &mut Cache) -> Option<Begun>
         requires port { port < 4 }
         requires slot { slot < 32 }

@@ -7,9 +7,10 @@ ghost use Rattle.device_model.specs.Block.{brought};
 ghost use Rattle.device_model.specs.View.{held_in, operation_of};
 ghost use Rattle.device_model.specs.declared.port.TakenCommand.{TakenCommand};
 
-use crate::bits::with_bit_as;
+use crate::bits::{is_clear_from, with_bit_as};
 use crate::port::{TakenCommand, Transfer};
 use ata_types::SLOTS;
+use hba_regs::is_set;
 use std::alloc::{AllocError, Global};
 use std::marker::Model;
 use std::snapshot::Snapshot;
@@ -63,6 +64,22 @@ impl TakenCommands {
         ensures none { result ≡ None → held_in self.now slot ≡ None }
     {
         self.slots[usize::from(slot)].as_ref()
+    }
+
+    /// Whether a command is taken in a slot: its bit tells.
+    pub fn is_taken(&self, slot: u8) -> bool
+        requires { slot < 32 }
+        ensures { result ≡ is_some (held_in self.now slot) }
+    {
+        is_set(self.filled, u32::from(slot))
+    }
+
+    /// Whether none is taken in a slot and in those after it.
+    pub fn is_empty_from(&self, slot: u8) -> bool
+        requires { slot < 32 }
+        ensures { IsTrue result ↔ ((k : ℕ) → slot ≤ k → held_in self.now k ≡ None) }
+    {
+        is_clear_from(self.filled, u32::from(slot))
     }
 
     /// A command is taken in a slot, of which nothing was moved yet; a trim alone.
@@ -134,13 +151,15 @@ impl TakenCommands {
         self.filled = with_bit_as(self.filled, u32::from(slot), false);
     }
 
-    /// No command is taken any more.
+    /// No command is taken any more. A slot that has none is left, since there is much to write in one.
     #[inline(never)]
     pub fn clear(&mut self)
         ensures { held_in self.new ≡ (λ slot. None) }
     {
         for slot in 0..SLOTS {
-            self.slots[slot] = None;
+            if is_set(self.filled, slot as u32) {
+                empty(&mut self.slots[slot]);
+            }
         }
         self.filled = 0;
     }
@@ -159,6 +178,13 @@ impl TakenCommands {
     {
         self.is_empty() || hold_queued(&self.slots)
     }
+}
+
+/// A command is taken no more.
+fn empty(taken: &mut Option<TakenCommand>)
+    ensures { taken.new ≡ None }
+{
+    *taken = None;
 }
 
 /// One more piece of a command was moved.

@@ -32,7 +32,7 @@ pub trait Shown: Watched {
         ensures { Shows r result (Self.device self.now) };
 }
 
-/// A model can go on until memory to note a step was refused.
+/// A model can go on until memory was refused: to note a step, or to keep what sectors held that it changes.
 impl<S: SectorStore> Watched for Model<S> {
     ghost ended = { is_starved };
 

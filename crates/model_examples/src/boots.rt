@@ -224,6 +224,8 @@ struct Watched<A> {
 impl<A: Adapter> Adapter for Watched<A> {
     ghost device = { λ w. A.device w.adapter };
 
+    ghost access_count = { λ w. A.access_count w.adapter };
+
     fn read(&mut self, r: Reg) -> u32 {
         self.adapter.read(r)
     }

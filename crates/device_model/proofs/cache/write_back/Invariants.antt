@@ -1,5 +1,5 @@
 use Rattle.std.proofs.Common.{take}
-use Rattle.device_model.specs.Cached.{WritesBack}
+use Rattle.device_model.proofs.Caching.{WritesBack}
 use Rattle.device_model.proofs.cache.write_back.Given as goal
 
 -- those before are written back

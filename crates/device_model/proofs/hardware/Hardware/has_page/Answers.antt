@@ -1,10 +1,13 @@
-use Rattle.std.proofs.Common.{Bool, Option, ◌≡◌, ◌∙◌, refl, sym, ap, subst}
+use Rattle.std.proofs.Common.{rules, Bool, Option, None, false, ◌≡◌, ◌<◌, ◌∙◌, ◌||◌, length, refl, sym, ap, subst}
+use Rattle.std.specs.Prelude.{is_some}
+use Rattle.std.proofs.lemmas.Bool.{or_parts}
 use Rattle.device_model.proofs.Absurd.{some_one, true-false}
 use Rattle.device_model.specs.Finishing.{FindsPage, sends_page}
 use Rattle.device_model.specs.Whole.{device_of}
 use Rattle.device_model.specs.declared.port.TakenCommand.{TakenCommand}
 use Rattle.device_model.specs.View.{operation_of}
-use Rattle.device_model.proofs.Ready.{Ends, page_barred, page_held, page_unheld}
+use Rattle.device_model.proofs.Ready.{Ends, page_barred, page_held, page_unheld, page_unmeant, page_unsaid, page_unused}
+use Rattle.device_model.proofs.SlotLemmas.{at_port, none_filled}
 use Rattle.device_model.proofs.hardware.Hardware.has_page.Goals as goal
 
 pub says_page-requires-clause-may : goal.says_page-requires-clause-may
@@ -46,3 +49,27 @@ returns-then-not-sends_page c = λ o.
           true-false (ap (λ (x : TakenCommand). sends_page (operation_of x.transfer)) (sym same) ∙ kind) (sym c.sends_page.ensures ∙ c.if-not-sends_page.true))
           never o,
     )
+
+unused_parts : {r issued : Bool} {held : Option TakenCommand} → r ≡ (issued || is_some held) → r ≡ false →
+    (issued ≡ false) × (held ≡ None)
+unused_parts {r} {issued} {held} is none =
+    let parts = or_parts issued (is_some held) (sym is ∙ none) in
+    (parts.0, none_filled held parts.1)
+
+-- neither issued nor taken
+pub returns-then-not-is_used : goal.returns-then-not-is_used
+returns-then-not-is_used c = λ o.
+    let h = c.args.self.now in
+    let some : c.args.port < length h.ports = search rules in
+    let unused = unused_parts c.is_used.ensures c.if-not-is_used.true in
+    let unissued = rw (at_port h.ports c.args.port c.index-self-port.result some) at unused.0 in
+    let untaken = rw (at_port h.ports c.args.port c.index-self-port.result some) at unused.1 in
+    page_unused h c.args.port c.args.slot unissued untaken o
+
+-- issued, with the code of another command
+pub returns-then-not-may_say_page : goal.returns-then-not-may_say_page
+returns-then-not-may_say_page c = λ o.
+    let h = c.args.self.now in
+    let some : c.args.port < length h.ports = search rules in
+    let none = rw (at_port h.ports c.args.port c.index-self-port-then-has_untaken.result some) at (rw c.deref.ensures.value at (c.may_say_page.ensures c.if-not-may_say_page.true)) in
+    (page_unmeant h c.args.port c.args.slot none o, page_unsaid h c.args.port c.args.slot _ refl none (c.has_untaken.ensures.may c.if-has_untaken.true) o)

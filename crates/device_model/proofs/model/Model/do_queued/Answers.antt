@@ -4,6 +4,7 @@ use Rattle.std.specs.List.{remove}
 use Rattle.adapter.specs.declared.access.DeviceStep.{DeviceStep}
 use Rattle.device_model.specs.Does.{AnswersStep}
 use Rattle.device_model.specs.Queue.{DoesEach, due, not_due}
+use Rattle.device_model.specs.declared.counting.Accesses.{Accesses}
 use Rattle.device_model.specs.declared.model.Queued.{Queued}
 use Rattle.device_model.proofs.Doing.{answers_queued, did_or_left_keeps}
 use Rattle.device_model.proofs.Queueing.{DoneSo, IsAt, at_start, at_inside, at_kept, at_done, at_end_left, at_end_did, each_more}
@@ -12,35 +13,35 @@ use Rattle.device_model.proofs.model.Model.do_queued.Goals.{then-queued-self, el
 
 pub loop-queued-init : goal.loop-queued-init
 loop-queued-init g c =
-    let m = record c.args.self.now { accesses = c.saturating_add-self.result } in
+    let m = record c.args.self.now { accesses = c.add.new.self } in
     let items = c.args.self.now.queue.items in
     let ok = c.args.self.now.queue.ok.0 in
-    let P : ℕ → Type 0 = λ n. IsAt c.saturating_add-self.result items items 0 n (DoneSo g.S.SectorStore.size g.S.SectorStore.told g.S.SectorStore.failures m m) in
+    let P : ℕ → Type 0 = λ n. IsAt c.add.new.self.shown items items 0 n (DoneSo g.S.SectorStore.size g.S.SectorStore.told g.S.SectorStore.failures m m) in
     let all : length items ≡ c.len-queued-end.result - 0 = omega (arith, ok, c.len-queued-end.ensures) in
     record {
       same = refl;
-      at = subst P all (at_start c.saturating_add-self.result items (DoneSo g.S.SectorStore.size g.S.SectorStore.told g.S.SectorStore.failures m m) (λ q. refl));
+      at = subst P all (at_start c.add.new.self.shown items (DoneSo g.S.SectorStore.size g.S.SectorStore.told g.S.SectorStore.failures m m) (λ q. refl));
     }
 
 -- there is one at the place while some are left to look at
 pub index-requires : goal.index-requires
 index-requires g c =
     let m = c.loop-queued.self in
-    let inside = at_inside c.saturating_add-self.result c.args.self.now.queue.items m.queue.items c.loop-queued.place _ _ c.loop-queued.invariant.at (omega (arith, c.loop-queued-test.true)) in
+    let inside = at_inside c.add.new.self.shown c.args.self.now.queue.items m.queue.items c.loop-queued.place _ _ c.loop-queued.invariant.at (omega (arith, c.loop-queued-test.true)) in
     let ok = m.queue.ok.0 in
     omega (arith, inside, ok)
 
 pub remove-requires : goal.remove-requires
 remove-requires g c =
     let m = c.loop-queued.self in
-    let inside = at_inside c.saturating_add-self.result c.args.self.now.queue.items m.queue.items c.loop-queued.place _ _ c.loop-queued.invariant.at (omega (arith, c.loop-queued-test.true)) in
+    let inside = at_inside c.add.new.self.shown c.args.self.now.queue.items m.queue.items c.loop-queued.place _ _ c.loop-queued.invariant.at (omega (arith, c.loop-queued-test.true)) in
     let ok = m.queue.ok.0 in
     omega (arith, inside, ok)
 
 pub overflow_add-place : goal.overflow_add-place
 overflow_add-place g c =
     let m = c.loop-queued.self in
-    let inside = at_inside c.saturating_add-self.result c.args.self.now.queue.items m.queue.items c.loop-queued.place _ _ c.loop-queued.invariant.at (omega (arith, c.loop-queued-test.true)) in
+    let inside = at_inside c.add.new.self.shown c.args.self.now.queue.items m.queue.items c.loop-queued.place _ _ c.loop-queued.invariant.at (omega (arith, c.loop-queued-test.true)) in
     let ok = m.queue.ok in
     let small = m.queue.small in
     omega (arith, inside, ok.0, ok.1, small)
@@ -48,22 +49,22 @@ overflow_add-place g c =
 pub loop-queued-preserved : goal.loop-queued-preserved
 loop-queued-preserved g c =
     let m = c.loop-queued.self in
-    let access : ℕ = c.saturating_add-self.result in
-    let first = record c.args.self.now { accesses = access } in
+    let access : ℕ = c.add.new.self.shown in
+    let first = record c.args.self.now { accesses = c.add.new.self } in
     let left : ℕ = c.len-queued-end.result - (c.loop-queued._queued + 1) in
     let next : c.len-queued-end.result - c.loop-queued._queued ≡ suc left = omega (arith, c.loop-queued-test.true) in
     let Was : List DeviceStep → Type 0 = DoneSo g.S.SectorStore.size g.S.SectorStore.told g.S.SectorStore.failures first m in
     let P : ℕ → Type 0 = λ n. IsAt access c.args.self.now.queue.items m.queue.items c.loop-queued.place n Was in
     let at = subst P next c.loop-queued.invariant.at in
     let x : Queued = c.index.result.now in
-    let same = c.loop-queued.invariant.same in
+    let same = ap (λ (a : Accesses). a.shown) c.loop-queued.invariant.same in
     elim c.if-queued-self.branch [
       | then-queued-self w ↦
           let late : access < (slice_index_or m.queue.items c.loop-queued.place x).access =
           let Q : Queued → Type 0 = λ q. access < q.access in
           subst Q c.index.ensures (omega (arith, same, w.if-queued-self.true)) in
           rw (w.self-is, w.place-is)
-          (record { same = same; at = at_kept access c.args.self.now.queue.items m.queue.items c.loop-queued.place left Was Was at x late (λ done did. did) })
+          (record { same = c.loop-queued.invariant.same; at = at_kept access c.args.self.now.queue.items m.queue.items c.loop-queued.place left Was Was at x late (λ done did. did) })
       | else-queued-self w ↦
           let early : (slice_index_or m.queue.items c.loop-queued.place x).access ≤ access =
           let Q : Queued → Type 0 = λ q. q.access ≤ access in
@@ -84,7 +85,7 @@ loop-queued-preserved g c =
           ap (λ (v : Vec Queued). v.items) keeps.queue ∙ w.remove.ensures.items in
           let T : List Queued → Type 0 = λ now. IsAt access c.args.self.now.queue.items now c.loop-queued.place left Did in
           rw (w.self-is, w.place-is) (record {
-            same = keeps.accesses ∙ same;
+            same = keeps.accesses ∙ c.loop-queued.invariant.same;
             at = subst T (sym items) (at_done access c.args.self.now.queue.items m.queue.items c.loop-queued.place left Was Did at x early more);
           })
     ]
@@ -92,18 +93,19 @@ loop-queued-preserved g c =
 pub returns : goal.returns
 returns g c =
     let m = c.loop-queued.self in
-    let access : ℕ = c.saturating_add-self.result in
+    let access : ℕ = c.add.new.self.shown in
     let items = c.args.self.now.queue.items in
-    let first = record c.args.self.now { accesses = access } in
+    let first = record c.args.self.now { accesses = c.add.new.self } in
     let none : c.len-queued-end.result - c.loop-queued._queued ≡ 0 = omega (arith, c.loop-queued-test.false) in
     let Did : List DeviceStep → Type 0 = DoneSo g.S.SectorStore.size g.S.SectorStore.told g.S.SectorStore.failures first m in
     let P : ℕ → Type 0 = λ n. IsAt access items m.queue.items c.loop-queued.place n Did in
     let at = subst P none c.loop-queued.invariant.at in
-    let same = c.loop-queued.invariant.same in
-    let Q : ℕ → Type 0 = λ n.
-    DoesEach g.S.SectorStore.size g.S.SectorStore.told g.S.SectorStore.failures (due n items) (record c.args.self.now { accesses = n; queue = m.queue }) m in
+    let same = ap (λ (a : Accesses). a.shown) c.loop-queued.invariant.same in
+    let Q : Accesses → Type 0 = λ a.
+    DoesEach g.S.SectorStore.size g.S.SectorStore.told g.S.SectorStore.failures (due a.shown items) (record c.args.self.now { accesses = a; queue = m.queue }) m in
     record {
-      counted = same ∙ c.saturating_add-self.ensures;
+      counted = same ∙ c.add.ensures.shown;
+      made = ap (λ (a : Accesses). a.count.made) c.loop-queued.invariant.same ∙ c.add.ensures.made;
       waiting = at_end_left access items m.queue.items c.loop-queued.place Did at ∙ ap (λ n. not_due n items) (sym same);
-      does = subst Q (sym same) (at_end_did access items m.queue.items c.loop-queued.place Did at m.queue);
+      does = subst Q (sym c.loop-queued.invariant.same) (at_end_did access items m.queue.items c.loop-queued.place Did at m.queue);
     }

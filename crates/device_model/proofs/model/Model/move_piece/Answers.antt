@@ -12,7 +12,7 @@ use Rattle.adapter.specs.declared.tape.Entry.{Entry}
 use Rattle.adapter.specs.declared.tape.Entry.TheVariants as entry
 use Rattle.sector_store.specs.declared.store.Failures.{Failures}
 use Rattle.adapter.specs.declared.access.DeviceStep.TheVariants as asked
-use Rattle.device_model.specs.Disks.{bay_of, caches, disk_in, failing, failures_of, has_cache, lasting_of}
+use Rattle.device_model.specs.Disks.{bay_of, caches, disk_in_bay, failing, failures_of, has_cache, lasting_of}
 use Rattle.device_model.specs.Cached.{CallFails, HasOldRoom}
 use Rattle.device_model.specs.Does.{Completes, HasFailed, LacksMemory}
 use Rattle.device_model.specs.Exchanged.{Exchanges, piece_of}
@@ -204,8 +204,8 @@ returns-clause-answers g c =
             (λ identify. (exchanged g c).page c.if-not-exchange.false (found.1.transfer_is ∙ identify))
             (λ log. (exchanged g c).log c.if-not-exchange.false (found.1.transfer_is ∙ log));
         disks = λ none w.
-            seated_same m (moved_model g c) c.args.port.0 a b (was g c) (items g c) (option_map (λ (x : Bay g.row.S.Denot). disk_in x w))
-            (ap (λ (x : Bay g.row.S.Denot). Some (disk_in x w))
+            seated_same m (moved_model g c) c.args.port.0 a b (was g c) (items g c) (option_map (λ (x : Bay g.row.S.Denot). disk_in_bay x w))
+            (ap (λ (x : Bay g.row.S.Denot). Some (disk_in_bay x w))
             ((exchanged g c).same
             (next_unranged c.reserve-room.new.self o _ c.args.port c.args.slot c.in-Some.next c.in-Some.ensures.found.0 disks c.requires
             (c.reserve-room.ensures.same o) c.in-Some.ensures.found.1 none))) c.args.port.0;

@@ -5,7 +5,7 @@ use Rattle.adapter.specs.Device.{Device}
 use Rattle.adapter.specs.declared.access.DeviceStep.TheVariants as asked
 use Rattle.ata_types.specs.declared.Port.{Port}
 use Rattle.ata_types.specs.declared.Slot.{Slot}
-use Rattle.device_model.specs.Disks.{disk_in}
+use Rattle.device_model.specs.Disks.{disk_in_bay}
 use Rattle.device_model.specs.Finishing.{HasPage, MayPage}
 use Rattle.device_model.specs.Modelled.{device_at}
 use Rattle.device_model.specs.declared.bay.Bay.{Bay}
@@ -49,7 +49,7 @@ loop-found-preserved-then-lacks g c =
       rest = t.rest;
       room = t.room;
       starved = t.starved;
-      disks = λ q w. ap (λ (v : Vec (Option (Bay g.row.S.Denot))). option_map (λ (b : Bay g.row.S.Denot). disk_in b w) (slice_index_or v.items q None)) t.bays;
+      disks = λ q w. ap (λ (v : Vec (Option (Bay g.row.S.Denot))). option_map (λ (b : Bay g.row.S.Denot). disk_in_bay b w) (slice_index_or v.items q None)) t.bays;
     } in
     subst P (sym c.from.ensures)
     (so_far_taken g.S.SectorStore.size g.S.SectorStore.told g.S.SectorStore.failures c.args.self.now m c.loop-found.left_out c.loop-found.lacks c.loop-found.invariant p s
@@ -89,7 +89,7 @@ loop-found-preserved-then-not-finish g c =
       rest = t.rest;
       room = t.room;
       starved = t.starved;
-      disks = λ q w. ap (λ (v : Vec (Option (Bay g.row.S.Denot))). option_map (λ (b : Bay g.row.S.Denot). disk_in b w) (slice_index_or v.items q None)) t.bays;
+      disks = λ q w. ap (λ (v : Vec (Option (Bay g.row.S.Denot))). option_map (λ (b : Bay g.row.S.Denot). disk_in_bay b w) (slice_index_or v.items q None)) t.bays;
     } in
     subst P (sym c.from-then-not-finish.ensures)
     (so_far_lacking g.S.SectorStore.size g.S.SectorStore.told g.S.SectorStore.failures c.args.self.now m c.loop-found.left_out c.loop-found.lacks c.loop-found.invariant p s

@@ -41,6 +41,7 @@ returns g c =
       bays = is.bays;
       held = search rules;
       queue = search rules;
-      accesses = refl;
+      accesses = c.none.ensures.shown;
+      made = c.none.ensures.made;
       sated = refl;
     }
