@@ -2,45 +2,73 @@
 ghost use Rattle.std.specs.Prelude.{◌≡◌};
 ghost use Rattle.play.specs.Events.{event_of};
 
+use arrayvec::ArrayVec;
+use ata_types::Request;
 use block_server::Event;
 use script::Line;
 
-/// The call of the server that a line asks for.
-pub fn event(line: Line) -> Event
-    ensures { result ≡ event_of line }
+/// The same request.
+fn copy_of(request: &Request) -> Request
+    ensures { result ≡ request.now }
+{
+    let mut frames = ArrayVec::new();
+    frames
+        .try_extend_from_slice(request.frames.as_slice())
+        .unwrap();
+    Request {
+        client: request.client,
+        grant: request.grant,
+        op: request.op,
+        first: request.first,
+        count: request.count,
+        frames,
+    }
+}
+
+/// Puts the call of the server that a line asks for in place of another one.
+pub fn put_event(line: &Line, event: &mut Event)
+    ensures { event.new ≡ event_of line.now }
 {
     match line {
-        Line::Submit(request) => Event::Submit(request),
+        Line::Submit(request) => *event = Event::Submit(copy_of(request)),
         Line::Store {
             client,
             frame,
             offset,
             bytes,
-        } => Event::ClientStore {
-            client,
-            frame,
-            offset,
-            bytes,
-        },
+        } => {
+            let mut copied = ArrayVec::new();
+            copied.try_extend_from_slice(bytes.as_slice()).unwrap();
+            *event = Event::ClientStore {
+                client: *client,
+                frame: *frame,
+                offset: *offset,
+                bytes: copied,
+            };
+        }
         Line::Load {
             client,
             frame,
             offset,
             count,
-        } => Event::ClientLoad {
-            client,
-            frame,
-            offset,
-            length: count,
-        },
-        Line::Service => Event::Service,
-        Line::Tick => Event::Tick,
-        Line::Reset => Event::Reset,
-        Line::Revoke { client, grant } => Event::Revoke {
-            client,
-            number: grant,
-        },
-        Line::State(port) => Event::State(port),
-        Line::Device(step) => Event::Device(step),
+        } => {
+            *event = Event::ClientLoad {
+                client: *client,
+                frame: *frame,
+                offset: *offset,
+                length: *count,
+            };
+        }
+        Line::Service => *event = Event::Service,
+        Line::Tick => *event = Event::Tick,
+        Line::Reset => *event = Event::Reset,
+        Line::Revoke { client, grant } => {
+            *event = Event::Revoke {
+                client: *client,
+                number: *grant,
+            };
+        }
+        Line::State(port) => *event = Event::State(*port),
+        Line::Device(step) => *event = Event::Device(*step),
     }
 }

@@ -11,6 +11,6 @@ mod printed;
 mod session;
 mod setting;
 
-pub use calls::event;
+pub use calls::put_event;
 pub use session::{Ended, Finished, Stop, play, play_over, read};
 pub use setting::{model_with, new_model};

@@ -14,7 +14,7 @@ ghost use Rattle.device_model.specs.Modelled.{device_at, is_starved};
 ghost use Rattle.play.specs.Events.{event_of};
 ghost use Rattle.play.specs.Played.{Ends, IsRefused, IsStarted, IsWhole, IsWhy, PrintsPart, Ran};
 
-use crate::event;
+use crate::calls::put_event;
 use crate::printed::{print_call, write_out};
 use crate::setting::new_model;
 use adapter::{Adapter, Stepped};
@@ -25,7 +25,7 @@ use device_model::{Model, NoMemory, Watched};
 use script::{BadLine, Line, check_script, first_line, read_asked};
 use sector_store::SectorStore;
 use std::alloc::{AllocFailed, Global};
-use std::io;
+use std::{io, slice};
 
 /// How a run ended.
 #[derive(Clone, Copy, Debug, PartialEq, Eq)]
@@ -81,6 +81,8 @@ impl From<Stop> for Ended {
 struct Room {
     /// What the last call said, for which there is room from the start.
     said: Sayings,
+    /// The call that a line asks for.
+    event: Event,
     /// What is printed of one line.
     text: Vec<u8>,
 }
@@ -164,15 +166,15 @@ fn start<S: SectorStore>(
 }
 
 /// Makes one call, for which there is room. What it said is all that was said then.
-fn make_call<A: Stepped>(server: &mut Server<A>, event: Event, said: &mut Sayings)
+fn make_call<A: Stepped>(server: &mut Server<A>, event: &Event, said: &mut Sayings)
     requires { 1 ≤ vec_capacity said.old.earlier }
     ensures keeps { (told : Told) × (said.new.last ≡ Some told)
-        × Simulates A.device server.old server.new (event ∷ []) (with_replies told said.new.replies.items ∷ []) }
+        × Simulates A.device server.old server.new (event.now ∷ []) (with_replies told said.new.replies.items ∷ []) }
     ensures room { 1 ≤ vec_capacity said.new.earlier }
 {
     said.clear();
     // There is room for what one call says, so the run isn't stopped.
-    let _done = server.run(&[event], said);
+    let _done = server.run(slice::from_ref(event), said);
 }
 
 /// Plays a line: makes its call, and prints of it what the tape gained past so many entries, with a trace, and what it
@@ -180,7 +182,7 @@ fn make_call<A: Stepped>(server: &mut Server<A>, event: Event, said: &mut Saying
 /// nothing.
 fn play_line<A: Watched, W: io::Write>(
     server: &mut Server<A>,
-    line: Line,
+    line: &Line,
     room: &mut Room,
     trace: bool,
     shown: usize,
@@ -189,13 +191,14 @@ fn play_line<A: Watched, W: io::Write>(
     requires fed { A.ended server.old.adapter ≡ false }
     requires room { 1 ≤ vec_capacity room.old.said.earlier }
     ensures room { 1 ≤ vec_capacity room.new.said.earlier }
-    ensures printed { (p : PrintsPart A.device A.ended trace shown (event_of line) server.old server.new
+    ensures printed { (p : PrintsPart A.device A.ended trace shown (event_of line.now) server.old server.new
         (W.contents out.old) (W.contents out.new))
         × OnOk result (length p.text ≤ p.part) × IfErr result (IsWhy (A.ended server.new.adapter) p.part) }
     ensures fed { OnOk result (A.ended server.new.adapter ≡ false) }
     ensures shown { IfOk result (λ count. count ≡ length (A.device server.new.adapter).tape) }
 {
-    make_call(server, event(line), &mut room.said);
+    put_event(line, &mut room.event);
+    make_call(server, &room.event, &mut room.said);
     let adapter = server.adapter();
     let is_starved = adapter.has_ended();
     if is_starved {
@@ -244,15 +247,17 @@ fn perform<A: Watched, W: io::Write>(
     }
     let mut room = Room {
         said,
+        event: Event::Service,
         text: Vec::new(alloc),
     };
     let mut shown = 0;
+    let mut asked = Line::Service;
     let mut rest = Some(script);
     while let Some(text) = rest {
         let (line, after) = first_line(text);
-        match read_asked(line) {
-            Ok(Some(asked)) => shown = play_line(server, asked, &mut room, trace, shown, out)?,
-            Ok(None) => {}
+        match read_asked(line, &mut asked) {
+            Ok(true) => shown = play_line(server, &asked, &mut room, trace, shown, out)?,
+            Ok(false) => {}
             // No line is: the script was looked at.
             Err(_misspelled) => {}
         }

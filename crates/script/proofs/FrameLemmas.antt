@@ -4,6 +4,7 @@ use lib.Pointwise.{pointwise}
 use lib.Dec.{eqb}
 use Rattle.std.proofs.lemmas.Slice.Eq.{bytes_eq-Decides}
 use Rattle.std.proofs.lemmas.Fmt.{decimal_nonempty, decimal_injective}
+use Rattle.std.proofs.lemmas.List.Splits.{join_with_byte-slice_split, length-slice_split}
 use Rattle.std.proofs.lemmas.List.Elements.{All-nil, All-cons, All-head, All-tail}
 use Rattle.std.specs.Bool.{◌==◌}
 use Rattle.std.specs.Fmt.{decimal}
@@ -53,8 +54,8 @@ pub none_for_dash : (frames : List Frame) → All IsFrame frames → frames_word
 none_for_dash [] h e = refl
 none_for_dash (f ∷ frames) h e = absurd (no_dash f frames h e)
 
-pub other_word : (word : List ℕ) → pointwise eqb word (45 ∷ []) ≡ false → word ≡ 45 ∷ [] → ⊥
-other_word word differs e = let bad = sym differs ∙ (bytes_eq-Decides word (45 ∷ [])).1 e in true≢false (sym bad)
+pub other_word : (word dash : List ℕ) → dash ≡ 45 ∷ [] → pointwise eqb word dash ≡ false → word ≡ 45 ∷ [] → ⊥
+other_word word dash is differs e = let bad = sym differs ∙ (bytes_eq-Decides word dash).1 (e ∙ sym is) in true≢false (sym bad)
 
 pub parted_word : (frames : List Frame) (word : List ℕ) → All IsFrame frames → frames_word frames ≡ word → (word ≡ 45 ∷ [] → ⊥)
     → slice_split (λ b. b == 44) word ≡ map spelled frames
@@ -82,3 +83,8 @@ same_frames (x ∷ xs) (y ∷ ys) h k e =
     let tails : map spelled xs ≡ map spelled ys = cc in
     let same : x.0 ≡ y.0 = decimal_injective x.0 y.0 (omega arith) (omega arith) heads in
     ap₂ ◌∷◌ (ap (λ n. record { 0 = n }) same) (same_frames xs ys (All-tail IsFrame x xs h) (All-tail IsFrame y ys k) tails)
+
+-- the parts of a word that are frames are spelled by it
+pub whole_word : (frames : List Frame) (word : List ℕ) → map spelled frames ≡ slice_split (λ b. b == 44) word → frames_word frames ≡ word
+whole_word [] word e = absurd (omega (arith, ap length e, length-slice_split (λ b. b == 44) word))
+whole_word (f ∷ frames) word e = ap (join_with_byte 44) e ∙ join_with_byte-slice_split 44 word

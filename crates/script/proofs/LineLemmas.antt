@@ -1,7 +1,7 @@
 -- The words of each line are such that parting its text gives them back.
-use Rattle.std.proofs.Common.{◌≡◌, ◌<◌, ◌≤◌, ◌^◌, ◌∙◌, ℕ, true, List, [], ◌∷◌, length, get_or, arith, ap, sym, refl, Option, Some, None, IfSome, nat_le, nat_lt, ◌&&◌, map}
+use Rattle.std.proofs.Common.{◌≡◌, ◌<◌, ◌≤◌, ◌^◌, ◌∙◌, ℕ, true, List, [], ◌∷◌, length, get_or, arith, ap, sym, refl, Option, Some, None, nat_le, nat_lt, ◌&&◌, map}
 use Rattle.std.proofs.lemmas.List.Elements.{All-nil, All-cons}
-use Rattle.std.specs.Prelude.{codes}
+use Rattle.std.specs.Prelude.{codes, OnSome}
 use Rattle.std.specs.Bool.{◌==◌}
 use Rattle.std.specs.Fmt.{decimal}
 use Rattle.std.specs.List.{All, list_all, join_with_byte, slice_split}
@@ -191,15 +191,18 @@ parted (w ∷ words) l h = slice_split-join 32 w words
 pub parted_line : (line : Line) (text : List ℕ) → IsLine line → line_text line ≡ text → slice_split (λ b. b == 32) text ≡ line_words line
 parted_line line text h e = ap (slice_split (λ b. b == 32)) (sym e) ∙ parted (line_words line) (some_words line) (line_are line h)
 
--- a line's text is UTF-8
-pub line_is_utf8 : (line : Line) → IsLine line → IsUtf8 (line_text line)
-line_is_utf8 line h =
-    IsUtf8-from_Within 32 (line_text line)
-    (Within-join 32 128 32 (omega arith) (omega arith) (line_words line)
-    (λ k d l. Within-weaker 33 128 32 128 (get_or (line_words line) k d) (omega arith) (omega arith) (all_within (line_words line) (line_are line h) k d l)))
+-- a line's words are UTF-8
+pub word_is_utf8 : (line : Line) (k : ℕ) → IsLine line → k < length (line_words line) → IsUtf8 (get_or (line_words line) k [])
+word_is_utf8 line k h below = IsUtf8-from_Within 33 (get_or (line_words line) k []) (all_within (line_words line) (line_are line h) k [] below)
+
+pub fatal_is_utf8 : (error : FatalError) → IsUtf8 (fatal_word error)
+fatal_is_utf8 error = IsUtf8-from_Within 33 (fatal_word error) (fatal_is error).within
+
+pub page_is_utf8 : (page : DiskPage) → IsUtf8 (page_word page)
+page_is_utf8 page = IsUtf8-from_Within 33 (page_word page) (page_is page).within
 
 -- what spells the words spells the text that they make
-pub spelled : (found : Option Line) (words : List Word) (text : List ℕ) → join_with_byte 32 words ≡ text
-    → IfSome found (λ line. IsLine line × (line_words line ≡ words)) → IfSome found (λ line. IsLine line × (line_text line ≡ text))
-spelled None words text e h = h
-spelled (Some line) words text e h = (h.0, ap (join_with_byte 32) h.1 ∙ e)
+pub spelled : (found : Option (Unit {0})) (line : Line) (words : List Word) (text : List ℕ) → join_with_byte 32 words ≡ text
+    → OnSome found (IsLine line × (line_words line ≡ words)) → OnSome found (IsLine line × (line_text line ≡ text))
+spelled None line words text e h = h
+spelled (Some x) line words text e h = (h.0, ap (join_with_byte 32) h.1 ∙ e)

@@ -70,6 +70,12 @@ turn_of {v = v} {all = all} xs t y r u x e k road =
     let cut = cut_at all (length xs) (v x) at.0 in
     (cut.0, cut.1 ∙ ap₂ (λ before here. before ++ here ∷ cut.0) (sym (YieldsList-so_far road xs t y)) (sym at.1))
 
+pub at_turn : {S A : Type 0} {steps : S → Option A → S → Type 0} {v : A → List ℕ} {s : S} {all : List (List ℕ)} (xs : List A) (t : S)
+    → Yields steps s xs t → (r : Option A) (u : S) (x : A) → r ≡ Some x → steps t r u → YieldsList steps v s all
+    → (length xs < length all) × (v x ≡ get_or all (length xs) (v x))
+at_turn xs t y r u x e k road =
+    let at = YieldsList-turn road xs t y r u x e k in (at.0, at.1)
+
 -- where a text's first line feed is
 pub record IsLineFeed (text : List ℕ) (at : ℕ) : Type 0 where
   pub within : at < length text

@@ -5,7 +5,6 @@ use Rattle.std.specs.Fmt.{decimal}
 use Rattle.hex.specs.Hex.{encode_lower}
 use Rattle.ata_types.specs.declared.Port.{Port}
 use Rattle.adapter.specs.declared.access.DiskPage.{DiskPage}
-use Rattle.adapter.specs.declared.access.DiskPage.TheVariants.{Identity, Log}
 use Rattle.adapter.specs.declared.access.DeviceStep.{DeviceStep}
 use Rattle.adapter.specs.declared.access.DeviceStep.TheVariants as step
 use Rattle.std.specs.List.{All}
@@ -19,55 +18,52 @@ use Rattle.script.specs.declared.line.Line.TheVariants.{Submit, Store, Load, Ser
 use Rattle.script.specs.Line.{IsLine, IsStep, line_words, op_word, page_word, step_words}
 use Rattle.script.specs.Fields.{Word}
 
--- a page's word is its own
-same_page : (p q : DiskPage) → page_word p ≡ page_word q → p ≡ q
-same_page Identity Identity e = refl
-same_page Log Log e = refl
-same_page Identity Log e = absurd (omega (arith, ap length e))
-same_page Log Identity e = absurd (omega (arith, ap length e))
-
-pub record IsLie (s : DeviceStep) (page : DiskPage) (port offset bits : Word) : Type 0 where
+pub record IsLie (s : DeviceStep) (port page offset bits : Word) : Type 0 where
   pub on : Port
+  pub of : DiskPage
   pub at : ℕ
   pub turned : ℕ
   pub small : on.0 < 4
   pub below : at < 512
   pub byte : turned < 256
   pub port_is : decimal on.0 ≡ port
+  pub page_is : page_word of ≡ page
   pub offset_is : decimal at ≡ offset
   pub bits_is : encode_lower (turned ∷ []) ≡ bits
-  pub step_is : s ≡ step.Lie on page at turned
+  pub step_is : s ≡ step.Lie on of at turned
 
 -- what follows `lie` is its fields; the first letters part it from the other steps
-pub as_lie : (s : DeviceStep) (page : DiskPage) (port offset bits : Word) → IsStep s
-    → step_words s ≡ codes "lie" ∷ port ∷ page_word page ∷ offset ∷ bits ∷ [] → IsLie s page port offset bits
-as_lie (step.Lie p q o b) page port offset bits h e = record {
+pub as_lie : (s : DeviceStep) (port page offset bits : Word) → IsStep s
+    → step_words s ≡ codes "lie" ∷ port ∷ page ∷ offset ∷ bits ∷ [] → IsLie s port page offset bits
+as_lie (step.Lie p q o b) port page offset bits h e = record {
   on = p;
+  of = q;
   at = o;
   turned = b;
   small = h.0;
   below = h.1;
   byte = h.2;
   port_is = ap (λ ws. get_or ws 1 []) e;
+  page_is = ap (λ ws. get_or ws 2 []) e;
   offset_is = ap (λ ws. get_or ws 3 []) e;
   bits_is = ap (λ ws. get_or ws 4 []) e;
-  step_is = ap (λ (x : DiskPage). step.Lie p x o b) (same_page q page (ap (λ ws. get_or ws 2 []) e));
+  step_is = refl;
 }
-as_lie (step.Fetch p s) page port offset bits h e = absurd (omega (arith, ap length e))
-as_lie (step.Move p s) page port offset bits h e = absurd (omega (arith, ap length e))
-as_lie (step.Clear p s n) page port offset bits h e = absurd (omega (arith, ap length e))
-as_lie (step.Done p s) page port offset bits h e = absurd (omega (arith, ap length e))
-as_lie (step.Finish p s) page port offset bits h e = absurd (omega (arith, ap length e))
-as_lie (step.Fault p s x) page port offset bits h e = absurd (omega (arith, ap length e))
-as_lie (step.FaultBusy p s x) page port offset bits h e = absurd (omega (arith, ap length e))
-as_lie (step.Scribble p x) page port offset bits h e = absurd (omega (arith, ap length e))
-as_lie (step.Fatal p x) page port offset bits h e = absurd (omega (arith, ap length e))
-as_lie (step.Truth p) page port offset bits h e = absurd (omega (arith, ap length e))
-as_lie (step.Hold p) page port offset bits h e = absurd (omega (arith, ap length e))
-as_lie (step.Release p) page port offset bits h e = absurd (omega (arith, ap length e))
-as_lie (step.Unplug p) page port offset bits h e = absurd (omega (arith, ap length e))
-as_lie (step.Plug p d) page port offset bits h e = absurd (omega (arith, ap length e))
-as_lie (step.LosePlug p) page port offset bits h e = absurd (omega (arith, ap length e))
+as_lie (step.Fetch p s) port page offset bits h e = absurd (omega (arith, ap length e))
+as_lie (step.Move p s) port page offset bits h e = absurd (omega (arith, ap length e))
+as_lie (step.Clear p s n) port page offset bits h e = absurd (omega (arith, ap length e))
+as_lie (step.Done p s) port page offset bits h e = absurd (omega (arith, ap length e))
+as_lie (step.Finish p s) port page offset bits h e = absurd (omega (arith, ap length e))
+as_lie (step.Fault p s x) port page offset bits h e = absurd (omega (arith, ap length e))
+as_lie (step.FaultBusy p s x) port page offset bits h e = absurd (omega (arith, ap length e))
+as_lie (step.Scribble p x) port page offset bits h e = absurd (omega (arith, ap length e))
+as_lie (step.Fatal p x) port page offset bits h e = absurd (omega (arith, ap length e))
+as_lie (step.Truth p) port page offset bits h e = absurd (omega (arith, ap length e))
+as_lie (step.Hold p) port page offset bits h e = absurd (omega (arith, ap length e))
+as_lie (step.Release p) port page offset bits h e = absurd (omega (arith, ap length e))
+as_lie (step.Unplug p) port page offset bits h e = absurd (omega (arith, ap length e))
+as_lie (step.Plug p d) port page offset bits h e = absurd (omega (arith, ap length e))
+as_lie (step.LosePlug p) port page offset bits h e = absurd (omega (arith, ap length e))
 
 -- no operation's word is one of these: it has another length, or other letters
 no_store : {X : Type 0} (op : Op) → op_word op ≡ codes "store" → X

@@ -1,5 +1,6 @@
 -- Words joined and parted again, and the bytes of which the words of lines are made.
-use Rattle.std.proofs.Common.{◌≡◌, ◌<◌, ◌≤◌, ◌+◌, ◌%◌, ◌/◌, ◌^◌, ◌∙◌, ℕ, zero, suc, true, false, List, [], ◌∷◌, get_or, arith, ap, refl, nat_le, nat_lt, ◌&&◌}
+use Rattle.std.proofs.Common.{◌≡◌, ◌<◌, ◌≤◌, ◌+◌, ◌%◌, ◌/◌, ◌^◌, ◌∙◌, ℕ, zero, suc, true, false, List, [], ◌∷◌, get_or, length, map, arith, ap, refl, nat_le, nat_lt, ◌&&◌}
+use Rattle.std.specs.Borrow.{Bor}
 use Rattle.std.proofs.lemmas.Fmt.{decimal_by_steps}
 use Rattle.std.proofs.lemmas.List.Elements.{All-nil, All-cons, All-head, All-tail, All-append}
 use Rattle.std.proofs.lemmas.List.Sums.{AllPass-from_list_all}
@@ -80,3 +81,14 @@ Within-hex (b ∷ bytes) h =
     All-cons (Among 33 128) (get_or lower_digits (b / 16) 0) (get_or lower_digits (b % 16) 0 ∷ encode_lower bytes) high
     (All-cons (Among 33 128) (get_or lower_digits (b % 16) 0) (encode_lower bytes) low
     (Within-hex bytes (All-tail (λ b. b < 256) b bytes h)))
+
+-- five words, one by one
+pub five : (words : List (Bor (List ℕ))) (d : Bor (List ℕ)) → length words ≡ 5
+    → map (λ w. w.now) words ≡ (get_or words 0 d).now ∷ (get_or words 1 d).now ∷ (get_or words 2 d).now ∷ (get_or words 3 d).now ∷ (get_or words 4 d).now ∷ []
+five [] d l = absurd (omega (arith, l))
+five (v ∷ []) d l = absurd (omega (arith, l))
+five (v ∷ w ∷ []) d l = absurd (omega (arith, l))
+five (v ∷ w ∷ x ∷ []) d l = absurd (omega (arith, l))
+five (v ∷ w ∷ x ∷ y ∷ []) d l = absurd (omega (arith, l))
+five (v ∷ w ∷ x ∷ y ∷ z ∷ []) d l = refl
+five (v ∷ w ∷ x ∷ y ∷ z ∷ u ∷ words) d l = absurd (omega (arith, l))

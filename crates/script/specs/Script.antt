@@ -1,5 +1,5 @@
 -- A whole script: its lines, cut at line feeds (this project's own).
-use Rattle.std.specs.Prelude.{◌≡◌, ◌==◌, ◌+◌, ◌++◌, ℕ, List, [], ◌∷◌, Option, Some, None, length}
+use Rattle.std.specs.Prelude.{Bool, true, false, ◌≡◌, ◌==◌, ◌+◌, ◌++◌, ℕ, List, [], ◌∷◌, Option, Some, None, length}
 use Rattle.std.specs.Borrow.{Bor}
 use Rattle.std.specs.List.{slice_split}
 use Rattle.script.specs.Line.{IsLine, line_text}
@@ -28,6 +28,11 @@ abbrev pub Asks : List ℕ → Option Line → Type 0
 Asks text None = AsksNothing text
 Asks text (Some line) = IsLine line × (line_text line ≡ text)
 
+-- the line that is asked, if one is
+abbrev pub asked_of : Bool → Line → Option Line
+asked_of true line = Some line
+asked_of false line = None
+
 -- the lines' texts ask these in turn
 pub data AskInTurn : List (List ℕ) → List Line → Type 0 where
   done : AskInTurn [] []
@@ -39,7 +44,7 @@ pub data AskInTurn : List (List ℕ) → List Line → Type 0 where
 abbrev pub IsScript : List ℕ → List Line → Type 0
 IsScript text lines = AskInTurn (lines_of text) lines
 
--- the text of a line that asks nothing and is spelled as no line
+-- the text of a line that neither asks nothing nor is spelled as a line
 abbrev pub IsBad : List ℕ → Type 0
 IsBad text = (AsksNothing text → ⊥) × ((l : Line) → IsLine l → line_text l ≡ text → ⊥)
 

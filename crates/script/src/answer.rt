@@ -1,5 +1,5 @@
 // The lines that answer a script.
-ghost use Rattle.std.specs.Prelude.{◌≡◌, ◌++◌, Some, OnOk};
+ghost use Rattle.std.specs.Prelude.{◌≡◌, ◌≤◌, ◌+◌, ◌++◌, Some, OnOk, decimal, length};
 ghost use Rattle.std.specs.Io.KnownBytes.{Appends};
 ghost use Rattle.std.specs.List.{flat_map, join_with_byte};
 ghost use Rattle.hex.specs.Hex.{encode_lower};
@@ -7,6 +7,7 @@ ghost use Rattle.block_machine.specs.Rules.{rank};
 ghost use Rattle.script.specs.Answer.{answer_line, answer_text, fault_words, kind_word, mem_fault_word, outcome_words, refusal_words, rule_words, state_words};
 
 use adapter::{Clear, Done, Move, Operation};
+use arrayvec::ArrayVec;
 use ata_types::{FrameFault, MemFault, Outcome, PortState, Refusal, Reply, RequestId, Rule};
 use std::{fmt, io};
 
@@ -244,11 +245,45 @@ impl fmt::Display for Answer<'_> {
     }
 }
 
+/// Writes a number between two texts, all at once.
+fn write_numbered<W: io::Write>(
+    out: &mut W,
+    before: &[u8],
+    number: u64,
+    after: &[u8],
+) -> io::Result<()>
+    requires { length before.now + length after.now ≤ 20 }
+    ensures { OnOk result (Appends (W.contents out.old) (W.contents out.new)
+        (before.now ++ decimal number ++ after.now)) }
+{
+    let mut digits = itoa::Buffer::new();
+    let mut line: ArrayVec<u8, MOST_BYTES> = ArrayVec::new();
+    line.try_extend_from_slice(before).unwrap();
+    line.try_extend_from_slice(digits.format(number).as_bytes())
+        .unwrap();
+    line.try_extend_from_slice(after).unwrap();
+    out.write_all(line.as_slice())
+}
+
 impl Answer<'_> {
-    /// Prints the line, with its line feed.
+    /// Prints the line, with its line feed. The usual ones are written straight, since a formatter costs more than all
+    /// that is written.
     pub fn print<W: io::Write>(&self, out: &mut W) -> io::Result<()>
         ensures { OnOk result (Appends (W.contents out.old) (W.contents out.new) (answer_line self.now)) }
     {
-        writeln!(out, "{self}")
+        match *self {
+            Answer::Accepted(id) => write_numbered(out, b"ok ", id.0, b"\n"),
+            Answer::Replied(
+                Reply {
+                    id,
+                    outcome: Outcome::Ok,
+                    ..
+                },
+            ) => write_numbered(out, b"reply ", id.0, b" Ok\n"),
+            Answer::Quiet => out.write_all(b"quiet\n"),
+            Answer::Stepped(true) => out.write_all(b"did\n"),
+            Answer::State(PortState::Ready) => out.write_all(b"state Ready\n"),
+            _ => writeln!(out, "{self}"),
+        }
     }
 }

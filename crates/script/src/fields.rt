@@ -1,13 +1,15 @@
 // The fields of a line: words that spell values, each value in one way.
-ghost use Rattle.std.specs.Prelude.{◌≡◌, ◌<◌, ◌≤◌, ◌+◌, ℕ, ◌∷◌, [], Some, None, IfSome, length, map};
+ghost use Rattle.std.specs.Prelude.{◌≡◌, ◌<◌, ◌≤◌, ◌+◌, ℕ, ◌∷◌, [], Some, None, IfSome, OnSome, length, map};
 ghost use Rattle.std.specs.List.{All};
 ghost use Rattle.std.specs.Fmt.{decimal};
 ghost use Rattle.arrayvec.specs.ArrayVec.{ArrayVec as Items};
 ghost use Rattle.hex.specs.Hex.{encode_lower};
 ghost use Rattle.script.specs.Fields.{fatal_word, frames_word};
+ghost use Rattle.script.specs.Line.{page_word};
+ghost use Rattle.adapter.specs.declared.access.DiskPage.{DiskPage};
 ghost use Rattle.adapter.specs.declared.access.FatalError.{FatalError};
 
-use adapter::{DiskNumber, FatalError};
+use adapter::{DiskNumber, DiskPage, FatalError};
 use arrayvec::ArrayVec;
 use ata_types::{ClientId, Frame, MOST_REQUEST_FRAMES, Port, Slot};
 
@@ -23,11 +25,11 @@ fn digit(byte: u8) -> Option<u64>
 }
 
 /// A number up to the last one allowed, in decimal digits without needless zeros.
-pub(crate) fn number(word: &str, last: u64) -> Option<u64>
+pub(crate) fn number(word: &[u8], last: u64) -> Option<u64>
     ensures spelled { IfSome result (λ n. (n ≤ last) × (decimal n ≡ word.now)) }
     ensures only { (n : ℕ) → n ≤ last → decimal n ≡ word.now → result ≡ Some n }
 {
-    let (first, rest) = word.as_bytes().split_first()?;
+    let (first, rest) = word.split_first()?;
     let mut number = digit(*first)?;
     for byte in rest {
         if number == 0 {
@@ -42,7 +44,7 @@ pub(crate) fn number(word: &str, last: u64) -> Option<u64>
 }
 
 /// A client's number: 0 to 255.
-pub(crate) fn client(word: &str) -> Option<ClientId>
+pub(crate) fn client(word: &[u8]) -> Option<ClientId>
     ensures spelled { IfSome result (λ c. (c.0 < 256) × (decimal c.0 ≡ word.now)) }
     ensures only { (c : ClientId) → c.0 < 256 → decimal c.0 ≡ word.now → result ≡ Some c }
 {
@@ -50,7 +52,7 @@ pub(crate) fn client(word: &str) -> Option<ClientId>
 }
 
 /// A number of 32 bits.
-pub(crate) fn wide(word: &str) -> Option<u32>
+pub(crate) fn wide(word: &[u8]) -> Option<u32>
     ensures spelled { IfSome result (λ n. (n < 4294967296) × (decimal n ≡ word.now)) }
     ensures only { (n : ℕ) → n < 4294967296 → decimal n ≡ word.now → result ≡ Some n }
 {
@@ -58,7 +60,7 @@ pub(crate) fn wide(word: &str) -> Option<u32>
 }
 
 /// How many bytes are loaded: 1 to 64.
-pub(crate) fn count(word: &str) -> Option<u32>
+pub(crate) fn count(word: &[u8]) -> Option<u32>
     ensures spelled { IfSome result (λ n. (1 ≤ n) × (n ≤ 64) × (decimal n ≡ word.now)) }
     ensures only { (n : ℕ) → 1 ≤ n → n ≤ 64 → decimal n ≡ word.now → result ≡ Some n }
 {
@@ -70,7 +72,7 @@ pub(crate) fn count(word: &str) -> Option<u32>
 }
 
 /// A frame's number: 0 to 65,535.
-pub(crate) fn frame(word: &str) -> Option<Frame>
+pub(crate) fn frame(word: &[u8]) -> Option<Frame>
     ensures spelled { IfSome result (λ f. (f.0 < 65536) × (decimal f.0 ≡ word.now)) }
     ensures only { (f : Frame) → f.0 < 65536 → decimal f.0 ≡ word.now → result ≡ Some f }
 {
@@ -78,7 +80,7 @@ pub(crate) fn frame(word: &str) -> Option<Frame>
 }
 
 /// A port's number: 0 to 3.
-pub(crate) fn port(word: &str) -> Option<Port>
+pub(crate) fn port(word: &[u8]) -> Option<Port>
     ensures spelled { IfSome result (λ p. (p.0 < 4) × (decimal p.0 ≡ word.now)) }
     ensures only { (p : Port) → p.0 < 4 → decimal p.0 ≡ word.now → result ≡ Some p }
 {
@@ -86,7 +88,7 @@ pub(crate) fn port(word: &str) -> Option<Port>
 }
 
 /// A slot's number: 0 to 31.
-pub(crate) fn slot(word: &str) -> Option<Slot>
+pub(crate) fn slot(word: &[u8]) -> Option<Slot>
     ensures spelled { IfSome result (λ s. (s.0 < 32) × (decimal s.0 ≡ word.now)) }
     ensures only { (s : Slot) → s.0 < 32 → decimal s.0 ≡ word.now → result ≡ Some s }
 {
@@ -94,7 +96,7 @@ pub(crate) fn slot(word: &str) -> Option<Slot>
 }
 
 /// A disk's number: 0 or 1.
-pub(crate) fn disk(word: &str) -> Option<DiskNumber>
+pub(crate) fn disk(word: &[u8]) -> Option<DiskNumber>
     ensures spelled { IfSome result (λ d. (d.0 < 2) × (decimal d.0 ≡ word.now)) }
     ensures only { (d : DiskNumber) → d.0 < 2 → decimal d.0 ≡ word.now → result ≡ Some d }
 {
@@ -102,35 +104,49 @@ pub(crate) fn disk(word: &str) -> Option<DiskNumber>
 }
 
 /// A fatal error, by the name of its bit of PxIS: `ifs` or `hbfs`.
-pub(crate) fn fatal_error(word: &str) -> Option<FatalError>
+pub(crate) fn fatal_error(word: &[u8]) -> Option<FatalError>
     ensures spelled { IfSome result (λ e. fatal_word e ≡ word.now) }
     ensures only { (e : FatalError) → fatal_word e ≡ word.now → result ≡ Some e }
 {
-    match word {
+    match str::from_utf8(word).ok()? {
         "ifs" => Some(FatalError::Interface),
         "hbfs" => Some(FatalError::HostBus),
         _ => None,
     }
 }
 
-/// Frames by their numbers, at most 128, parted by commas; `-` is none.
-pub(crate) fn frames(word: &str) -> Option<ArrayVec<Frame, MOST_REQUEST_FRAMES>>
-    ensures spelled { IfSome result (λ v. All (λ f. f.0 < 65536) v.items × (frames_word v.items ≡ word.now)) }
-    ensures only { (v : Items Frame) → All (λ f. f.0 < 65536) v.items → length v.items ≤ MOST_REQUEST_FRAMES
-        → frames_word v.items ≡ word.now → result ≡ Some v }
+/// A page of a disk: `id` or `log`.
+pub(crate) fn page(word: &[u8]) -> Option<DiskPage>
+    ensures spelled { IfSome result (λ p. page_word p ≡ word.now) }
+    ensures only { (p : DiskPage) → page_word p ≡ word.now → result ≡ Some p }
 {
-    let mut frames = ArrayVec::new();
-    if word == "-" {
-        return Some(frames);
+    match str::from_utf8(word).ok()? {
+        "id" => Some(DiskPage::Identity),
+        "log" => Some(DiskPage::Log),
+        _ => None,
     }
-    for piece in word.split(',') {
+}
+
+/// Reads frames by their numbers, at most 128, parted by commas, in place of those that are there; `-` is none.
+pub(crate) fn frames(word: &[u8], frames: &mut ArrayVec<Frame, MOST_REQUEST_FRAMES>) -> Option<()>
+    ensures spelled { OnSome result (All (λ f. f.0 < 65536) frames.new.items
+        × (frames_word frames.new.items ≡ word.now)) }
+    ensures most { OnSome result (length frames.new.items ≤ MOST_REQUEST_FRAMES) }
+    ensures only { (v : Items Frame) → All (λ f. f.0 < 65536) v.items → length v.items ≤ MOST_REQUEST_FRAMES
+        → frames_word v.items ≡ word.now → (result ≡ Some tt) × (frames.new ≡ v) }
+{
+    frames.clear();
+    if word == b"-".as_slice() {
+        return Some(());
+    }
+    for piece in word.split(|byte| *byte == b',') {
         frames.try_push(frame(piece)?).ok()?;
     }
-    Some(frames)
+    Some(())
 }
 
 /// 1 to 64 bytes, each as two lower-case hexadecimal digits.
-pub(crate) fn bytes(word: &str) -> Option<ArrayVec<u8, 64>>
+pub(crate) fn bytes(word: &[u8]) -> Option<ArrayVec<u8, 64>>
     ensures spelled { IfSome result (λ v. (1 ≤ length v.items) × (encode_lower v.items ≡ word.now)) }
     ensures most { IfSome result (λ v. length v.items ≤ 64) }
     ensures bytes { IfSome result (λ v. All (λ b. b < 256) v.items) }
@@ -141,10 +157,10 @@ pub(crate) fn bytes(word: &str) -> Option<ArrayVec<u8, 64>>
     let mut read = [0u8; 64];
     let mut spelled = [0u8; 128];
     let bytes = read.get_mut(..length)?;
-    hex::decode_to_slice(word.as_bytes(), bytes).ok()?;
+    hex::decode_to_slice(word, bytes).ok()?;
     let digits = spelled.get_mut(..2 * length)?;
     hex::encode_to_slice(&*bytes, digits).ok()?;
-    if bytes.is_empty() || &*digits != word.as_bytes() {
+    if bytes.is_empty() || &*digits != word {
         return None;
     }
     let mut found = ArrayVec::new();
@@ -153,7 +169,7 @@ pub(crate) fn bytes(word: &str) -> Option<ArrayVec<u8, 64>>
 }
 
 /// One byte, as two lower-case hexadecimal digits.
-pub(crate) fn byte(word: &str) -> Option<u8>
+pub(crate) fn byte(word: &[u8]) -> Option<u8>
     ensures spelled { IfSome result (λ b. (b < 256) × (encode_lower (b ∷ []) ≡ word.now)) }
     ensures only { (b : ℕ) → b < 256 → encode_lower (b ∷ []) ≡ word.now → result ≡ Some b }
 {

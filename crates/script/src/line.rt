@@ -1,13 +1,13 @@
 // One line of a script.
-ghost use Rattle.std.specs.Prelude.{◌≡◌, ◌<◌, ◌==◌, ◌∷◌, [], codes, Some, None, IfSome, length, map};
+ghost use Rattle.std.specs.Prelude.{◌≡◌, ◌<◌, ◌==◌, ◌↔◌, IsTrue, ◌∷◌, [], codes, Some, None, IfSome, OnSome, length, map};
 ghost use Rattle.std.specs.List.{slice_split};
-ghost use Rattle.script.specs.Line.{IsLine, IsRequest, IsStep, line_text, line_words, page_word, step_words, transfer_words};
+ghost use Rattle.script.specs.Line.{IsLine, IsRequest, IsSpelled, IsStep, line_text, line_words, op_word, request_words, step_words, transfer_words};
 ghost use Rattle.ata_types.specs.declared.request.Op.{Op};
 ghost use Rattle.ata_types.specs.declared.request.Request.{Request};
 ghost use Rattle.adapter.specs.declared.access.DeviceStep.{DeviceStep};
 
 use crate::fields;
-use adapter::{DeviceStep, DiskPage};
+use adapter::DeviceStep;
 use arrayvec::ArrayVec;
 use ata_types::{ClientId, Frame, Op, Port, Request, Sector};
 
@@ -55,50 +55,62 @@ pub enum Line {
     Device(DeviceStep),
 }
 
-/// The words of a line, which one space parts, if there are no more than a line has.
-fn words(text: &str) -> Option<ArrayVec<&str, MOST_WORDS>>
-    ensures parted { IfSome result (λ v. map (λ w. w.now) v.items ≡ slice_split (λ b. b == 32) text.now) }
+/// Puts the words of a line, which one space parts, in place of others, if there are no more than a line has.
+fn part<'a>(text: &'a [u8], words: &mut ArrayVec<&'a [u8], MOST_WORDS>) -> Option<()>
+    ensures parted { OnSome result (map (λ w. w.now) words.new.items ≡ slice_split (λ b. b == 32) text.now) }
     ensures many { result ≡ None → 6 < length (slice_split (λ b. b == 32) text.now) }
 {
-    let mut words = ArrayVec::new();
-    for word in text.split(' ') {
+    words.clear();
+    for word in text.split(|byte| *byte == b' ') {
         words.try_push(word).ok()?;
     }
-    Some(words)
+    Some(())
 }
 
-/// The read or write that is asked, from the words after the first.
-fn transfer(op: Op, words: &[&str]) -> Option<Request>
-    ensures found { IfSome result (λ r. (r.op ≡ op) × IsRequest r × (transfer_words r ≡ map (λ w. w.now) words.now)) }
+/// Whether a word is this text.
+fn is(word: &[u8], text: &str) -> bool
+    ensures { IsTrue result ↔ word.now ≡ text.now }
+{
+    word == text.as_bytes()
+}
+
+/// Reads the read or write that is asked, from the words after the first, in place of a request.
+fn transfer(op: Op, words: &[&[u8]], request: &mut Request) -> Option<()>
+    ensures found { OnSome result ((request.new.op ≡ op) × IsRequest request.new
+        × (transfer_words request.new ≡ map (λ w. w.now) words.now)) }
     ensures only { (r : Request) → r.op ≡ op → IsRequest r → transfer_words r ≡ map (λ w. w.now) words.now
-        → result ≡ Some r }
+        → (result ≡ Some tt) × (request.new ≡ r) }
 {
     match words {
-        [client, grant, first, count, frames] => Some(Request {
-            client: fields::client(client)?,
-            grant: fields::number(grant, 255)? as u8,
-            op,
-            first: Sector(fields::number(first, u64::MAX)?),
-            count: fields::wide(count)?,
-            frames: fields::frames(frames)?,
-        }),
+        [client, grant, first, count, frames] => {
+            request.client = fields::client(client)?;
+            request.grant = fields::number(grant, 255)? as u8;
+            request.op = op;
+            request.first = Sector(fields::number(first, u64::MAX)?);
+            request.count = fields::wide(count)?;
+            fields::frames(frames, &mut request.frames)?;
+            Some(())
+        }
         _ => None,
     }
 }
 
 /// The lie that the disk of the port is to tell of this page: where, and which bits are turned.
-fn lie(port: &str, page: DiskPage, offset: &str, bits: &str) -> Option<DeviceStep>
+fn lie(port: &[u8], page: &[u8], offset: &[u8], bits: &[u8]) -> Option<DeviceStep>
     ensures found { IfSome result (λ s. IsStep s
-        × (step_words s ≡ codes "lie" ∷ port.now ∷ page_word page ∷ offset.now ∷ bits.now ∷ [])) }
-    ensures only { (s : DeviceStep) → IsStep s → step_words s ≡ codes "lie" ∷ port.now ∷ page_word page ∷ offset.now
+        × (step_words s ≡ codes "lie" ∷ port.now ∷ page.now ∷ offset.now ∷ bits.now ∷ [])) }
+    ensures only { (s : DeviceStep) → IsStep s → step_words s ≡ codes "lie" ∷ port.now ∷ page.now ∷ offset.now
         ∷ bits.now ∷ [] → result ≡ Some s }
 {
+    let port = fields::port(port)?;
+    let page = fields::page(page)?;
     let offset = fields::number(offset, 511)? as u16;
-    Some(DeviceStep::Lie(fields::port(port)?, page, offset, fields::byte(bits)?))
+    let bits = fields::byte(bits)?;
+    Some(DeviceStep::Lie(port, page, offset, bits))
 }
 
 /// The clear that the device is to do: where, and of how many sectors.
-fn clear(port: &str, slot: &str, count: &str) -> Option<DeviceStep>
+fn clear(port: &[u8], slot: &[u8], count: &[u8]) -> Option<DeviceStep>
     ensures found { IfSome result (λ s. IsStep s
         × (step_words s ≡ codes "clear" ∷ port.now ∷ slot.now ∷ count.now ∷ [])) }
     ensures only { (s : DeviceStep) → IsStep s → step_words s ≡ codes "clear" ∷ port.now ∷ slot.now ∷ count.now ∷ []
@@ -111,7 +123,7 @@ fn clear(port: &str, slot: &str, count: &str) -> Option<DeviceStep>
 }
 
 /// The fault that a command of the device is to end with: where, and which error.
-fn fault(port: &str, slot: &str, error: &str) -> Option<DeviceStep>
+fn fault(port: &[u8], slot: &[u8], error: &[u8]) -> Option<DeviceStep>
     ensures found { IfSome result (λ s. IsStep s
         × (step_words s ≡ codes "fault" ∷ port.now ∷ slot.now ∷ error.now ∷ [])) }
     ensures only { (s : DeviceStep) → IsStep s → step_words s ≡ codes "fault" ∷ port.now ∷ slot.now ∷ error.now ∷ []
@@ -124,7 +136,7 @@ fn fault(port: &str, slot: &str, error: &str) -> Option<DeviceStep>
 }
 
 /// The same, of one that leaves its disk busy.
-fn fault_busy(port: &str, slot: &str, error: &str) -> Option<DeviceStep>
+fn fault_busy(port: &[u8], slot: &[u8], error: &[u8]) -> Option<DeviceStep>
     ensures found { IfSome result (λ s. IsStep s
         × (step_words s ≡ codes "faultbusy" ∷ port.now ∷ slot.now ∷ error.now ∷ [])) }
     ensures only { (s : DeviceStep) → IsStep s
@@ -137,7 +149,7 @@ fn fault_busy(port: &str, slot: &str, error: &str) -> Option<DeviceStep>
 }
 
 /// The byte that the device is to fill with what it may write.
-fn scribble(port: &str, byte: &str) -> Option<DeviceStep>
+fn scribble(port: &[u8], byte: &[u8]) -> Option<DeviceStep>
     ensures found { IfSome result (λ s. IsStep s × (step_words s ≡ codes "scribble" ∷ port.now ∷ byte.now ∷ [])) }
     ensures only { (s : DeviceStep) → IsStep s → step_words s ≡ codes "scribble" ∷ port.now ∷ byte.now ∷ []
         → result ≡ Some s }
@@ -148,341 +160,459 @@ fn scribble(port: &str, byte: &str) -> Option<DeviceStep>
 }
 
 /// A step of which nothing but its port is told.
-fn of_port(name: &str, port: &str) -> Option<DeviceStep>
+fn of_port(name: &[u8], port: &[u8]) -> Option<DeviceStep>
     ensures found { IfSome result (λ s. IsStep s × (step_words s ≡ name.now ∷ port.now ∷ [])) }
     ensures only { (s : DeviceStep) → IsStep s → step_words s ≡ name.now ∷ port.now ∷ [] → result ≡ Some s }
 {
     let port = fields::port(port)?;
-    match name {
-        "unplug" => Some(DeviceStep::Unplug(port)),
-        "loseplug" => Some(DeviceStep::LosePlug(port)),
-        "hold" => Some(DeviceStep::Hold(port)),
-        "release" => Some(DeviceStep::Release(port)),
-        "truth" => Some(DeviceStep::Truth(port)),
-        _ => None,
+    if is(name, "unplug") {
+        return Some(DeviceStep::Unplug(port));
     }
+    if is(name, "loseplug") {
+        return Some(DeviceStep::LosePlug(port));
+    }
+    if is(name, "hold") {
+        return Some(DeviceStep::Hold(port));
+    }
+    if is(name, "release") {
+        return Some(DeviceStep::Release(port));
+    }
+    if is(name, "truth") {
+        return Some(DeviceStep::Truth(port));
+    }
+    None
 }
 
 /// A step of which its port and one thing more is told.
-fn of_port_and(name: &str, port: &str, last: &str) -> Option<DeviceStep>
+fn of_port_and(name: &[u8], port: &[u8], last: &[u8]) -> Option<DeviceStep>
     ensures found { IfSome result (λ s. IsStep s × (step_words s ≡ name.now ∷ port.now ∷ last.now ∷ [])) }
     ensures only { (s : DeviceStep) → IsStep s → step_words s ≡ name.now ∷ port.now ∷ last.now ∷ []
         → result ≡ Some s }
 {
-    if name == "scribble" {
+    if is(name, "scribble") {
         return scribble(port, last);
     }
     let port = fields::port(port)?;
-    Some(match name {
-        "finish" => DeviceStep::Finish(port, fields::slot(last)?),
-        "fetch" => DeviceStep::Fetch(port, fields::slot(last)?),
-        "move" => DeviceStep::Move(port, fields::slot(last)?),
-        "done" => DeviceStep::Done(port, fields::slot(last)?),
-        "plug" => DeviceStep::Plug(port, fields::disk(last)?),
-        "fatal" => DeviceStep::Fatal(port, fields::fatal_error(last)?),
-        _ => return None,
-    })
+    if is(name, "finish") {
+        return Some(DeviceStep::Finish(port, fields::slot(last)?));
+    }
+    if is(name, "fetch") {
+        return Some(DeviceStep::Fetch(port, fields::slot(last)?));
+    }
+    if is(name, "move") {
+        return Some(DeviceStep::Move(port, fields::slot(last)?));
+    }
+    if is(name, "done") {
+        return Some(DeviceStep::Done(port, fields::slot(last)?));
+    }
+    if is(name, "plug") {
+        return Some(DeviceStep::Plug(port, fields::disk(last)?));
+    }
+    if is(name, "fatal") {
+        return Some(DeviceStep::Fatal(port, fields::fatal_error(last)?));
+    }
+    None
 }
 
-/// The step that the device is to do, from the words after `dev`.
-fn step(words: &[&str]) -> Option<DeviceStep>
-    ensures found { IfSome result (λ s. IsStep s × (step_words s ≡ map (λ w. w.now) words.now)) }
-    ensures only { (s : DeviceStep) → IsStep s → step_words s ≡ map (λ w. w.now) words.now → result ≡ Some s }
+/// A step of which its port, a slot and one thing more is told.
+fn of_slot_and(name: &[u8], port: &[u8], slot: &[u8], last: &[u8]) -> Option<DeviceStep>
+    ensures found { IfSome result (λ s. IsStep s
+        × (step_words s ≡ name.now ∷ port.now ∷ slot.now ∷ last.now ∷ [])) }
+    ensures only { (s : DeviceStep) → IsStep s → step_words s ≡ name.now ∷ port.now ∷ slot.now ∷ last.now ∷ []
+        → result ≡ Some s }
+{
+    if is(name, "clear") {
+        return clear(port, slot, last);
+    }
+    if is(name, "fault") {
+        return fault(port, slot, last);
+    }
+    if is(name, "faultbusy") {
+        return fault_busy(port, slot, last);
+    }
+    None
+}
+
+/// A step of which its port, a page and two things more are told.
+fn of_page_and(
+    name: &[u8],
+    port: &[u8],
+    page: &[u8],
+    offset: &[u8],
+    bits: &[u8],
+) -> Option<DeviceStep>
+    ensures found { IfSome result (λ s. IsStep s
+        × (step_words s ≡ name.now ∷ port.now ∷ page.now ∷ offset.now ∷ bits.now ∷ [])) }
+    ensures only { (s : DeviceStep) → IsStep s
+        → step_words s ≡ name.now ∷ port.now ∷ page.now ∷ offset.now ∷ bits.now ∷ [] → result ≡ Some s }
+{
+    if is(name, "lie") {
+        return lie(port, page, offset, bits);
+    }
+    None
+}
+
+/// The step that the device is to do, from its name and the words after it.
+fn step(name: &[u8], words: &[&[u8]]) -> Option<DeviceStep>
+    ensures found { IfSome result (λ s. IsStep s × (step_words s ≡ name.now ∷ map (λ w. w.now) words.now)) }
+    ensures only { (s : DeviceStep) → IsStep s → step_words s ≡ name.now ∷ map (λ w. w.now) words.now
+        → result ≡ Some s }
 {
     match words {
-        [name, port] => of_port(name, port),
-        [name, port, last] => of_port_and(name, port, last),
-        ["clear", port, slot, count] => clear(port, slot, count),
-        ["fault", port, slot, error] => fault(port, slot, error),
-        ["faultbusy", port, slot, error] => fault_busy(port, slot, error),
-        ["lie", port, "id", offset, bits] => lie(port, DiskPage::Identity, offset, bits),
-        ["lie", port, "log", offset, bits] => lie(port, DiskPage::Log, offset, bits),
+        [port] => of_port(name, port),
+        [port, last] => of_port_and(name, port, last),
+        [port, slot, last] => of_slot_and(name, port, slot, last),
+        [port, page, offset, bits] => of_page_and(name, port, page, offset, bits),
         _ => None,
     }
 }
 
-/// The trim that is asked, from the words after `trim`.
-fn trim(client: &str, grant: &str, first: &str, count: &str) -> Option<Line>
-    ensures found { IfSome result (λ line. IsLine line
-        × (line_words line ≡ codes "trim" ∷ client.now ∷ grant.now ∷ first.now ∷ count.now ∷ [])) }
-    ensures only { (line : Line) → IsLine line → line_words line ≡ codes "trim" ∷ client.now ∷ grant.now ∷ first.now
-        ∷ count.now ∷ []
-        → result ≡ Some line }
+/// Reads the trim that is asked, from the words after `trim`, in place of a line.
+fn trim(client: &[u8], grant: &[u8], first: &[u8], count: &[u8], line: &mut Line) -> Option<()>
+    ensures found { OnSome result (IsLine line.new
+        × (line_words line.new ≡ codes "trim" ∷ client.now ∷ grant.now ∷ first.now ∷ count.now ∷ [])) }
+    ensures only { (l : Line) → IsLine l
+        → line_words l ≡ codes "trim" ∷ client.now ∷ grant.now ∷ first.now ∷ count.now ∷ []
+        → (result ≡ Some tt) × (line.new ≡ l) }
 {
     let client = fields::client(client)?;
     let grant = fields::number(grant, 255)? as u8;
     let first = Sector(fields::number(first, u64::MAX)?);
     let count = fields::wide(count)?;
-    Some(Line::Submit(Request {
+    *line = Line::Submit(Request {
         client,
         grant,
         op: Op::Trim,
         first,
         count,
         frames: ArrayVec::new(),
-    }))
+    });
+    Some(())
 }
 
-/// The flush that is asked, from the words after `flush`. It names no sectors.
-fn flush(client: &str, grant: &str) -> Option<Line>
-    ensures found { IfSome result (λ line. IsLine line
-        × (line_words line ≡ codes "flush" ∷ client.now ∷ grant.now ∷ [])) }
-    ensures only { (line : Line) → IsLine line → line_words line ≡ codes "flush" ∷ client.now ∷ grant.now ∷ []
-        → result ≡ Some line }
+/// The same of the flush that is asked, from the words after `flush`. It names no sectors.
+fn flush(client: &[u8], grant: &[u8], line: &mut Line) -> Option<()>
+    ensures found { OnSome result (IsLine line.new
+        × (line_words line.new ≡ codes "flush" ∷ client.now ∷ grant.now ∷ [])) }
+    ensures only { (l : Line) → IsLine l → line_words l ≡ codes "flush" ∷ client.now ∷ grant.now ∷ []
+        → (result ≡ Some tt) × (line.new ≡ l) }
 {
     let client = fields::client(client)?;
     let grant = fields::number(grant, 255)? as u8;
-    Some(Line::Submit(Request {
+    *line = Line::Submit(Request {
         client,
         grant,
         op: Op::Flush,
         first: Sector(0),
         count: 0,
         frames: ArrayVec::new(),
-    }))
+    });
+    Some(())
 }
 
-/// The store that is asked, from the words after `store`.
-fn store(client: &str, frame: &str, offset: &str, bytes: &str) -> Option<Line>
-    ensures found { IfSome result (λ line. IsLine line
-        × (line_words line ≡ codes "store" ∷ client.now ∷ frame.now ∷ offset.now ∷ bytes.now ∷ [])) }
-    ensures only { (line : Line) → IsLine line → line_words line ≡ codes "store" ∷ client.now ∷ frame.now ∷ offset.now
-        ∷ bytes.now ∷ []
-        → result ≡ Some line }
+/// The same of the store that is asked, from the words after `store`.
+fn store(client: &[u8], frame: &[u8], offset: &[u8], bytes: &[u8], line: &mut Line) -> Option<()>
+    ensures found { OnSome result (IsLine line.new
+        × (line_words line.new ≡ codes "store" ∷ client.now ∷ frame.now ∷ offset.now ∷ bytes.now ∷ [])) }
+    ensures only { (l : Line) → IsLine l
+        → line_words l ≡ codes "store" ∷ client.now ∷ frame.now ∷ offset.now ∷ bytes.now ∷ []
+        → (result ≡ Some tt) × (line.new ≡ l) }
 {
     let client = fields::client(client)?;
     let frame = fields::frame(frame)?;
     let offset = fields::wide(offset)?;
     let bytes = fields::bytes(bytes)?;
-    Some(Line::Store {
+    *line = Line::Store {
         client,
         frame,
         offset,
         bytes,
-    })
+    };
+    Some(())
 }
 
-/// The load that is asked, from the words after `load`.
-fn load(client: &str, frame: &str, offset: &str, count: &str) -> Option<Line>
-    ensures found { IfSome result (λ line. IsLine line
-        × (line_words line ≡ codes "load" ∷ client.now ∷ frame.now ∷ offset.now ∷ count.now ∷ [])) }
-    ensures only { (line : Line) → IsLine line → line_words line ≡ codes "load" ∷ client.now ∷ frame.now ∷ offset.now
-        ∷ count.now ∷ []
-        → result ≡ Some line }
+/// The same of the load that is asked, from the words after `load`.
+fn load(client: &[u8], frame: &[u8], offset: &[u8], count: &[u8], line: &mut Line) -> Option<()>
+    ensures found { OnSome result (IsLine line.new
+        × (line_words line.new ≡ codes "load" ∷ client.now ∷ frame.now ∷ offset.now ∷ count.now ∷ [])) }
+    ensures only { (l : Line) → IsLine l
+        → line_words l ≡ codes "load" ∷ client.now ∷ frame.now ∷ offset.now ∷ count.now ∷ []
+        → (result ≡ Some tt) × (line.new ≡ l) }
 {
     let client = fields::client(client)?;
     let frame = fields::frame(frame)?;
     let offset = fields::wide(offset)?;
     let count = fields::count(count)?;
-    Some(Line::Load {
+    *line = Line::Load {
         client,
         frame,
         offset,
         count,
-    })
+    };
+    Some(())
 }
 
-/// The revocation that is asked, from the words after `revoke`.
-fn revoke(client: &str, grant: &str) -> Option<Line>
-    ensures found { IfSome result (λ line. IsLine line
-        × (line_words line ≡ codes "revoke" ∷ client.now ∷ grant.now ∷ [])) }
-    ensures only { (line : Line) → IsLine line → line_words line ≡ codes "revoke" ∷ client.now ∷ grant.now ∷ []
-        → result ≡ Some line }
+/// The same of the revocation that is asked, from the words after `revoke`.
+fn revoke(client: &[u8], grant: &[u8], line: &mut Line) -> Option<()>
+    ensures found { OnSome result (IsLine line.new
+        × (line_words line.new ≡ codes "revoke" ∷ client.now ∷ grant.now ∷ [])) }
+    ensures only { (l : Line) → IsLine l → line_words l ≡ codes "revoke" ∷ client.now ∷ grant.now ∷ []
+        → (result ≡ Some tt) × (line.new ≡ l) }
 {
     let client = fields::client(client)?;
     let grant = fields::number(grant, 255)? as u8;
-    Some(Line::Revoke { client, grant })
+    *line = Line::Revoke { client, grant };
+    Some(())
 }
 
-/// A step of the device, from the words after `dev`.
+/// Reads a step of the device, from the words after `dev`, in place of a line.
 #[inline(never)]
-fn of_device(words: &[&str]) -> Option<Line>
-    ensures found { IfSome result (λ line. IsLine line
-        × (line_words line ≡ codes "dev" ∷ map (λ w. w.now) words.now)) }
-    ensures only { (line : Line) → IsLine line → line_words line ≡ codes "dev" ∷ map (λ w. w.now) words.now
-        → result ≡ Some line }
+fn of_device(words: &[&[u8]], line: &mut Line) -> Option<()>
+    ensures found { OnSome result (IsLine line.new × (line_words line.new ≡ codes "dev" ∷ map (λ w. w.now) words.now)) }
+    ensures only { (l : Line) → IsLine l → line_words l ≡ codes "dev" ∷ map (λ w. w.now) words.now
+        → (result ≡ Some tt) × (line.new ≡ l) }
 {
-    Some(Line::Device(step(words)?))
+    let (name, rest) = words.split_first()?;
+    *line = Line::Device(step(name, rest)?);
+    Some(())
 }
 
 /// A service: no word stands after `service`.
 #[inline(never)]
-fn of_service(words: &[&str]) -> Option<Line>
-    ensures found { IfSome result (λ line. IsLine line
-        × (line_words line ≡ codes "service" ∷ map (λ w. w.now) words.now)) }
-    ensures only { (line : Line) → IsLine line → line_words line ≡ codes "service" ∷ map (λ w. w.now) words.now
-        → result ≡ Some line }
+fn of_service(words: &[&[u8]], line: &mut Line) -> Option<()>
+    ensures found { OnSome result (IsLine line.new
+        × (line_words line.new ≡ codes "service" ∷ map (λ w. w.now) words.now)) }
+    ensures only { (l : Line) → IsLine l → line_words l ≡ codes "service" ∷ map (λ w. w.now) words.now
+        → (result ≡ Some tt) × (line.new ≡ l) }
 {
     match words {
-        [] => Some(Line::Service),
+        [] => {
+            *line = Line::Service;
+            Some(())
+        }
         _ => None,
     }
 }
 
 /// A tick: no word stands after `tick`.
 #[inline(never)]
-fn of_tick(words: &[&str]) -> Option<Line>
-    ensures found { IfSome result (λ line. IsLine line
-        × (line_words line ≡ codes "tick" ∷ map (λ w. w.now) words.now)) }
-    ensures only { (line : Line) → IsLine line → line_words line ≡ codes "tick" ∷ map (λ w. w.now) words.now
-        → result ≡ Some line }
+fn of_tick(words: &[&[u8]], line: &mut Line) -> Option<()>
+    ensures found { OnSome result (IsLine line.new
+        × (line_words line.new ≡ codes "tick" ∷ map (λ w. w.now) words.now)) }
+    ensures only { (l : Line) → IsLine l → line_words l ≡ codes "tick" ∷ map (λ w. w.now) words.now
+        → (result ≡ Some tt) × (line.new ≡ l) }
 {
     match words {
-        [] => Some(Line::Tick),
+        [] => {
+            *line = Line::Tick;
+            Some(())
+        }
         _ => None,
     }
 }
 
 /// A reset: no word stands after `reset`.
 #[inline(never)]
-fn of_reset(words: &[&str]) -> Option<Line>
-    ensures found { IfSome result (λ line. IsLine line
-        × (line_words line ≡ codes "reset" ∷ map (λ w. w.now) words.now)) }
-    ensures only { (line : Line) → IsLine line → line_words line ≡ codes "reset" ∷ map (λ w. w.now) words.now
-        → result ≡ Some line }
+fn of_reset(words: &[&[u8]], line: &mut Line) -> Option<()>
+    ensures found { OnSome result (IsLine line.new
+        × (line_words line.new ≡ codes "reset" ∷ map (λ w. w.now) words.now)) }
+    ensures only { (l : Line) → IsLine l → line_words l ≡ codes "reset" ∷ map (λ w. w.now) words.now
+        → (result ≡ Some tt) × (line.new ≡ l) }
 {
     match words {
-        [] => Some(Line::Reset),
+        [] => {
+            *line = Line::Reset;
+            Some(())
+        }
         _ => None,
     }
 }
 
-/// A read, from the words after `read`.
+/// A read or a write, from the words after its own.
 #[inline(never)]
-fn of_read(words: &[&str]) -> Option<Line>
-    ensures found { IfSome result (λ line. IsLine line
-        × (line_words line ≡ codes "read" ∷ map (λ w. w.now) words.now)) }
-    ensures only { (line : Line) → IsLine line → line_words line ≡ codes "read" ∷ map (λ w. w.now) words.now
-        → result ≡ Some line }
+fn of_transfer(op: Op, words: &[&[u8]], line: &mut Line) -> Option<()>
+    requires { (r : Request) → IsSpelled op r × (request_words op r ≡ transfer_words r) }
+    ensures found { OnSome result (IsLine line.new × (line_words line.new ≡ op_word op ∷ map (λ w. w.now) words.now)) }
+    ensures only { (l : Line) → IsLine l → line_words l ≡ op_word op ∷ map (λ w. w.now) words.now
+        → (result ≡ Some tt) × (line.new ≡ l) }
 {
-    Some(Line::Submit(transfer(Op::Read, words)?))
-}
-
-/// A write, from the words after `write`.
-#[inline(never)]
-fn of_write(words: &[&str]) -> Option<Line>
-    ensures found { IfSome result (λ line. IsLine line
-        × (line_words line ≡ codes "write" ∷ map (λ w. w.now) words.now)) }
-    ensures only { (line : Line) → IsLine line → line_words line ≡ codes "write" ∷ map (λ w. w.now) words.now
-        → result ≡ Some line }
-{
-    Some(Line::Submit(transfer(Op::Write, words)?))
+    *line = Line::Submit(Request {
+        client: ClientId(0),
+        grant: 0,
+        op,
+        first: Sector::default(),
+        count: 0,
+        frames: ArrayVec::new(),
+    });
+    match line {
+        Line::Submit(request) => transfer(op, words, request),
+        _ => None,
+    }
 }
 
 /// A trim, from the words after `trim`.
 #[inline(never)]
-fn of_trim(words: &[&str]) -> Option<Line>
-    ensures found { IfSome result (λ line. IsLine line
-        × (line_words line ≡ codes "trim" ∷ map (λ w. w.now) words.now)) }
-    ensures only { (line : Line) → IsLine line → line_words line ≡ codes "trim" ∷ map (λ w. w.now) words.now
-        → result ≡ Some line }
+fn of_trim(words: &[&[u8]], line: &mut Line) -> Option<()>
+    ensures found { OnSome result (IsLine line.new
+        × (line_words line.new ≡ codes "trim" ∷ map (λ w. w.now) words.now)) }
+    ensures only { (l : Line) → IsLine l → line_words l ≡ codes "trim" ∷ map (λ w. w.now) words.now
+        → (result ≡ Some tt) × (line.new ≡ l) }
 {
     match words {
-        [client, grant, first, count] => trim(client, grant, first, count),
+        [client, grant, first, count] => trim(client, grant, first, count, line),
         _ => None,
     }
 }
 
 /// A flush, from the words after `flush`.
 #[inline(never)]
-fn of_flush(words: &[&str]) -> Option<Line>
-    ensures found { IfSome result (λ line. IsLine line
-        × (line_words line ≡ codes "flush" ∷ map (λ w. w.now) words.now)) }
-    ensures only { (line : Line) → IsLine line → line_words line ≡ codes "flush" ∷ map (λ w. w.now) words.now
-        → result ≡ Some line }
+fn of_flush(words: &[&[u8]], line: &mut Line) -> Option<()>
+    ensures found { OnSome result (IsLine line.new
+        × (line_words line.new ≡ codes "flush" ∷ map (λ w. w.now) words.now)) }
+    ensures only { (l : Line) → IsLine l → line_words l ≡ codes "flush" ∷ map (λ w. w.now) words.now
+        → (result ≡ Some tt) × (line.new ≡ l) }
 {
     match words {
-        [client, grant] => flush(client, grant),
+        [client, grant] => flush(client, grant, line),
         _ => None,
     }
 }
 
 /// A store, from the words after `store`.
 #[inline(never)]
-fn of_store(words: &[&str]) -> Option<Line>
-    ensures found { IfSome result (λ line. IsLine line
-        × (line_words line ≡ codes "store" ∷ map (λ w. w.now) words.now)) }
-    ensures only { (line : Line) → IsLine line → line_words line ≡ codes "store" ∷ map (λ w. w.now) words.now
-        → result ≡ Some line }
+fn of_store(words: &[&[u8]], line: &mut Line) -> Option<()>
+    ensures found { OnSome result (IsLine line.new
+        × (line_words line.new ≡ codes "store" ∷ map (λ w. w.now) words.now)) }
+    ensures only { (l : Line) → IsLine l → line_words l ≡ codes "store" ∷ map (λ w. w.now) words.now
+        → (result ≡ Some tt) × (line.new ≡ l) }
 {
     match words {
-        [client, frame, offset, bytes] => store(client, frame, offset, bytes),
+        [client, frame, offset, bytes] => store(client, frame, offset, bytes, line),
         _ => None,
     }
 }
 
 /// A load, from the words after `load`.
 #[inline(never)]
-fn of_load(words: &[&str]) -> Option<Line>
-    ensures found { IfSome result (λ line. IsLine line
-        × (line_words line ≡ codes "load" ∷ map (λ w. w.now) words.now)) }
-    ensures only { (line : Line) → IsLine line → line_words line ≡ codes "load" ∷ map (λ w. w.now) words.now
-        → result ≡ Some line }
+fn of_load(words: &[&[u8]], line: &mut Line) -> Option<()>
+    ensures found { OnSome result (IsLine line.new
+        × (line_words line.new ≡ codes "load" ∷ map (λ w. w.now) words.now)) }
+    ensures only { (l : Line) → IsLine l → line_words l ≡ codes "load" ∷ map (λ w. w.now) words.now
+        → (result ≡ Some tt) × (line.new ≡ l) }
 {
     match words {
-        [client, frame, offset, count] => load(client, frame, offset, count),
+        [client, frame, offset, count] => load(client, frame, offset, count, line),
         _ => None,
     }
 }
 
 /// A revocation, from the words after `revoke`.
 #[inline(never)]
-fn of_revoke(words: &[&str]) -> Option<Line>
-    ensures found { IfSome result (λ line. IsLine line
-        × (line_words line ≡ codes "revoke" ∷ map (λ w. w.now) words.now)) }
-    ensures only { (line : Line) → IsLine line → line_words line ≡ codes "revoke" ∷ map (λ w. w.now) words.now
-        → result ≡ Some line }
+fn of_revoke(words: &[&[u8]], line: &mut Line) -> Option<()>
+    ensures found { OnSome result (IsLine line.new
+        × (line_words line.new ≡ codes "revoke" ∷ map (λ w. w.now) words.now)) }
+    ensures only { (l : Line) → IsLine l → line_words l ≡ codes "revoke" ∷ map (λ w. w.now) words.now
+        → (result ≡ Some tt) × (line.new ≡ l) }
 {
     match words {
-        [client, grant] => revoke(client, grant),
+        [client, grant] => revoke(client, grant, line),
         _ => None,
     }
 }
 
 /// A port's state, from the words after `state`.
 #[inline(never)]
-fn of_state(words: &[&str]) -> Option<Line>
-    ensures found { IfSome result (λ line. IsLine line
-        × (line_words line ≡ codes "state" ∷ map (λ w. w.now) words.now)) }
-    ensures only { (line : Line) → IsLine line → line_words line ≡ codes "state" ∷ map (λ w. w.now) words.now
-        → result ≡ Some line }
+fn of_state(words: &[&[u8]], line: &mut Line) -> Option<()>
+    ensures found { OnSome result (IsLine line.new
+        × (line_words line.new ≡ codes "state" ∷ map (λ w. w.now) words.now)) }
+    ensures only { (l : Line) → IsLine l → line_words l ≡ codes "state" ∷ map (λ w. w.now) words.now
+        → (result ≡ Some tt) × (line.new ≡ l) }
 {
     match words {
-        [port] => Some(Line::State(fields::port(port)?)),
+        [port] => {
+            *line = Line::State(fields::port(port)?);
+            Some(())
+        }
         _ => None,
     }
 }
 
-/// What the words of a line ask. Each kind of line has a function of its own: a line has room for a request's frames,
-/// and a function clears at its beginning all that it has such room for.
-fn asked(words: &[&str]) -> Option<Line>
-    ensures found { IfSome result (λ line. IsLine line × (line_words line ≡ map (λ w. w.now) words.now)) }
-    ensures only { (line : Line) → IsLine line → line_words line ≡ map (λ w. w.now) words.now → result ≡ Some line }
+/// Reads what the first word of a line of a rarer kind and those after it ask, in place of a line.
+fn asked_else(name: &[u8], words: &[&[u8]], line: &mut Line) -> Option<()>
+    requires { (name.now ≡ codes "dev" → ⊥) × (name.now ≡ codes "service" → ⊥) × (name.now ≡ codes "read" → ⊥)
+        × (name.now ≡ codes "write" → ⊥) }
+    ensures found { OnSome result (IsLine line.new × (line_words line.new ≡ name.now ∷ map (λ w. w.now) words.now)) }
+    ensures only { (l : Line) → IsLine l → line_words l ≡ name.now ∷ map (λ w. w.now) words.now
+        → (result ≡ Some tt) × (line.new ≡ l) }
 {
-    let (first, rest) = words.split_first()?;
-    match *first {
-        "dev" => of_device(rest),
-        "service" => of_service(rest),
-        "tick" => of_tick(rest),
-        "reset" => of_reset(rest),
-        "read" => of_read(rest),
-        "write" => of_write(rest),
-        "trim" => of_trim(rest),
-        "flush" => of_flush(rest),
-        "store" => of_store(rest),
-        "load" => of_load(rest),
-        "revoke" => of_revoke(rest),
-        "state" => of_state(rest),
-        _ => None,
+    if is(name, "tick") {
+        return of_tick(words, line);
     }
+    if is(name, "reset") {
+        return of_reset(words, line);
+    }
+    if is(name, "trim") {
+        return of_trim(words, line);
+    }
+    if is(name, "flush") {
+        return of_flush(words, line);
+    }
+    if is(name, "store") {
+        return of_store(words, line);
+    }
+    if is(name, "load") {
+        return of_load(words, line);
+    }
+    if is(name, "revoke") {
+        return of_revoke(words, line);
+    }
+    if is(name, "state") {
+        return of_state(words, line);
+    }
+    None
+}
+
+/// Reads what a line's first word and those after it ask, in place of a line. Each kind of line has a function of its
+/// own, so that what one kind has room for is cleared for that kind alone.
+fn asked(name: &[u8], words: &[&[u8]], line: &mut Line) -> Option<()>
+    ensures found { OnSome result (IsLine line.new × (line_words line.new ≡ name.now ∷ map (λ w. w.now) words.now)) }
+    ensures only { (l : Line) → IsLine l → line_words l ≡ name.now ∷ map (λ w. w.now) words.now
+        → (result ≡ Some tt) × (line.new ≡ l) }
+{
+    if is(name, "dev") {
+        return of_device(words, line);
+    }
+    if is(name, "service") {
+        return of_service(words, line);
+    }
+    if is(name, "read") {
+        return of_transfer(Op::Read, words, line);
+    }
+    if is(name, "write") {
+        return of_transfer(Op::Write, words, line);
+    }
+    asked_else(name, words, line)
+}
+
+/// Reads a line, without its line feed, in place of another one. `None` says that no line is spelled so; what stands
+/// in the place then is any line.
+#[inline(never)]
+pub fn read_line_into(text: &[u8], line: &mut Line) -> Option<()>
+    ensures found { OnSome result (IsLine line.new × (line_text line.new ≡ text.now)) }
+    ensures only { (l : Line) → IsLine l → line_text l ≡ text.now → (result ≡ Some tt) × (line.new ≡ l) }
+{
+    let mut words = ArrayVec::new();
+    part(text, &mut words)?;
+    let (name, rest) = words.as_slice().split_first()?;
+    asked(name, rest, line)
 }
 
 /// Reads a line, without its line feed. `None` says that no line is spelled so.
-#[inline(never)]
 pub fn read_line(text: &[u8]) -> Option<Line>
     ensures found { IfSome result (λ line. IsLine line × (line_text line ≡ text.now)) }
     ensures only { (line : Line) → IsLine line → line_text line ≡ text.now → result ≡ Some line }
 {
-    let text = str::from_utf8(text).ok()?;
-    asked(words(text)?.as_slice())
+    let mut line = Line::Service;
+    read_line_into(text, &mut line)?;
+    Some(line)
 }

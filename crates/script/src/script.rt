@@ -1,10 +1,11 @@
 // A whole script.
 ghost use Rattle.std.specs.Prelude.{◌≡◌, ◌<◌, ◌==◌, ◌↔◌, IsTrue, IfOk, IfErr, IfSome, List, OnErr, OnOk, length};
 ghost use Rattle.std.specs.List.{position};
-ghost use Rattle.script.specs.Script.{Asks, AsksNothing, IsBad, IsFirstBad, IsFirstLine, IsScript};
+ghost use Rattle.script.specs.Script.{Asks, asked_of, AsksNothing, IsBad, IsFirstBad, IsFirstLine, IsScript};
 ghost use Rattle.script.specs.declared.line.Line.{Line};
 
-use crate::{Line, read_line};
+use crate::Line;
+use crate::line::read_line_into;
 use thiserror::Error;
 
 /// A line is spelled as none.
@@ -24,16 +25,18 @@ fn asks_nothing(text: &[u8]) -> bool
     matches!(text, [] | [b'#', ..])
 }
 
-/// Reads what a line of a script asks, without its line feed: nothing where it is empty or begins with `#`.
-pub fn read_asked(text: &[u8]) -> Result<Option<Line>, Misspelled>
-    ensures ok { IfOk result (Asks text.now) }
+/// Reads what a line of a script asks, without its line feed, in place of another line, and says whether it asks
+/// anything: an empty line does not, nor one that begins with `#`. What stands in the place is any line then, and so it
+/// is where the line is bad.
+pub fn read_asked(text: &[u8], line: &mut Line) -> Result<bool, Misspelled>
+    ensures ok { IfOk result (λ some. Asks text.now (asked_of some line.new)) }
     ensures bad { OnErr result (IsBad text.now) }
 {
     if asks_nothing(text) {
-        return Ok(None);
+        return Ok(false);
     }
-    match read_line(text) {
-        Some(line) => Ok(Some(line)),
+    match read_line_into(text, line) {
+        Some(()) => Ok(true),
         None => Err(Misspelled),
     }
 }
@@ -46,10 +49,11 @@ pub fn check_script(text: &[u8]) -> Result<(), BadLine>
     ensures bad { IfErr result (λ bad. IsFirstBad text.now bad.0) }
 {
     let mut number = 0;
+    let mut asked = Line::Service;
     for line in text.split(|byte| *byte == b'\n') {
         number += 1;
-        match read_asked(line) {
-            Ok(_asked) => {}
+        match read_asked(line, &mut asked) {
+            Ok(_some) => {}
             Err(_misspelled) => return Err(BadLine(number)),
         }
     }

@@ -149,6 +149,8 @@ impl<A: Drop> Watched<A> {
 impl<A: Adapter> Adapter for Watched<A> {
     ghost device = { λ w. A.device w.adapter };
 
+    ghost access_count = { λ w. A.access_count w.adapter };
+
     fn read(&mut self, r: Reg) -> u32 {
         let _full = self.accesses.push(Access::Read(r)).is_err();
         self.adapter.read(r)

@@ -3,6 +3,7 @@ use Rattle.std.specs.Prelude.{IsOk, IsSome, OnOk, Ok, Err}
 use Rattle.std.specs.declared.result.Result.{Result}
 use Rattle.block_server.specs.Promise.{Simulates}
 use Rattle.block_server.specs.Sayings.{last_of, with_replies}
+use Rattle.block_server.specs.declared.types.Event.{Event}
 use Rattle.block_server.specs.declared.types.Said.{Said}
 use Rattle.block_server.specs.declared.types.Told.{Told}
 use Rattle.play.proofs.session.make_call.Goals as goal
@@ -23,16 +24,20 @@ alone (x ∷ earlier) one items e is = absurd (omega (arith, is, ap length e, le
 pub returns-clause-keeps : goal.returns-clause-keeps
 returns-clause-keeps g c =
     let device = g.A.Adapter.device in
-    let call = c.args.event ∷ [] in
+    let calls = c.from_ref.result.now in
     let new = c.run-done.new.out in
-    let ok : IsOk c.run-done.result = c.run-done.ensures.ample (omega (arith, c.requires, c.clear.ensures.len, c.clear.ensures.capacity)) in
+    let ok : IsOk c.run-done.result = c.run-done.ensures.ample (omega (arith, c.requires, c.clear.ensures.len, c.clear.ensures.capacity, c.from_ref.ensures.len)) in
     let ran = on_ok c.run-done.result _ c.run-done.ensures.done ok in
-    let last = some_of new.last (on_ok c.run-done.result _ c.run-done.ensures.last ok (omega arith)) in
+    let last = some_of new.last (on_ok c.run-done.result _ c.run-done.ensures.last ok (omega (arith, c.from_ref.ensures.len))) in
     let one = with_replies last.0 new.replies.items in
     let shown : new.earlier.items ++ one ∷ [] ≡ ran.said =
     ap (λ (o : Option Told). new.earlier.items ++ last_of o new.replies.items) (sym last.1) ∙ ran.told ∙ ap (λ (before : List Said). before ++ ran.said) c.clear.ensures.said in
-    let Q : List Said → Type 0 = λ said. Simulates device c.args.server.now c.run-done.new.self call said in
-    (last.0, last.1, subst Q (alone new.earlier.items one ran.said shown ran.each) ran.keeps)
+    let Q : List Event → List Said → Type 0 = λ events said. Simulates device c.args.server.now c.run-done.new.self events said in (
+      last.0,
+      last.1,
+      subst (λ (events : List Event). Q events (one ∷ [])) c.from_ref.ensures.value
+          (subst (Q calls) (alone new.earlier.items one ran.said shown (ran.each ∙ c.from_ref.ensures.len)) ran.keeps),
+    )
 
 pub returns-clause-room : goal.returns-clause-room
 returns-clause-room g c = omega (arith, c.requires, c.clear.ensures.capacity, c.run-done.ensures.room)

@@ -1,8 +1,7 @@
-use Rattle.std.proofs.Common.{refl, rules, ap, ◌∙◌, sym, subst, Option, List, ℕ, Err}
+use Rattle.std.proofs.Common.{refl, rules, ap, ◌∙◌, sym, subst, Bool, Option, List, ℕ, Err}
 use Rattle.std.proofs.lemmas.Result.{err_from_is_err_and}
 use Rattle.std.specs.Borrow.{Bor}
-use Rattle.script.specs.Script.{Asks, lines_of, lines_after}
-use Rattle.script.specs.declared.line.Line.{Line}
+use Rattle.script.specs.Script.{Asks, asked_of, lines_of, lines_after}
 use Rattle.play.specs.Played.{IsWhy}
 use Rattle.play.proofs.Printing.{PlayedSoFar, played_none, played_nothing, played_line, ran_none, ran_part, ran_all, cut_more, left_ask, none_bad, if_error, on_error}
 use Rattle.play.proofs.session.perform.Goals as goal
@@ -24,14 +23,14 @@ pub play_line-requires-clause-room : goal.play_line-requires-clause-room
 play_line-requires-clause-room g c = c.loop-rest.invariant.room
 
 -- a line that asks nothing
-pub loop-rest-preserved-in-Ok-None : goal.loop-rest-preserved-in-Ok-None
-loop-rest-preserved-in-Ok-None g c =
+pub loop-rest-preserved-in-Ok-false : goal.loop-rest-preserved-in-Ok-false
+loop-rest-preserved-in-Ok-false g c =
     let device = g.A.Adapter.device in
     let before = g.W.Write.contents c.args.out.now in
     let here = g.W.Write.contents c.loop-rest.out in
     let all = lines_of c.args.script.now in
     let so_far = subst (λ (rest : Option (Bor (List ℕ))). PlayedSoFar device g.A.Watched.ended c.args.trace c.args.server.now all c.loop-rest.server c.loop-rest.shown rest before here) c.in-Some.is c.loop-rest.invariant.played in
-    let asks = subst (λ (asked : Option Line). Asks c.first_line.result.0.now asked) c.in-Ok-None.field-0-is c.in-Ok-None.ensures.ok in
+    let asks = subst (λ (some : Bool). Asks c.first_line.result.0.now (asked_of some c.read_asked.new.line)) c.in-Ok-false.field-0-test c.in-Ok-false.ensures.ok in
     record {
       fed = c.loop-rest.invariant.fed;
       room = c.loop-rest.invariant.room;
@@ -52,8 +51,8 @@ loop-rest-preserved g c =
     absurd (none_bad c.first_line.result.0.now (lines_after c.first_line.result.1) from c.in-Err.ensures.bad)
 
 -- the line is the last one that was played
-pub returns-in_err-shown-in-Ok-Some : goal.returns-in_err-shown-in-Ok-Some
-returns-in_err-shown-in-Ok-Some g c =
+pub returns-in_err-shown-in-Ok-true : goal.returns-in_err-shown-in-Ok-true
+returns-in_err-shown-in-Ok-true g c =
     let device = g.A.Adapter.device in
     let before = g.W.Write.contents c.args.out.now in
     let here = g.W.Write.contents c.loop-rest.out in
@@ -62,16 +61,16 @@ returns-in_err-shown-in-Ok-Some g c =
     let so_far = subst (λ (rest : Option (Bor (List ℕ))). PlayedSoFar device g.A.Watched.ended c.args.trace c.args.server.now all c.loop-rest.server c.loop-rest.shown rest before here) c.in-Some.is c.loop-rest.invariant.played in
     let cut = cut_more all so_far.texts c.in-Some.text.now c.first_line.result.0.now c.first_line.result.1 so_far.cut c.first_line.ensures.first in
     let from = left_ask all so_far.texts c.first_line.result.0.now (lines_after c.first_line.result.1) c.requires.good.0 cut c.requires.good.1 in
-    let asks = subst (λ (asked : Option Line). Asks c.first_line.result.0.now asked) c.in-Ok-Some.field-0-is c.in-Ok-Some.ensures.ok in
-    let printed = c.in_err-shown-in-Ok-Some.ensures.printed in
+    let asks = subst (λ (some : Bool). Asks c.first_line.result.0.now (asked_of some c.read_asked.new.line)) c.in-Ok-true.field-0-test c.in-Ok-true.ensures.ok in
+    let printed = c.in_err-shown-in-Ok-true.ensures.printed in
     let ran = ran_part device g.A.Watched.ended c.args.trace c.args.server.now c.args.script.now c.loop-rest.server c.play_line.new.server c.loop-rest.shown c.first_line.result.0.now
-    c.in-Ok-Some.asked c.in-Some.text c.first_line.result.1 before here after so_far c.first_line.ensures.first asks from
+    c.read_asked.new.line c.in-Some.text c.first_line.result.1 before here after so_far c.first_line.ensures.first asks from
     printed.0 c.loop-rest.invariant.fed in
     let told = err_from_is_err_and c.from_residual.result c.from_residual.ensures.1 in (
       ran.0,
       on_error c.from_residual.result _ c.from_residual.ensures.0,
       if_error c.from_residual.result _ (IsWhy (g.A.Watched.ended c.play_line.new.server.adapter) ran.0.part) (told.1 ∙ ap Err told.2)
-          (subst (λ (part : ℕ). IsWhy (g.A.Watched.ended c.play_line.new.server.adapter) part c.in_err-shown-in-Ok-Some.field-0.0) (sym ran.1) printed.2),
+          (subst (λ (part : ℕ). IsWhy (g.A.Watched.ended c.play_line.new.server.adapter) part c.in_err-shown-in-Ok-true.field-0.0) (sym ran.1) printed.2),
     )
 
 pub returns : goal.returns
@@ -84,20 +83,20 @@ returns g c =
     let whole = ran_all device g.A.Watched.ended c.args.trace c.args.server.now c.args.script.now c.loop-rest.server c.loop-rest.shown before here so_far c.loop-rest.invariant.fed in (whole.0, whole.1, tt)
 
 -- the line was played and printed
-pub loop-rest-preserved-in_ok-shown-in-Ok-Some : goal.loop-rest-preserved-in_ok-shown-in-Ok-Some
-loop-rest-preserved-in_ok-shown-in-Ok-Some g c =
+pub loop-rest-preserved-in_ok-shown-in-Ok-true : goal.loop-rest-preserved-in_ok-shown-in-Ok-true
+loop-rest-preserved-in_ok-shown-in-Ok-true g c =
     let device = g.A.Adapter.device in
     let before = g.W.Write.contents c.args.out.now in
     let here = g.W.Write.contents c.loop-rest.out in
     let after = g.W.Write.contents c.play_line.new.out in
     let all = lines_of c.args.script.now in
     let so_far = subst (λ (rest : Option (Bor (List ℕ))). PlayedSoFar device g.A.Watched.ended c.args.trace c.args.server.now all c.loop-rest.server c.loop-rest.shown rest before here) c.in-Some.is c.loop-rest.invariant.played in
-    let asks = subst (λ (asked : Option Line). Asks c.first_line.result.0.now asked) c.in-Ok-Some.field-0-is c.in-Ok-Some.ensures.ok in
-    let printed = c.in_ok-shown-in-Ok-Some.ensures.printed in
+    let asks = subst (λ (some : Bool). Asks c.first_line.result.0.now (asked_of some c.read_asked.new.line)) c.in-Ok-true.field-0-test c.in-Ok-true.ensures.ok in
+    let printed = c.in_ok-shown-in-Ok-true.ensures.printed in
     record {
-      fed = c.in_ok-shown-in-Ok-Some.ensures.fed;
+      fed = c.in_ok-shown-in-Ok-true.ensures.fed;
       room = c.play_line.ensures.room;
-      played = subst (λ (shown : ℕ). PlayedSoFar device g.A.Watched.ended c.args.trace c.args.server.now all c.play_line.new.server shown c.first_line.result.1 before after) (sym c.in_ok-shown-in-Ok-Some.ensures.shown)
+      played = subst (λ (shown : ℕ). PlayedSoFar device g.A.Watched.ended c.args.trace c.args.server.now all c.play_line.new.server shown c.first_line.result.1 before after) (sym c.in_ok-shown-in-Ok-true.ensures.shown)
           (played_line device g.A.Watched.ended c.args.trace c.args.server.now all c.loop-rest.server c.play_line.new.server c.loop-rest.shown c.first_line.result.0.now
-          c.in-Ok-Some.asked c.in-Some.text c.first_line.result.1 before here after so_far c.first_line.ensures.first asks printed.0 printed.1 c.loop-rest.invariant.fed);
+          c.read_asked.new.line c.in-Some.text c.first_line.result.1 before here after so_far c.first_line.ensures.first asks printed.0 printed.1 c.loop-rest.invariant.fed);
     }

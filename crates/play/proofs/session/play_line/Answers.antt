@@ -16,8 +16,8 @@ returns-then-is_starved-clause-printed g c =
     let said = with_replies call.0 c.make_call.new.said.replies.items in
     let out = g.W.Write.contents c.args.out.now in
     let tape = (device c.make_call.new.server.adapter).tape in (
-      part_of device g.A.Watched.ended c.args.trace c.args.shown _ c.event.result said c.args.server.now c.make_call.new.server out out 0
-          (call_text c.args.trace c.args.shown tape said) tape c.event.ensures call.2 refl refl (appends_none out) (λ is. refl),
+      part_of device g.A.Watched.ended c.args.trace c.args.shown _ c.put_event.new.event said c.args.server.now c.make_call.new.server out out 0
+          (call_text c.args.trace c.args.shown tape said) tape c.put_event.ensures call.2 refl refl (appends_none out) (λ is. refl),
       tt,
       refl,
     )
@@ -29,8 +29,8 @@ returns-in_default-clause-printed g c =
     let said = with_replies call.0 c.make_call.new.said.replies.items in
     let out = g.W.Write.contents c.args.out.now in
     let tape = (device c.make_call.new.server.adapter).tape in (
-      part_of device g.A.Watched.ended c.args.trace c.args.shown _ c.event.result said c.args.server.now c.make_call.new.server out out 0
-          (call_text c.args.trace c.args.shown tape said) tape c.event.ensures call.2 refl refl (appends_none out) (λ is. refl),
+      part_of device g.A.Watched.ended c.args.trace c.args.shown _ c.put_event.new.event said c.args.server.now c.make_call.new.server out out 0
+          (call_text c.args.trace c.args.shown tape said) tape c.put_event.ensures call.2 refl refl (appends_none out) (λ is. refl),
       tt,
       refl,
     )
@@ -51,8 +51,8 @@ returns-in_default-write_out-clause-printed g c =
     let one : with_replies c.unwrap.result.now c.replies.result.now ≡ said =
     ap (λ (told : Told). with_replies told c.replies.result.now) same ∙ ap (with_replies call.0) c.replies.ensures in
     let wrote = c.in_default-write_out.ensures.written in (
-      part_of device g.A.Watched.ended c.args.trace c.args.shown _ c.event.result said c.args.server.now c.make_call.new.server _ _ wrote.0
-          c.as_slice.result.now c.tape-tape.result.now c.event.ensures call.2 tape (c.as_slice.ensures.value ∙ c.in-Ok.ensures ∙ ap (call_text c.args.trace c.args.shown c.tape-tape.result.now) one) wrote.1 (λ is. absurd (false≢true (sym fed ∙ is))),
+      part_of device g.A.Watched.ended c.args.trace c.args.shown _ c.put_event.new.event said c.args.server.now c.make_call.new.server _ _ wrote.0
+          c.as_slice.result.now c.tape-tape.result.now c.put_event.ensures call.2 tape (c.as_slice.ensures.value ∙ c.in-Ok.ensures ∙ ap (call_text c.args.trace c.args.shown c.tape-tape.result.now) one) wrote.1 (λ is. absurd (false≢true (sym fed ∙ is))),
       tt,
       fed,
     )
@@ -73,8 +73,8 @@ returns-clause-printed g c =
     let one : with_replies c.unwrap.result.now c.replies.result.now ≡ said =
     ap (λ (told : Told). with_replies told c.replies.result.now) same ∙ ap (with_replies call.0) c.replies.ensures in
     let wrote = c.in-Ok-write_out.ensures.written in (
-      part_of device g.A.Watched.ended c.args.trace c.args.shown _ c.event.result said c.args.server.now c.make_call.new.server _ _ wrote.0
-          c.as_slice.result.now c.tape-tape.result.now c.event.ensures call.2 tape (c.as_slice.ensures.value ∙ c.in-Ok.ensures ∙ ap (call_text c.args.trace c.args.shown c.tape-tape.result.now) one) wrote.1 (λ is. absurd (false≢true (sym fed ∙ is))),
+      part_of device g.A.Watched.ended c.args.trace c.args.shown _ c.put_event.new.event said c.args.server.now c.make_call.new.server _ _ wrote.0
+          c.as_slice.result.now c.tape-tape.result.now c.put_event.ensures call.2 tape (c.as_slice.ensures.value ∙ c.in-Ok.ensures ∙ ap (call_text c.args.trace c.args.shown c.tape-tape.result.now) one) wrote.1 (λ is. absurd (false≢true (sym fed ∙ is))),
       wrote.2,
       tt,
     )

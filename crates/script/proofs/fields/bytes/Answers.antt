@@ -1,4 +1,4 @@
-use Rattle.std.proofs.Common.{rules, ◌≡◌, ◌/◌, ◌∙◌, Some, length, arith, ap, sym, inl, inr}
+use Rattle.std.proofs.Common.{rules, ◌≡◌, ◌/◌, ◌∙◌, Some, length, arith, ap, inl, inr}
 use Rattle.hex.specs.Hex.{encode_lower}
 use Rattle.script.proofs.HexLemmas.{sized_as, decoded}
 use Rattle.script.proofs.fields.bytes.Goals as goal
@@ -13,8 +13,7 @@ pub returns-in_err-ok-clause-only : goal.returns-in_err-ok-clause-only
 returns-in_err-ok-clause-only c = λ v all least most e.
     let sized = sized_as v.items c.args.word.now e in
     let room : length c.in_ok-bytes.bytes.now ≡ length c.args.word.now / 2 = search rules in
-    let text : c.as_bytes.result.now ≡ c.args.word.now = search rules in
-    let read = decoded v.items c.as_bytes.result.now (length c.in_ok-bytes.bytes.now) (omega arith) all (e ∙ sym text) c.decode_to_slice.result c.decode_to_slice.new.out c.decode_to_slice.ensures.value in
+    let read = decoded v.items c.args.word.now (length c.in_ok-bytes.bytes.now) (omega arith) all e c.decode_to_slice.result c.decode_to_slice.new.out c.decode_to_slice.ensures.value in
     let good = read.0 in
     search rules
 
@@ -22,8 +21,7 @@ pub returns-then-is_empty-clause-only : goal.returns-then-is_empty-clause-only
 returns-then-is_empty-clause-only c = λ v all least most e.
     let sized = sized_as v.items c.args.word.now e in
     let room : length c.in_ok-bytes.bytes.now ≡ length c.args.word.now / 2 = search rules in
-    let text : c.as_bytes.result.now ≡ c.args.word.now = search rules in
-    let read = decoded v.items c.as_bytes.result.now (length c.in_ok-bytes.bytes.now) (omega arith) all (e ∙ sym text) c.decode_to_slice.result c.decode_to_slice.new.out c.decode_to_slice.ensures.value in
+    let read = decoded v.items c.args.word.now (length c.in_ok-bytes.bytes.now) (omega arith) all e c.decode_to_slice.result c.decode_to_slice.new.out c.decode_to_slice.ensures.value in
     let good : c.decode_to_slice.new.out ≡ v.items = read.1 in
     let written : c.encode_to_slice.new.output ≡ encode_lower c.decode_to_slice.new.out = search rules in
     let same : c.encode_to_slice.new.output ≡ c.args.word.now = written ∙ ap encode_lower good ∙ e in
@@ -33,8 +31,7 @@ pub returns-clause-only : goal.returns-clause-only
 returns-clause-only c = λ v all least most e.
     let sized = sized_as v.items c.args.word.now e in
     let room : length c.in_ok-bytes.bytes.now ≡ length c.args.word.now / 2 = search rules in
-    let text : c.as_bytes.result.now ≡ c.args.word.now = search rules in
-    let read = decoded v.items c.as_bytes.result.now (length c.in_ok-bytes.bytes.now) (omega arith) all (e ∙ sym text) c.decode_to_slice.result c.decode_to_slice.new.out c.decode_to_slice.ensures.value in
+    let read = decoded v.items c.args.word.now (length c.in_ok-bytes.bytes.now) (omega arith) all e c.decode_to_slice.result c.decode_to_slice.new.out c.decode_to_slice.ensures.value in
     let good : c.decode_to_slice.new.out ≡ v.items = read.1 in
     let taken : c.try_extend_from_slice.new.self.items ≡ c.decode_to_slice.new.out = search rules in
     ap (λ items. Some (record { items = items })) (taken ∙ good)

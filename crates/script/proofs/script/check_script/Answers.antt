@@ -3,7 +3,7 @@ use Rattle.std.proofs.lemmas.Iterator.Splits.{YieldsList-from_slice_split}
 use Rattle.std.proofs.lemmas.Iterator.Consumers.{YieldsList-at}
 use Rattle.std.proofs.lemmas.List.{map-append, length-map}
 use Rattle.std.specs.Bool.{◌==◌}
-use Rattle.script.specs.Script.{AskInTurn, done}
+use Rattle.script.specs.Script.{AskInTurn, asked_of, done}
 use Rattle.script.proofs.ScriptLemmas.{ask_more, ask_one, asked_lines, end_of, turn_of}
 use Rattle.script.proofs.script.check_script.Goals as goal
 
@@ -13,11 +13,11 @@ loop-line-init c = (([], done), refl)
 pub loop-line-preserved : goal.loop-line-preserved
 loop-line-preserved c =
     let before = map (λ text. text.now) c.loop-line.yielded in
-    let more = ask_more before (c.in-Some.line.now ∷ []) c.loop-line.invariant.0.0 (asked_lines c.in-Ok._asked) c.loop-line.invariant.0.1
-    (ask_one c.in-Some.line.now c.in-Ok._asked c.in-Ok.ensures.ok) in (
+    let more = ask_more before (c.in-Some.line.now ∷ []) c.loop-line.invariant.0.0 (asked_lines (asked_of c.in-Ok._some c.read_asked.new.line)) c.loop-line.invariant.0.1
+    (ask_one c.in-Some.line.now (asked_of c.in-Ok._some c.read_asked.new.line) c.in-Ok.ensures.ok) in (
       (
-        c.loop-line.invariant.0.0 ++ asked_lines c.in-Ok._asked,
-        subst (λ ts. AskInTurn ts (c.loop-line.invariant.0.0 ++ asked_lines c.in-Ok._asked)) (sym (map-append (λ text. text.now) c.loop-line.yielded (c.in-Some.line ∷ []))) more,
+        c.loop-line.invariant.0.0 ++ asked_lines (asked_of c.in-Ok._some c.read_asked.new.line),
+        subst (λ ts. AskInTurn ts (c.loop-line.invariant.0.0 ++ asked_lines (asked_of c.in-Ok._some c.read_asked.new.line))) (sym (map-append (λ text. text.now) c.loop-line.yielded (c.in-Some.line ∷ []))) more,
       ),
       omega (arith, length-append c.loop-line.yielded (c.in-Some.line ∷ []), c.loop-line.invariant.1),
     )
