@@ -99,6 +99,7 @@ fn told(
         "follow: {} accesses, {} looks",
         counts.accesses, counts.looks
     );
+    let _told = eprintln!(rt; "follow: passed over: {}", adapter.passed_over());
     if let Some(stray) = adapter.stray() {
         let _told = eprintln!(rt; "follow: strayed: {stray}");
         return Err(Fault::Strayed);

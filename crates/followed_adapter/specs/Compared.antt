@@ -63,3 +63,24 @@ compared_bits r slots = without (named_bits r) (known_of r) slots
 -- two values of a register agree, where these slots of its port are known to differ
 abbrev pub Agrees : Reg → (slots shown said : ℕ) → Type 0
 Agrees r slots shown said = bit_and shown (compared_bits r slots) ≡ bit_and said (compared_bits r slots)
+
+-- each known difference has a place
+abbrev pub place_of_known : Known → ℕ
+place_of_known OtherCapabilities = 0
+place_of_known FurtherPorts = 1
+place_of_known AlwaysAhci = 2
+place_of_known Causes = 3
+place_of_known StatusWithoutFault = 4
+place_of_known FailedSlots = 5
+place_of_known UntakenSlots = 6
+
+-- the one that a register may show, where two values differ by its bits, of those that the definitions name
+abbrev pub where_differing : Option Known → (named slots shown said : ℕ) → Option Known
+where_differing None named slots shown said = None
+where_differing (Some known) named slots shown said =
+    if nat_eq (bit_and shown (bit_and named (bits_of known slots))) (bit_and said (bit_and named (bits_of known slots)))
+    then None else Some known
+
+-- the known difference that two values of a register show
+abbrev pub shown_known : Reg → (slots shown said : ℕ) → Option Known
+shown_known r slots shown said = where_differing (known_of r) (named_bits r) slots shown said

@@ -1,12 +1,14 @@
 -- What a followed adapter makes of its model (this project's own).
-use Rattle.std.specs.Prelude.{ℕ, ◌≡◌, ◌<◌, ◌&&◌, ◌||◌, Bool, List, nat_eq, not, slice_index, true}
+use Rattle.std.specs.Prelude.{ℕ, ◌≡◌, ◌<◌, ◌&&◌, ◌||◌, Bool, List, None, Option, Some, nat_eq, not, slice_index, slice_set, true}
 use Rattle.adapter.specs.Device.{Device}
 use Rattle.adapter.specs.Steps.{Steps}
 use Rattle.hba_regs.specs.Bits.{bit}
 use Rattle.hba_regs.specs.declared.reg.PortReg.TheVariants.{Tfd, Sact}
 use Rattle.hba_regs.specs.declared.reg.Reg.{Reg}
 use Rattle.hba_regs.specs.declared.reg.Reg.TheVariants.{Px}
+use Rattle.followed_adapter.specs.declared.differences.Known.{Known}
 use Rattle.followed_adapter.specs.declared.followed.Differing.{Differing}
+use Rattle.followed_adapter.specs.Compared.{place_of_known}
 
 -- The device has gone on from the one state to the other by steps alone: whatever steps lead to the one, steps lead to
 -- the other.
@@ -32,3 +34,8 @@ pub record NotesFailed (port slot : ℕ) (is_queued : Bool) (old new : Differing
   pub failed : Adds true port slot old.failed new.failed
   pub plain : Adds (not is_queued) port slot old.plain new.plain
   pub untaken : new.untaken ≡ old.untaken
+
+-- what was met before, and this difference, if there is one
+abbrev pub met_with : Option Known → List Bool → List Bool
+met_with None met = met
+met_with (Some known) met = slice_set met (place_of_known known) true

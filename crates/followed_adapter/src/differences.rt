@@ -1,14 +1,19 @@
 // Which bits of a register are compared, and which differences are known.
-ghost use Rattle.std.specs.Prelude.{◌≡◌, ◌↔◌, IsTrue};
-ghost use Rattle.followed_adapter.specs.Compared.{Agrees, bits_of, compared_bits, known_of, named_bits, named_of_port};
+ghost use Rattle.std.specs.Prelude.{◌≡◌, ◌↔◌, ◌<◌, IsTrue, false, slice_index_or, slice_set, true};
+ghost use Rattle.followed_adapter.specs.Compared.{Agrees, bits_of, compared_bits, known_of, named_bits, named_of_port, place_of_known, shown_known};
 
 use hba_regs::{PortReg, Reg};
+use std::fmt;
 
 const ALL: u32 = 0xffff_ffff;
 
-/// A difference between the model and adapters that are about. They are all that is passed over. The server is told the
-/// model's bits: of most of these it makes nothing, and by those of `FailedSlots` and `UntakenSlots` it takes a request
-/// for done, so that an adapter without a model beside it has to show them as the model does.
+/// How many known differences there are.
+const KNOWN: usize = 7;
+
+/// A difference between the model and adapters that are about. Of the bits that the definitions name they are all that
+/// is passed over; of memory, a page of IDENTIFY DEVICE that reads the same. The server is told the model's bits. Of
+/// most of these it makes nothing; by those of `FailedSlots` and `UntakenSlots` it takes a request for done, so that an
+/// adapter without a model beside it has to show them as the model does.
 #[derive(Clone, Copy, Debug, PartialEq, Eq)]
 pub enum Known {
     /// CAP but for NCS and SNCQ: NP and what else an adapter can do. The server reads NCS, bits 12:8, and SNCQ, bit 30,
@@ -37,6 +42,33 @@ pub enum Known {
 }
 
 impl Known {
+    /// All of them.
+    const ALL: [Known; KNOWN] = [
+        Known::OtherCapabilities,
+        Known::FurtherPorts,
+        Known::AlwaysAhci,
+        Known::Causes,
+        Known::StatusWithoutFault,
+        Known::FailedSlots,
+        Known::UntakenSlots,
+    ];
+
+    /// Its place among them.
+    fn place(self) -> usize
+        ensures place { result ≡ place_of_known self }
+        ensures few { result < 7 }
+    {
+        match self {
+            Known::OtherCapabilities => 0,
+            Known::FurtherPorts => 1,
+            Known::AlwaysAhci => 2,
+            Known::Causes => 3,
+            Known::StatusWithoutFault => 4,
+            Known::FailedSlots => 5,
+            Known::UntakenSlots => 6,
+        }
+    }
+
     /// Its bits, where these slots of the register's port are known to differ.
     pub fn bits(self, slots: u32) -> u32
         ensures { result ≡ bits_of self slots }
@@ -114,4 +146,62 @@ pub fn agree(r: Reg, slots: u32, shown: u32, said: u32) -> bool
 {
     let bits = compared(r, slots);
     shown & bits == said & bits
+}
+
+/// The known difference that two values of a register show, if they show one.
+pub fn shown_by(r: Reg, slots: u32, shown: u32, said: u32) -> Option<Known>
+    ensures { result ≡ shown_known r slots shown said }
+{
+    let known = Known::of(r)?;
+    let bits = named(r) & known.bits(slots);
+    if shown & bits == said & bits {
+        return None;
+    }
+    Some(known)
+}
+
+/// Which known differences were met, and passed over.
+#[derive(Clone, Copy, Debug, PartialEq, Eq)]
+pub struct PassedOver {
+    /// By the place of each.
+    met: [bool; KNOWN],
+}
+
+impl PassedOver {
+    /// None was.
+    pub const NONE: PassedOver = PassedOver {
+        met: [false; KNOWN],
+    };
+
+    /// Whether this one was.
+    pub fn has(&self, known: Known) -> bool
+        ensures { result ≡ slice_index_or self.now.met (place_of_known known) false }
+    {
+        self.met[known.place()]
+    }
+
+    /// Notes that this one was.
+    pub fn add(&mut self, known: Known)
+        ensures { self.new.met ≡ slice_set self.old.met (place_of_known known) true }
+    {
+        self.met[known.place()] = true;
+    }
+}
+
+impl fmt::Display for PassedOver {
+    /// Their names, parted by spaces; `none` where there are none.
+    fn fmt<W: fmt::Write>(&self, f: &mut fmt::Formatter<W>) -> fmt::Result {
+        let mut is_first = true;
+        for known in Known::ALL {
+            if self.has(known) {
+                let space = if is_first { "" } else { " " };
+                write!(f, "{space}{known:?}")?;
+                is_first = false;
+            }
+        }
+        if is_first {
+            write!(f, "none")?;
+        }
+        Ok(())
+    }
 }

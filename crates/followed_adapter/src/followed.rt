@@ -1,11 +1,11 @@
 // The model, followed beside its peer.
-ghost use Rattle.std.specs.Prelude.{◌≡◌, ◌<◌, ◌||◌, IfSome, None, is_some, slice_index, true};
+ghost use Rattle.std.specs.Prelude.{◌≡◌, ◌+◌, ◌<◌, ◌||◌, IfSome, None, is_some, slice_index, true};
 ghost use Rattle.adapter.specs.Access.{Reads};
 ghost use Rattle.adapter.specs.Rules.{MayRead};
-ghost use Rattle.followed_adapter.specs.Compared.{Agrees};
-ghost use Rattle.followed_adapter.specs.Following.{Adds, GoesOn, NotesFailed, slots_of};
+ghost use Rattle.followed_adapter.specs.Compared.{Agrees, shown_known};
+ghost use Rattle.followed_adapter.specs.Following.{Adds, GoesOn, NotesFailed, met_with, slots_of};
 
-use crate::differences::agree;
+use crate::differences::{PassedOver, agree, shown_by};
 use crate::peer::{Peer, PeerFault};
 use crate::stray::Stray;
 use adapter::laws::{steps_compose, steps_keep};
@@ -99,6 +99,8 @@ pub struct Followed<A, P> {
     commands: [u32; PORTS],
     /// What the peer showed last of the register that was read last.
     said: u32,
+    /// The known differences that were met.
+    passed_over: PassedOver,
     stray: Option<Stray>,
     counts: Counts,
 }
@@ -116,6 +118,7 @@ impl<A: Shown, P: Peer> Followed<A, P> {
             differing: Differing::NONE,
             commands: [0; PORTS],
             said: 0,
+            passed_over: PassedOver::NONE,
             stray: None,
             counts: Counts {
                 accesses: 0,
@@ -136,6 +139,14 @@ impl<A: Shown, P: Peer> Followed<A, P> {
         ensures { result ≡ self.now.stray }
     {
         self.stray
+    }
+
+    /// The known differences that readings of registers met, and that were passed over. (No clause says that they are
+    /// kept from one access to the next.)
+    pub fn passed_over(&self) -> PassedOver
+        ensures { result ≡ self.now.passed_over }
+    {
+        self.passed_over
     }
 
     /// How many accesses were made.
@@ -198,6 +209,7 @@ impl<A: Shown, P: Peer> Followed<A, P> {
     /// Has the model do a step, if it is possible.
     fn go(&mut self, s: DeviceStep) -> bool
         ensures goes { GoesOn (A.device self.old.model) (A.device self.new.model) }
+        ensures counted { A.access_count self.new.model ≡ A.access_count self.old.model }
         ensures rest { self.new ≡ record self.old { model = self.new.model } }
     {
         steps_compose();
@@ -206,7 +218,8 @@ impl<A: Shown, P: Peer> Followed<A, P> {
 
     /// Has the model do nothing by itself, on any port.
     fn hold_all(&mut self)
-        ensures { GoesOn (A.device self.old.model) (A.device self.new.model) }
+        ensures goes { GoesOn (A.device self.old.model) (A.device self.new.model) }
+        ensures counted { A.access_count self.new.model ≡ A.access_count self.old.model }
     {
         for port in 0..PORTS {
             let _held = self.go(DeviceStep::Hold(Port(port as u8)));
@@ -240,6 +253,7 @@ impl<A: Shown, P: Peer> Followed<A, P> {
         requires port { port.0 < 4 }
         requires slot { slot < 32 }
         ensures goes { GoesOn (A.device self.old.model) (A.device self.new.model) }
+        ensures counted { A.access_count self.new.model ≡ A.access_count self.old.model }
         ensures noted { NotesFailed port.0 slot (((A.device self.old.model).port port.0).sact slot) self.old.differing
             self.new.differing }
     {
@@ -254,7 +268,8 @@ impl<A: Shown, P: Peer> Followed<A, P> {
     fn end_plain(&mut self, port: Port, slot: u32)
         requires port { port.0 < 4 }
         requires slot { slot < 32 }
-        ensures { GoesOn (A.device self.old.model) (A.device self.new.model) }
+        ensures goes { GoesOn (A.device self.old.model) (A.device self.new.model) }
+        ensures counted { A.access_count self.new.model ≡ A.access_count self.old.model }
     {
         let Some(task_file) = self.look(port, PortReg::Tfd) else {
             return;
@@ -271,7 +286,8 @@ impl<A: Shown, P: Peer> Followed<A, P> {
     fn leave_issued(&mut self, port: Port, slot: u32)
         requires port { port.0 < 4 }
         requires slot { slot < 32 }
-        ensures { GoesOn (A.device self.old.model) (A.device self.new.model) }
+        ensures goes { GoesOn (A.device self.old.model) (A.device self.new.model) }
+        ensures counted { A.access_count self.new.model ≡ A.access_count self.old.model }
     {
         if is_set(self.model.shown(Reg::Px(port, PortReg::Sact)), slot) {
             let _taken = self.go(DeviceStep::Fetch(port, Slot(slot as u8)));
@@ -283,7 +299,8 @@ impl<A: Shown, P: Peer> Followed<A, P> {
     /// Goes on with the slots whose bits of PxCI have fallen.
     fn follow_issued(&mut self, port: Port, said: u32)
         requires { port.0 < 4 }
-        ensures { GoesOn (A.device self.old.model) (A.device self.new.model) }
+        ensures goes { GoesOn (A.device self.old.model) (A.device self.new.model) }
+        ensures counted { A.access_count self.new.model ≡ A.access_count self.old.model }
     {
         let failed = self.differing.failed[usize::from(port.0)];
         for slot in 0..32 {
@@ -297,7 +314,8 @@ impl<A: Shown, P: Peer> Followed<A, P> {
     /// Ends the queued commands whose bits of PxSACT have fallen.
     fn follow_active(&mut self, port: Port, said: u32)
         requires { port.0 < 4 }
-        ensures { GoesOn (A.device self.old.model) (A.device self.new.model) }
+        ensures goes { GoesOn (A.device self.old.model) (A.device self.new.model) }
+        ensures counted { A.access_count self.new.model ≡ A.access_count self.old.model }
     {
         let untaken = self.differing.untaken[usize::from(port.0)];
         for slot in 0..32 {
@@ -334,7 +352,8 @@ impl<A: Shown, P: Peer> Followed<A, P> {
     /// lowest of the others.
     fn follow_fault(&mut self, port: Port)
         requires { port.0 < 4 }
-        ensures { GoesOn (A.device self.old.model) (A.device self.new.model) }
+        ensures goes { GoesOn (A.device self.old.model) (A.device self.new.model) }
+        ensures counted { A.access_count self.new.model ≡ A.access_count self.old.model }
     {
         let Some(left) = self.settled(port) else {
             return;
@@ -361,7 +380,8 @@ impl<A: Shown, P: Peer> Followed<A, P> {
     /// Has the command of the lowest of these slots fail.
     fn fail_lowest(&mut self, port: Port, slots: u32, task_file: TaskFile)
         requires { port.0 < 4 }
-        ensures { GoesOn (A.device self.old.model) (A.device self.new.model) }
+        ensures goes { GoesOn (A.device self.old.model) (A.device self.new.model) }
+        ensures counted { A.access_count self.new.model ≡ A.access_count self.old.model }
     {
         if let Some(slot) = lowest(slots) {
             self.fail(port, slot, task_file);
@@ -370,7 +390,8 @@ impl<A: Shown, P: Peer> Followed<A, P> {
 
     /// Has the port meet a fatal error, if it is so.
     fn meet_if(&mut self, met: bool, port: Port, error: FatalError)
-        ensures { GoesOn (A.device self.old.model) (A.device self.new.model) }
+        ensures goes { GoesOn (A.device self.old.model) (A.device self.new.model) }
+        ensures counted { A.access_count self.new.model ≡ A.access_count self.old.model }
     {
         if met {
             let _met = self.go(DeviceStep::Fatal(port, error));
@@ -380,7 +401,8 @@ impl<A: Shown, P: Peer> Followed<A, P> {
     /// Has a command of the port fail, if it is so.
     fn fail_if(&mut self, failed: bool, port: Port)
         requires { port.0 < 4 }
-        ensures { GoesOn (A.device self.old.model) (A.device self.new.model) }
+        ensures goes { GoesOn (A.device self.old.model) (A.device self.new.model) }
+        ensures counted { A.access_count self.new.model ≡ A.access_count self.old.model }
     {
         if failed {
             self.follow_fault(port);
@@ -390,7 +412,8 @@ impl<A: Shown, P: Peer> Followed<A, P> {
     /// Goes on by what the peer's PxIS shows: a command has failed, or the port has met a fatal error.
     fn follow_causes(&mut self, port: Port, shown: PortInterrupts, said: PortInterrupts)
         requires { port.0 < 4 }
-        ensures { GoesOn (A.device self.old.model) (A.device self.new.model) }
+        ensures goes { GoesOn (A.device self.old.model) (A.device self.new.model) }
+        ensures counted { A.access_count self.new.model ≡ A.access_count self.old.model }
     {
         let failed = said.has_task_file_error() && !shown.has_task_file_error();
         let interface = said.has_interface_fatal() && !shown.has_interface_fatal();
@@ -403,7 +426,8 @@ impl<A: Shown, P: Peer> Followed<A, P> {
     /// Goes on by what the peer's PxSSTS shows: its link came up, or its disk was taken out.
     fn follow_link(&mut self, port: Port, shown: SataStatus, said: SataStatus)
         requires { port.0 < 4 }
-        ensures { GoesOn (A.device self.old.model) (A.device self.new.model) }
+        ensures goes { GoesOn (A.device self.old.model) (A.device self.new.model) }
+        ensures counted { A.access_count self.new.model ≡ A.access_count self.old.model }
     {
         if said.detection() == SataStatus::DEVICE_WITH_LINK {
             let _released = self.go(DeviceStep::Release(port));
@@ -415,7 +439,8 @@ impl<A: Shown, P: Peer> Followed<A, P> {
     /// Goes on by what the peer's PxTFD shows: it works on a plain command, or has ended it.
     fn follow_task_file(&mut self, port: Port, shown: TaskFile, said: TaskFile)
         requires { port.0 < 4 }
-        ensures { GoesOn (A.device self.old.model) (A.device self.new.model) }
+        ensures goes { GoesOn (A.device self.old.model) (A.device self.new.model) }
+        ensures counted { A.access_count self.new.model ≡ A.access_count self.old.model }
     {
         let plain = self.model.shown(Reg::Px(port, PortReg::Ci))
             & !self.model.shown(Reg::Px(port, PortReg::Sact));
@@ -431,7 +456,8 @@ impl<A: Shown, P: Peer> Followed<A, P> {
     /// Has the model go on by steps, as a register of the peer's port shows.
     fn follow_port(&mut self, port: Port, r: PortReg, said: u32)
         requires { port.0 < 4 }
-        ensures { GoesOn (A.device self.old.model) (A.device self.new.model) }
+        ensures goes { GoesOn (A.device self.old.model) (A.device self.new.model) }
+        ensures counted { A.access_count self.new.model ≡ A.access_count self.old.model }
     {
         let shown = self.model.shown(Reg::Px(port, r));
         match r {
@@ -453,7 +479,8 @@ impl<A: Shown, P: Peer> Followed<A, P> {
 
     /// Has the model go on by steps, as a register of the peer shows.
     fn follow(&mut self, r: Reg, said: u32)
-        ensures { GoesOn (A.device self.old.model) (A.device self.new.model) }
+        ensures goes { GoesOn (A.device self.old.model) (A.device self.new.model) }
+        ensures counted { A.access_count self.new.model ≡ A.access_count self.old.model }
     {
         match r {
             Reg::Ghc if !GlobalControl(said).is_resetting() => {
@@ -468,7 +495,8 @@ impl<A: Shown, P: Peer> Followed<A, P> {
     /// Ends what has ended on a port of the peer that is to be stopped.
     fn catch_up(&mut self, port: Port)
         requires { port.0 < 4 }
-        ensures { GoesOn (A.device self.old.model) (A.device self.new.model) }
+        ensures goes { GoesOn (A.device self.old.model) (A.device self.new.model) }
+        ensures counted { A.access_count self.new.model ≡ A.access_count self.old.model }
     {
         let outstanding = self.outstanding(port);
         if outstanding != 0 {
@@ -484,7 +512,8 @@ impl<A: Shown, P: Peer> Followed<A, P> {
 
     /// Ends what has ended on all ports of the peer.
     fn catch_up_all(&mut self)
-        ensures { GoesOn (A.device self.old.model) (A.device self.new.model) }
+        ensures goes { GoesOn (A.device self.old.model) (A.device self.new.model) }
+        ensures counted { A.access_count self.new.model ≡ A.access_count self.old.model }
     {
         for port in 0..PORTS {
             self.catch_up(Port(port as u8));
@@ -495,6 +524,7 @@ impl<A: Shown, P: Peer> Followed<A, P> {
     /// where they have strayed.
     fn prepare_read(&mut self, r: Reg) -> Option<u32>
         ensures goes { GoesOn (A.device self.old.model) (A.device self.new.model) }
+        ensures counted { A.access_count self.new.model ≡ A.access_count self.old.model }
         ensures told { result ≡ None → is_some self.new.stray ≡ true }
     {
         self.count();
@@ -506,7 +536,8 @@ impl<A: Shown, P: Peer> Followed<A, P> {
 
     /// Before a write: a port that is to be stopped, or the whole adapter, has first ended what its peer has.
     fn prepare_write(&mut self, r: Reg, v: u32)
-        ensures { GoesOn (A.device self.old.model) (A.device self.new.model) }
+        ensures goes { GoesOn (A.device self.old.model) (A.device self.new.model) }
+        ensures counted { A.access_count self.new.model ≡ A.access_count self.old.model }
     {
         match r {
             Reg::Ghc if GlobalControl(v).is_resetting() => self.catch_up_all(),
@@ -556,17 +587,25 @@ impl<A: Shown, P: Peer> Followed<A, P> {
         requires told { said ≡ None → is_some self.old.stray ≡ true }
         ensures model { self.new.model ≡ self.old.model }
         ensures alike { self.new.stray ≡ None → Agrees r (slots_of r self.new.differing) shown self.new.said }
+        ensures passed { self.new.stray ≡ None → self.new.passed_over.met
+            ≡ met_with (shown_known r (slots_of r self.new.differing) shown self.new.said) self.old.passed_over.met }
     {
         let Some(said) = said else {
             return;
         };
         self.said = said;
-        if self.stray.is_none() && !agree(r, self.differing.of(r), shown, said) {
+        if self.stray.is_some() {
+            return;
+        }
+        let slots = self.differing.of(r);
+        if !agree(r, slots, shown, said) {
             self.stray = Some(Stray::Register {
                 register: r,
                 shown,
                 said,
             });
+        } else if let Some(known) = shown_by(r, slots, shown, said) {
+            self.passed_over.add(known);
         }
     }
 
@@ -649,12 +688,15 @@ fn stray_of(address: u32, shown: &[u8], said: &[u8]) -> Option<Stray> {
 impl<A: Shown, P: Peer> Adapter for Followed<A, P> {
     ghost device = { λ f. A.device f.model };
 
+    ghost access_count = { λ f. A.access_count f.model };
+
     /// What is answered is the model's. Unless the two have strayed, it agrees with what is noted as the peer's. (That
     /// this is what the peer showed, and that slots are known to differ only where a command failed, no clause says:
     /// nothing is claimed of a peer.)
     fn read(&mut self, r: Reg) -> u32
         requires { MayRead r (A.device self.old.model) }
         ensures reads { Reads r result (A.device self.old.model) (A.device self.new.model) }
+        ensures counted { A.access_count self.new.model ≡ A.access_count self.old.model + 1 }
         ensures alike { self.new.stray ≡ None → Agrees r (slots_of r self.new.differing) result self.new.said }
     {
         steps_compose();

@@ -12,7 +12,7 @@ mod lines;
 mod peer;
 mod stray;
 
-pub use differences::Known;
+pub use differences::{Known, PassedOver};
 pub use followed::{Counts, Differing, Followed};
 pub use lines::LinePeer;
 pub use peer::{Peer, PeerFault};

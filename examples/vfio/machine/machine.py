@@ -37,6 +37,7 @@ WITH = [
     "a block device in use is refused",
     "a group that isn't viable is refused",
     "docs/HARDWARE.md is followed",
+    "what follow passes over is named",
     "follow is killed: host resets the adapter and ends",
     "host is killed: follow ends",
     "a configuration of another disk strays",

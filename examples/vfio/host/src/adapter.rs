@@ -1,7 +1,7 @@
 //! An AHCI adapter as the server's definitions have it: what docs/PORTING.md asks of an adapter beside its four calls.
 //! Each duty is a function with its number there and the section of AHCI 1.3.1.
 use crate::bus::Bus;
-use crate::differences::{failed_status, fatal_causes, AsTold, Known, Otherwise, Tally};
+use crate::differences::{failed_status, fatal_causes, AsTold, Otherwise, Tally};
 use crate::registers::{cause, cmd, detection, ghc, sata_error, task_file};
 use crate::registers::{PortRegister, Register, MOST_PORTS, NO_SLEEP};
 use std::time::Duration;
@@ -195,7 +195,7 @@ impl<B: Bus> Adapter<B> {
                 self.link_patience(port)
             }
             Register::Port(_, PortRegister::Tfd) if alone && shown & OCCUPIED != 0 => 150_000,
-            Register::Port(port, PortRegister::Ci) if shown != 0 && !self.has_failed(port, shown) => {
+            Register::Port(port, PortRegister::Ci) if shown != 0 && !self.has_failed(port) => {
                 // A command may be quick, or have its disk spin up. `follow` looks at PxCI and PxSACT by turns, and
                 // more often.
                 (10 << self.readings.same.min(14)).min(if alone { 160_000 } else { 1_000 })
@@ -216,13 +216,9 @@ impl<B: Bus> Adapter<B> {
     }
 
     /// Whether a command of the port has failed: no bit of PxCI falls then.
-    fn has_failed(&mut self, port: usize, issued: u32) -> bool {
+    fn has_failed(&mut self, port: usize) -> bool {
         let status = self.bus.read(Register::Port(port, PortRegister::Tfd));
-        let failed = status & (OCCUPIED | task_file::ERR) == task_file::ERR;
-        if failed {
-            self.tally.saw(Known::FailedSlots, Register::Port(port, PortRegister::Ci), issued);
-        }
-        failed
+        status & (OCCUPIED | task_file::ERR) == task_file::ERR
     }
 
     /// A register as the definitions have it.
@@ -243,9 +239,6 @@ impl<B: Bus> Adapter<B> {
         if self.reset_is_over(register, value) && self.after_reset().is_err() {
             // A reset that doesn't end.
             return value | ghc::HR;
-        }
-        if let Some(known) = Known::of(register, value) {
-            self.tally.saw(known, register, value);
         }
         let shown = match register {
             Register::Cap => self.as_kept(register, value, self.cap),

@@ -1,41 +1,8 @@
-//! Where an adapter differs from the model: what `follow` passes over, by the names of docs/QEMU.md; what the host
-//! shows in another form than the adapter; and what somebody has it show otherwise.
+//! What the host shows in another form than the adapter does, and what somebody has it show otherwise. What `follow`
+//! passes over it tells itself, by the names of docs/QEMU.md.
 use crate::registers::{cap, cause, detection, ghc, sata_error, task_file, PortRegister, Register};
 use std::collections::BTreeMap;
 use std::str::FromStr;
-
-/// A difference that `follow` passes over (docs/QEMU.md) and that can be told by a look at one register. Whether
-/// `Causes` and `UntakenSlots` were passed over, `follow` alone could tell.
-#[derive(Clone, Copy, Debug, PartialEq, Eq, PartialOrd, Ord)]
-pub enum Known {
-    OtherCapabilities,
-    FurtherPorts,
-    AlwaysAhci,
-    StatusWithoutFault,
-    FailedSlots,
-}
-
-impl Known {
-    /// The one that a reading of this register shows. `AlwaysAhci` and `FailedSlots` take more than one reading.
-    pub fn of(register: Register, value: u32) -> Option<Known> {
-        match register {
-            Register::Cap if value & !(cap::SNCQ | cap::NCS) != MODEL_PORTS => Some(Known::OtherCapabilities),
-            Register::Pi if value & !0xf != 0 => Some(Known::FurtherPorts),
-            Register::Port(_, PortRegister::Tfd)
-                if value & task_file::ERR == 0
-                    && value & !(task_file::BSY | task_file::DRQ) != MODEL_STATUS & !task_file::DRQ =>
-            {
-                Some(Known::StatusWithoutFault)
-            }
-            _ => None,
-        }
-    }
-}
-
-/// What the model's CAP shows beside NCS and SNCQ: four ports.
-const MODEL_PORTS: u32 = 3;
-/// What the model's PxTFD shows after a reset, and until a command fails.
-const MODEL_STATUS: u32 = task_file::AFTER_RESET;
 
 /// A duty by which the host shows a register otherwise than the adapter does (docs/PORTING.md).
 #[derive(Clone, Copy, Debug, PartialEq, Eq, PartialOrd, Ord)]
@@ -62,22 +29,13 @@ pub enum Otherwise {
     AsTold,
 }
 
-/// How often which difference was seen or made. Each is told as it is met first.
+/// How often which difference was made. Each is told as it is met first.
 #[derive(Default)]
 pub struct Tally {
-    known: BTreeMap<Known, u64>,
     otherwise: BTreeMap<Otherwise, u64>,
 }
 
 impl Tally {
-    pub fn saw(&mut self, known: Known, register: Register, value: u32) {
-        let count = self.known.entry(known).or_default();
-        *count += 1;
-        if *count == 1 {
-            eprintln!("host: {known:?}: {register:?} is {value:08x}h, and follow passes over it (docs/QEMU.md)");
-        }
-    }
-
     pub fn shows(&mut self, otherwise: Otherwise, register: Register, value: u32, shown: u32) {
         let count = self.otherwise.entry(otherwise).or_default();
         *count += 1;
@@ -88,13 +46,8 @@ impl Tally {
 
     /// What was shown otherwise, in one line.
     pub fn summary(&self) -> String {
-        let known = self.known.iter().map(|(name, count)| format!("{name:?} {count}"));
         let otherwise = self.otherwise.iter().map(|(name, count)| format!("{name:?} {count}"));
-        format!(
-            "passed over: {}; shown otherwise: {}",
-            known.collect::<Vec<_>>().join(", "),
-            otherwise.collect::<Vec<_>>().join(", ")
-        )
+        format!("shown otherwise: {}", otherwise.collect::<Vec<_>>().join(", "))
     }
 }
 
@@ -207,16 +160,5 @@ mod tests {
         for word in ["", "VS", "VS:x:0", "VS:1", "VS:1:1:1"] {
             assert!(word.parse::<AsTold>().unwrap_err().contains("is wanted"), "{word}");
         }
-    }
-
-    #[test]
-    fn known_differences_are_named() {
-        assert_eq!(Known::of(Register::Cap, 0xc014_1f05), Some(Known::OtherCapabilities));
-        assert_eq!(Known::of(Register::Cap, 0x4000_1f03), None);
-        assert_eq!(Known::of(Register::Pi, 0x3f), Some(Known::FurtherPorts));
-        assert_eq!(Known::of(Register::Pi, 0x0f), None);
-        assert_eq!(Known::of(TFD, 0x0130), Some(Known::StatusWithoutFault));
-        assert_eq!(Known::of(TFD, 0x007f), None);
-        assert_eq!(Known::of(TFD, 0x0441), None);
     }
 }

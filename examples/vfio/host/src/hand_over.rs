@@ -2,7 +2,6 @@
 //! P-22. Sections are of AHCI 1.3.1.
 use crate::adapter::{Adapter, Port};
 use crate::bus::Bus;
-use crate::differences::Known;
 use crate::registers::{bohc, cap, cmd, ghc, PortRegister, Register, BOH, NO_SLEEP};
 use std::time::Duration;
 
@@ -100,10 +99,6 @@ impl<B: Bus> Adapter<B> {
 
     /// What a reset takes away and the server doesn't set.
     pub(crate) fn make_ready(&mut self) -> Result<(), String> {
-        let control = self.bus.read(Register::Ghc);
-        if control & ghc::AE != 0 {
-            self.tally.saw(Known::AlwaysAhci, Register::Ghc, control);
-        }
         self.enable_ahci()?;
         self.restore_capabilities();
         for port in self.numbers() {

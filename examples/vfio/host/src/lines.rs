@@ -2,7 +2,7 @@
 use crate::adapter::Adapter;
 use crate::bus::Bus;
 use crate::page;
-use crate::registers::Register;
+use crate::registers::{Register, MOST_BYTES as MOST_REGISTER_BYTES};
 use crate::system::Mapping;
 use std::io::{self, BufRead, BufReader, Read, Write};
 
@@ -65,7 +65,8 @@ impl<B: Bus> Host<B> {
 
     fn register(&self, word: &str) -> Option<Register> {
         let at = usize::try_from(number(word)?.checked_sub(self.registers)?).ok()?;
-        (at % 4 == 0 && at + 4 <= self.adapter.length()).then(|| Register::at(at))
+        let length = self.adapter.length().min(MOST_REGISTER_BYTES);
+        (at % 4 == 0 && at < length).then(|| Register::at(at))
     }
 
     fn line(&self, text: &str) -> Option<Line> {

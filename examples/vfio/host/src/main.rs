@@ -47,10 +47,10 @@ fn serve(words: Serve) -> Result<(), String> {
     adapter.tell("handed over");
     adapter.tell_configuration();
     let mut host = Host::new(adapter, words.registers, words.serial);
-    function.enable_bus_master().map_err(text)?;
     // In the order in which `follow` opens them.
     let to = File::open(&words.to).map_err(|error| format!("{}: {error}", words.to))?;
     let from = OpenOptions::new().write(true).open(&words.from).map_err(|error| format!("{}: {error}", words.from))?;
+    function.enable_bus_master().map_err(text)?;
     let begun = Instant::now();
     let served = host.serve(&function.memory, to, from);
     let seconds = begun.elapsed().as_secs_f64();

@@ -6,7 +6,6 @@ const PORT_BYTES: usize = 0x80;
 /// Ports that an adapter can have (3.1.4).
 pub const MOST_PORTS: usize = 32;
 /// How far the registers of all ports reach.
-#[cfg(test)]
 pub const MOST_BYTES: usize = PORTS_AT + MOST_PORTS * PORT_BYTES;
 
 /// A register of 32 bits.

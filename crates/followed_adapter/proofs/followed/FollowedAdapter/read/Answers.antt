@@ -18,4 +18,4 @@ returns-clause-reads g c =
     let mid = device c.prepare_read-said.new.self.model in
     let steps = c.prepare_read-said.ensures.goes old (c.steps_compose.ensures.none old) in
     let Read : g.row.A.Denot → Type 0 = λ model. Reads c.args.r c.read-shown.result old (device model) in
-    subst Read (sym c.compare.ensures.model) (reads_since c.args.r c.read-shown.result old mid (device c.read-shown.new.self) c.steps_compose.ensures.more steps c.read-shown.ensures)
+    subst Read (sym c.compare.ensures.model) (reads_since c.args.r c.read-shown.result old mid (device c.read-shown.new.self) c.steps_compose.ensures.more steps c.read-shown.ensures.does)
