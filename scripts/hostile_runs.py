@@ -1,11 +1,12 @@
 #!/usr/bin/env python3
-"""Runs a built blockd where memory is refused, where its files are cut, and on words and files that were changed by
-chance. `hostile_runs.py PROGRAM`: in three sweeps over the cases in examples/cases
+"""Runs a built blockd where memory is refused, where its files are cut, on words and files that were changed by chance,
+and where a call on its image fails. `hostile_runs.py PROGRAM`: in four sweeps over the cases in examples/cases
 
 - each request of memory of each session is refused in turn (scripts/refuse_memory.c is put before the program; the
   sweep is left out where there is no compiler);
 - each script and each configuration is cut at each byte;
-- words, configurations and scripts are changed by a seed.
+- words, configurations and scripts are changed by a seed;
+- each of the 65,538 calls of the longest trim, and of a read behind it, fails in turn (scripts/fail_calls.c, likewise).
 
 A run ends with a status that docs/FORMATS.md has and what is told with it, it prints a beginning of whole lines of what
 the whole script is answered, and the image is as the answered lines leave it. The last line is 'N passed, M failed', of
@@ -20,6 +21,7 @@ import random
 import re
 import shlex
 import shutil
+import struct
 import subprocess
 import sys
 import tempfile
@@ -31,6 +33,9 @@ SEED = 20261127
 CHANGES = 10_000
 # Into how many parts a sweep without cases is cut.
 PARTS = 100
+# The case whose trim has the most calls, and into how many runs these are cut.
+LONGEST_TRIM = "a trim of 65,536 sectors"
+SHARES = 8
 # The requests of memory of a run without lines that are refused in each session.
 SHARED = 8
 MOST_TOLD = 20
@@ -285,6 +290,50 @@ def changes(room, cases, seed):
         yield f"change {seed}.{number} of the {kind}", ended, is_told and is_whole and (is_played or ended.is_quiet())
 
 
+# ---- calls that fail
+
+
+RECORD = struct.Struct("=6q")
+
+
+def children_of(told):
+    """What became of each child, by scripts/fail_calls.c."""
+    at = 0
+    while at < len(told):
+        *record, length = RECORD.unpack_from(told, at)
+        at += RECORD.size + length
+        yield *record, told[at - length : at]
+
+
+def failing_calls(room, case, share):
+    """Of a trim of many sectors, and a read of the last one and the next, each call on the image fails in turn. Its
+    request is told so, the port is ready, and the sector is as it was; the other one is told what it would be."""
+    _, _, trimmed, _, _, read, _ = case.answers
+    case = dataclasses.replace(case, script=case.script.replace(b"load", b"state 0\nload"))
+    first, count = 1000, 65_536
+    fault = b"DeviceError 41 40\n"
+    given = {"IMAGE": "image", "RECORDS": "records", "SHARE": str(share), "SHARES": str(SHARES)}
+    ended = room.run(case, LD_PRELOAD=os.environ["FAILING"], **given)
+    told = (room.path / "records").read_bytes()
+    # (every 256th sector has zeros at first)
+    is_cleared = {*ended.written} == {sector for sector in range(first, first + count) if sector % 256}
+    is_cleared = is_cleared and not any(map(any, ended.written.values()))
+    yield "each call, failing in a child", ended, ended.status == 0 and is_cleared
+    numbers = set()
+    for number, place, is_write, status, is_changed, printed in children_of(told):
+        numbers.add(number)
+        is_read = number >= count
+        if is_read:
+            trim, read_again, loaded = trimmed, read.replace(b"Ok\n", fault), b"bytes 0000\n"
+        else:
+            trim, read_again, loaded = trimmed.replace(b"Ok\n", fault), read, b"bytes e7e8\n"
+        wanted = b"ok 1\ndid\n" + trim + b"ok 2\ndid\n" + read_again + b"state Ready\n" + loaded
+        is_right = printed == wanted and (status, is_changed, is_write) == (0, 0, not is_read)
+        is_right = is_right and place == SECTOR * (first + number - is_read)
+        yield f"call {number} fails", dataclasses.replace(ended, printed=printed), is_right
+    yield "all calls fail", ended, numbers == {*range(share, count + 2, SHARES)}
+
+
 # ---- all of them
 
 
@@ -306,23 +355,26 @@ def begin_worker(program):
 
 
 def compiled(scratch):
-    """Compiles what refuses memory, and says whether it could."""
-    os.environ["REFUSING"] = f"{scratch}/refuse_memory.so"
+    """Compiles what refuses memory and what fails calls, and says whether it could."""
     compiler = os.environ.get("CC", "cc")
     if not shutil.which(compiler):
         return False
-    source = ROOT / "scripts/refuse_memory.c"
-    subprocess.run([compiler, "-O2", "-shared", "-fPIC", "-o", os.environ["REFUSING"], source], check=True)
+    for variable, name in (("REFUSING", "refuse_memory"), ("FAILING", "fail_calls")):
+        os.environ[variable] = f"{scratch}/{name}.so"
+        words = ["-O2", "-shared", "-fPIC", "-o", os.environ[variable], ROOT / f"scripts/{name}.c"]
+        subprocess.run([compiler, *words], check=True)
     return True
 
 
-def parts(can_refuse):
+def parts(has_compiler):
     """The parts of the sweeps: the name of each sweep, and what it is given."""
     sessions = [case for case in cases_of("*.session") if case.answers and case.status == 0]
     sessions += [case for case in run_cases.formats(ROOT / "docs/FORMATS.md") if case.answers and case.status == 0]
     # (sessions of thousands of lines show nothing that shorter ones don't)
     short = [case for case in sessions if len(case.script) < 4000]
-    if can_refuse:
+    if has_compiler:
+        trim = next(case for case in sessions if case.name.endswith(LONGEST_TRIM))
+        yield from ((failing_calls, trim, share) for share in range(SHARES))
         firsts = {(case.configuration, case.words): case for case in reversed(short)}
         yield from ((refusals, case, firsts[case.configuration, case.words] is case) for case in short)
     yield from ((cut_scripts, case) for case in {case.script: case for case in short}.values())
@@ -337,11 +389,11 @@ def main(program):
     counts, failed = {}, 0
     workers = os.cpu_count() or 1
     with tempfile.TemporaryDirectory() as scratch:
-        can_refuse = compiled(scratch)
-        if not can_refuse:
-            print("hostile runs: refused memory is left out, since there is no compiler", file=sys.stderr)
+        has_compiler = compiled(scratch)
+        if not has_compiler:
+            print("hostile runs: without a compiler no memory is refused, and no call fails", file=sys.stderr)
         with concurrent.futures.ProcessPoolExecutor(workers, None, begin_worker, (os.path.abspath(program),)) as pool:
-            asked = list(parts(can_refuse))
+            asked = list(parts(has_compiler))
             done = [pool.submit(judged, *part) for part in asked]
             for (sweep, *given), it in zip(asked, done):
                 count, wrong = it.result()
