@@ -1,11 +1,16 @@
 #!/usr/bin/env python3
-"""Times the program and the server, and prints tables. `bench/run.py [REQUESTS]` builds `bench` and `blockd` first.
+"""Measures the program and the server, and prints the rows of the tables of docs/PERFORMANCE.md. It builds `bench` and
+`blockd` first.
 
-Each script is of reads of eight sectors: asked, done by the disk, and answered; the one asks each after the last is
-answered, the other asks 16 at a time, which one service answers. A time is the least of five runs, less that of a
-script of one line. Instructions are those that callgrind counts. The server's calls are compiled into what plays the
-script, so its part is what is left without the model and without as many lines that ask nothing of it but what a port's
-state is.
+    run.py [REQUESTS]    times and instructions
+    run.py --store       instructions alone, which are stored in bench/figures.txt
+    run.py --check       instructions alone, beside those that are stored: it fails where one rose by more than 2 in 100
+
+Each script is of requests of eight sectors: asked, done by the disk, and answered; in one of them each is asked after
+the last is answered, in another 16 at a time, which one service answers. A time is the least of five runs, less that of
+a script of one line. Instructions are those that callgrind counts, over a disk in memory: what more requests take, less
+what fewer take. The server's calls are compiled into what plays the script, so its part is what is left without the
+model and without as many lines that ask nothing of it but what a port's state is.
 """
 import pathlib
 import re
@@ -13,8 +18,13 @@ import subprocess
 import sys
 import tempfile
 import time
+from dataclasses import dataclass, field
+from typing import Callable
 
 ROOT = pathlib.Path(__file__).resolve().parent.parent
+FIGURES = ROOT / "bench" / "figures.txt"
+# How much a figure may rise, in hundredths.
+MOST_RISE = 2
 RUNS = 5
 SECTORS = 70_000
 # The functions by which the server reaches the model.
@@ -43,7 +53,7 @@ def configuration(clients=1, grants=1):
         text += f"[[client]]\nid = {client}\nfirst_frame = {FIRST_FRAME + frames * (client - 1)}\nframes = {frames}\n"
     named = [(1, number) for number in range(grants - clients + 1)] + [(client, 0) for client in range(2, clients + 1)]
     for client, number in sorted(named, key=lambda name: name == (1, grants - clients)):
-        text += f'[[grant]]\nclient = {client}\nnumber = {number}\nport = 0\nfirst = 0\ncount = 256\nrights = "rw"\n'
+        text += f'[[grant]]\nclient = {client}\nnumber = {number}\nport = 0\nfirst = 0\ncount = 256\nrights = "rwtf"\n'
     return text
 
 
@@ -120,15 +130,71 @@ def of_each(text, bench, room, config="config"):
     few, more = 1_600, 3_200
     (room / "few").write_text(text(few))
     (room / "more").write_text(text(more))
+    told = subprocess.run([bench, config, "few"], cwd=room, capture_output=True, text=True, check=True).stdout
+    # What is refused, or a step that isn't possible, would measure something else.
+    assert not re.search(r"^(refused|no)\b", told, re.M), "a line of the script is not done"
     less, much = (instructions([bench, config, name], room) for name in ("few", "more"))
     return {name: (count - less.get(name, 0)) / (more - few) for name, count in much.items()}
 
 
-def parts(found, lines):
-    """All, the model's part, and what is left without as many lines that ask nothing of the server."""
+@dataclass
+class Case:
+    """What is measured: `text` gives so many requests of it, each of so many lines."""
+
+    name: str
+    text: Callable[[int], str]
+    config: str = "config"
+    lines: float = 3
+    # What stands before the figures in its row.
+    head: list = field(default_factory=list)
+
+
+def reads(name, head, config="config", **how):
+    """Reads; `head` has the sectors, how many are asked at a time, how many are unanswered, and the grants."""
+    sectors, at_a_time = head[:2]
+    # One service answers all that are asked at a time.
+    lines = 2 + 1 / at_a_time
+    return Case(name, lambda requests: script(requests, at_a_time, sectors=sectors, **how), config, lines, head)
+
+
+def each(name, *lines):
+    """The same lines again and again."""
+    return Case(name, lambda requests: "".join(f"{line}\n" for line in lines) * requests, lines=len(lines))
+
+
+READS = [
+    reads("read", [8, 1, 1, 1]),
+    reads("read, 16 at a time", [8, 16, 16, 1]),
+    reads("read of 256 sectors", [256, 1, 1, 1]),
+    reads("read, the last of 64 grants", [8, 1, 1, 64], "grants", grant=63),
+    reads("read, all wait for the first", [8, 1, 128, 8], "clients", before=waiting(for_the_first), slot=1),
+    reads("read, each waits for one", [8, 1, 128, 8], "clients", before=waiting(for_the_one_before), slot=1),
+    reads("read, all wait for the thirtieth", [8, 1, 128, 8], "clients", before=waiting(for_the_thirtieth), slot=30),
+]
+DONE = ("dev finish 0 0", "service")
+OTHERS = [
+    each("write", f"write 1 0 0 8 {FIRST_FRAME}", *DONE),
+    each("trim", "trim 1 0 0 8", *DONE),
+    each("flush", "flush 1 0", *DONE),
+    each(
+        "recovery",
+        *(f"read 1 0 0 8 {FIRST_FRAME}", "dev fetch 0 0", "dev fault 0 0 40", "service"),
+    ),
+    each("tick", "tick"),
+    each("reset", "reset"),
+    each("service", "service"),
+]
+LINES = each("three lines of a state", *["state 0"] * 3)
+
+
+def figures_of(case, bench, room, lines):
+    """All instructions, the model's part, and what is left of the rest without its lines, of which three cost so
+    many."""
+    found = of_each(case.text, bench, room, case.config)
     whole = max(found.values())
     model = sum(count for name, count in found.items() if re.match(MODEL, name))
-    return whole, model, whole - model - lines
+    # A line that asks for less than a state's costs less to read.
+    return whole, model, max(whole - model - lines * case.lines / 3, 0)
 
 
 def build(program):
@@ -144,50 +210,88 @@ def build(program):
     return str(built)
 
 
+def all_figures(bench, room):
+    """Of each case its figures, by name; first what three lines cost."""
+    lines = figures_of(LINES, bench, room, 0)[0]
+    yield LINES, (lines,)
+    for case in (*READS, *OTHERS):
+        yield case, figures_of(case, bench, room, lines)
+
+
+def times(requests, bench, blockd, room):
+    """Microseconds of a read, over memory and over a file, by how many are asked at a time."""
+    with open(room / "image", "wb") as image:
+        image.truncate(512 * SECTORS)
+    (room / "one").write_text("service\n")
+    over = [
+        lambda name: [bench, "config", name],
+        lambda name: [blockd, "--config", "config", "--image", "image", "--script", name],
+    ]
+    for at_a_time in (1, 16):
+        (room / "many").write_text(script(requests, at_a_time))
+        spent = [seconds(words("many"), room) - seconds(words("one"), room) for words in over]
+        yield at_a_time, ", ".join(f"{1e6 * it / requests:.2f}" for it in spent)
+
+
+def print_rows(requests, bench, room):
+    """The rows of the document's tables."""
+    spent = dict(times(requests, bench, build("blockd"), room))
+    counted = list(all_figures(bench, room))
+    print(f"Reading and printing three lines of a state: {counted[0][1][0]:,.0f}\n")
+    print("| Sectors | Asked at a time | Unanswered | Grants | Microseconds: memory, file |", end="")
+    print(" Instructions: all | model | server |\n|---|---|---|---|---|---|---|---|")
+    for case, figures in counted[1 : 1 + len(READS)]:
+        head = [*case.head, spent[case.head[1]] if case in READS[:2] else ""]
+        print("| " + " | ".join([*map(str, head), *(f"{it:,.0f}" for it in figures)]).replace("|  |", "| |") + " |")
+    others = counted[1 + len(READS) :]
+    print("\n| Instructions | " + " | ".join(case.name for case, _ in others) + " |")
+    print("|---|" + "---|" * len(others))
+    for place, part in enumerate(("all", "model")):
+        print(f"| {part} | " + " | ".join(f"{figures[place]:,.0f}" for _, figures in others) + " |")
+
+
+def stored():
+    """The figures of the file, by name."""
+    rows = [line.split("\t") for line in FIGURES.read_text().splitlines() if not line.startswith("#")]
+    return {row[0]: [int(it) for it in row[1:]] for row in rows}
+
+
+def store(bench, room):
+    """Writes all figures but those that are what others leave."""
+    text = "# What each takes: all instructions, and the model's. Written by `bench/run.py --store`.\n"
+    for case, figures in all_figures(bench, room):
+        text += "\t".join([case.name, *(f"{it:.0f}" for it in figures[:2])]) + "\n"
+    FIGURES.write_text(text)
+
+
+def check(bench, room):
+    """Tells each figure that rose, and gives how many did."""
+    before = stored()
+    passed = failed = 0
+    for case, figures in all_figures(bench, room):
+        for part, was, now in zip(("all", "the model"), before[case.name], figures):
+            is_risen = now > was * (1 + MOST_RISE / 100) + 1
+            passed, failed = passed + (not is_risen), failed + is_risen
+            if is_risen:
+                print(f"{case.name}, {part}: {now:,.0f} instructions, and {was:,} are stored")
+    print(f"{passed} passed, {failed} failed")
+    return failed
+
+
 def main():
-    requests = int(sys.argv[1]) if len(sys.argv) > 1 else 32_000
-    bench, blockd = build("bench"), build("blockd")
+    words = sys.argv[1:]
+    bench = build("bench")
     with tempfile.TemporaryDirectory() as folder:
         room = pathlib.Path(folder)
         (room / "config").write_text(configuration())
-        (room / "one").write_text("service\n")
-        with open(room / "image", "wb") as image:
-            image.truncate(512 * SECTORS)
-        over = {
-            "memory": lambda name: [bench, "config", name],
-            "a file": lambda name: [blockd, "--config", "config", "--image", "image", "--script", name],
-        }
-        print(f"{requests} reads of 8 sectors\n")
-        print("| Disk | Asked at a time | Seconds | Microseconds a request |")
-        print("|---|---|---|---|")
-        for at_a_time in (1, 16):
-            name = f"by_{at_a_time}"
-            (room / name).write_text(script(requests, at_a_time))
-            for disk, words in over.items():
-                spent = seconds(words(name), room) - seconds(words("one"), room)
-                print(f"| {disk} | {at_a_time} | {spent:.3f} | {1e6 * spent / requests:.2f} |")
         (room / "grants").write_text(configuration(grants=64))
         (room / "clients").write_text(configuration(clients=8, grants=8))
-        lines = max(of_each(lambda requests: "state 0\n" * 3 * requests, bench, room).values())
-        print(f"\nReading and printing three lines: {lines:,.0f} instructions\n")
-        heads = ["Sectors", "Asked at a time", "Unanswered", "Grants", "Instructions a request", "the model's"]
-        print("| " + " | ".join([*heads, "the server's, and what the line of a read is longer"]) + " |")
-        print("|---|---|---|---|---|---|---|")
-        for sectors, at_a_time, unanswered, grants, config, text in (
-            (8, 1, 1, 1, "config", lambda requests: script(requests, 1)),
-            (256, 1, 1, 1, "config", lambda requests: script(requests, 1, sectors=256)),
-            (8, 1, 1, 64, "grants", lambda requests: script(requests, 1, grant=63)),
-            (8, 1, 128, 8, "clients", lambda requests: script(requests, 1, waiting(for_the_first), slot=1)),
-            (8, 1, 128, 8, "clients", lambda requests: script(requests, 1, waiting(for_the_one_before), slot=1)),
-            (8, 1, 128, 8, "clients", lambda requests: script(requests, 1, waiting(for_the_thirtieth), slot=30)),
-            (8, 16, 16, 1, "config", lambda requests: script(requests, 16)),
-        ):
-            found = of_each(text, bench, room, config)
-            spent = lines if at_a_time == 1 else lines * (2 + 1 / at_a_time) / 3
-            whole, model, server = parts(found, spent)
-            counts = f"{whole:,.0f} | {model:,.0f} | {server:,.0f}"
-            print(f"| {sectors} | {at_a_time} | {unanswered} | {grants} | {counts} |")
+        if words == ["--store"]:
+            return store(bench, room)
+        if words == ["--check"]:
+            return check(bench, room) != 0
+        return print_rows(int(words[0]) if words else 32_000, bench, room)
 
 
 if __name__ == "__main__":
-    main()
+    sys.exit(main())

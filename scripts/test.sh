@@ -7,6 +7,7 @@
 # - tests that are run without a proof: a full book on four ports, disks in several ports of the model, disks that fail,
 #   a run that is stopped, disks that lose their caches, and surprises by the device at each moment of the worked cases;
 # - the server over QEMU's adapter, and over one behind Linux's VFIO, where QEMU is installed;
+# - the instructions that calls take, which mustn't rise, where valgrind is installed;
 # - the edits that the compiler must refuse;
 # - names in the documents, columns and sizes, the table of crates, and the number of definitions behind the promise.
 #
@@ -57,6 +58,7 @@ part "lost caches" scripts/unproved.sh lost_caches
 part "surprises" scripts/surprises.py
 part "QEMU's adapter" examples/qemu/test.sh
 part "a PCI adapter" examples/vfio/test.sh
+part "instructions" bench/check.sh
 part "compile-fail" scripts/compile-fail.sh
 part "names" scripts/names.py
 part "layout" scripts/layout.py
