@@ -64,18 +64,19 @@ KeepsPort-refl p = still p p (same_engine p)
 abbrev pub SameControls : PortState → PortState → Type 0
 SameControls old new =
     (new.st ≡ old.st) × (new.fre ≡ old.fre) × (new.sctl_det ≡ old.sctl_det) × (new.ie ≡ old.ie) × (new.is ≡ old.is)
-    × (new.serr_n ≡ old.serr_n) × (new.serr_x ≡ old.serr_x) × (new.cr ≡ old.cr)
+    × (new.ips ≡ old.ips) × (new.serr_n ≡ old.serr_n) × (new.serr_x ≡ old.serr_x) × (new.cr ≡ old.cr)
 
 pub same_controls : (p : PortState) → SameControls p p
-same_controls p = (refl, refl, refl, refl, refl, refl, refl, refl)
+same_controls p = (refl, refl, refl, refl, refl, refl, refl, refl, refl)
 
 pub calm : (old new : PortState) → SameControls old new → KeepsControls old new
-calm old new (st, fre, det, ie, is, n, x, cr) = record {
+calm old new (st, fre, det, ie, is, ips, n, x, cr) = record {
   st = st;
   fre = fre;
   sctl_det = det;
   ie = ie;
   is = λ k h. ap (λ (f : ℕ → Bool). f k) is ∙ h;
+  ips = ips;
   serr_n = λ h. n ∙ h;
   serr_x = λ h. x ∙ h;
   runs = λ _ ran. cr ∙ ran;
@@ -86,12 +87,13 @@ KeepsControls-refl p = calm p p (same_controls p)
 
 -- a flag rises
 flagged : (p : PortState) (place : ℕ) (new : PortState) → SameControls (record p { is = changed p.is place true }) new → KeepsControls p new
-flagged p place new (st, fre, det, ie, is, n, x, cr) = record {
+flagged p place new (st, fre, det, ie, is, ips, n, x, cr) = record {
   st = st;
   fre = fre;
   sctl_det = det;
   ie = ie;
   is = λ k h. ap (λ (f : ℕ → Bool). f k) is ∙ rise_keeps p.is place k h;
+  ips = ips;
   serr_n = λ h. n ∙ h;
   serr_x = λ h. x ∙ h;
   runs = λ _ ran. cr ∙ ran;
@@ -237,6 +239,7 @@ step_keeps (Fall port) d can =
       sctl_det = refl;
       ie = refl;
       is = λ k h. h;
+      ips = refl;
       serr_n = λ h. h;
       serr_x = λ h. h;
       runs = λ st ran. true-false st can.0;
@@ -266,6 +269,7 @@ step_keeps (LinkUp port sig n) d can =
       sctl_det = refl;
       ie = refl;
       is = λ k h. h;
+      ips = refl;
       serr_n = or_keeps (d.port port).serr_n n;
       serr_x = λ _. refl;
       runs = λ st ran. ran;
@@ -279,6 +283,7 @@ step_keeps (Unplug port) d can =
       sctl_det = refl;
       ie = refl;
       is = λ k h. h;
+      ips = refl;
       serr_n = λ _. refl;
       serr_x = λ h. h;
       runs = λ st ran. ran;
@@ -292,6 +297,7 @@ step_keeps (Plug port disk) d can =
       sctl_det = refl;
       ie = refl;
       is = λ k h. h;
+      ips = refl;
       serr_n = λ _. refl;
       serr_x = λ _. refl;
       runs = λ st ran. ran;
@@ -360,6 +366,7 @@ KeepsControls-trans a b = record {
   sctl_det = b.sctl_det ∙ a.sctl_det;
   ie = b.ie ∙ a.ie;
   is = λ k h. b.is k (a.is k h);
+  ips = b.ips ∙ a.ips;
   serr_n = λ h. b.serr_n (a.serr_n h);
   serr_x = λ h. b.serr_x (a.serr_x h);
   runs = λ st ran. b.runs (a.st ∙ st) (a.runs st ran);

@@ -5,6 +5,7 @@ pub mod Changed
 pub mod Free
 pub mod Guards
 pub mod KeptLemmas
+pub mod Pending
 pub mod MemoryLemmas
 pub mod Runs
 pub mod Scribbling

@@ -1,7 +1,8 @@
 -- The calls of an adapter: what a register shows, what a reading notes beside the state, and what a write does. A call
 -- is any steps of the device, and then its one effect.
 use Rattle.ata_types.specs.declared.limits.TheConstants.{READINGS}
-use Rattle.std.specs.Prelude.{ℕ, Bool, true, false, ◌≡◌, ◌+◌, ◌*◌, ◌/◌, ◌%◌, ◌<◌, ◌&&◌, ◌||◌, not, min, List, [], ◌∷◌, length, if◌then◌else◌, nat_eq, nat_le}
+use Rattle.std.specs.Prelude.{ℕ, Bool, true, false, ◌≡◌, ◌+◌, ◌*◌, ◌/◌, ◌%◌, ◌<◌, ◌⊎◌, ◌&&◌, ◌||◌, not, min, List, [], ◌∷◌, length, if◌then◌else◌, nat_eq, nat_le, bit_and}
+use Rattle.std.specs.List.{list_any}
 use Rattle.hba_regs.specs.Bits.{bit}
 use Rattle.hba_regs.specs.declared.reg.Reg.{Reg}
 use Rattle.hba_regs.specs.declared.reg.Reg.TheVariants.{Cap, Ghc, Pi, Vs, Px}
@@ -16,7 +17,7 @@ use Rattle.adapter.specs.Steps.{Steps, with_port, restarted}
 
 -- The causes in PxIS that steps raise, and HBDS: DHRS, PSS, SDBS, PCS, PRCS, IFS, HBDS, HBFS and TFES. The others may
 -- show anything. DHRS, PSS and SDBS are set just as a command ends. A real adapter may set DHRS as a command fails,
--- too: no call of this driver looks at them.
+-- too: no call of this driver looks at them, nor at IS.
 abbrev pub is_cause : ℕ → Bool
 is_cause place = nat_eq place 0 || nat_eq place 1 || nat_eq place 3 || nat_eq place 6 || nat_eq place 22 || nat_le 27
     place && nat_le place 30
@@ -26,7 +27,39 @@ abbrev pub shown_interrupt : PortState → ℕ → Bool
 shown_interrupt p place =
     if nat_eq place 6 then p.serr_x else (if nat_eq place 22 then p.serr_n else p.is place)
 
+-- PxIS shows the cause, and PxIE enables it (AHCI 1.3.1, 3.3.5 and 3.3.6)
+abbrev pub raises : PortState → ℕ → Bool
+raises p place = shown_interrupt p place && bit p.ie place
+
+-- The port interrupts: it raises one of the causes that are named.
+abbrev pub causes : List ℕ
+causes = 0 ∷ 1 ∷ 3 ∷ 6 ∷ 22 ∷ 27 ∷ 28 ∷ 29 ∷ 30 ∷ []
+
+abbrev pub raises_interrupt : PortState → Bool
+raises_interrupt p = list_any (raises p) causes
+
+-- The port's bit of IS is set by the level of the port's interrupt, and stays until it is cleared (AHCI 1.3.1, 3.1.3
+-- and 10.7).
+abbrev pub is_pending : PortState → Bool
+is_pending p = p.ips || raises_interrupt p
+
+-- the causes that are named, as bits of PxIE; and whether it enables others
+abbrev pub named_causes : ℕ
+named_causes = 0x7840004b
+
+abbrev pub enables_others : ℕ → Bool
+enables_others ie = not (nat_eq (bit_and ie named_causes) ie)
+
+-- The bit of IS is one where the port's interrupt is pending. Where it isn't, it is zero, unless a cause that isn't
+-- named may have set it.
+abbrev pub ShowsPending : Bool → PortState → Type 0
+ShowsPending shown p = (is_pending p ≡ true) ⊎ (p.other_causes ≡ false) → shown ≡ is_pending p
+
 abbrev pub PortShows : PortReg → ℕ → PortState → Type 0
+PortShows Clb v p = p.bases.clb_set ≡ true → v ≡ p.bases.clb
+PortShows Clbu v p = p.bases.clbu_set ≡ true → v ≡ 0
+PortShows Fb v p = p.bases.fb_set ≡ true → v ≡ p.bases.fb
+PortShows Fbu v p = p.bases.fbu_set ≡ true → v ≡ 0
 PortShows Cmd v p = (bit v 0 ≡ p.st) × (bit v 4 ≡ p.fre) × (bit v 14 ≡ p.fr) × (bit v 15 ≡ p.cr)
 PortShows Tfd v p = v % 65536 ≡ p.tfd
 PortShows Sig v p = v ≡ p.sig
@@ -37,13 +70,14 @@ PortShows Ci v p = (slot : ℕ) → slot < 32 → bit v slot ≡ p.ci slot
 PortShows Sact v p = (slot : ℕ) → slot < 32 → bit v slot ≡ p.sact slot
 PortShows Is v p = (place : ℕ) → is_cause place ≡ true → bit v place ≡ shown_interrupt p place
 PortShows Ie v p = (place : ℕ) → is_cause place ≡ true → bit v place ≡ bit p.ie place
-PortShows _ v p = Unit {0}
 
 abbrev pub Shows : Reg → ℕ → Device → Type 0
 Shows Cap v d = v ≡ d.cap
 Shows Pi v d = v ≡ d.pi
 Shows Vs v d = v ≡ 0x00010301
 Shows Ghc v d = (bit v 0 ≡ d.hr) × (bit v 1 ≡ d.ie) × (bit v 31 ≡ d.ae)
+-- of each port that the adapter has; the other bits may be anything
+Shows adapter.Is v d = (port : ℕ) → port < 32 → bit d.pi port ≡ true → ShowsPending (bit v port) (d.port port)
 Shows (Px port r) v d = PortShows r v (d.port port.0)
 Shows _ v d = Unit {0}
 
@@ -137,17 +171,29 @@ port_written Fb v tape p = record p { bases = record p.bases { fb = v; fb_set = 
 port_written Fbu v tape p = record p { bases = record p.bases { fbu_set = true } }
 port_written Cmd v tape p = with_fre (bit v 4) (with_st (bit v 0) tape p)
 port_written Sctl v tape p = with_det (v % 16) tape p
-port_written Serr v tape p = record p { serr_n = p.serr_n && not (bit v 16); serr_x = p.serr_x && not (bit v 26) }
+-- the port's bit of IS stays, also where its causes go (AHCI 1.3.1, 3.1.3): so these three keep it first
+port_written Serr v tape p =
+    record p {
+      ips = is_pending p;
+      serr_n = p.serr_n && not (bit v 16);
+      serr_x = p.serr_x && not (bit v 26);
+    }
 port_written Is v tape p =
-    record p { is = λ place. p.is place && not (bit v place); notes = record p.notes { acknowledged = true } }
-port_written Ie v tape p = record p { ie = v }
+    record p {
+      ips = is_pending p;
+      is = λ place. p.is place && not (bit v place);
+      notes = record p.notes { acknowledged = true };
+    }
+port_written Ie v tape p =
+    record p { ips = is_pending p; other_causes = p.other_causes || enables_others v; ie = v }
 port_written Ci v tape p = record p { ci = λ slot. p.ci slot || bit v slot }
 port_written Sact v tape p = record p { sact = λ slot. p.sact slot || bit v slot }
 port_written _ v tape p = p
 
--- the port's bit of IS was written
+-- The port's bit of IS was written: it falls, unless a cause sets it anew.
 abbrev pub unacknowledged : PortState → PortState
-unacknowledged p = record p { notes = record p.notes { acknowledged = false } }
+unacknowledged p =
+    record p { ips = false; other_causes = enables_others p.ie; notes = record p.notes { acknowledged = false } }
 
 abbrev pub written : Reg → ℕ → Device → Device
 written Ghc v d = record d { hr = d.hr || bit v 0; ae = bit v 31; ie = bit v 1 }

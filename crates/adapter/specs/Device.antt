@@ -89,6 +89,10 @@ pub record PortState : Type 0 where
   pub serr_n : Bool
   pub serr_x : Bool
   pub is : ℕ → Bool
+  -- the port's bit of IS, as far as it outlasts its causes; and whether PxIE has enabled a cause that isn't named here
+  -- since that bit was last cleared: such a cause may have set it, too
+  pub ips : Bool
+  pub other_causes : Bool
   pub ci : ℕ → Bool
   pub sact : ℕ → Bool
   -- behind the registers: the disk that is in, or was last; those that were plugged in, as they were then, the oldest

@@ -17,13 +17,15 @@ pub record KeepsPort (old new : PortState) : Type 0 where
   pub fallen : old.cr ≡ true → new.cr ≡ false → (slot : ℕ) → new.taken slot ≡ None
   pub free : (slot : ℕ) → old.ci slot ≡ false → old.taken slot ≡ None → new.taken slot ≡ None
 
--- While no reset is pending: ST, FRE, SCTL.DET and PxIE are the driver's, flags only rise, and a running port runs on.
+-- While no reset is pending: ST, FRE, SCTL.DET and PxIE are the driver's, flags only rise, what IS has latched stays,
+-- and a running port runs on.
 pub record KeepsControls (old new : PortState) : Type 0 where
   pub st : new.st ≡ old.st
   pub fre : new.fre ≡ old.fre
   pub sctl_det : new.sctl_det ≡ old.sctl_det
   pub ie : new.ie ≡ old.ie
   pub is : (place : ℕ) → old.is place ≡ true → new.is place ≡ true
+  pub ips : new.ips ≡ old.ips
   pub serr_n : old.serr_n ≡ true → new.serr_n ≡ true
   pub serr_x : old.serr_x ≡ true → new.serr_x ≡ true
   pub runs : old.st ≡ true → old.cr ≡ true → new.cr ≡ true

@@ -15,4 +15,5 @@ pub mod Asked
 pub mod OneCommand
 pub mod ReadDone
 pub mod FirstRead
+pub mod Pending
 pub mod Counted

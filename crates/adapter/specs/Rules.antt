@@ -94,7 +94,7 @@ MayWritePort _ v d p = ⊥
 
 -- A port's bit of IS is cleared only after its PxIS was (AHCI 1.3.1, 5.5.3 and 10.7.2.1). That PxIS was written since
 -- it was last read, and since the bit of IS was written, is this project's own way to say so: what a reading showed may
--- be stale by then.
+-- be stale by then. Another order loses no interrupt, since a cause that is up sets the bit anew.
 abbrev pub AreAcknowledged : Device → ℕ → Type 0
 AreAcknowledged d v = (port : ℕ) → port < 32 → bit v port ≡ true → (d.port port).notes.acknowledged ≡ true
 

@@ -1,5 +1,6 @@
 -- What the bytes at a slot's places mean, read as the device reads them.
 use Rattle.std.specs.Prelude.{ℕ, zero, suc, ◌≡◌, ◌+◌, ◌*◌, ◌/◌, ◌%◌, ◌≤◌, List, [], ◌∷◌, ◌++◌, length, All}
+use Rattle.ata_types.specs.declared.limits.TheConstants.{MOST_REQUEST_FRAMES}
 use Rattle.ata_types.specs.declared.memory.TheConstants.{HEADER_BYTES, TABLE_HEAD}
 use Rattle.adapter.specs.Memory.{bytes_at}
 use Rattle.adapter.specs.Commands.{Meaning, IsMeaning, command_of, reads_memory, pieces_moved}
@@ -35,7 +36,8 @@ pub record Says (memory : ℕ → ℕ) (list slot : ℕ) (m : Meaning) (places :
   pub fis : SpellsCommand (bytes_at memory table 20) (command_of m.operation slot m.first m.count)
   pub meaning : IsMeaning m
   pub stand : HasPrds memory (table + TABLE_HEAD) prds
-  pub few : length prds ≤ 128
+  -- no more than a PRD for each frame of the longest request (this project's own)
+  pub few : length prds ≤ MOST_REQUEST_FRAMES
   pub whole : All IsWhole prds
   pub in_order : places ≡ pieces prds
   pub as_many : length places ≡ pieces_moved m.operation m.count

@@ -1,12 +1,14 @@
 // Laws of the definitions, for the crates above: the clause is the theorem. Nothing that runs calls these functions.
-ghost use Rattle.std.specs.Prelude.{◌≡◌, ◌+◌, ◌*◌, ◌≤◌, ◌++◌, ℕ, Bool, true, false, List, if◌then◌else◌, is_some};
+ghost use Rattle.std.specs.Prelude.{◌<◌, ◌≡◌, ◌+◌, ◌*◌, ◌≤◌, ◌++◌, ℕ, Some, Bool, true, false, List, All, Contains, if◌then◌else◌, is_some};
 ghost use Rattle.ata_types.specs.declared.Port.{Port};
 ghost use Rattle.ata_types.specs.declared.memory.TheConstants.{FRAME_BYTES, HEADER_BYTES, RECEIVED_BYTES};
 ghost use Rattle.hba_regs.specs.declared.reg.PortReg.{PortReg};
 ghost use Rattle.hba_regs.specs.declared.reg.Reg.{Reg};
 ghost use Rattle.hba_regs.specs.declared.reg.Reg.TheVariants.{Px};
+ghost use Rattle.hba_regs.specs.declared.reg.Reg.TheVariants as adapter;
+ghost use Rattle.hba_regs.specs.Bits.{bit};
 ghost use Rattle.adapter.specs.declared.access.DeviceStep.{DeviceStep};
-ghost use Rattle.adapter.specs.Access.{Access, Does, DoesAll, IsDriven, Reads, Writes};
+ghost use Rattle.adapter.specs.Access.{Access, ShowsPending, Does, DoesAll, IsDriven, Reads, Writes, is_cause, is_pending, named_causes, raises_interrupt, shown_interrupt, written};
 ghost use Rattle.adapter.specs.Asked.{Asked, IsScribbled, filled};
 ghost use Rattle.adapter.specs.Commands.{Meaning};
 ghost use Rattle.adapter.specs.Device.{Device, PortState};
@@ -16,10 +18,13 @@ ghost use Rattle.adapter.specs.Idle.{IsIdle, IsSane};
 ghost use Rattle.adapter.specs.Kept.{Keeps, KeepsControls};
 ghost use Rattle.adapter.specs.OneCommand.{HasNoCommand, HasOneCommand, IsElsewhere, is_read_alone, is_unwritten, standing};
 ghost use Rattle.adapter.specs.ReadDone.{IsRead, MayBeRead, read_of};
-ghost use Rattle.adapter.specs.Rules.{IsOn, IsFree, Stays};
+ghost use Rattle.adapter.specs.Pending.{LeavesEnabled, LeavesPending, SetsCause, TellsAll, interrupts, cleared, flushed, flushing, flush_taken};
+ghost use Rattle.adapter.specs.Rules.{HasPort, IsOn, IsFree, Stays};
 ghost use Rattle.adapter.specs.Says.{Says, cut};
 ghost use Rattle.adapter.specs.Seen.{PutAt, SeenAt};
-ghost use Rattle.adapter.specs.Steps.{Steps};
+ghost use Rattle.adapter.specs.Steps.{Can, Step, Steps, after, done_entry};
+ghost use Rattle.adapter.specs.declared.command.Operation.{Operation};
+ghost use Rattle.adapter.specs.declared.tape.Entry.{Entry};
 
 /// The device may do nothing, and what it does goes on.
 pub fn steps_compose()
@@ -101,6 +106,58 @@ pub fn port_registers_are_accessed()
 pub fn controls_are_kept()
     ensures none { (p : PortState) → KeepsControls p p }
     ensures more { (old mid new : PortState) → KeepsControls old mid → KeepsControls mid new → KeepsControls old new }
+{}
+
+/// The port's interrupt is pending where PxIS shows a cause that PxIE enables; and so it is after each step of the
+/// device that raises such a cause: an end of a command, a fault, a fatal error, a disk that comes or goes (AHCI 1.3.1,
+/// 3.1.3 and 3.3.5). What steps raise is one of the causes that are named.
+pub fn an_enabled_cause_is_pending()
+    ensures named { (place : ℕ) → is_cause place ≡ true → bit named_causes place ≡ true }
+    ensures exactly { (place : ℕ) → place < 32 → bit named_causes place ≡ is_cause place }
+    ensures raises { (step : Step) (port place : ℕ) (d : Device) → Can step d → SetsCause step port place
+        → is_cause place ≡ true }
+    ensures shown { (p : PortState) (place : ℕ) → is_cause place ≡ true → shown_interrupt p place ≡ true
+        → bit p.ie place ≡ true → is_pending p ≡ true }
+    ensures raised { (step : Step) (port place : ℕ) (d : Device) → Can step d → SetsCause step port place
+        → bit (d.port port).ie place ≡ true → is_pending ((after step d).port port) ≡ true }
+{}
+
+/// What is pending stays so, whatever the device and the driver do, until the port's bit of IS is written or the
+/// adapter is reset: until then each reading of IS shows the bit. Once it is written, only what PxIS shows is pending.
+pub fn a_pending_interrupt_stays()
+    ensures steps { (port : ℕ) (old new : Device) → Steps old new → old.hr ≡ false
+        → is_pending (old.port port) ≡ true → is_pending (new.port port) ≡ true }
+    ensures accesses { (port : ℕ) (accesses : List Access) (old new : Device) → DoesAll accesses old new
+        → All (LeavesPending port) accesses → old.hr ≡ false
+        → is_pending (old.port port) ≡ true → is_pending (new.port port) ≡ true }
+    ensures shown { (port v : ℕ) (old new : Device) → Reads adapter.Is v old new → HasPort new port
+        → ShowsPending (bit v port) (new.port port) }
+    ensures cleared { (port v : ℕ) (old new : Device) → Writes adapter.Is v old new → bit v port ≡ true
+        → is_pending (new.port port) ≡ raises_interrupt (new.port port) }
+{}
+
+/// Where PxIE enables each named cause, what the tape tells of leaves the port's interrupt pending: a command that
+/// ended or failed, a fatal error, a disk that went or came. So it is at the end of any accesses that write neither
+/// PxIE nor the port's bit of IS, and reset nothing (AHCI 1.3.1, 5.5.3).
+pub fn what_the_tape_tells_is_pending()
+    ensures { (port : ℕ) (e : Entry) (accesses : List Access) (gained : List Entry)
+        (old new : Device) → interrupts e ≡ Some port → DoesAll accesses old new → All (LeavesPending port) accesses
+        → All (LeavesEnabled port) accesses → old.hr ≡ false → TellsAll (old.port port)
+        → new.tape ≡ old.tape ++ gained → Contains gained e
+        → is_pending (new.port port) ≡ true }
+{}
+
+/// There is an interrupt that comes and goes, so that the laws above speak of something: a flush may end on a port
+/// that tells of all causes; then its bit of IS stays while PxIS shows the cause, though it is written, and also once
+/// PxIS was cleared; then a write of the bit clears it.
+pub fn an_interrupt_comes_and_goes()
+    ensures none { is_pending (flushing.port 0) ≡ false }
+    ensures tells { (flushing.hr ≡ false) × TellsAll (flushing.port 0) }
+    ensures ends { Can (Step.Done 0 0 0 flush_taken) flushing }
+    ensures comes { is_pending (flushed.port 0) ≡ true }
+    ensures again { is_pending ((written adapter.Is 1 flushed).port 0) ≡ true }
+    ensures stays { is_pending (cleared.port 0) ≡ true }
+    ensures goes { is_pending ((written adapter.Is 1 cleared).port 0) ≡ false }
 {}
 
 /// Where no slot has a command, any bytes that are not of a received FIS area in use are guarded, and no table is

@@ -5,14 +5,17 @@
 //! what the bytes of a slot say (`Says`), and the rules for drivers, which have to hold whatever
 //! the device does first (`Stays`). Nothing else is known of the hardware: a bit that no definition
 //! names reads as anything. The main law is that bytes which no command in use may write stay as
-//! they are. `Stepped` adds a device that does the steps it is told, for scripts and tests.
+//! they are. `Stepped` adds a device that does the steps it is told, for scripts and tests;
+//! `Accesses` counts, for who writes an adapter.
 #![tactic(auto)]
 
 mod access;
 mod command;
+mod counting;
 pub mod laws;
 mod tape;
 
 pub use access::{Adapter, DeviceStep, DiskNumber, DiskPage, FatalError, Stepped};
 pub use command::{Command, Direction, Operation, Prd};
+pub use counting::{AccessCount, Accesses};
 pub use tape::{Clear, Done, Entry, Fault, Move};

@@ -104,7 +104,7 @@ module _ (laws : Laws) where
   -- bit 0 of PxCI was written
   issued_leaves : (port : ℕ) (old mid : Device) → LeavesRunning port old mid → HasAfter port old (port_written Ci 1 (length mid.tape) (mid.port port))
   issued_leaves port old mid l = record {
-    controls = record { st = l.controls.st; fre = l.controls.fre; sctl_det = l.controls.sctl_det; ie = l.controls.ie; is = l.controls.is; serr_n = l.controls.serr_n; serr_x = l.controls.serr_x; runs = l.controls.runs };
+    controls = record { st = l.controls.st; fre = l.controls.fre; sctl_det = l.controls.sctl_det; ie = l.controls.ie; is = l.controls.is; ips = l.controls.ips; serr_n = l.controls.serr_n; serr_x = l.controls.serr_x; runs = l.controls.runs };
     bases = l.bases;
     ci = λ slot other clear. rw (l.ci slot other clear, bit_one_other slot other) refl;
     taken = l.taken;

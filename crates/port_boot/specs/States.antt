@@ -9,7 +9,7 @@ use Rattle.ata_types.specs.declared.limits.TheConstants.{READINGS}
 use Rattle.hba_regs.specs.declared.reg.PortReg.{PortReg}
 use Rattle.hba_regs.specs.declared.reg.PortReg.TheVariants.{Ie}
 use Rattle.hba_regs.specs.declared.reg.Reg.TheVariants.{Px}
-use Rattle.adapter.specs.Access.{Access, Writes}
+use Rattle.adapter.specs.Access.{Access, Writes, named_causes}
 use Rattle.adapter.specs.Device.{Device, PortState as DevicePort}
 use Rattle.adapter.specs.declared.command.Operation.TheVariants.{Identify}
 use Rattle.adapter.specs.declared.tape.Entry.{Entry}
@@ -102,7 +102,7 @@ EndsAs wanted Ready port d = ⊥
 -- The causes that a ready port tells of by interrupts: DHRS, PSS, SDBS, PCS, PRCS, IFS, HBDS, HBFS and TFES (PxIE: AHCI
 -- 1.3.1, 3.3.6).
 abbrev pub told_causes : ℕ
-told_causes = 0x7840004b
+told_causes = named_causes
 
 -- What stands behind a ready port as long as it isn't booted anew: no COMRESET is being sent, it tells of these causes,
 -- and the last page is of a disk that fits.

@@ -1,14 +1,16 @@
 // Laws of the definitions, for callers: the clause is the theorem. Nothing that runs calls these functions.
-ghost use Rattle.std.specs.Prelude.{ℕ, ◌≡◌, ◌≢◌, All, List, Option};
+ghost use Rattle.std.specs.Prelude.{ℕ, ◌≡◌, ◌≢◌, ◌++◌, true, false, All, Contains, List, Option, Some};
 ghost use Rattle.ata_types.specs.declared.Port.{Port};
 ghost use Rattle.ata_types.specs.declared.PortState.{PortState};
 ghost use Rattle.ata_types.specs.declared.PortState.TheVariants.{Dead};
 ghost use Rattle.hba_regs.specs.declared.reg.PortReg.TheVariants.{Cmd, Sctl};
 ghost use Rattle.hba_regs.specs.declared.reg.Reg.TheVariants.{Ghc, Px};
-ghost use Rattle.adapter.specs.Access.{Access, Does, DoesAll};
+ghost use Rattle.adapter.specs.Access.{Access, Does, DoesAll, is_cause, is_pending, shown_interrupt};
 ghost use Rattle.adapter.specs.Device.{Device};
+ghost use Rattle.adapter.specs.Pending.{LeavesEnabled, LeavesPending, SetsCause, interrupts};
 ghost use Rattle.adapter.specs.Rules.{IsOn};
-ghost use Rattle.adapter.specs.Steps.{Steps};
+ghost use Rattle.adapter.specs.Steps.{Can, Step, Steps, after};
+ghost use Rattle.adapter.specs.declared.tape.Entry.{Entry};
 ghost use Rattle.adapter.specs.declared.command.Operation.TheVariants.{Identify};
 ghost use Rattle.agreement.specs.Driven.{IsControl, IsDrivenBy, IsOf, LeavesPort, SendsNone};
 ghost use Rattle.agreement.specs.Facts.{RunsWell, Undisturbed};
@@ -19,6 +21,7 @@ ghost use Rattle.port_control.specs.Engines.{StopsBoth};
 ghost use Rattle.port_control.specs.Ports.{WritesCommand};
 
 use super::lawful::laws_hold;
+use adapter::laws::{an_enabled_cause_is_pending, what_the_tape_tells_is_pending};
 
 /// What a boot found of a port goes on as long as the port isn't booted anew. The last page is the last one still where
 /// the disk has sent none since, and PxSCTL wasn't written; so the disk that fits is still there where DET of PxSCTL
@@ -40,6 +43,28 @@ pub fn what_was_found_goes_on()
         → LeavesPort (old.port port) (new.port port) → (state ≢ Dead → SendsNone port Identify old new)
         → EndsAs wanted state port old → EndsAs wanted state port new }
 {}
+
+/// A ready port tells of each cause that is named: where PxIS shows one, its interrupt is pending; and so it is after
+/// each step that raises one on it (AHCI 1.3.1, 3.1.3, 3.3.5 and 3.3.6). Over any accesses that write neither its PxIE
+/// nor its bit of IS, and reset nothing, it is pending at the end where the tape has told since of a command that ended
+/// or failed, a fatal error, or a disk that went or came: where GHC.IE is one, this is what a handler of interrupts
+/// waits for.
+pub fn a_ready_port_interrupts()
+    ensures shown { (wanted : Option (List ℕ)) (port place : ℕ) (d : Device) (info : DiskInfo)
+        → HasFitDisk wanted port d info → is_cause place ≡ true → shown_interrupt (d.port port) place ≡ true
+        → is_pending (d.port port) ≡ true }
+    ensures raised { (wanted : Option (List ℕ)) (port place : ℕ) (step : Step) (d : Device) (info : DiskInfo)
+        → HasFitDisk wanted port d info → Can step d → SetsCause step port place
+        → is_pending ((after step d).port port) ≡ true }
+    ensures told { (wanted : Option (List ℕ)) (port : ℕ) (entry : Entry) (accesses : List Access)
+        (gained : List Entry) (old new : Device) (info : DiskInfo) → HasFitDisk wanted port old info
+        → interrupts entry ≡ Some port → DoesAll accesses old new → All (LeavesPending port) accesses
+        → All (LeavesEnabled port) accesses → old.hr ≡ false → new.tape ≡ old.tape ++ gained
+        → Contains gained entry → is_pending (new.port port) ≡ true }
+{
+    an_enabled_cause_is_pending();
+    what_the_tape_tells_is_pending();
+}
 
 /// A boot touches no register of another port: its accesses are of its port.
 pub fn a_boot_is_of_its_port()

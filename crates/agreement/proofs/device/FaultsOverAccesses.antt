@@ -52,7 +52,7 @@ module _ (tape : List Entry) (p : PortState) (port v : ℕ) (h : IsRecorded tape
   }
 
   fre_recorded : (fre : Bool) (x : PortState) → IsRecorded tape x port → IsRecorded tape (with_fre fre x) port
-  fre_recorded fre x r = recorded_on tape x (with_fre fre x) port (same_with x _ _ _ _ _ _ _ _ _ _ _ _ _) r
+  fre_recorded fre x r = recorded_on tape x (with_fre fre x) port (same_with x _ _ _ _ _ _ _ _ _ _ _ _ _ _ _) r
 
   command_recorded : (bit v 0 ≡ true → (p.st ≡ true) ⊎ IsQuiet p) → IsRecorded tape (port_written Cmd v (length tape) p) port
   command_recorded may = fre_recorded (bit v 4) (with_st (bit v 0) (length tape) p) (by (bit v 0) refl p.st refl)
@@ -89,13 +89,13 @@ module _ (port : ℕ) (d : Device) (h : IsRecorded d.tape (d.port port) port) wh
   written_recorded : (r : Reg) (v : ℕ) → MayWrite r v d → KeepsRecord r v d → IsRecorded (written r v d).tape ((written r v d).port port) port
   written_recorded Ghc v may x = h
   written_recorded adapter.Is v may x = acknowledged_recorded d.tape (d.port port) port v h
-  written_recorded (Px p Clb) v may x = same_recorded p.0 _ (same_with (d.port p.0) _ _ _ _ _ _ _ _ _ _ _ _ _)
-  written_recorded (Px p Clbu) v may x = same_recorded p.0 _ (same_with (d.port p.0) _ _ _ _ _ _ _ _ _ _ _ _ _)
-  written_recorded (Px p Fb) v may x = same_recorded p.0 _ (same_with (d.port p.0) _ _ _ _ _ _ _ _ _ _ _ _ _)
-  written_recorded (Px p Fbu) v may x = same_recorded p.0 _ (same_with (d.port p.0) _ _ _ _ _ _ _ _ _ _ _ _ _)
-  written_recorded (Px p Ie) v may x = same_recorded p.0 _ (same_with (d.port p.0) _ _ _ _ _ _ _ _ _ _ _ _ _)
-  written_recorded (Px p Serr) v may x = same_recorded p.0 _ (same_with (d.port p.0) _ _ _ _ _ _ _ _ _ _ _ _ _)
-  written_recorded (Px p Sact) v may x = same_recorded p.0 _ (same_with (d.port p.0) _ _ _ _ _ _ _ _ _ _ _ _ _)
+  written_recorded (Px p Clb) v may x = same_recorded p.0 _ (same_with (d.port p.0) _ _ _ _ _ _ _ _ _ _ _ _ _ _ _)
+  written_recorded (Px p Clbu) v may x = same_recorded p.0 _ (same_with (d.port p.0) _ _ _ _ _ _ _ _ _ _ _ _ _ _ _)
+  written_recorded (Px p Fb) v may x = same_recorded p.0 _ (same_with (d.port p.0) _ _ _ _ _ _ _ _ _ _ _ _ _ _ _)
+  written_recorded (Px p Fbu) v may x = same_recorded p.0 _ (same_with (d.port p.0) _ _ _ _ _ _ _ _ _ _ _ _ _ _ _)
+  written_recorded (Px p Ie) v may x = same_recorded p.0 _ (same_with (d.port p.0) _ _ _ _ _ _ _ _ _ _ _ _ _ _ _)
+  written_recorded (Px p Serr) v may x = same_recorded p.0 _ (same_with (d.port p.0) _ _ _ _ _ _ _ _ _ _ _ _ _ _ _)
+  written_recorded (Px p Sact) v may x = same_recorded p.0 _ (same_with (d.port p.0) _ _ _ _ _ _ _ _ _ _ _ _ _ _ _)
   written_recorded (Px p Is) v may x = same_recorded p.0 _ (record { st = refl; set_at = refl; linked = refl; flag = λ f. (and_parts ((d.port p.0).is 30) (not (bit v 30)) f).0; halt = refl; tfd = refl; used = λ slot u. u })
   written_recorded (Px p Ci) v may x = issued_recorded p v
   written_recorded (Px p Cmd) v may x = at_port (λ y. IsRecorded d.tape y port) (λ y. IsRecorded d.tape y port) d p.0 port _ h (λ e y. command_recorded d.tape (d.port p.0) port v y x) (λ ne y. y)

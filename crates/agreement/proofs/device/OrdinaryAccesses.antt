@@ -48,16 +48,16 @@ same_written Ci v tape p command control = record {
   tfd = refl;
   used = λ slot u. ⊎_elim (λ (set : p.ci slot ≡ true). inl (or_left _ _ set)) (λ t. inr t) u;
 }
-same_written Clb v tape p command control = same_with p _ _ _ _ _ _ _ _ _ _ _ _ _
-same_written Clbu v tape p command control = same_with p _ _ _ _ _ _ _ _ _ _ _ _ _
-same_written Fb v tape p command control = same_with p _ _ _ _ _ _ _ _ _ _ _ _ _
-same_written Fbu v tape p command control = same_with p _ _ _ _ _ _ _ _ _ _ _ _ _
-same_written Ie v tape p command control = same_with p _ _ _ _ _ _ _ _ _ _ _ _ _
-same_written Serr v tape p command control = same_with p _ _ _ _ _ _ _ _ _ _ _ _ _
-same_written Sact v tape p command control = same_with p _ _ _ _ _ _ _ _ _ _ _ _ _
-same_written Tfd v tape p command control = same_with p _ _ _ _ _ _ _ _ _ _ _ _ _
-same_written Sig v tape p command control = same_with p _ _ _ _ _ _ _ _ _ _ _ _ _
-same_written Ssts v tape p command control = same_with p _ _ _ _ _ _ _ _ _ _ _ _ _
+same_written Clb v tape p command control = same_with p _ _ _ _ _ _ _ _ _ _ _ _ _ _ _
+same_written Clbu v tape p command control = same_with p _ _ _ _ _ _ _ _ _ _ _ _ _ _ _
+same_written Fb v tape p command control = same_with p _ _ _ _ _ _ _ _ _ _ _ _ _ _ _
+same_written Fbu v tape p command control = same_with p _ _ _ _ _ _ _ _ _ _ _ _ _ _ _
+same_written Ie v tape p command control = same_with p _ _ _ _ _ _ _ _ _ _ _ _ _ _ _
+same_written Serr v tape p command control = same_with p _ _ _ _ _ _ _ _ _ _ _ _ _ _ _
+same_written Sact v tape p command control = same_with p _ _ _ _ _ _ _ _ _ _ _ _ _ _ _
+same_written Tfd v tape p command control = same_with p _ _ _ _ _ _ _ _ _ _ _ _ _ _ _
+same_written Sig v tape p command control = same_with p _ _ _ _ _ _ _ _ _ _ _ _ _ _ _
+same_written Ssts v tape p command control = same_with p _ _ _ _ _ _ _ _ _ _ _ _ _ _ _
 
 pub access_recorded : (port : Port) (access : Access) (old new : Device) → SparesRegister (Px port Cmd) access → SparesRegister (Px port Sctl) access → Does access old new →
     IsRecorded old.tape (old.port port.0) port.0 → IsRecorded new.tape (new.port port.0) port.0

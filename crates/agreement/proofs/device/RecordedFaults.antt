@@ -57,8 +57,8 @@ pub record SameRecord (p new : PortState) : Type 0 where
   pub tfd : new.tfd ≡ p.tfd
   pub used : (slot : ℕ) → InUse p slot → InUse new slot
 
--- where the command list and the received FIS area are, which disk is in, PxIE, and the bits of SACT, SSTS and SERR, don't matter to it
-pub same_with : (p : PortState) (bases : Bases) (fre fr : Bool) (ie ssts_det : ℕ) (serr_n serr_x : Bool) (sact : ℕ → Bool) (disk : Disk) (plugged : List Disk) (lasting : Lasting) (present fresh : Bool) →
+-- where the command list and the received FIS area are, which disk is in, PxIE, and the bits of IS, SACT, SSTS and SERR, don't matter to it
+pub same_with : (p : PortState) (bases : Bases) (fre fr : Bool) (ie ssts_det : ℕ) (serr_n serr_x ips other_causes : Bool) (sact : ℕ → Bool) (disk : Disk) (plugged : List Disk) (lasting : Lasting) (present fresh : Bool) →
     SameRecord p (record p {
       bases = bases;
       fre = fre;
@@ -67,6 +67,8 @@ pub same_with : (p : PortState) (bases : Bases) (fre fr : Bool) (ie ssts_det : �
       ssts_det = ssts_det;
       serr_n = serr_n;
       serr_x = serr_x;
+      ips = ips;
+      other_causes = other_causes;
       sact = sact;
       disk = disk;
       plugged = plugged;
@@ -74,7 +76,7 @@ pub same_with : (p : PortState) (bases : Bases) (fre fr : Bool) (ie ssts_det : �
       present = present;
       fresh = fresh;
     })
-same_with p bases fre fr ie ssts_det serr_n serr_x sact disk plugged lasting present fresh =
+same_with p bases fre fr ie ssts_det serr_n serr_x ips other_causes sact disk plugged lasting present fresh =
     record { st = refl; set_at = refl; linked = refl; flag = λ f. f; halt = refl; tfd = refl; used = λ slot u. u }
 
 shows_on : (entries : List Entry) (p new : PortState) (port : ℕ) → SameRecord p new → ShowsFault entries p port → ShowsFault entries new port
@@ -232,14 +234,14 @@ module _ (port : ℕ) (d : Device) (h : IsRecorded d.tape (d.port port) port) wh
       (record { st = refl; set_at = refl; linked = refl; flag = other_flag (d.port p) place (fatal_flag place can.1); halt = refl; tfd = refl; used = λ slot u. u }) x))
   step_recorded (Fall p) can = silent p _ (λ e x. stopped_recorded d.tape _ port can.0)
   step_recorded (FrFall p) can = silent p _ (λ e x. recorded_on d.tape (d.port p) _ port
-      (same_with (d.port p) _ _ _ _ _ _ _ _ _ _ _ _ _) x)
+      (same_with (d.port p) _ _ _ _ _ _ _ _ _ _ _ _ _ _ _) x)
   step_recorded (LinkUp p sig n) can = silent p _ (λ e x st. absurd (both_ways _ (x st).linked can.due))
   step_recorded (Unplug p) can = entered p _ _ (λ f. absurd f)
       (λ e x. recorded_more d.tape _ _ port (λ f. f) (recorded_on d.tape (d.port p) _ port
-      (same_with (d.port p) _ _ _ _ _ _ _ _ _ _ _ _ _) x))
+      (same_with (d.port p) _ _ _ _ _ _ _ _ _ _ _ _ _ _ _) x))
   step_recorded (Plug p disk) can = entered p _ _ (λ f. absurd f)
       (λ e x. recorded_more d.tape _ _ port (λ f. f) (recorded_on d.tape (d.port p) _ port
-      (same_with (d.port p) _ _ _ _ _ _ _ _ _ _ _ _ _) x))
+      (same_with (d.port p) _ _ _ _ _ _ _ _ _ _ _ _ _ _ _) x))
   step_recorded ResetEnds can = stopped_recorded d.tape _ port refl
   step_recorded (Scribble p slot at bytes) can = h
 

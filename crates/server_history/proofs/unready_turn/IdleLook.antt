@@ -56,7 +56,7 @@ noted_before old new = record new { port = λ q. record (new.port q) { notes = (
 but_notes : (noted : Notes) (old new : PortState) → KeepsPort old new → KeepsControls old new → LeavesPort (record old { notes = noted }) (record new { notes = noted })
 but_notes noted old new k c = record {
   keeps = record { bases = k.bases; st = k.st; fre = k.fre; cr = k.cr; fr = k.fr; ci = k.ci; sact = k.sact; idle = k.idle; fallen = k.fallen; free = k.free };
-  controls = record { st = c.st; fre = c.fre; sctl_det = c.sctl_det; ie = c.ie; is = c.is; serr_n = c.serr_n; serr_x = c.serr_x; runs = c.runs };
+  controls = record { st = c.st; fre = c.fre; sctl_det = c.sctl_det; ie = c.ie; is = c.is; ips = c.ips; serr_n = c.serr_n; serr_x = c.serr_x; runs = c.runs };
   notes = refl;
 }
 
