@@ -108,3 +108,11 @@ pub clear_shifted : (value place : ℕ) → value < 2 ^ 32 → ((k : ℕ) → pl
 clear_shifted value place fits none =
     let below : value < 2 ^ place = below_place value place fits none in
     div-eq_of_lt below
+
+pub bit-and : (a b k : ℕ) → bit (bit_and a b) k ≡ bit a k && bit b k
+bit-and a b k =
+    rw bit_at_and
+    (elim (nought_or_one a k) [
+      | inl x ↦ elim (nought_or_one b k) [ inl y ↦ rw (x, y) refl | inr y ↦ rw (x, y) refl ]
+      | inr x ↦ elim (nought_or_one b k) [ inl y ↦ rw (x, y) refl | inr y ↦ rw (x, y) refl ]
+    ])

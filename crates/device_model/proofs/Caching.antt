@@ -78,25 +78,13 @@ pub had_lasts : (olds : List OldSector) (k : ℕ) (told : Option (ℕ → List �
 had_lasts olds k None has put = refl
 had_lasts olds k (Some f) has put = ap Some (had_written olds k f put has)
 
--- with a cache or without one, whether the sector was written then or not
-pub put_lasts : (was now : Cache) (k : ℕ) (put : List ℕ) (told then_told noted : Option (ℕ → List ℕ)) → now.is_on ≡ was.is_on →
-    (was.is_on ≡ true → option_map (with_old now.kept.sectors.items) told ≡ option_map (with_old was.kept.sectors.items) told) →
-    (was.is_on ≡ true → option_map (with_old now.kept.sectors.items) (option_map (λ f. replaced f k put) told) ≡ option_map (with_old was.kept.sectors.items) told) →
-    (done : Bool) → (done ≡ true → then_told ≡ option_map (λ f. replaced f k put) told) → (done ≡ false → then_told ≡ told) →
-    lasting_in now then_told noted ≡ lasting_in was told noted
-put_lasts was now k put told then_told noted on lasts written done puts kept = by was.is_on refl
-  where
-    middle : was.is_on ≡ true → (d : Bool) → done ≡ d → option_map (with_old now.kept.sectors.items) then_told ≡ option_map (with_old was.kept.sectors.items) told
-    middle e true is = ap (option_map (with_old now.kept.sectors.items)) (puts is) ∙ written e
-    middle e false is = ap (option_map (with_old now.kept.sectors.items)) (kept is) ∙ lasts e
-
-    by : (b : Bool) → was.is_on ≡ b → lasting_in now then_told noted ≡ lasting_in was told noted
-    by true e =
-        ap (λ b. if b then option_map (with_old now.kept.sectors.items) then_told else noted) (on ∙ e)
-        ∙ (middle e done refl ∙ sym (ap (λ b. if b then option_map (with_old was.kept.sectors.items) told else noted) e))
-    by false e =
-        ap (λ b. if b then option_map (with_old now.kept.sectors.items) then_told else noted) (on ∙ e)
-        ∙ sym (ap (λ b. if b then option_map (with_old was.kept.sectors.items) told else noted) e)
+-- whether the sector was written then or not
+pub put_lasts : (olds now : List OldSector) (k : ℕ) (put : List ℕ) (told then_told : Option (ℕ → List ℕ)) → option_map (with_old now) told ≡ option_map (with_old olds) told →
+    option_map (with_old now) (option_map (λ f. replaced f k put) told) ≡ option_map (with_old olds) told → (done : Bool) →
+    (done ≡ true → then_told ≡ option_map (λ f. replaced f k put) told) → (done ≡ false → then_told ≡ told) →
+    option_map (with_old now) then_told ≡ option_map (with_old olds) told
+put_lasts olds now k put told then_told lasts written true puts held = ap (option_map (with_old now)) (puts refl) ∙ written
+put_lasts olds now k put told then_told lasts written false puts held = ap (option_map (with_old now)) (held refl) ∙ lasts
 
 -- ---- old bytes are written back
 

@@ -74,6 +74,8 @@ pub record IsReset (p : PortState) : Type 0 where
   pub serr_n : p.serr_n ≡ false
   pub serr_x : p.serr_x ≡ false
   pub is : (place : ℕ) → p.is place ≡ false
+  pub ips : p.ips ≡ false
+  pub other_causes : p.other_causes ≡ false
   pub fresh : p.fresh ≡ false
   pub link_due : p.link_due ≡ false
   pub halt : p.halt ≡ NotHalted

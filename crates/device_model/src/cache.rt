@@ -51,33 +51,37 @@ impl Cache {
     }
 }
 
-/// Keeps what a sector holds, unless it has old bytes; `false` says that the store didn't give it. It is entered only
-/// where there is a cache, since its frame has room for a sector.
+/// Writes a sector of a disk that has a cache: what it holds is kept before, unless it has old bytes. `false` says that
+/// one of the two calls has failed. It is entered only where there is a cache, since its frame has room for a sector.
 #[inline(never)]
-fn keep_old<S: SectorStore>(store: &mut S, kept: &mut OldSectors, sector: u64) -> bool
+fn put_over_old<S: SectorStore>(
+    store: &mut S,
+    kept: &mut OldSectors,
+    sector: u64,
+    bytes: &[u8; 512],
+) -> bool
     requires { vec_len kept.old.sectors < vec_capacity kept.old.sectors }
-    ensures told { S.told store.new ≡ S.told store.old }
-    ensures size { S.size store.new ≡ S.size store.old }
+    ensures inside { result ≡ true → sector < S.size store.old }
+    ensures puts { result ≡ true → S.told store.new ≡ option_map (λ told. replaced told sector bytes.now)
+        (S.told store.old) }
+    ensures held { result ≡ false → S.told store.new ≡ S.told store.old }
     ensures serves { (result ≡ true) ⊎ (S.size store.old ≤ sector) → S.failures store.new ≡ S.failures store.old }
     ensures fails { result ≡ false → sector < S.size store.old
-        → FailsOn false sector (S.failures store.old) (S.failures store.new) }
-    ensures lasting { option_map (with_old kept.new.sectors.items) (S.told store.old)
-        ≡ option_map (with_old kept.old.sectors.items) (S.told store.old) }
-    ensures written { result ≡ true → (bytes : List ℕ) →
-        option_map (with_old kept.new.sectors.items) (option_map (λ f. replaced f sector bytes) (S.told store.old))
+        → CallFails true true sector (S.failures store.old) (S.failures store.new) }
+    ensures size { S.size store.new ≡ S.size store.old }
+    ensures lasting { option_map (with_old kept.new.sectors.items) (S.told store.new)
         ≡ option_map (with_old kept.old.sectors.items) (S.told store.old) }
     ensures left { (n : ℕ) → vec_len kept.old.sectors + (n + 1) ≤ vec_capacity kept.old.sectors
         → vec_len kept.new.sectors + n ≤ vec_capacity kept.new.sectors }
 {
-    let Some(place) = kept.gap_for(sector) else {
-        return true;
-    };
-    let mut bytes = [0; 512];
-    if !store.read(sector, &mut bytes) {
-        return false;
+    if let Some(place) = kept.gap_for(sector) {
+        let mut old = [0; 512];
+        if !store.read(sector, &mut old) {
+            return false;
+        }
+        kept.keep(place, sector, &old);
     }
-    kept.keep(place, sector, &bytes);
-    true
+    store.write(sector, bytes)
 }
 
 /// Writes a sector of a disk, as `SectorStore::write` does, where what it holds is kept before; `false` says that one
@@ -102,10 +106,11 @@ pub fn put_sector<S: SectorStore>(
     ensures is_on { cache.new.is_on ≡ cache.old.is_on }
     ensures left { (n : ℕ) → HasOldRoom cache.old (n + 1) → HasOldRoom cache.new n }
 {
-    if cache.is_on && !keep_old(store, &mut cache.kept, sector) {
-        return false;
+    if cache.is_on {
+        put_over_old(store, &mut cache.kept, sector, bytes)
+    } else {
+        store.write(sector, bytes)
     }
-    store.write(sector, bytes)
 }
 
 /// Writes back what is kept, the lowest sector first. A sector on which the store fails keeps what it holds.

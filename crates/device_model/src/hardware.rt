@@ -1,6 +1,6 @@
 // The model without its disks.
 ghost use Rattle.std.specs.Prelude.{Bool, List, ◌≡◌, ◌≢◌, ◌+◌, ◌<◌, ◌≤◌, ◌++◌, ℕ, true, false, if◌then◌else◌, All, length, take, drop, slice_index_or};
-ghost use Rattle.adapter.specs.Access.{Shows, noted, written, unacknowledged};
+ghost use Rattle.adapter.specs.Access.{Shows, is_pending, noted, written, unacknowledged};
 ghost use Rattle.adapter.specs.Memory.{patched, bytes_at};
 ghost use Rattle.adapter.specs.Device.{Device};
 ghost use Rattle.adapter.specs.Steps.{after, with_reset};
@@ -85,6 +85,17 @@ fn reset_all(ports: &mut [PortModel; 4])
     }
 }
 
+/// IS: the bits of the four ports (AHCI 1.3.1, 3.1.3).
+fn pending(ports: &[PortModel; 4]) -> u32
+    ensures { (m : Media) (port : ℕ) → port < 32
+        → bit result port ≡ is_pending (port_of (slice_index_or ports.now port blank) m) }
+{
+    bit_if(ports[0].is_pending(), 0)
+        | bit_if(ports[1].is_pending(), 1)
+        | bit_if(ports[2].is_pending(), 2)
+        | bit_if(ports[3].is_pending(), 3)
+}
+
 impl Hardware {
     /// What a register shows.
     pub fn shown(&self, r: Reg) -> u32
@@ -97,7 +108,8 @@ impl Hardware {
             Reg::Vs => VERSION,
             Reg::Ghc => global_control(self.hr, self.ie, self.ae),
             Reg::Px(port, r) => self.ports[usize::from(port.0)].shown(r),
-            Reg::Is | Reg::Cap2 | Reg::Bohc => 0,
+            Reg::Is => pending(&self.ports),
+            Reg::Cap2 | Reg::Bohc => 0,
         }
     }
 

@@ -264,6 +264,10 @@ pub struct PortModel {
     pub serr_n: bool,
     pub serr_x: bool,
     pub is: u32,
+    /// The port's bit of IS, as far as it outlasts its causes.
+    pub ips: bool,
+    /// PxIE has enabled a cause that the model doesn't know since that bit was last cleared.
+    pub other_causes: bool,
     pub ci: u32,
     pub sact: u32,
     pub present: bool,
@@ -301,6 +305,8 @@ impl PortModel {
             serr_n: false,
             serr_x: false,
             is: 0,
+            ips: false,
+            other_causes: false,
             ci: 0,
             sact: 0,
             present,

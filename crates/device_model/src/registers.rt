@@ -6,6 +6,7 @@ ghost use Rattle.adapter.specs.Access.{PortShows, note, port_written, unacknowle
 ghost use Rattle.device_model.specs.View.{Media, port_of};
 
 use crate::bits::{bit_if, with_bit_as, without_ones};
+use crate::interrupts::enables_others;
 use crate::port::PortModel;
 use adapter::FatalError;
 use ata_types::READINGS;
@@ -64,8 +65,10 @@ impl PortModel {
             PortReg::Serr => bit_if(self.serr_n, 16) | bit_if(self.serr_x, 26),
             PortReg::Ci => self.ci,
             PortReg::Sact => self.sact,
-            PortReg::Is => with_bit_as(with_bit_as(self.is, 22, self.serr_n), 6, self.serr_x),
-            PortReg::Clb | PortReg::Clbu | PortReg::Fb | PortReg::Fbu => 0,
+            PortReg::Is => self.causes(),
+            PortReg::Clb => self.addresses.clb,
+            PortReg::Fb => self.addresses.fb,
+            PortReg::Clbu | PortReg::Fbu => 0,
             PortReg::Ie => self.enabled,
         }
     }
@@ -155,8 +158,9 @@ impl PortModel {
         ensures { (m : Media) (tape : ℕ) → port_of self.new m ≡ port_written PortReg.Serr value tape
             (port_of self.old m) }
     {
-        self.serr_n = self.serr_n && !is_set(value, 16);
-        self.serr_x = self.serr_x && !is_set(value, 26);
+        self.latch();
+        self.serr_n &= !is_set(value, 16);
+        self.serr_x &= !is_set(value, 26);
     }
 
     /// Bits of PxIS are cleared.
@@ -164,8 +168,19 @@ impl PortModel {
         ensures { (m : Media) (tape : ℕ) → port_of self.new m ≡ port_written PortReg.Is value tape
             (port_of self.old m) }
     {
+        self.latch();
         self.is = without_ones(self.is, value);
         self.readings.acknowledged = true;
+    }
+
+    /// PxIE is written.
+    fn enable(&mut self, value: u32)
+        ensures { (m : Media) (tape : ℕ) → port_of self.new m ≡ port_written PortReg.Ie value tape
+            (port_of self.old m) }
+    {
+        self.latch();
+        self.other_causes |= enables_others(value);
+        self.enabled = value;
     }
 
     /// A register is written.
@@ -187,7 +202,7 @@ impl PortModel {
                 self.addresses.fb_set = true;
             }
             PortReg::Fbu => self.addresses.fbu_set = true,
-            PortReg::Ie => self.enabled = value,
+            PortReg::Ie => self.enable(value),
             PortReg::Ci => self.ci |= value,
             PortReg::Sact => self.sact |= value,
             _ => {}
@@ -198,6 +213,8 @@ impl PortModel {
     pub fn unacknowledge(&mut self)
         ensures { (m : Media) → port_of self.new m ≡ unacknowledged (port_of self.old m) }
     {
+        self.ips = false;
+        self.other_causes = enables_others(self.enabled);
         self.readings.acknowledged = false;
     }
 

@@ -96,6 +96,8 @@ impl PortModel {
         self.ci = 0;
         self.sact = 0;
         self.is = 0;
+        self.ips = false;
+        self.other_causes = false;
         self.serr_n = false;
         self.serr_x = false;
         self.detected = false;

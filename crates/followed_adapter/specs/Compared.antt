@@ -1,13 +1,13 @@
 -- Which bits of a register the model and its peer have to show alike (this project's own).
 use Rattle.std.specs.Prelude.{ℕ, ◌≡◌, ◌-◌, ◌^◌, Option, None, Some, bit_and, if◌then◌else◌, nat_eq}
 use Rattle.hba_regs.specs.declared.reg.PortReg.{PortReg}
-use Rattle.hba_regs.specs.declared.reg.PortReg.TheVariants.{Is, Ie, Cmd, Tfd, Sig, Ssts, Sctl, Serr, Sact, Ci}
+use Rattle.hba_regs.specs.declared.reg.PortReg.TheVariants.{Clb, Clbu, Fb, Fbu, Is, Ie, Cmd, Tfd, Sig, Ssts, Sctl, Serr, Sact, Ci}
 use Rattle.hba_regs.specs.declared.reg.Reg.{Reg}
 use Rattle.hba_regs.specs.declared.reg.Reg.TheVariants.{Cap, Ghc, Pi, Vs, Px}
 use Rattle.followed_adapter.specs.declared.differences.Known.{Known}
 use Rattle.followed_adapter.specs.declared.differences.Known.TheVariants.{OtherCapabilities, FurtherPorts, AlwaysAhci, Causes, StatusWithoutFault, FailedSlots, UntakenSlots}
 
--- the bits of a port's register that `PortShows` of the crate `adapter` names
+-- the bits of a port's register that `PortShows` of the crate `adapter` names (of an address, once it was written)
 abbrev pub named_of_port : PortReg → ℕ
 named_of_port Cmd = 0xc011
 named_of_port Tfd = 0xffff
@@ -19,9 +19,12 @@ named_of_port Ie = 0x7840004b
 named_of_port Sig = 0xffffffff
 named_of_port Ci = 0xffffffff
 named_of_port Sact = 0xffffffff
-named_of_port _ = 0
+named_of_port Clb = 0xffffffff
+named_of_port Clbu = 0xffffffff
+named_of_port Fb = 0xffffffff
+named_of_port Fbu = 0xffffffff
 
--- those of any register that `Shows` names
+-- those of any register that `Shows` names, but for IS, whose bits follow causes that are known to differ
 abbrev pub named_bits : Reg → ℕ
 named_bits Cap = 0xffffffff
 named_bits Pi = 0xffffffff

@@ -55,8 +55,10 @@ pub struct Port {
     kept: u32,
     /// IFS is shown, for a device fault.
     faulted: bool,
-    /// PxCMD as it was written, where the port isn't there.
+    /// PxCMD, PxCLB and PxFB as they were written, where the port isn't there.
     command: u32,
+    list: u32,
+    received: u32,
 }
 
 /// The last two readings, and how many in a row showed nothing that these hadn't.
@@ -292,8 +294,11 @@ impl<B: Bus> Adapter<B> {
 
     /// P-11: a port that isn't there, as one without a disk: FR and CR follow FRE and ST, and there is no link.
     fn absent_port(&self, port: usize, of_port: PortRegister) -> u32 {
-        let command = self.ports[port].command & (cmd::ST | cmd::FRE);
+        let absent = &self.ports[port];
+        let command = absent.command & (cmd::ST | cmd::FRE);
         match of_port {
+            PortRegister::Clb => absent.list,
+            PortRegister::Fb => absent.received,
             PortRegister::Cmd => command | runs_with(command),
             PortRegister::Tfd => task_file::AFTER_RESET,
             _ => 0,
@@ -407,8 +412,12 @@ impl<B: Bus> Adapter<B> {
         self.readings = Readings::default();
         match self.renumbered(register) {
             Register::Port(port, of_port) if port < MOST_PORTS && !self.has_port(port) => {
-                if of_port == PortRegister::Cmd {
-                    self.ports[port].command = value;
+                let absent = &mut self.ports[port];
+                match of_port {
+                    PortRegister::Cmd => absent.command = value,
+                    PortRegister::Clb => absent.list = value,
+                    PortRegister::Fb => absent.received = value,
+                    _ => {}
                 }
             }
             Register::Is => self.bus.write(register, self.renumbered_bits(value)),

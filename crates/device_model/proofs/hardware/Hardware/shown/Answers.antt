@@ -11,3 +11,6 @@ returns-in-Px c = λ o.
     let P : ℕ → Type 0 = λ p. PortShows c.in-Px.r c.shown.result ((device_of c.args.self.now o).port p) in
     rw c.in-Px.is
     (subst P c.from.ensures (rw (at_port c.args.self.now.ports c.from.result c.index-self-from.result small) at (c.shown.ensures (o.media c.from.result))))
+
+pub returns-in-Is : goal.returns-in-Is
+returns-in-Is c = λ o. rw c.in-Is.is (λ port small has either. c.pending.ensures (o.media port) port small)

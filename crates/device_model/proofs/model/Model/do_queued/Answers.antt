@@ -4,7 +4,7 @@ use Rattle.std.specs.List.{remove}
 use Rattle.adapter.specs.declared.access.DeviceStep.{DeviceStep}
 use Rattle.device_model.specs.Does.{AnswersStep}
 use Rattle.device_model.specs.Queue.{DoesEach, due, not_due}
-use Rattle.device_model.specs.declared.counting.Accesses.{Accesses}
+use Rattle.adapter.specs.declared.counting.Accesses.{Accesses}
 use Rattle.device_model.specs.declared.model.Queued.{Queued}
 use Rattle.device_model.proofs.Doing.{answers_queued, did_or_left_keeps}
 use Rattle.device_model.proofs.Queueing.{DoneSo, IsAt, at_start, at_inside, at_kept, at_done, at_end_left, at_end_did, each_more}

@@ -16,3 +16,6 @@ returns-in-Ci c = λ m. rw c.in-Ci.is (rw (bits_of-or c.args.self.now.ci c.args.
 
 pub returns-in-Sact : goal.returns-in-Sact
 returns-in-Sact c = λ m. rw c.in-Sact.is (rw (bits_of-or c.args.self.now.sact c.args.value) refl)
+
+pub returns-in-Ie : goal.returns-in-Ie
+returns-in-Ie c = λ m. rw c.in-Ie.is (c.enable.ensures m c.args.tape)

@@ -1,0 +1,86 @@
+// When a port's interrupt is pending (AHCI 1.3.1, 3.1.3, 3.3.5 and 3.3.6).
+ghost use Rattle.std.specs.Prelude.{ℕ, ◌≡◌, ◌<◌};
+ghost use Rattle.adapter.specs.Access.{enables_others, is_pending, raises, raises_interrupt, shown_interrupt};
+ghost use Rattle.hba_regs.specs.Bits.{bit};
+ghost use Rattle.device_model.specs.View.{Media, port_of};
+
+use crate::bits::with_bit_as;
+use crate::port::PortModel;
+use hba_regs::is_set;
+
+/// The causes in PxIS that the model knows: a command ended with a Register FIS, a PIO Setup FIS or a Set Device Bits
+/// FIS; the link changed, or the device did; an error of the interface, of the host's data or of its bus; a command
+/// failed.
+const DHRS: u32 = 0;
+
+const PSS: u32 = 1;
+
+const SDBS: u32 = 3;
+
+const PCS: u32 = 6;
+
+const PRCS: u32 = 22;
+
+const IFS: u32 = 27;
+
+const HBDS: u32 = 28;
+
+const HBFS: u32 = 29;
+
+const TFES: u32 = 30;
+
+/// The same, as bits of PxIE.
+const NAMED_CAUSES: u32 = 0x7840_004b;
+
+/// Whether a value of PxIE enables a cause that the model doesn't know.
+pub fn enables_others(enabled: u32) -> bool
+    ensures { result ≡ enables_others enabled }
+{
+    enabled & NAMED_CAUSES != enabled
+}
+
+impl PortModel {
+    /// PxIS: PCS and PRCS show PxSERR.
+    pub fn causes(&self) -> u32
+        ensures { (m : Media) (place : ℕ) → bit result place ≡ shown_interrupt (port_of self.now m) place }
+    {
+        with_bit_as(with_bit_as(self.is, PRCS, self.serr_n), PCS, self.serr_x)
+    }
+
+    /// Whether PxIS shows this cause, and PxIE enables it.
+    fn raises(&self, place: u32) -> bool
+        requires { place < 32 }
+        ensures { (m : Media) → result ≡ raises (port_of self.now m) place }
+    {
+        is_set(self.causes() & self.enabled, place)
+    }
+
+    /// Whether it raises one of them.
+    fn raises_interrupt(&self) -> bool
+        ensures { (m : Media) → result ≡ raises_interrupt (port_of self.now m) }
+    {
+        self.raises(DHRS)
+            | self.raises(PSS)
+            | self.raises(SDBS)
+            | self.raises(PCS)
+            | self.raises(PRCS)
+            | self.raises(IFS)
+            | self.raises(HBDS)
+            | self.raises(HBFS)
+            | self.raises(TFES)
+    }
+
+    /// The port's bit of IS.
+    pub fn is_pending(&self) -> bool
+        ensures { (m : Media) → result ≡ is_pending (port_of self.now m) }
+    {
+        self.ips | self.raises_interrupt()
+    }
+    /// Causes may go: the port's bit of IS stays (AHCI 1.3.1, 3.1.3).
+    pub fn latch(&mut self)
+        ensures { (m : Media) → port_of self.new m ≡ record (port_of self.old m)
+            { ips = is_pending (port_of self.old m) } }
+    {
+        self.ips = self.is_pending();
+    }
+}
