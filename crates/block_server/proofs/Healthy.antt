@@ -110,7 +110,7 @@ Spares first port before h = (h.event.ask ≢ Reset) × (h.event.ask ≡ Tick �
 module _ (wanted : Wanted) (s : InSlots) (i : Instant Device) (port : Port) where
   in_state : (served : Bool) (state : PortState) → i.moment.ports.state port ≡ state → HoldsOf wanted s i port served state → IsInState wanted i port served state
   in_state false state e h = sym e ∙ h.absent
-  in_state true Ready e h = (h.info, h.disk, h.shows)
+  in_state true Ready e h = (h.on, h.info, h.disk, h.shows)
   in_state true Dead e h = h.why
   in_state true Absent e h = h.ends
   in_state true Foreign e h = h.ends

@@ -54,15 +54,15 @@ pub record IsSeenAt (v : Visible) (i : Instant Device) : Type 0 where
 
 -- ---- between two calls
 
--- Why a port is in its state. One that isn't served is absent. Behind a ready one stands the page that its disk sent
--- last, since PxSCTL was last written: it fits what is wanted, and says how many sectors there are and what else
--- requests are checked by. Absent, unfit and foreign ones are stopped, for what was read last or for that page. Of a
--- dead one an engine was awaited in vain; or the adapter isn't on, since its last reset wasn't seen to end (PxSSTS,
--- PxTFD, PxSIG, PxCMD: AHCI 1.3.1, 3.3; IDENTIFY DEVICE: ACS-3, 7.12).
+-- Why a port is in its state. One that isn't served is absent. Behind a ready one the adapter is on, and there stands
+-- the page that its disk sent last, since PxSCTL was last written: it fits what is wanted, and says how many sectors
+-- there are and what else requests are checked by. Absent, unfit and foreign ones are stopped, for what was read last
+-- or for that page. Of a dead one an engine was awaited in vain; or the adapter isn't on, since its last reset wasn't
+-- seen to end (PxSSTS, PxTFD, PxSIG, PxCMD: AHCI 1.3.1, 3.3; IDENTIFY DEVICE: ACS-3, 7.12).
 abbrev pub IsInState : Wanted → Instant Device → Port → Bool → PortState → Type 0
 IsInState wanted i port false state = state ≡ Absent
-IsInState wanted i port true Ready =
-    (info : DiskInfo) × HasFitDisk (serial_of wanted) port.0 i.device info
+IsInState wanted i port true Ready = IsOn i.device
+    × (info : DiskInfo) × HasFitDisk (serial_of wanted) port.0 i.device info
     × ShowsDiskInfo i.moment.ports port i.device.cap info
 IsInState wanted i port true Dead = EndsAs (serial_of wanted) Dead port.0 i.device ⊎ (IsOn i.device → ⊥)
 IsInState wanted i port true state = EndsAs (serial_of wanted) state port.0 i.device

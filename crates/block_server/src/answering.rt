@@ -31,8 +31,7 @@ fn answer_one(book: &mut Book, table: &mut FrameTable, slots: &mut Slots, slot: 
     let Some(used) = slots.free(slot) else {
         unreachable!()
     };
-    let (entry, loan) = book.answer(used.id);
-    table.give_back(loan);
+    let entry = book.release(used.id, table);
     Reply {
         id: used.id,
         client: entry.client,

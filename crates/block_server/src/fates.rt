@@ -51,11 +51,11 @@ fn settle_one(
         Fate::Waits => {}
         Fate::GoesAgain => book.requeue(id),
         Fate::Ends(outcome) => {
-            let (_, loan) = book.answer(id);
             if entry.keeps_loan(outcome) {
+                let (_, loan) = book.answer(id);
                 kept.keep(loan);
             } else {
-                table.give_back(loan);
+                book.release(id, table);
             }
             replies.push(Reply {
                 id,
@@ -83,8 +83,7 @@ fn answer_revoked(book: &mut Book, table: &mut FrameTable, id: RequestId, replie
     accepted_requests_stay();
     operations_change_one_request();
     the_book_stays_in_order();
-    let (entry, lent) = book.answer(id);
-    table.give_back(lent);
+    let entry = book.release(id, table);
     replies.push(Reply {
         id,
         client: entry.client,

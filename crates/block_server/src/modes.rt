@@ -1,17 +1,19 @@
 // How the ports of an adapter that was taken over take commands.
-ghost use Rattle.std.specs.Prelude.{ℕ, ◌≡◌, ◌<◌, ◌≤◌, ◌+◌, ◌/◌, ◌%◌, None, length};
+ghost use Rattle.std.specs.Prelude.{ℕ, ◌≡◌, ◌<◌, ◌≤◌, ◌+◌, ◌/◌, ◌%◌, ◌↔◌, None, IsTrue, false, length, slice_index_or};
+ghost use Rattle.agreement.specs.Agrees.{port_at};
 ghost use Rattle.hba_regs.specs.Bits.{bit};
 ghost use Rattle.host_boot.specs.Taken.{found_of};
 ghost use Rattle.host_boot.specs.declared.Found.TheVariants.{Ready};
 ghost use Rattle.identify.specs.declared.DiskInfo.{DiskInfo};
 ghost use Rattle.ata_types.specs.declared.Port.{Port};
-ghost use Rattle.request_queue.specs.Entries.{is_among};
+ghost use Rattle.request_queue.specs.Entries.{IsAnyOverdue, IsOverdue, is_among};
 ghost use Rattle.server_history.specs.Server.{mode_at, mode_found, slots_at, used_for};
 ghost use Rattle.server_history.specs.Turns.{is_ready};
 
-use ata_types::{PORTS, SLOTS};
+use ata_types::{PORTS, Port, SLOTS};
 use block_machine::Mode;
 use host_boot::{Found, Host};
+use request_queue::Book;
 use slots::Slots;
 
 /// One plain command at a time.
@@ -70,6 +72,24 @@ pub(crate) fn ready_ports(ports: &[Found; PORTS]) -> [bool; PORTS]
         is_ready(&ports[1]),
         is_ready(&ports[2]),
         is_ready(&ports[3]),
+    ]
+}
+
+/// By port, whether a request of it is overdue, where it is known whether one of any port is. Mostly none is, and then
+/// no request is looked at.
+pub(crate) fn overdue_ports(book: &Book, is_one: bool) -> [bool; PORTS]
+    requires { IsTrue is_one ↔ IsAnyOverdue book.now }
+    ensures { (number : ℕ) → number < 4 → IsTrue (slice_index_or result number false)
+        ↔ IsOverdue (port_at number) book.now }
+{
+    if !is_one {
+        return [false; PORTS];
+    }
+    [
+        book.overdue(Port(0)),
+        book.overdue(Port(1)),
+        book.overdue(Port(2)),
+        book.overdue(Port(3)),
     ]
 }
 

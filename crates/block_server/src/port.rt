@@ -22,10 +22,10 @@ use block_machine::{Mode, is_plain};
 use flush_trim::{issue_flush, issue_trim};
 use host_boot::Found;
 use ncq::{Task, issue};
-use request_queue::Book;
 use request_queue::laws::{
     an_id_is_one_request, operations_change_what_is_due, the_book_stays_in_order,
 };
+use request_queue::{Book, DueIds};
 use server_history::laws::{a_due_request_may_issue, a_mended_port_goes_on, requests_keep};
 use slots::Slots;
 
@@ -105,7 +105,8 @@ pub(crate) fn issue_due<A: Adapter>(
     operations_change_what_is_due();
     the_book_stays_in_order();
     requests_keep();
-    let due = book.issuable(mode, port);
+    let mut due = DueIds::new();
+    book.issuable(mode, port, &mut due);
     for place in 0..due.len() {
         issue_one(adapter, book, slots, port, mode, due[place]);
     }

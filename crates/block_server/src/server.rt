@@ -9,7 +9,7 @@ use crate::answering::answer_done;
 use crate::fates::settle;
 use crate::kept::{KeptLoans, end_all, give_all_back, none_kept};
 use crate::limits::{CLIENT_PLACES, leaves_disk};
-use crate::modes::{PLAIN, modes_of, ready_ports, unused_slots};
+use crate::modes::{PLAIN, modes_of, overdue_ports, ready_ports, unused_slots};
 use crate::port::{issue_due, issue_where_ready};
 use crate::recovery::{find_after, mend_rest, order_from, prospect_of, trouble_of};
 use crate::resetting::{disk_of, disks_of, issue_ports, settle_ports, stuck_ports};
@@ -548,13 +548,8 @@ impl<A: Adapter> Server<A> {
         ensures cost { MakesAtMost 0 (A.access_count self.old.adapter) (A.access_count self.new.adapter) }
     {
         requests_get_older();
-        self.book.tick(&ready_ports(&self.ports));
-        [
-            self.book.overdue(Port(0)),
-            self.book.overdue(Port(1)),
-            self.book.overdue(Port(2)),
-            self.book.overdue(Port(3)),
-        ]
+        let is_one = self.book.tick(&ready_ports(&self.ports));
+        overdue_ports(&self.book, is_one)
     }
 
     /// Restarts a ready port of which a request is overdue: the port isn't looked at, and is mended as one that is

@@ -22,8 +22,8 @@ use std::marker::Model;
 #[derive(Clone, Copy, Debug, PartialEq, Eq)]
 pub struct Item {
     pub id: RequestId,
-    pub port: Port,
     pub range: Range,
+    pub port: Port,
     pub writes: bool,
 }
 

@@ -1,11 +1,13 @@
 pub mod Members
 pub mod Keeping
+pub mod Taking
 pub mod Walk
 pub mod Own
 pub mod Stepping
 pub mod Counts
 pub mod Changing
 pub mod AllChanged
+pub mod Beside
 pub mod Ending
 pub mod Working
 pub mod Listing
@@ -18,3 +20,4 @@ pub mod InTheWay
 pub mod Unheld
 pub mod Holding
 pub mod AnsweringAll
+pub mod Aging

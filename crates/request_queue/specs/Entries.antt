@@ -122,6 +122,10 @@ IsOverdueOn port r = (r.port ≡ port) × (r.issued ≡ true) × (3 ≤ r.age)
 abbrev pub IsOverdue : Port → List Held → Type 0
 IsOverdue port entries = (e : Held) × Contains entries e × IsOverdueOn port e.entry
 
+-- an issued request of some port is three ticks old
+abbrev pub IsAnyOverdue : List Held → Type 0
+IsAnyOverdue entries = (port : Port) × IsOverdue port entries
+
 -- A request was issued four times at most; and fewer times where it waits, so that it may be issued.
 abbrev pub HasFewIssues : Entry → Type 0
 HasFewIssues r = (r.issues ≤ 4) × (r.issued ≡ false → r.issues < 4)

@@ -7,3 +7,4 @@ pub mod Sectors
 pub mod Flushes
 pub mod Holders
 pub mod Walk
+pub mod Beside

@@ -1,11 +1,14 @@
 // The book.
-ghost use Rattle.std.specs.Prelude.{◌≡◌, ◌↔◌, ◌<◌, ◌≤◌, ◌++◌, ◌∷◌, [], length, map, All, AllPairs, Contains, IfOk, IsTrue, Some, slice_get};
+ghost use Rattle.std.specs.Prelude.{◌≡◌, ◌↔◌, ◌<◌, ◌≤◌, ◌++◌, ◌∷◌, [], length, map, remove, All, AllPairs, Contains, IfOk, IsTrue, Some, slice_get, vec_capacity};
 ghost use Rattle.block_machine.specs.Rules.{is_under};
+ghost use Rattle.dma_frames.specs.Table.{LendsOnly};
+ghost use Rattle.request_queue.specs.Beside.{AreBeside};
+ghost use Rattle.request_queue.specs.Holders.{AreHolders};
 ghost use Rattle.request_queue.specs.Entries.{due_ids};
-ghost use Rattle.request_queue.specs.Entries.{Held, GivesBack, IsEarlier, IsFresh, IsInOrder, IsUnanswered, IsWaiting, MayGoAgain, Stands, IsOverdue, IsOverdueOn, aged, asks_of, at, ids_where, is_among, is_of, issue, older, requeued, all_marked_under, marked_under, unanswered_of, waits_under, without};
+ghost use Rattle.request_queue.specs.Entries.{Held, GivesBack, IsEarlier, IsFresh, IsInOrder, IsUnanswered, IsWaiting, MayGoAgain, Stands, IsAnyOverdue, IsOverdue, IsOverdueOn, aged, asks_of, at, ids_where, is_among, is_of, issue, older, requeued, all_marked_under, marked_under, unanswered_of, waits_under, without};
 
 use crate::Entry;
-use crate::due::due;
+use crate::due::{DueIds, list_due};
 use crate::flushes::{Flush, add_flush, no_flushes, take_flush};
 use crate::holders::{holder_of, no_holders, search_anew};
 use crate::sectors::{add_sectors, no_sectors, take_sectors};
@@ -48,6 +51,7 @@ impl Model for Book {
     ghost use Rattle.request_queue.specs.Counts.{AreCounts};
     ghost use Rattle.request_queue.specs.Entries.{Held, IsInOrder, asks_of};
     ghost use Rattle.request_queue.specs.Flushes.{flushes_of};
+    ghost use Rattle.request_queue.specs.Beside.{AreBeside};
     ghost use Rattle.request_queue.specs.Holders.{AreHolders};
     ghost use Rattle.request_queue.specs.Sectors.{AreIndexed};
 
@@ -118,13 +122,15 @@ impl Book {
         self.store.push(request, loan);
     }
 
-    /// The due requests of a port that takes commands in this mode, in order of acceptance. A request that was answered
-    /// and whose frames stay lent takes none of the slots that are counted: its port is dead.
-    pub fn issuable(&self, mode: Mode, port: Port) -> ArrayVec<RequestId, 32>
+    /// Makes the caller's list that of the due requests of a port that takes commands in this mode, in order of
+    /// acceptance: of their ids. A request that was answered and whose frames stay lent takes none of the slots that
+    /// are counted: its port is dead.
+    pub fn issuable(&self, mode: Mode, port: Port, due: &mut DueIds)
         requires { mode.usable ≤ 32 }
-        ensures { result.items ≡ due_ids mode port (asks_of self.now) }
+        ensures { due.new.items ≡ due_ids mode port (asks_of self.now) }
     {
-        due(&self.store, self.holders.as_slice(), mode, port)
+        due.clear();
+        list_due(&self.store, self.holders.as_slice(), mode, port, due);
     }
 
     /// An unanswered request, and how far it is.
@@ -201,11 +207,12 @@ impl Book {
     }
 
     /// Notes a tick: the issued requests of these ports, by number, are a tick older. An age counts to three and no
-    /// further.
-    pub fn tick(&mut self, ports: &[bool])
-        ensures { self.new ≡ aged (is_among ports.now) self.old }
+    /// further. It tells whether an issued request is overdue then, of whichever port.
+    pub fn tick(&mut self, ports: &[bool]) -> bool
+        ensures older { self.new ≡ aged (is_among ports.now) self.old }
+        ensures overdue { IsTrue result ↔ IsAnyOverdue self.new }
     {
-        age(&mut self.store, ports);
+        age(&mut self.store, self.holders.as_slice(), ports)
     }
 
     /// Notes that a client's grant was revoked: the requests that were accepted under it are marked.
@@ -236,20 +243,35 @@ impl Book {
         ensures rest { self.new ≡ without id self.old }
     {
         let place = place_of(&self.store, id);
-        take_sectors(&mut self.sectors, &self.store, place);
-        take_flush(&mut self.flushes, id);
-        self.holders.remove(place);
-        search_anew(
+        take_beside(
+            &mut self.sectors,
+            &mut self.flushes,
             &mut self.holders,
-            &self.sectors,
-            self.flushes.as_slice(),
+            &mut self.counts,
             &self.store,
             place,
-            id,
         );
-        let (request, loan) = self.store.remove(place);
-        self.counts[usize::from(request.client.0)] -= 1;
-        (request, loan)
+        self.store.remove(place)
+    }
+
+    /// Takes a request out, and gives back what was lent to it; the others stay in their order. So no loan is moved.
+    pub fn release(&mut self, id: RequestId, table: &mut FrameTable) -> Entry
+        requires unanswered { IsUnanswered id self.old }
+        requires stands { All (Stands table.old) self.old }
+        ensures entry { (e : Held) × Contains self.old e × (e.entry ≡ result) × (result.id ≡ id)
+            × LendsOnly table.old table.new e.frames None }
+        ensures rest { self.new ≡ without id self.old }
+    {
+        let place = place_of(&self.store, id);
+        take_beside(
+            &mut self.sectors,
+            &mut self.flushes,
+            &mut self.holders,
+            &mut self.counts,
+            &self.store,
+            place,
+        );
+        self.store.release(place, table)
     }
 
     /// Ends the book: what it has lent is given back.
@@ -268,14 +290,19 @@ impl Book {
     }
 }
 
-/// The place of a request. Ids rise from place to place, so half of those that are left fall away at a time.
+/// The place of a request. The last one is looked at first, as it was just accepted mostly. Ids rise from place to
+/// place, so half of those that are left fall away at a time.
 fn place_of(store: &Store, id: RequestId) -> usize
     requires ordered { AllPairs IsEarlier store.now }
     requires unanswered { IsUnanswered id store.now }
     ensures { (e : Held) × (slice_get store.now result ≡ Some e) × (e.entry.id ≡ id) }
 {
+    let last = store.len() - 1;
+    if store.request(last).id.0 <= id.0 {
+        return last;
+    }
     let mut first = 0;
-    let mut past = store.len();
+    let mut past = last;
     while past - first > 1 {
         let middle = first + (past - first) / 2;
         if store.request(middle).id.0 <= id.0 {
@@ -285,6 +312,37 @@ fn place_of(store: &Store, id: RequestId) -> usize
         }
     }
     first
+}
+
+/// Takes the request at a place out of what stands beside the store, before it is taken out of the store.
+fn take_beside(
+    sectors: &mut [Ranges; PORTS],
+    flushes: &mut Vec<Flush>,
+    holders: &mut Vec<Option<RequestId>>,
+    counts: &mut [usize; COUNTS],
+    store: &Store,
+    place: usize,
+)
+    requires place { place < length store.now }
+    requires ordered { IsInOrder store.now }
+    requires beside { AreBeside store.now sectors.old flushes.old.items holders.old.items counts.old }
+    ensures beside { AreBeside (remove store.now place) sectors.new flushes.new.items holders.new.items counts.new }
+    ensures flushes { vec_capacity flushes.new ≡ vec_capacity flushes.old }
+    ensures holders { vec_capacity holders.new ≡ vec_capacity holders.old }
+{
+    let request = store.request(place);
+    take_sectors(sectors, store, place);
+    take_flush(flushes, request.id);
+    holders.remove(place);
+    search_anew(
+        holders,
+        sectors,
+        flushes.as_slice(),
+        store,
+        place,
+        request.id,
+    );
+    counts[usize::from(request.client.0)] -= 1;
 }
 
 fn ids_of(store: &Store, port: Port) -> ArrayVec<RequestId, MOST_UNANSWERED>
@@ -328,14 +386,25 @@ fn is_under(request: Entry, client: ClientId, grant: u8) -> bool
     request.client.0 == client.0 && request.grant == grant
 }
 
-/// Makes the issued requests of these ports a tick older.
-fn age(store: &mut Store, ports: &[bool])
-    ensures { store.new ≡ aged (is_among ports.now) store.old }
+/// Makes the issued requests of these ports a tick older, and tells whether one is overdue then. Those that have a
+/// holder wait, and aren't looked at.
+fn age(store: &mut Store, holders: &[Option<RequestId>], ports: &[bool]) -> bool
+    requires holders { AreHolders (asks_of store.old) holders.now }
+    ensures older { store.new ≡ aged (is_among ports.now) store.old }
+    ensures overdue { IsTrue result ↔ IsAnyOverdue store.new }
 {
-    for place in 0..store.len() {
-        let request = store.request(place);
-        store.replace(place, older(request, ports));
+    let mut overdue = false;
+    for place in 0..holders.len() {
+        if holders[place].is_none() {
+            let request = store.request(place);
+            if request.issued {
+                let grown = older(request, ports);
+                store.replace(place, grown);
+                overdue |= grown.age >= OVERDUE;
+            }
+        }
     }
+    overdue
 }
 
 /// Marks the requests that were accepted under this grant of the client.

@@ -1,5 +1,5 @@
 // The walk that gives the due requests of a port.
-ghost use Rattle.std.specs.Prelude.{◌≡◌, ◌<◌, ◌≤◌, ◌-◌, ◌&&◌, ◌||◌, if◌then◌else◌, not, nat_lt, length, All, List, Some, slice_get};
+ghost use Rattle.std.specs.Prelude.{◌≡◌, ◌<◌, ◌≤◌, ◌-◌, ◌&&◌, ◌||◌, if◌then◌else◌, [], not, nat_lt, length, All, List, Some, slice_get};
 ghost use Rattle.block_machine.specs.Due as machine;
 ghost use Rattle.block_machine.specs.declared.due.Unanswered.{Unanswered};
 ghost use Rattle.request_queue.specs.Entries.{asks_of, due_ids};
@@ -9,9 +9,12 @@ ghost use Rattle.request_queue.specs.Store.{asks_at};
 
 use crate::store::Store;
 use arrayvec::ArrayVec;
-use ata_types::{MOST_UNANSWERED, Port, RequestId};
+use ata_types::{MOST_UNANSWERED, Port, RequestId, SLOTS};
 use block_machine::laws::{earlier_ones_stand_before, slots_by_due};
 use block_machine::{Mode, Unanswered, is_plain};
+
+/// Ids of due requests: no more than a port has slots.
+pub type DueIds = ArrayVec<RequestId, SLOTS>;
 
 /// Places of requests in a store, in order of acceptance.
 type Places = ArrayVec<u8, MOST_UNANSWERED>;
@@ -23,26 +26,28 @@ struct Issued {
     alone: bool,
 }
 
-/// The ids of the port's due requests, in order of acceptance: one pass that finds the port's requests without a
-/// holder, and one walk over these, which counts the slots that it gives away, and ends where no later request can be
-/// due.
-pub fn due(
+/// Puts the ids of the port's due requests into the list, in order of acceptance: one pass that finds the port's
+/// requests without a holder, and one walk over these, which counts the slots that it gives away, and ends where no
+/// later request can be due.
+pub fn list_due(
     store: &Store,
     holders: &[Option<RequestId>],
     mode: Mode,
     port: Port,
-) -> ArrayVec<RequestId, 32>
+    due: &mut DueIds,
+)
     requires ordered { machine.IsInOrder (asks_of store.now) }
     requires few { length store.now ≤ MOST_UNANSWERED }
     requires usable { mode.usable ≤ 32 }
     requires holders { AreHolders (asks_of store.now) holders.now }
-    ensures { result.items ≡ due_ids mode port (asks_of store.now) }
+    requires empty { due.old.items ≡ [] }
+    ensures { due.new.items ≡ due_ids mode port (asks_of store.now) }
 {
     earlier_ones_stand_before();
     slots_by_due();
-    let (places, issued) = unheld_places(store, holders, mode, port);
+    let mut places = ArrayVec::new();
+    let issued = find_unheld(store, holders, mode, port, &mut places);
     let free = free_slots(mode, issued.count);
-    let mut due = ArrayVec::new();
     for number in 0..places.len() {
         let asks = nth(store, &places, number);
         let clear = is_clear(mode, &asks, number, issued);
@@ -50,26 +55,26 @@ pub fn due(
             due.push(asks.id);
         }
         if ends(mode, &asks, due.len(), free) {
-            return due;
+            return;
         }
     }
-    due
 }
 
-/// The places of the port's requests without a holder, and what of these is issued.
-fn unheld_places(
+/// Lists the places of the port's requests without a holder, and tells what of these is issued.
+fn find_unheld(
     store: &Store,
     holders: &[Option<RequestId>],
     mode: Mode,
     port: Port,
-) -> (Places, Issued)
+    places: &mut Places,
+) -> Issued
     requires few { length store.now ≤ MOST_UNANSWERED }
     requires holders { AreHolders (asks_of store.now) holders.now }
-    ensures unheld { asks_at store.now result.0.items ≡ unheld port (asks_of store.now) }
-    ensures within { All (λ place. place < length store.now) result.0.items }
-    ensures issued { IsIssuedOf mode (asks_at store.now result.0.items) result.1 }
+    requires empty { places.old.items ≡ [] }
+    ensures unheld { asks_at store.now places.new.items ≡ unheld port (asks_of store.now) }
+    ensures within { All (λ place. place < length store.now) places.new.items }
+    ensures issued { IsIssuedOf mode (asks_at store.now places.new.items) result }
 {
-    let mut places = ArrayVec::new();
     let mut count = 0usize;
     let mut alone = false;
     for place in 0..holders.len() {
@@ -84,7 +89,7 @@ fn unheld_places(
             }
         }
     }
-    (places, Issued { count, alone })
+    Issued { count, alone }
 }
 
 /// How many slots the request takes: one if it is issued.

@@ -17,6 +17,7 @@ mod store;
 
 use ata_types::{ClientId, Op, Port, Range, RequestId};
 pub use book::{Book, NoMemory};
+pub use due::DueIds;
 pub use fate::{Failed, Fate, Prospect};
 
 /// An unanswered request, and how far it is.

@@ -1,11 +1,12 @@
 // Where the requests stand: in a slab, their loans beside it at their keys, and the keys in order of acceptance.
-ghost use Rattle.std.specs.Prelude.{◌≡◌, ◌<◌, ◌≤◌, ◌++◌, ◌∷◌, [], length, map, replicate, remove, slice_get, slice_set, IfOk, IfSome, None, Some};
-ghost use Rattle.request_queue.specs.Entries.{Held, asks, asks_of};
+ghost use Rattle.std.specs.Prelude.{◌≡◌, ◌<◌, ◌≤◌, ◌++◌, ◌∷◌, [], length, map, replicate, remove, slice_get, slice_set, All, IfOk, IfSome, None, Some};
+ghost use Rattle.dma_frames.specs.Table.{LendsOnly};
+ghost use Rattle.request_queue.specs.Entries.{Held, Stands, asks, asks_of};
 
 use crate::Entry;
 use ata_types::MOST_UNANSWERED;
 use block_machine::Unanswered;
-use dma_frames::Loan;
+use dma_frames::{FrameTable, Loan};
 use slab::Slab;
 use std::alloc::{AllocError, Global};
 use std::marker::Model;
@@ -103,6 +104,23 @@ impl Store {
             Some(loan) => (request, loan),
             None => unreachable!(),
         }
+    }
+
+    /// Takes out the request at this place, and gives back what was lent to it.
+    pub fn release(&mut self, place: usize, table: &mut FrameTable) -> Entry
+        requires within { place < length self.old }
+        requires stands { All (Stands table.old) self.old }
+        ensures entry { (e : Held) × (slice_get self.old place ≡ Some e) × (e.entry ≡ result)
+            × LendsOnly table.old table.new e.frames None }
+        ensures rest { self.new ≡ remove self.old place }
+    {
+        let freed = self.order.remove(place);
+        let request = self.requests.remove(freed);
+        match self.loans[freed].take() {
+            Some(loan) => table.give_back(loan),
+            None => unreachable!(),
+        }
+        request
     }
 
     /// Puts another state of the same request in its place.

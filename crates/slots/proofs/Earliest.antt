@@ -1,13 +1,13 @@
 -- The place with the least id, of those that were seen so far.
-use Rattle.std.proofs.Common.{ℕ, Bool, true, false, not, ◌⊎◌, inl, inr, ◌≡◌, ◌≢◌, ◌+◌, ◌/◌, ◌^◌, ◌<◌, ◌≤◌, List, Option, Some, None, get_or, refl, sym, ap, ◌∙◌, subst, ⊎_elim, arith}
-use Rattle.std.specs.Int.{bit_at}
-use Rattle.std.specs.Option.{is_some}
+use Rattle.std.proofs.Common.{ℕ, Bool, true, false, not, bit_and, ◌⊎◌, inl, inr, ◌≡◌, ◌≢◌, ◌+◌, ◌-◌, ◌%◌, ◌/◌, ◌^◌, ◌<◌, ◌≤◌, List, Option, Some, None, get_or, refl, sym, ap, ◌∙◌, subst, ⊎_elim, arith}
+use Rattle.std.specs.Int.{bit_at, trailing_zeros, w32}
+use Rattle.std.specs.Option.{IsSome, is_some}
 use Rattle.std.specs.Prelude.{IfNone, IfSome}
 use Rattle.std.proofs.lemmas.Bool.{cases_eq, cases_lt, true≢false}
-use Rattle.std.proofs.Math.Nat.{div-lt_iff_lt-mul}
-use Rattle.std.proofs.lemmas.Nat.{pow_pos}
-use Rattle.std.proofs.lemmas.Nat.Bits.{bit_at_above}
-use Rattle.slots.specs.Uses.{IsEarliestOf}
+use Rattle.std.proofs.Math.Nat.{div-le_self, div-lt_iff_lt-mul}
+use Rattle.std.proofs.lemmas.Nat.{pow_pos, shr-shr}
+use Rattle.std.proofs.lemmas.Nat.Bits.{bit_at-lt, bit_at-trailing_zeros, bit_at_above, bit_at_and}
+use Rattle.slots.specs.Uses.{IsEarliestOf, IsMask}
 use Rattle.slots.specs.declared.Use.{Use}
 
 -- no place below this one is used and has its bit set
@@ -128,3 +128,96 @@ none_above mask at none k above small marked =
     let one : mask / 2 ^ at < 1 = omega (arith, none) in
     let low = (div-lt_iff_lt-mul {k = 2 ^ at} {x = mask} {y = 1} (pow_pos at)).0 one in
     let zero = bit_at_above mask at k (omega (arith, low)) above in omega (arith, zero, marked)
+
+-- ---- from bit to bit
+
+-- the first place from one on that has its bit set
+pub record IsNext (mask from place : ℕ) : Type 0 where
+  pub behind : from ≤ place
+  pub small : place < 32
+  pub marked : bit_at mask place ≡ 1
+  pub none : (k : ℕ) → from ≤ k → k < place → bit_at mask k ≡ 0
+
+-- what is left of a mask from a place on tells it
+pub next : (mask from : ℕ) → mask < 2 ^ 32 → (mask / 2 ^ from ≢ 0) → IsNext mask from (from + trailing_zeros w32 (mask / 2 ^ from))
+next mask from fits some = record {
+  behind = omega arith;
+  small = ⊎_elim
+      (λ (low : from + zeros < 32). low)
+      (λ (high : 32 ≤ from + zeros). let one = shifted zeros in let its = lowest.1 in let none = bit_at_above mask 32 (from + zeros) fits high in absurd (omega (arith, one, its, none)))
+      (cases_lt (from + zeros) 32);
+  marked = sym (shifted zeros) ∙ lowest.1;
+  none = λ k low lt.
+      let is : k ≡ from + (k - from) = omega (arith, low) in
+      ap (bit_at mask) is ∙ (sym (shifted (k - from)) ∙ lowest.2 (k - from) (omega (arith, low, lt)));
+}
+  where
+    left : ℕ
+    left = mask / 2 ^ from
+
+    zeros : ℕ
+    zeros = trailing_zeros w32 left
+
+    shifted : (k : ℕ) → bit_at left k ≡ bit_at mask (from + k)
+    shifted k = ap (λ (n : ℕ). n % 2) (shr-shr mask from k)
+
+    fewer : left ≤ mask
+    fewer = div-le_self mask (2 ^ from)
+
+    lowest : (zeros < 32) × (bit_at left zeros ≡ 1) × ((i : ℕ) → i < zeros → bit_at left i ≡ 0)
+    lowest = bit_at-trailing_zeros w32 left (omega (arith, some)) (let f = fewer in omega (arith, f, fits))
+
+-- no place in between has its bit set, so that what was found is found up to there
+pub skipped : (places : List (Option Use)) (mask from place : ℕ) → IsNext mask from place → (found : Option ℕ) (least : ℕ) → Found places mask from found least → Found places mask place found least
+skipped places mask from place is None least none = λ k lt marked. ⊎_elim
+    (λ (low : k < from). none k low marked)
+    (λ (high : from ≤ k). let zero = is.none k high lt in absurd (omega (arith, zero, marked)))
+    (cases_lt k from)
+skipped places mask from place is (Some at) least so_far = record {
+  here = let h = so_far.here in let b = is.behind in omega (arith, h, b);
+  marked = so_far.marked;
+  used = so_far.used;
+  taken = so_far.taken;
+  id_is = so_far.id_is;
+  least = λ other its lt marked its_is. ⊎_elim
+      (λ (low : other < from). so_far.least other its low marked its_is)
+      (λ (high : from ≤ other). let zero = is.none other high lt in absurd (omega (arith, zero, marked)))
+      (cases_lt other from);
+}
+
+-- ---- of a mask, the places that are taken
+
+-- Both bits are set where the bit of both is.
+both : (a b k : ℕ) → bit_at (bit_and a b) k ≡ 1 → (bit_at a k ≡ 1) × (bit_at b k ≡ 1)
+both a b k one =
+    let is = bit_at_and a b k in
+    let x = bit_at-lt a k in
+    let y = bit_at-lt b k in
+    (omega (arith, one, is, x, y), omega (arith, one, is, x, y))
+
+module _ (places : List (Option Use)) (mask marks : ℕ) (are : IsMask places marks) where
+  pub of_taken : (place : ℕ) → IsEarliestOf places (bit_and mask marks) place → IsEarliestOf places mask place
+  of_taken place is = record {
+    small = is.small;
+    marked = (both mask marks place is.marked).0;
+    used = is.used;
+    taken = is.taken;
+    least = λ other its lt marked its_is. is.least other its lt (one other marked (in_mask other its lt its_is)) its_is;
+  }
+    where
+      in_mask : (other : ℕ) (its : Use) → other < 32 → get_or places other None ≡ Some its → bit_at marks other ≡ 1
+      in_mask other its lt its_is = (are other lt).1 (subst IsSome (sym its_is) refl)
+
+      one : (k : ℕ) → bit_at mask k ≡ 1 → bit_at marks k ≡ 1 → bit_at (bit_and mask marks) k ≡ 1
+      one k a b = let is = bit_at_and mask marks k in omega (arith, a, b, is)
+
+  pub none_of_taken : ((place : ℕ) → place < 32 → bit_at (bit_and mask marks) place ≡ 1 → get_or places place None ≡ None)
+      → (place : ℕ) → place < 32 → bit_at mask place ≡ 1 → get_or places place None ≡ None
+  none_of_taken none place lt marked = by (get_or places place None) refl
+    where
+      by : (used : Option Use) → get_or places place None ≡ used → get_or places place None ≡ None
+      by None is = is
+      by (Some its) is =
+          let m = (are place lt).1 (subst IsSome (sym is) refl) in
+          let e = bit_at_and mask marks place in
+          none place lt (omega (arith, marked, m, e))

@@ -105,7 +105,7 @@ impl Slots {
         ensures found { IfSome result (λ slot. IsEarliest self.now mask slot.0) }
         ensures none { IfNone result ((slot : ℕ) → slot < 32 → bit_at mask slot ≡ 1 → use_at self.now slot ≡ None) }
     {
-        let place = earliest_of(&self.places, mask)?;
+        let place = earliest_of(&self.places, mask & self.taken)?;
         Some(Slot(place))
     }
 
@@ -148,16 +148,19 @@ fn earliest_of(places: &[Option<Use>], mask: u32) -> Option<u8>
 {
     let mut earliest = None;
     let mut least = RequestId(0);
-    for place in 0..32u8 {
-        let left = mask >> place;
+    let mut past = 0u32;
+    while past < 32 {
+        let left = mask >> past;
         if left == 0 {
             return earliest;
         }
+        let place = past + left.trailing_zeros();
+        past = place + 1;
         let Some(used) = places[place as usize] else {
             continue;
         };
-        if left & 1 == 1 && (earliest.is_none() || used.id.0 < least.0) {
-            earliest = Some(place);
+        if earliest.is_none() || used.id.0 < least.0 {
+            earliest = Some(place as u8);
             least = used.id;
         }
     }

@@ -5,7 +5,7 @@ ghost use Rattle.request_queue.specs.Entries.{IsFresh};
 use ata_types::{ClientId, Op, Port, Range, RequestId, Sector};
 use block_machine::Mode;
 use dma_frames::FrameTable;
-use request_queue::{Book, Entry};
+use request_queue::{Book, DueIds, Entry};
 use std::process::Abort;
 use std::test::Fail;
 
@@ -64,7 +64,8 @@ fn due_as_wanted(book: &Book, usable: u8) -> bool {
         usable: usable.min(32),
     };
     for port in 0..4u8 {
-        let due = book.issuable(mode, Port(port));
+        let mut due = DueIds::new();
+        book.issuable(mode, Port(port), &mut due);
         let mut place = 0;
         for turn in 0..32 {
             let id = RequestId(4 * turn as u64 + u64::from(port) + 1);

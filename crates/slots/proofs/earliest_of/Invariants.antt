@@ -1,5 +1,12 @@
+use Rattle.std.proofs.Common.{◌-◌, ◌≤◌}
 use Rattle.slots.proofs.Earliest.{Found}
 use Rattle.slots.proofs.earliest_of.Given as goal
 
-abbrev pub invariant-loop-place : goal.invariant-loop-place
-invariant-loop-place l = Found l.places l.mask l.place l.earliest l.least.0
+abbrev pub invariant-loop-past : goal.invariant-loop-past
+invariant-loop-past l = record {
+  within : l.past ≤ 32;
+  found : Found l.places l.mask l.past l.earliest l.least.0;
+}
+
+abbrev pub decreases-loop-past : goal.decreases-loop-past
+decreases-loop-past l = 32 - l.past

@@ -2,6 +2,7 @@ use Rattle.std.proofs.Common.{◌≡◌, ◌++◌, List, [], ◌∷◌, refl, sy
 use Rattle.std.specs.List.{Contains}
 use Rattle.ata_types.specs.declared.request.Reply.{Reply}
 use Rattle.ata_types.specs.declared.request.RequestId.{RequestId}
+use Rattle.dma_frames.specs.Loan.{Lending}
 use Rattle.dma_frames.specs.Table.{Table, LendsOnly}
 use Rattle.request_queue.specs.Entries.{Held, IsAccepted, requeued, without}
 use Rattle.request_queue.specs.Fates.{MeetsFate, fate_of, keeps_loan, reply_to}
@@ -11,6 +12,10 @@ use Rattle.block_server.specs.Fates.{HavePlaces, IsSound, holding}
 use Rattle.block_server.proofs.Settling.{again, ends_back, ends_kept, kept_issued, left_each, may_go_again, places_kept, places_left, shorter, sound_back}
 use Rattle.block_server.proofs.fates.settle_one.Goals as goal
 use Rattle.block_server.proofs.fates.settle_one.Goals.{then-keeps_loan, else-keeps_loan}
+
+-- what was taken out is the request's, with its frames
+whole : (taken request : Held) → taken ≡ request → record { entry = request.entry; frames = taken.frames } ≡ request
+whole taken request left = (λ i. record { entry = ap (λ (h : Held). h.entry) (sym left) i; frames = taken.frames }) ∙ left
 
 pub keep-requires : goal.keep-requires
 keep-requires c =
@@ -46,23 +51,27 @@ returns-after-keeps_loan-clause-meets c = λ request here its.
     let entry : request.entry ≡ c.request-entry.result = ap (λ (h : Held). h.entry) (sym same) ∙ r.2 in
     let outcome = c.in-Ends.outcome in
     let fate = ap (fate_of c.args.failed.now c.args.prospect) entry ∙ sym c.fate.ensures ∙ c.in-Ends.is in
-    let loan = c.answer-loan.result.1 in
-    let taken : Held = record { entry = c.answer-loan.result.0; frames = loan.frames } in
-    let left : taken ≡ request = one taken request c.requires.sound.ordered c.answer-loan.ensures.entry here (c.answer-loan.ensures.id.0 ∙ sym its) in
-    let its_loan : Held = record { entry = request.entry; frames = loan.frames } in
-    let whole : its_loan ≡ request = (λ i. record { entry = ap (λ (h : Held). h.entry) (sym left) i; frames = loan.frames }) ∙ left in
-    let whose = c.answer-loan.ensures.id.1 ∙ sym its in
-    let rest = c.answer-loan.ensures.rest ∙ ap (λ (i : RequestId). without i c.args.book.now) (sym its) in
     let keeps = ap (keeps_loan outcome) entry ∙ sym c.keeps_loan.ensures in
-    let reply : record { id = c.args.id; client = c.request-entry.result.client; outcome = outcome } ≡ reply_to request outcome = (λ i. record { id = sym its i; client = ap (λ (e : Entry). e.client) (sym entry) i; outcome = outcome }) in (
+    let reply : record { id = c.args.id; client = c.request-entry.result.client; outcome = outcome } ≡ reply_to request outcome = (λ i. record { id = sym its i; client = ap (λ (e : Entry). e.client) (sym entry) i; outcome = outcome }) in
+    let named = ap (λ (i : RequestId). without i c.args.book.now) (sym its) in
+    let table = c.if-keeps_loan.table in
+    let kept = c.if-keeps_loan.kept in (
       reply_to request outcome ∷ [],
       c.push.ensures.items ∙ ap (λ (x : Reply). c.args.replies.now.items ++ x ∷ []) reply,
       elim c.if-keeps_loan.branch [
-        | then-keeps_loan w ↦ ends_kept request outcome c.args.book.now c.answer-loan.new.self c.args.table.now c.if-keeps_loan.table c.args.kept.now c.if-keeps_loan.kept loan whole whose rest
-            (fate_of c.args.failed.now c.args.prospect request.entry) fate (keeps ∙ w.if-keeps_loan.true) (w.kept-is ∙ w.keep.ensures) w.table-is
-        | else-keeps_loan w ↦ ends_back request outcome c.args.book.now c.answer-loan.new.self c.args.table.now c.if-keeps_loan.table c.args.kept.now c.if-keeps_loan.kept loan whole whose rest
-            (fate_of c.args.failed.now c.args.prospect request.entry) fate (keeps ∙ w.if-keeps_loan.false) w.kept-is
-            (subst (λ (table : Table). LendsOnly c.args.table.now table loan.frames None) (sym w.table-is) w.give_back.ensures)
+        | then-keeps_loan w ↦
+            let loan = w.answer-loan.result.1 in
+            let taken : Held = record { entry = w.answer-loan.result.0; frames = loan.frames } in
+            let left : taken ≡ request = one taken request c.requires.sound.ordered w.answer-loan.ensures.entry here (w.answer-loan.ensures.id.0 ∙ sym its) in
+            ends_kept request outcome c.args.book.now c.if-keeps_loan.book c.args.table.now table c.args.kept.now kept loan (whole taken request left) (w.answer-loan.ensures.id.1 ∙ sym its)
+            (w.book-is ∙ w.answer-loan.ensures.rest ∙ named) (fate_of c.args.failed.now c.args.prospect request.entry) fate (keeps ∙ w.if-keeps_loan.true) (w.kept-is ∙ w.keep.ensures) w.table-is
+        | else-keeps_loan w ↦
+            let e = w.release.ensures.entry in
+            let left : e.0 ≡ request = one e.0 request c.requires.sound.ordered e.1 here (ap (λ (x : Entry). x.id) e.2 ∙ e.3 ∙ sym its) in
+            let loan : Lending = record { frames = e.0.frames; request = request.entry.id } in
+            ends_back request outcome c.args.book.now c.if-keeps_loan.book c.args.table.now table c.args.kept.now kept loan (whole e.0 request left) refl
+            (w.book-is ∙ w.release.ensures.rest ∙ named) (fate_of c.args.failed.now c.args.prospect request.entry) fate (keeps ∙ w.if-keeps_loan.false) w.kept-is
+            (subst (λ (table : Table). LendsOnly c.args.table.now table loan.frames None) (sym w.table-is) e.4)
       ],
     )
 
@@ -83,7 +92,11 @@ returns-in-GoesAgain-clause-sound c =
 
 pub returns-after-keeps_loan-clause-others : goal.returns-after-keeps_loan-clause-others
 returns-after-keeps_loan-clause-others c = λ e here ne.
-    subst (λ (book : List Held). Contains book e) (sym c.answer-loan.ensures.rest) ((c.operations_change_one_request.ensures.answered c.args.book.now c.args.id e).1 (here, ne))
+    let left = (c.operations_change_one_request.ensures.answered c.args.book.now c.args.id e).1 (here, ne) in
+    elim c.if-keeps_loan.branch [
+      | then-keeps_loan w ↦ subst (λ (book : List Held). Contains book e) (sym (w.book-is ∙ w.answer-loan.ensures.rest)) left
+      | else-keeps_loan w ↦ subst (λ (book : List Held). Contains book e) (sym (w.book-is ∙ w.release.ensures.rest)) left
+    ]
 
 pub returns-after-keeps_loan-clause-places : goal.returns-after-keeps_loan-clause-places
 returns-after-keeps_loan-clause-places c = λ request rest here its places.
@@ -93,29 +106,32 @@ returns-after-keeps_loan-clause-places c = λ request rest here its places.
     let keeps = ap (keeps_loan c.in-Ends.outcome) entry ∙ sym c.keeps_loan.ensures in
     elim c.if-keeps_loan.branch [
       | then-keeps_loan w ↦ subst (HavePlaces rest) (sym (w.kept-is ∙ w.keep.ensures))
-          (places_kept request rest c.args.kept.now c.answer-loan.result.1 (kept_issued c.in-Ends.outcome request.entry (keeps ∙ w.if-keeps_loan.true)) places)
+          (places_kept request rest c.args.kept.now w.answer-loan.result.1 (kept_issued c.in-Ends.outcome request.entry (keeps ∙ w.if-keeps_loan.true)) places)
       | else-keeps_loan w ↦ subst (HavePlaces rest) (sym w.kept-is) (places_left request rest c.args.kept.now places)
     ]
 
 pub returns-after-keeps_loan-clause-sound : goal.returns-after-keeps_loan-clause-sound
 returns-after-keeps_loan-clause-sound c =
     let sound = c.requires.sound in
-    let taken : Held = record { entry = c.answer-loan.result.0; frames = c.answer-loan.result.1.frames } in
-    let rest = c.answer-loan.ensures.rest in
     let left = c.operations_change_one_request.ensures.answered c.args.book.now c.args.id in
     let ordered = c.the_book_stays_in_order.ensures.answered c.args.book.now c.args.id sound.ordered in
     elim c.if-keeps_loan.branch [
-      | then-keeps_loan w ↦ subst (λ (table : Table). IsSound table c.answer-loan.new.self) (sym w.table-is) (subst (IsSound c.args.table.now) (sym rest) (record {
+      | then-keeps_loan w ↦ subst (λ (table : Table). IsSound table c.if-keeps_loan.book) (sym w.table-is) (subst (IsSound c.args.table.now) (sym (w.book-is ∙ w.answer-loan.ensures.rest)) (record {
         ordered = ordered;
         accepted = left_each c.args.id c.args.book.now left (IsAccepted c.args.table.now) sound.accepted;
       }))
-      | else-keeps_loan w ↦ subst (λ (table : Table). IsSound table c.answer-loan.new.self) (sym w.table-is)
-          (sound_back c.args.id c.args.book.now c.answer-loan.new.self taken c.args.table.now w.give_back.new.self c.accepted_requests_stay.ensures.answered ordered sound.accepted c.answer-loan.ensures.entry c.answer-loan.ensures.id.0 w.give_back.ensures rest)
+      | else-keeps_loan w ↦
+          let e = w.release.ensures.entry in
+          subst (λ (table : Table). IsSound table c.if-keeps_loan.book) (sym w.table-is)
+          (sound_back c.args.id c.args.book.now c.if-keeps_loan.book e.0 c.args.table.now w.release.new.table c.accepted_requests_stay.ensures.answered ordered sound.accepted e.1 (ap (λ (x : Entry). x.id) e.2 ∙ e.3) e.4 (w.book-is ∙ w.release.ensures.rest))
     ]
 
 pub returns-after-keeps_loan-clause-room : goal.returns-after-keeps_loan-clause-room
 returns-after-keeps_loan-clause-room c =
     let n = c.push.ensures.len in
     let r = c.requires.room in
-    let f = shorter c.args.id c.args.book.now c.answer-loan.new.self (record { entry = c.answer-loan.result.0; frames = c.answer-loan.result.1.frames }) c.answer-loan.ensures.entry c.answer-loan.ensures.id.0 c.answer-loan.ensures.rest in
-    omega (arith, n, r, f)
+    let q = c.requires.here in
+    elim c.if-keeps_loan.branch [
+      | then-keeps_loan w ↦ let f = shorter c.args.id c.args.book.now c.if-keeps_loan.book q.0 q.1 q.2 (w.book-is ∙ w.answer-loan.ensures.rest) in omega (arith, n, r, f)
+      | else-keeps_loan w ↦ let f = shorter c.args.id c.args.book.now c.if-keeps_loan.book q.0 q.1 q.2 (w.book-is ∙ w.release.ensures.rest) in omega (arith, n, r, f)
+    ]

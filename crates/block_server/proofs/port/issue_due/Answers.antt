@@ -20,9 +20,9 @@ loop-place-init g c =
     let l = c.requires.lends.1 in
     let order : IsInOrder book = subst IsInOrder l.book_is l.kept.ordered in
     record {
-      rest = λ s new k e. subst (λ (x : Server). IssuesEach port c.issuable-due.result.items x new) (sending.lent_same s device book slots port c.args.mode k) e;
+      rest = λ s new k e. subst (λ (x : Server). IssuesEach port c.issuable.new.due.items x new) (sending.lent_same s device book slots port c.args.mode k) e;
       lends = λ s k. sending.lent_on_from s device book slots port c.args.mode k device book slots (subst IsKept (sym (sending.lent_same s device book slots port c.args.mode k)) k.kept);
-      turns = subst (λ (ids : List RequestId). AreDueInTurn c.args.mode port ids (asks_of book)) (sym c.issuable-due.ensures)
+      turns = subst (λ (ids : List RequestId). AreDueInTurn c.args.mode port ids (asks_of book)) (sym c.issuable.ensures)
           (c.due_in_turn.ensures c.args.mode port (asks_of book) (c.the_book_stays_in_order.ensures.asks book order));
       many = refl;
       same = λ _. refl;
@@ -37,7 +37,7 @@ issue_one-requires-clause-lends g c =
 pub issue_one-requires-clause-due : goal.issue_one-requires-clause-due
 issue_one-requires-clause-due g c =
     let T : List RequestId → Type 0 = λ ids. sending.IsTurn c.loop-place.book c.args.port c.args.mode (get_or ids c.loop-place.place (record { 0 = 0 })) in
-    subst T (sym c.deref.ensures.0) (sending.next_due c.loop-place.book c.args.port c.args.mode c.issuable-due.result.items c.loop-place.place (record { 0 = 0 }) (let low = c.loop-place-test.true in let e = c.len-place-end.ensures.value in omega (arith, low, e)) c.loop-place.invariant.turns)
+    subst T (sym c.deref.ensures.0) (sending.next_due c.loop-place.book c.args.port c.args.mode c.issuable.new.due.items c.loop-place.place (record { 0 = 0 }) (let low = c.loop-place-test.true in let e = c.len-place-end.ensures.value in omega (arith, low, e)) c.loop-place.invariant.turns)
 
 pub loop-place-preserved : goal.loop-place-preserved
 loop-place-preserved g c =
@@ -48,7 +48,7 @@ loop-place-preserved g c =
     let later = c.issue_one.new.book in
     let used = c.issue_one.new.slots in
     let port = c.args.port in
-    let ids = c.issuable-due.result.items in
+    let ids = c.issuable.new.due.items in
     let place = c.loop-place.place in
     let so_far = c.loop-place.invariant in
     let D : List RequestId → Type 0 = λ xs. (s : Server) → Lends s now book slots port c.args.mode → IssuesOne port (get_or xs place (record { 0 = 0 })) s (with_part s then later used port) in
@@ -87,11 +87,11 @@ pub returns-clause-issues : goal.returns-clause-issues
 returns-clause-issues g c = λ s l.
     let now = g.A.Adapter.device c.loop-place.adapter in
     let port = c.args.port in
-    let ids = c.issuable-due.result.items in
+    let ids = c.issuable.new.due.items in
     let p : Server = with_part s now c.loop-place.book c.loop-place.slots port in
     let none : drop c.loop-place.place ids ≡ [] = drop_all c.loop-place.place ids (let h = c.loop-place-test.false in let e = c.len-place-end.ensures.value in omega (arith, h, e)) in
     let M : Mode → Type 0 = λ mode. IssuesEach port (due_ids mode port (asks_of s.book)) s p in
-    subst M (sym l.mode_is) (subst (λ (xs : List RequestId). IssuesEach port xs s p) (c.issuable-due.ensures ∙ ap (λ (b : List Held). due_ids c.args.mode port (asks_of b)) (sym l.book_is))
+    subst M (sym l.mode_is) (subst (λ (xs : List RequestId). IssuesEach port xs s p) (c.issuable.ensures ∙ ap (λ (b : List Held). due_ids c.args.mode port (asks_of b)) (sym l.book_is))
     (c.loop-place.invariant.rest s p l (subst (λ (xs : List RequestId). IssuesEach port xs p p) (sym none) refl)))
 
 pub returns-clause-none : goal.returns-clause-none
@@ -101,6 +101,6 @@ pub returns-clause-each : goal.returns-clause-each
 returns-clause-each g c =
     let low = c.loop-place-test.false in
     let e = c.len-place-end.ensures.value in
-    let ids = ap length c.issuable-due.ensures in
+    let ids = ap length c.issuable.ensures in
     let many = length-map (due_of c.args.mode c.args.port (asks_of c.args.book.now)) (λ r. r.id) in
     omega (arith, low, c.loop-place.invariant.cost, e, ids, many)

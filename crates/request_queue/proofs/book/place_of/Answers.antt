@@ -1,13 +1,64 @@
-use Rattle.std.proofs.Common.{ℕ, ◌≡◌, ◌<◌, ◌≤◌, ◌+◌, ◌-◌, ◌/◌, [], get_or, ap, ◌∙◌, arith, ⊎_elim}
+use Rattle.std.proofs.Common.{List, Some, length, map, ◌≢◌, ℕ, ◌≡◌, ◌<◌, ◌≤◌, ◌+◌, ◌-◌, ◌/◌, [], get_or, ap, subst, ◌∙◌, arith, ⊎_elim}
 use Rattle.std.proofs.lemmas.Bool.{cases_eq, cases_lt}
+use Rattle.std.proofs.lemmas.List.{get_or_default}
 use Rattle.std.proofs.lemmas.Option.{slice_get-get_or}
-use Rattle.request_queue.specs.Entries.{Held}
+use Rattle.std.specs.List.{AllPairs, slice_get}
+use Rattle.ata_types.specs.declared.request.RequestId.{RequestId}
+use Rattle.request_queue.specs.Entries.{Held, IsEarlier}
 use Rattle.request_queue.specs.declared.Entry.{Entry}
 use Rattle.request_queue.proofs.Changing.{request_is}
 use Rattle.request_queue.proofs.book.place_of.Goals as goal
 
-pub loop-past-preserved-then-request-id : goal.loop-past-preserved-then-request-id
-loop-past-preserved-then-request-id c = record {
+-- where the last one has no later id, it has this one
+last_is : (es : List Held) (last : ℕ) (r : Entry) (id : RequestId) → AllPairs IsEarlier es → last + 1 ≡ length es → slice_get (map (λ (e : Held). e.entry) es) last ≡ Some r
+    → (k : ℕ) (d : Held) → k < length es → (get_or es k d).entry.id.0 ≡ id.0 → r.id.0 ≤ id.0 → k ≡ last
+last_is es last r id ordered long is k d lt its low = ⊎_elim
+    (λ same. same)
+    (λ (other : k ≢ last).
+    let rise = ordered k last d (omega (arith, lt, long, other)) (omega (arith, long)) in
+    let at = ap (λ (x : Entry). x.id.0) (request_is es last r d is) in
+    absurd (omega (arith, rise, at, its, low)))
+    (cases_eq k last)
+
+-- its id, whatever stands where nothing is
+its : (es : List Held) (e : Held) (id : RequestId) (k : ℕ) → k < length es → get_or es k e ≡ e → e.entry.id ≡ id → (d : Held) → (get_or es k d).entry.id.0 ≡ id.0
+its es e id k lt here named d = ap (λ (x : Held). x.entry.id.0) (get_or_default es k d e lt ∙ here) ∙ ap (λ (i : RequestId). i.0) named
+
+pub loop-past-init : goal.loop-past-init
+loop-past-init c =
+    let e = c.requires.unanswered in
+    let long = c.len-last.ensures in
+    let here = e.1.1 in
+    let last = c.len-last.result - 1 in
+    let id = its c.args.store.now e.0 c.args.id e.1.0 e.1.1 e.1.2 e.2 in
+    let before : e.1.0 < last = ⊎_elim
+    (λ (same : e.1.0 ≡ last).
+    let at = ap (λ (x : Entry). x.id.0) (request_is c.args.store.now last c.request.result e.0 c.request.ensures) in
+    let mine = ap (λ (n : ℕ). (get_or c.args.store.now n e.0).entry.id.0) same in
+    let i = id e.0 in
+    let high = c.if-request-id.false in absurd (omega (arith, at, mine, i, high)))
+    (λ (other : e.1.0 ≢ last). omega (arith, here, long, other))
+    (cases_eq e.1.0 last) in
+    record {
+      within = omega (arith, long);
+      place = (e.1.0, omega arith, before, id);
+    }
+
+pub returns-then-request-id : goal.returns-then-request-id
+returns-then-request-id c =
+    let e = c.requires.unanswered in
+    let es = c.args.store.now in
+    let long = c.len-last.ensures in
+    let here = e.1.1 in
+    let last = c.len-last.result - 1 in
+    let is : e.1.0 ≡ last = last_is es last c.request.result c.args.id c.requires.ordered (omega (arith, long, here)) c.request.ensures e.1.0 e.0 e.1.1 (its es e.0 c.args.id e.1.0 e.1.1 e.1.2 e.2 e.0) c.if-request-id.true in (
+      e.0,
+      subst (λ (n : ℕ). slice_get es n ≡ Some e.0) is (slice_get-get_or es e.1.0 e.0 e.1.1 ∙ ap (λ (x : Held). Some x) e.1.2),
+      e.2,
+    )
+
+pub loop-past-preserved-then-request-id-2 : goal.loop-past-preserved-then-request-id-2
+loop-past-preserved-then-request-id-2 c = record {
   within = c.loop-past.invariant.within;
   place = (k, not_before, x.2, x.3);
 }
@@ -22,12 +73,12 @@ loop-past-preserved-then-request-id c = record {
     middle = c.loop-past.first + (c.loop-past.past - c.loop-past.first) / 2
 
     d : Held
-    d = record { entry = c.request.result; frames = [] }
+    d = record { entry = c.request-in-loop-past.result; frames = [] }
 
     here : (get_or c.args.store.now middle d).entry.id.0 ≤ c.args.id.0
     here =
-        let same = ap (λ (r : Entry). r.id.0) (request_is c.args.store.now middle c.request.result d c.request.ensures) in
-        let low = c.if-request-id.true in omega (arith, same, low)
+        let same = ap (λ (r : Entry). r.id.0) (request_is c.args.store.now middle c.request-in-loop-past.result d c.request-in-loop-past.ensures) in
+        let low = c.if-request-id-2.true in omega (arith, same, low)
 
     -- one before the middle has a lower id than it
     not_before : middle ≤ k
@@ -56,12 +107,12 @@ loop-past-preserved c = record {
     middle = c.loop-past.first + (c.loop-past.past - c.loop-past.first) / 2
 
     d : Held
-    d = record { entry = c.request.result; frames = [] }
+    d = record { entry = c.request-in-loop-past.result; frames = [] }
 
     high : c.args.id.0 < (get_or c.args.store.now middle d).entry.id.0
     high =
-        let same = ap (λ (r : Entry). r.id.0) (request_is c.args.store.now middle c.request.result d c.request.ensures) in
-        let more = c.if-request-id.false in omega (arith, same, more)
+        let same = ap (λ (r : Entry). r.id.0) (request_is c.args.store.now middle c.request-in-loop-past.result d c.request-in-loop-past.ensures) in
+        let more = c.if-request-id-2.false in omega (arith, same, more)
 
     -- one from the middle on has no lower id than it
     before : k < middle

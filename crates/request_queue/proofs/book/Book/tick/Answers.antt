@@ -6,5 +6,5 @@ use Rattle.request_queue.proofs.book.Book.tick.Goals as goal
 pub invariant_of-self : goal.invariant_of-self
 invariant_of-self c =
     let ports = is_among c.args.ports.now in
-    parts_stay (older ports) (older_spares ports) c.self.inside.store c.age.new.store c.age.ensures
+    parts_stay (older ports) (older_spares ports) c.self.inside.store c.age.new.store c.age.ensures.older
     c.self.inside.sectors c.self.inside.holders.items c.self.inside.counts c.self.inside.flushes.items c.self.invariant

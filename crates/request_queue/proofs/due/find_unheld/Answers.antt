@@ -12,8 +12,8 @@ use Rattle.request_queue.specs.Walk.{is_issued_alone}
 use Rattle.request_queue.specs.Store.{asks_at, blank}
 use Rattle.request_queue.proofs.Holding.{a_holder, no_holder}
 use Rattle.request_queue.proofs.Own.{one_in, one_out, counted_more, any_more}
-use Rattle.request_queue.proofs.due.unheld_places.Goals as goal
-use Rattle.request_queue.proofs.due.unheld_places.Goals.{then-is_none+then-asks-port, then-is_none+else-asks-port, else-is_none}
+use Rattle.request_queue.proofs.due.find_unheld.Goals as goal
+use Rattle.request_queue.proofs.due.find_unheld.Goals.{then-is_none+then-asks-port, then-is_none+else-asks-port, else-is_none}
 
 one_at_most : (b : Bool) → cond {A = ℕ} b 1 0 ≤ 1
 one_at_most true = omega arith

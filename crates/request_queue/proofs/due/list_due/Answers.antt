@@ -11,8 +11,8 @@ use Rattle.request_queue.specs.Entries.{asks_of}
 use Rattle.request_queue.specs.Store.{asks_at}
 use Rattle.request_queue.proofs.Own.{unheld_in_order, reached, own_at, own_free, own_due, as_long}
 use Rattle.request_queue.proofs.Walk.{due_test, steps_on, has_all, has_room}
-use Rattle.request_queue.proofs.due.due.Goals as goal
-use Rattle.request_queue.proofs.due.due.Goals.{then-goes, else-goes}
+use Rattle.request_queue.proofs.due.list_due.Goals as goal
+use Rattle.request_queue.proofs.due.list_due.Goals.{then-goes, else-goes}
 
 -- a test that fails, and so do its parts
 or_false : (a b : Bool) → (a || b) ≡ false → a ≡ false
@@ -29,12 +29,12 @@ queued_more mode book i r at here before k d lt = elim (cases_eq k i) [
 pub returns-then-ends : goal.returns-then-ends
 returns-then-ends c =
     let all = asks_of c.args.store.now in
-    let book = asks_at c.args.store.now c.unheld_places-places.result.0.items in
-    let is = c.unheld_places-places.ensures.unheld in
+    let book = asks_at c.args.store.now c.find_unheld-issued.new.places.items in
+    let is = c.find_unheld-issued.ensures.unheld in
     let ordered = unheld_in_order c.args.port all book is c.requires.ordered in
     let mine = own_at c.args.port all book is c.loop-number.number c.nth-asks.result c.nth-asks.ensures in
-    let clear = c.is_clear-clear.ensures book (reached c.args.port all book is c.requires.ordered c.args.mode c.loop-number.number c.nth-asks.result c.nth-asks.ensures c.loop-number.invariant.queued) c.unheld_places-places.ensures.issued in
-    let free = own_free c.args.port all book is c.args.mode c.free_slots-free.result (c.free_slots-free.ensures ∙ ap (λ (n : ℕ). c.args.mode.usable - n) c.unheld_places-places.ensures.issued.0) in
+    let clear = c.is_clear-clear.ensures book (reached c.args.port all book is c.requires.ordered c.args.mode c.loop-number.number c.nth-asks.result c.nth-asks.ensures c.loop-number.invariant.queued) c.find_unheld-issued.ensures.issued in
+    let free = own_free c.args.port all book is c.args.mode c.free_slots-free.result (c.free_slots-free.ensures ∙ ap (λ (n : ℕ). c.args.mode.usable - n) c.find_unheld-issued.ensures.issued.0) in
     let so_far =
     steps_on c.earlier_ones_stand_before.ensures c.slots_by_due.ensures c.args.mode c.args.port book ordered c.loop-number.number c.nth-asks.result c.nth-asks.ensures mine
     c.loop-number.due.items c.loop-number.invariant.so_far c.len.result c.free_slots-free.result c.len.ensures.value free c.if-goes.due.items c.goes.result (c.goes.ensures ∙ ap (λ (b : Bool). b && (is_plain c.args.mode c.nth-asks.result.op || nat_lt c.len.result c.free_slots-free.result)) clear)
@@ -46,12 +46,12 @@ returns-then-ends c =
 pub loop-number-preserved : goal.loop-number-preserved
 loop-number-preserved c =
     let all = asks_of c.args.store.now in
-    let book = asks_at c.args.store.now c.unheld_places-places.result.0.items in
-    let is = c.unheld_places-places.ensures.unheld in
+    let book = asks_at c.args.store.now c.find_unheld-issued.new.places.items in
+    let is = c.find_unheld-issued.ensures.unheld in
     let ordered = unheld_in_order c.args.port all book is c.requires.ordered in
     let mine = own_at c.args.port all book is c.loop-number.number c.nth-asks.result c.nth-asks.ensures in
-    let clear = c.is_clear-clear.ensures book (reached c.args.port all book is c.requires.ordered c.args.mode c.loop-number.number c.nth-asks.result c.nth-asks.ensures c.loop-number.invariant.queued) c.unheld_places-places.ensures.issued in
-    let free = own_free c.args.port all book is c.args.mode c.free_slots-free.result (c.free_slots-free.ensures ∙ ap (λ (n : ℕ). c.args.mode.usable - n) c.unheld_places-places.ensures.issued.0) in
+    let clear = c.is_clear-clear.ensures book (reached c.args.port all book is c.requires.ordered c.args.mode c.loop-number.number c.nth-asks.result c.nth-asks.ensures c.loop-number.invariant.queued) c.find_unheld-issued.ensures.issued in
+    let free = own_free c.args.port all book is c.args.mode c.free_slots-free.result (c.free_slots-free.ensures ∙ ap (λ (n : ℕ). c.args.mode.usable - n) c.find_unheld-issued.ensures.issued.0) in
     let small = has_room c.args.mode c.args.port book c.nth-asks.result c.len-in-loop-number.result c.free_slots-free.result free c.requires.usable (sym c.ends.ensures ∙ c.if-ends.false) in
     record {
       so_far = steps_on c.earlier_ones_stand_before.ensures c.slots_by_due.ensures c.args.mode c.args.port book ordered c.loop-number.number c.nth-asks.result c.nth-asks.ensures mine
@@ -64,8 +64,8 @@ loop-number-preserved c =
 pub returns : goal.returns
 returns c =
     let all = asks_of c.args.store.now in
-    let book = asks_at c.args.store.now c.unheld_places-places.result.0.items in
-    let long : length book ≤ c.loop-number.number = omega (arith, as_long c.args.store.now c.unheld_places-places.result.0.items, c.loop-number-test.false, c.len-number-end.ensures.value) in
-    own_due c.args.port all book c.unheld_places-places.ensures.unheld c.args.mode c.loop-number.due.items
+    let book = asks_at c.args.store.now c.find_unheld-issued.new.places.items in
+    let long : length book ≤ c.loop-number.number = omega (arith, as_long c.args.store.now c.find_unheld-issued.new.places.items, c.loop-number-test.false, c.len-number-end.ensures.value) in
+    own_due c.args.port all book c.find_unheld-issued.ensures.unheld c.args.mode c.loop-number.due.items
     (c.loop-number.invariant.so_far
     ∙ ap (λ (rs : List Unanswered). map (λ (r : Unanswered). r.id) (filter (due_test c.args.mode c.args.port book) rs)) (take_all c.loop-number.number book long))

@@ -4,7 +4,7 @@ use Rattle.request_queue.specs.Entries.{asks_of}
 use Rattle.request_queue.specs.Holders.{has_holder}
 use Rattle.request_queue.specs.Walk.{is_issued_alone}
 use Rattle.request_queue.specs.Store.{asks_at}
-use Rattle.request_queue.proofs.due.unheld_places.Given as goal
+use Rattle.request_queue.proofs.due.find_unheld.Given as goal
 
 abbrev pub invariant-loop-place : goal.invariant-loop-place
 invariant-loop-place l = record {

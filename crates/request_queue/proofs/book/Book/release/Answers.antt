@@ -1,0 +1,44 @@
+use Rattle.std.proofs.Common.{◌∙◌, List, ap, sym, subst, arith}
+use Rattle.std.specs.List.{Contains}
+use Rattle.std.proofs.lemmas.Option.{slice_get_within, get_or_from_slice_get}
+use Rattle.request_queue.specs.Entries.{Held, without}
+use Rattle.request_queue.proofs.Beside as beside
+use Rattle.request_queue.proofs.Changing.{there}
+use Rattle.request_queue.proofs.book.Book.release.Goals as goal
+
+pub take_beside-requires-clause-place : goal.take_beside-requires-clause-place
+take_beside-requires-clause-place c = let found = c.place_of-place.ensures in slice_get_within c.self.inside.store c.place_of-place.result found.0 found.1
+
+pub take_beside-requires-clause-beside : goal.take_beside-requires-clause-beside
+take_beside-requires-clause-beside c =
+    beside.parts_beside c.self.inside.store c.self.inside.sectors c.self.inside.flushes.items c.self.inside.holders.items c.self.inside.counts c.self.invariant
+
+pub invariant_of-self : goal.invariant_of-self
+invariant_of-self c =
+    let found = c.place_of-place.ensures in
+    let it = c.take_beside in
+    let room = it.ensures in
+    let had = c.self.invariant in
+    beside.parts_less c.self.inside.store c.place_of-place.result c.args.id found.0 had.0 found.1 found.2 c.release.new.self c.release.ensures.rest
+    it.new.sectors it.new.flushes.items it.new.holders.items it.new.counts it.ensures.beside
+    (let a = room.holders in let b = had.3 in omega (arith, a, b)) (let a = room.flushes in let b = had.6 in omega (arith, a, b))
+
+pub returns-clause-entry : goal.returns-clause-entry
+returns-clause-entry c =
+    let found = c.place_of-place.ensures in
+    let its = c.release.ensures.entry in
+    let store = c.self.inside.store in
+    let place = c.place_of-place.result in
+    let same = sym (get_or_from_slice_get store place its.0 its.0 its.1) ∙ get_or_from_slice_get store place found.0 its.0 found.1 in (
+      its.0,
+      subst (λ (es : List Held). Contains es its.0) c.self.view_is (there store place its.0 its.1),
+      its.2,
+      sym (ap (λ e. e.id) its.2) ∙ (ap (λ (e : Held). e.entry.id) same ∙ found.2),
+      its.3,
+    )
+
+pub returns-clause-rest : goal.returns-clause-rest
+returns-clause-rest c =
+    let found = c.place_of-place.ensures in
+    beside.is_without c.self.inside.store c.place_of-place.result c.args.id found.0 c.self.invariant.0 found.1 found.2 c.release.new.self c.release.ensures.rest
+    ∙ ap (λ (es : List Held). without c.args.id es) c.self.view_is
