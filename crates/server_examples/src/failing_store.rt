@@ -4,21 +4,19 @@ ghost use Rattle.sector_store.specs.Stores.{FailsOn};
 
 use sector_store::{Failures, MemStore, SectorStore};
 
-/// Sectors in memory, of whose calls one fails.
+/// A call of a store that fails, once others have come.
 #[derive(Drop)]
-pub struct FailingStore {
-    memory: MemStore,
+pub struct FailingCall {
     /// Calls on sectors that are there, before the one that fails.
     before: u64,
     /// For contracts alone.
     failed: Failures,
 }
 
-impl FailingStore {
-    /// One whose next call on a sector that is there fails, once so many have come.
-    pub fn new(memory: MemStore, before: u64) -> FailingStore {
-        FailingStore {
-            memory,
+impl FailingCall {
+    /// The next call on a sector that is there fails, once so many have come.
+    pub fn new(before: u64) -> FailingCall {
+        FailingCall {
             before,
             failed: Failures {
                 calls: 0,
@@ -29,8 +27,7 @@ impl FailingStore {
     }
 
     /// Whether this call on a sector that is there fails. It is noted then.
-    fn fails(&mut self, is_write: bool, sector: u64) -> bool
-        ensures memory { self.new.memory ≡ self.old.memory }
+    pub fn fails(&mut self, is_write: bool, sector: u64) -> bool
         ensures serves { result ≡ false → self.new.failed ≡ self.old.failed }
         ensures fails { result ≡ true → FailsOn is_write sector (Some self.old.failed) (Some self.new.failed) }
     {
@@ -38,13 +35,37 @@ impl FailingStore {
         // No other one fails.
         self.before = self.before.wrapping_sub(1);
         if fails {
-            self.failed = Failures {
-                calls: self.failed.calls.wrapping_add(1),
-                sector,
-                is_write,
-            };
+            self.fail(is_write, sector);
         }
         fails
+    }
+
+    /// Notes that this call on a sector that is there fails.
+    pub fn fail(&mut self, is_write: bool, sector: u64)
+        ensures { FailsOn is_write sector (Some self.old.failed) (Some self.new.failed) }
+    {
+        self.failed = Failures {
+            calls: self.failed.calls.wrapping_add(1),
+            sector,
+            is_write,
+        };
+    }
+}
+
+/// Sectors in memory, of whose calls one fails.
+#[derive(Drop)]
+pub struct FailingStore {
+    memory: MemStore,
+    failing: FailingCall,
+}
+
+impl FailingStore {
+    /// One whose next call on a sector that is there fails, once so many have come.
+    pub fn new(memory: MemStore, before: u64) -> FailingStore {
+        FailingStore {
+            memory,
+            failing: FailingCall::new(before),
+        }
     }
 }
 
@@ -53,7 +74,7 @@ impl SectorStore for FailingStore {
 
     ghost told = { λ s. ⟦<MemStore as SectorStore>⟧.told s.memory };
 
-    ghost failures = { λ s. Some s.failed };
+    ghost failures = { λ s. Some s.failing.failed };
 
     ghost tells_sectors = { λ s. s.memory.are_sectors };
 
@@ -64,14 +85,14 @@ impl SectorStore for FailingStore {
     }
 
     fn read(&mut self, sector: u64, out: &mut [u8; 512]) -> bool {
-        if sector < self.memory.sectors() && self.fails(false, sector) {
+        if sector < self.memory.sectors() && self.failing.fails(false, sector) {
             return false;
         }
         self.memory.read(sector, out)
     }
 
     fn write(&mut self, sector: u64, bytes: &[u8; 512]) -> bool {
-        if sector < self.memory.sectors() && self.fails(true, sector) {
+        if sector < self.memory.sectors() && self.failing.fails(true, sector) {
             return false;
         }
         self.memory.write(sector, bytes)

@@ -2,33 +2,33 @@
 // clear sectors.
 use crate::failing_store::FailingStore;
 use crate::lists::image_of_numbers;
-use crate::servers::{CACHED, OF_ALL_SECTORS, QUEUED, UNQUEUED};
+use crate::servers::{CACHED, QUEUED, UNQUEUED};
 use play::{Ended, play};
-use sector_store::MemStore;
+use sector_store::{MemStore, SectorStore};
 use std::alloc::Global;
 use std::test::Fail;
 
 /// Sectors that a request has the disk read, write or clear, one call each, and what it leaves in each byte of them.
-struct Calls {
-    request: u64,
-    first: u64,
-    count: u64,
-    left: Option<u8>,
+pub struct Calls {
+    pub request: u64,
+    pub first: u64,
+    pub count: u64,
+    pub left: Option<u8>,
     /// The session where one of the calls fails, if more of it is another one than what the request is told.
-    failed: Option<&'static str>,
+    pub failed: Option<&'static str>,
 }
 
 /// A worked case: its configuration, the sectors of its disk, its session, in the form of examples/cases, how many
 /// requests it has, and the calls of the disk in their order.
-struct Case<'a> {
-    text: &'a str,
-    sectors: u32,
-    session: &'a str,
-    requests: u64,
-    calls: &'a [Calls],
+pub struct Case<'a> {
+    pub text: &'a str,
+    pub sectors: u32,
+    pub session: &'a str,
+    pub requests: u64,
+    pub calls: &'a [Calls],
 }
 
-const CASES: [Case<'static>; 12] = [
+const CASES: [Case<'static>; 11] = [
     Case {
         text: QUEUED,
         sectors: 356,
@@ -469,98 +469,17 @@ state Ready
             failed: None,
         }],
     },
-    // The last sector of a trim, and the one behind it, are looked at.
-    Case {
-        text: OF_ALL_SECTORS,
-        sectors: 70_000,
-        session: "> trim 1 0 1000 65536
-ok 1
-> dev finish 0 0
-did
-> service
-reply 1 Ok
-> state 0
-state Ready
-> read 1 0 66535 2 76
-ok 2
-> dev finish 0 0
-did
-> service
-reply 2 Ok
-> state 0
-state Ready
-> load 1 76 511 2
-bytes 00e8
-",
-        requests: 2,
-        calls: &[
-            Calls {
-                request: 1,
-                first: 1000,
-                count: 65_536,
-                left: Some(0),
-                failed: Some(
-                    "> trim 1 0 1000 65536
-ok 1
-> dev finish 0 0
-did
-> service
-reply 1 DeviceError 41 40
-> state 0
-state Ready
-> read 1 0 66535 2 76
-ok 2
-> dev finish 0 0
-did
-> service
-reply 2 Ok
-> state 0
-state Ready
-> load 1 76 511 2
-bytes e7e8
-",
-                ),
-            },
-            Calls {
-                request: 2,
-                first: 66_535,
-                count: 2,
-                left: None,
-                failed: Some(
-                    "> trim 1 0 1000 65536
-ok 1
-> dev finish 0 0
-did
-> service
-reply 1 Ok
-> state 0
-state Ready
-> read 1 0 66535 2 76
-ok 2
-> dev finish 0 0
-did
-> service
-reply 2 DeviceError 41 40
-> state 0
-state Ready
-> load 1 76 511 2
-bytes 0000
-",
-                ),
-            },
-        ],
-    },
 ];
 
 /// Sectors that are looked at once a case was played.
 const LOOKED_AT: u64 = 32;
 
 /// The number of a call that doesn't come.
-const NEVER: u64 = u64::MAX;
+pub const NEVER: u64 = u64::MAX;
 
 impl Case<'_> {
     /// How many calls there are.
-    fn count(&self) -> u64 {
+    pub fn count(&self) -> u64 {
         self.calls
             .iter()
             .fold(0, |count: u64, calls| count.saturating_add(calls.count))
@@ -650,32 +569,30 @@ impl Case<'_> {
     }
 }
 
-/// Whether a call's failure is tried: of thousands the first two, each 16,381st, and the last three.
-fn is_tried(call: u64, count: u64) -> bool {
-    count <= 100 || call < 2 || call % 16_381 == 0 || call.saturating_add(3) >= count
+/// Whether a case is told as it is to be, over a disk of which a call fails.
+pub fn is_told<S: SectorStore>(
+    alloc: Global,
+    case: &Case,
+    failing: u64,
+    image: S,
+    blank: S,
+) -> Result<bool, Fail> {
+    let script = case.script(alloc)?;
+    let wanted = case.printed(alloc, failing)?;
+    let (text, script) = (case.text.as_bytes(), script.as_str().as_bytes());
+    let mut printed = Vec::new(alloc);
+    let ended = play(alloc, text, script, image, blank, false, &mut printed).ended;
+    Ok(ended == Ended::Done && printed.as_slice() == wanted.as_str().as_bytes())
 }
 
 #[test]
 fn a_call_that_fails_is_told_to_its_request(rt: HostRuntime) -> Result<(), Fail> {
     for case in &CASES {
-        let script = case.script(rt.alloc())?;
-        let count = case.count();
-        for failing in (0..count).chain([NEVER]) {
-            if failing < count && !is_tried(failing, count) {
-                continue;
-            }
+        for failing in (0..case.count()).chain([NEVER]) {
             let image = FailingStore::new(image_of_numbers(rt.alloc(), case.sectors)?, failing);
             let blank = FailingStore::new(MemStore::new(rt.alloc(), 0)?, 0);
-            let mut printed = Vec::new(rt.alloc());
-            let (text, script) = (case.text.as_bytes(), script.as_str().as_bytes());
-            let ended = play(rt.alloc(), text, script, image, blank, false, &mut printed).ended;
-            let wanted = case.printed(rt.alloc(), failing)?;
-            assert_eq!(rt; ended, Ended::Done);
-            assert!(rt;
-                printed.as_slice() == wanted.as_str().as_bytes(),
-                "{}, call {failing}",
-                case.session
-            );
+            let told = is_told(rt.alloc(), case, failing, image, blank)?;
+            assert!(rt; told, "{}, call {failing}", case.session);
         }
     }
     Ok(())

@@ -15,6 +15,10 @@ pub mod histories;
 #[cfg(test)]
 mod lists;
 #[cfg(test)]
+mod longest_trim;
+#[cfg(test)]
+mod numbered_store;
+#[cfg(test)]
 mod outputs;
 #[cfg(test)]
 mod plans;

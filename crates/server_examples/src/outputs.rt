@@ -1,4 +1,4 @@
-// Outputs that fail while a script is played.
+// Outputs that fail, or are interrupted, while a script is played.
 use play::{Ended, play};
 use sector_store::MemStore;
 use std::alloc::{AllocError, Global};
@@ -34,22 +34,34 @@ impl io::Write for Narrow {
     }
 }
 
-/// How the play of a script ends whose output takes so many bytes.
-fn ended(alloc: Global, script: &[u8], room: usize) -> Result<Ended, AllocError> {
+/// An output that takes two bytes at a time, and of which a signal interrupts each other write.
+#[derive(Drop)]
+struct Interrupted {
+    is_next: bool,
+    taken: usize,
+}
+
+impl io::Write for Interrupted {
+    fn write(&mut self, bytes: &[u8]) -> io::Result<usize> {
+        self.is_next = !self.is_next;
+        if !self.is_next {
+            return Err(io::Error::from(io::ErrorKind::Interrupted));
+        }
+        let taken = bytes.len().min(2);
+        self.taken = self.taken.saturating_add(taken);
+        Ok(taken)
+    }
+
+    fn flush(&mut self) -> io::Result<()> {
+        Ok(())
+    }
+}
+
+/// How the play of a script ends that is printed to this output.
+fn ended<W: io::Write>(alloc: Global, script: &[u8], out: &mut W) -> Result<Ended, AllocError> {
     let image = MemStore::new(alloc, 8)?;
     let blank = MemStore::new(alloc, 0)?;
-    Ok(
-        play(
-            alloc,
-            SETTINGS,
-            script,
-            image,
-            blank,
-            false,
-            &mut Narrow { room },
-        )
-        .ended,
-    )
+    Ok(play(alloc, SETTINGS, script, image, blank, false, out).ended)
 }
 
 // Two lines have 12 bytes.
@@ -61,10 +73,22 @@ fn an_output_that_fails_ends_the_run(rt: HostRuntime) -> Result<(), Fail> {
         } else {
             Ended::Done
         };
-        let told = ended(rt.alloc(), b"service\nservice\n", room)?;
+        let told = ended(rt.alloc(), b"service\nservice\n", &mut Narrow { room })?;
         assert_eq!(rt; told, wanted, "{room} bytes");
-        let told = ended(rt.alloc(), b"service\nserve\n", room)?;
+        let told = ended(rt.alloc(), b"service\nserve\n", &mut Narrow { room })?;
         assert_eq!(rt; told, Ended::Line(2), "{room} bytes");
     }
+    Ok(())
+}
+
+#[test]
+fn an_interrupted_write_is_made_again(rt: HostRuntime) -> Result<(), Fail> {
+    let mut out = Interrupted {
+        is_next: true,
+        taken: 0,
+    };
+    let told = ended(rt.alloc(), b"service\nservice\n", &mut out)?;
+    assert_eq!(rt; told, Ended::Done);
+    assert_eq!(rt; out.taken, 12);
     Ok(())
 }

@@ -1,0 +1,148 @@
+// A disk of which one call fails, each in turn, while as many sectors are trimmed as one request may.
+use crate::failing_stores::{Calls, Case, NEVER, is_told};
+use crate::numbered_store::NumberedStore;
+use crate::servers::OF_ALL_SECTORS;
+use std::alloc::Global;
+use std::process::Abort;
+use std::test::Fail;
+
+/// The longest trim. Its last sector, and the one behind it, are looked at.
+const LONGEST_TRIM: Case<'static> = Case {
+    text: OF_ALL_SECTORS,
+    sectors: 70_000,
+    session: "> trim 1 0 1000 65536
+ok 1
+> dev finish 0 0
+did
+> service
+reply 1 Ok
+> state 0
+state Ready
+> read 1 0 66535 2 76
+ok 2
+> dev finish 0 0
+did
+> service
+reply 2 Ok
+> state 0
+state Ready
+> load 1 76 511 2
+bytes 00e8
+",
+    requests: 2,
+    calls: &[
+        Calls {
+            request: 1,
+            first: 1000,
+            count: 65_536,
+            left: Some(0),
+            failed: Some(
+                "> trim 1 0 1000 65536
+ok 1
+> dev finish 0 0
+did
+> service
+reply 1 DeviceError 41 40
+> state 0
+state Ready
+> read 1 0 66535 2 76
+ok 2
+> dev finish 0 0
+did
+> service
+reply 2 Ok
+> state 0
+state Ready
+> load 1 76 511 2
+bytes e7e8
+",
+            ),
+        },
+        Calls {
+            request: 2,
+            first: 66_535,
+            count: 2,
+            left: None,
+            failed: Some(
+                "> trim 1 0 1000 65536
+ok 1
+> dev finish 0 0
+did
+> service
+reply 1 Ok
+> state 0
+state Ready
+> read 1 0 66535 2 76
+ok 2
+> dev finish 0 0
+did
+> service
+reply 2 DeviceError 41 40
+> state 0
+state Ready
+> load 1 76 511 2
+bytes 0000
+",
+            ),
+        },
+    ],
+};
+
+/// How many tests share the calls of the longest trim.
+const PARTS: u64 = 8;
+
+/// Each `PARTS`th call of the trim fails, from one on, and then none.
+fn calls_of_the_longest_trim_fail(alloc: Global, rt: &impl Abort, part: u64) -> Result<(), Fail> {
+    let case = &LONGEST_TRIM;
+    let count = case.count();
+    for failing in (0..count)
+        .filter(|call| call % PARTS == part)
+        .chain([NEVER])
+    {
+        let image = NumberedStore::new(u64::from(case.sectors), 1000, failing);
+        let blank = NumberedStore::new(0, 0, 0);
+        let told = is_told(alloc, case, failing, image, blank)?;
+        assert!(rt; told, "call {failing}");
+    }
+    Ok(())
+}
+
+#[test]
+fn a_call_of_the_longest_trim_fails_first_part(rt: HostRuntime) -> Result<(), Fail> {
+    calls_of_the_longest_trim_fail(rt.alloc(), &rt, 0)
+}
+
+#[test]
+fn a_call_of_the_longest_trim_fails_second_part(rt: HostRuntime) -> Result<(), Fail> {
+    calls_of_the_longest_trim_fail(rt.alloc(), &rt, 1)
+}
+
+#[test]
+fn a_call_of_the_longest_trim_fails_third_part(rt: HostRuntime) -> Result<(), Fail> {
+    calls_of_the_longest_trim_fail(rt.alloc(), &rt, 2)
+}
+
+#[test]
+fn a_call_of_the_longest_trim_fails_fourth_part(rt: HostRuntime) -> Result<(), Fail> {
+    calls_of_the_longest_trim_fail(rt.alloc(), &rt, 3)
+}
+
+#[test]
+fn a_call_of_the_longest_trim_fails_fifth_part(rt: HostRuntime) -> Result<(), Fail> {
+    calls_of_the_longest_trim_fail(rt.alloc(), &rt, 4)
+}
+
+#[test]
+fn a_call_of_the_longest_trim_fails_sixth_part(rt: HostRuntime) -> Result<(), Fail> {
+    calls_of_the_longest_trim_fail(rt.alloc(), &rt, 5)
+}
+
+#[test]
+fn a_call_of_the_longest_trim_fails_seventh_part(rt: HostRuntime) -> Result<(), Fail> {
+    calls_of_the_longest_trim_fail(rt.alloc(), &rt, 6)
+}
+
+#[test]
+fn a_call_of_the_longest_trim_fails_eighth_part(rt: HostRuntime) -> Result<(), Fail> {
+    calls_of_the_longest_trim_fail(rt.alloc(), &rt, 7)
+}
