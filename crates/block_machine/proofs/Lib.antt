@@ -25,5 +25,4 @@ pub mod DueTests
 pub mod Turns
 pub mod Alone
 pub mod Stepping
-pub mod Calm
 pub mod Ruled

@@ -4,7 +4,7 @@ use Rattle.ata_types.specs.declared.Port.{Port}
 use Rattle.ata_types.specs.declared.request.ClientId.{ClientId}
 use Rattle.ata_types.specs.declared.request.Frame.{Frame}
 use Rattle.ata_types.specs.declared.request.Op.{Op}
-use Rattle.ata_types.specs.declared.request.Op.TheVariants.{Read, Write, Trim, Flush}
+use Rattle.ata_types.specs.declared.request.Op.TheVariants.{Read, Write, Flush}
 use Rattle.ata_types.specs.declared.grant.GrantRow.{GrantRow}
 use Rattle.ata_types.specs.Grant.{Allows, Covers}
 use Rattle.ata_types.specs.declared.limits.TheConstants.{MOST_UNANSWERED}
@@ -47,8 +47,7 @@ pub record KeepsRules (m : Machine) (r : Accepted) : Type 0 where
 abbrev pub MovesBytes : Op → Type 0
 MovesBytes Read = Unit {0}
 MovesBytes Write = Unit {0}
-MovesBytes Trim = ⊥
-MovesBytes Flush = ⊥
+MovesBytes _ = ⊥
 
 -- A sector of a request that is touched: the request was accepted, the sector is one of its own, and the frame of its
 -- place is lent to it.

@@ -5,7 +5,7 @@ use Rattle.std.specs.List.{list_any}
 use Rattle.ata_types.specs.declared.Port.{Port}
 use Rattle.ata_types.specs.declared.range.Range.{Range}
 use Rattle.ata_types.specs.declared.request.Op.{Op}
-use Rattle.ata_types.specs.declared.request.Op.TheVariants.{Read, Write, Trim, Flush}
+use Rattle.ata_types.specs.declared.request.Op.TheVariants.{Write, Trim, Flush}
 use Rattle.ata_types.specs.declared.request.RequestId.{RequestId}
 use Rattle.ata_types.specs.Range.{range_end}
 use Rattle.block_machine.specs.declared.due.Mode.{Mode}
@@ -13,17 +13,14 @@ use Rattle.block_machine.specs.declared.due.Unanswered.{Unanswered}
 
 -- the operation is a flush
 abbrev pub is_flush : Op → Bool
-is_flush Read = false
-is_flush Write = false
-is_flush Trim = false
 is_flush Flush = true
+is_flush _ = false
 
 -- the operation changes sectors
 abbrev pub is_writer : Op → Bool
-is_writer Read = false
 is_writer Write = true
 is_writer Trim = true
-is_writer Flush = false
+is_writer _ = false
 
 -- the ranges have a sector in common
 abbrev pub overlap : Range → Range → Bool
@@ -37,10 +34,9 @@ conflict a b = a.port.0 == b.port.0
 
 -- trims and flushes are plain, and so are reads and writes where commands aren't queued
 abbrev pub is_plain : Mode → Op → Bool
-is_plain mode Read = not mode.queued
-is_plain mode Write = not mode.queued
 is_plain mode Trim = true
 is_plain mode Flush = true
+is_plain mode _ = not mode.queued
 
 -- the one was accepted before the other, on the same port
 abbrev pub is_earlier : Unanswered → Unanswered → Bool

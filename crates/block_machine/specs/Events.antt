@@ -91,10 +91,8 @@ GivesUp _ = ⊥
 abbrev pub IsServers : {D : Type 0} → Ask D → Ports → Step → Type 0
 IsServers (Submit r) ports (Accept new) = new.asked ≡ r
 IsServers (Submit r) ports (Issue mode e) = (ports.state e.request.port ≡ Ready) × (ports.mode e.request.port ≡ mode)
-IsServers (StoreAt client frame offset bytes) ports (Store c f o b) = (c ≡ client) × (f ≡ frame) × (o ≡ offset)
-    × (b ≡ bytes)
-IsServers (LoadAt client frame offset count) ports (Load c f o b) = (c ≡ client) × (f ≡ frame) × (o ≡ offset)
-    × (length b ≡ count)
+IsServers (StoreAt client frame at bytes) ports (Store c f o b) = (c ≡ client) × (f ≡ frame) × (o ≡ at) × (b ≡ bytes)
+IsServers (LoadAt client frame at n) ports (Load c f o b) = (c ≡ client) × (f ≡ frame) × (o ≡ at) × (length b ≡ n)
 IsServers Service ports (Issue mode e) = (ports.state e.request.port ≡ Ready) × (ports.mode e.request.port ≡ mode)
 IsServers Service ports (Again e) = ports.state e.request.port ≡ Ready
 IsServers Service ports (Answer e o) = Unit {0}
@@ -296,11 +294,6 @@ abbrev pub AnswersEnded : Machine → List Step → Port → Type 0
 AnswersEnded old steps port = (e : Pending) → Contains old.book e → e.request.port ≡ port → e.ended ≡ true
     → (done : Pending) × (done.request ≡ e.request) × Contains steps (Answer done outcome.Ok)
 
--- each answer to a request of the port is Ok, or this one
-abbrev pub AreTold : Outcome → List Step → Port → Type 0
-AreTold told steps port = (e : Pending) (o : Outcome) → Contains steps (Answer e o) → e.request.port ≡ port
-    → (o ≡ outcome.Ok) ⊎ (o ≡ told)
-
 -- Where a request is answered Unplugged, no request of its port is left unanswered, and none is answered PortDead.
 pub record UnplugsAll (steps : List Step) (new : Machine) : Type 0 where
   pub emptied : (e other : Pending) → Contains steps (Answer e outcome.Unplugged) → Contains new.book other
@@ -362,27 +355,14 @@ abbrev pub TellsDead : Moment → List Step → Type 0
 TellsDead old steps = (e : Pending) (o : Outcome) → Contains steps (Answer e o) → old.ports.state e.request.port ≡ Dead
     → o ≡ outcome.PortDead
 
--- requests wait again, are aborted, are told Revoked, or have a fault told of them, on ports that failed
-abbrev pub AllGrounded : Evidence → List Step → Type 0
-AllGrounded evidence [] = Unit {0}
-AllGrounded evidence (Again e ∷ before) = AllGrounded evidence before × Contains evidence.failed e.request.port
-AllGrounded evidence (Answer e outcome.Aborted ∷ before) = AllGrounded evidence before
-    × Contains evidence.failed e.request.port
-AllGrounded evidence (Answer e outcome.Revoked ∷ before) = AllGrounded evidence before
-    × Contains evidence.failed e.request.port
-AllGrounded evidence (Answer e (outcome.DeviceError status error) ∷ before) = AllGrounded evidence before
-    × Contains evidence.failed e.request.port
-AllGrounded evidence (step ∷ before) = AllGrounded evidence before
-
--- What a service says and does. It tells dead ports; it lets requests wait again, aborts them, tells them Revoked, or
--- tells faults of them, where something failed; where it tells one of a port's requests Unplugged, it leaves none of
--- that port's unanswered; it issues what is due; it leaves no request unanswered where the port isn't ready; it makes
--- of each port what it may; and one that it changed shows a disk only where one was in.
+-- What a service says and does. It tells dead ports; where it tells one of a port's requests Unplugged, it leaves none
+-- of that port's unanswered; it issues what is due; it leaves no request unanswered where the port isn't ready; it
+-- makes of each port what it may; and one that it changed shows a disk only where one was in. (What it makes of
+-- trouble, the crate that knows the device says.)
 pub record AnswersService (old : Moment) (evidence : Evidence) (steps : List Step) (replies : List Reply)
     (new : Moment) : Type 0 where
   pub tells : Tells steps replies
   pub dead : TellsDead old steps
-  pub grounded : AllGrounded evidence steps
   pub unplugs : UnplugsAll steps new.machine
   pub issues : AllIssued new
   pub emptied : (port : Port) → IsEmptied new port
@@ -467,55 +447,6 @@ IsAnswered (Device step) (Stepped true) old evidence steps new = AllDevices step
 IsAnswered (Device step) (Stepped false) old evidence steps new = (steps ≡ []) × SamePorts old.ports new.ports
 IsAnswered ask said old evidence steps new = ⊥
 
--- ---- what a service makes of trouble
-
--- the port failed, or its link had told of a change when the call began, or a disk goes or comes in it
-abbrev pub IsDisturbed : Evidence → List Step → Port → Type 0
-IsDisturbed evidence steps port = Contains evidence.failed port ⊎ Contains evidence.gone port
-    ⊎ (list_any (changes_disk port) steps ≡ true)
-
--- the step tells a fault of a request of the port
-abbrev pub tells_fault : Port → Step → Bool
-tells_fault port (Answer e (outcome.DeviceError status error)) = e.request.port.0 == port.0
-tells_fault port _ = false
-
--- Nothing interrupts the port: it stays what it is, and nothing but Ok is told.
-pub record IsLeftAlone (old : Ports) (evidence : Evidence) (steps : List Step) (new : Ports)
-    (port : Port) : Type 0 where
-  pub same : SamePort old new port
-  pub told : AreTold outcome.Ok steps port
-  pub uninterrupted : IsInterrupted evidence port → ⊥
-
--- What a service owes a port that was ready when it began. What had ended is answered Ok. Where the port's link had
--- told of a change, all its requests are answered, and those that aren't Ok are all told Unplugged, or all PortDead.
--- Where that is so, or it failed, the port is stopped, or gets stuck. Where it failed or was stopped, no request keeps
--- its issue. One fault is told at most, and none where an error was fatal, which is a failure, too. It shows a disk
--- after the call only where one was in. And where nothing disturbs it, the port is left alone. (That it is what it was
--- unless it was interrupted, `IsServiced` has of each port.)
-pub record ServesReady (old : Moment) (evidence : Evidence) (steps : List Step) (new : Moment)
-    (port : Port) : Type 0 where
-  pub ended : AnswersEnded old.machine steps port
-  pub emptied : Contains evidence.gone port → (e : Pending) → Contains new.machine.book e → e.request.port ≢ port
-  pub told : Contains evidence.gone port → AreTold outcome.Unplugged steps port ⊎ AreTold outcome.PortDead steps port
-  pub interrupts : Contains evidence.failed port ⊎ Contains evidence.gone port → IsInterrupted evidence port
-  pub anew : Contains evidence.failed port ⊎ Contains evidence.stopped port → NoneKeepsIssue steps new.machine port
-  pub single : count_by (tells_fault port) steps ≤ 1
-  pub fatal : Contains evidence.fatal port → Contains evidence.failed port × (count_by (tells_fault port) steps ≡ 0)
-  pub disk : HadDisk old steps new port
-  pub calm : IsDisturbed evidence steps port ⊎ IsLeftAlone old.ports evidence steps new.ports port
-
--- A call heeds what it finds of a port: a service serves one that was ready when it began. A tick and a reset are bound
--- by what they answer; and no other call stops a port, or gets one stuck.
-abbrev pub HeedsAt : {D : Type 0} → Port → Ask D → Moment → Evidence → List Step → Moment → Type 0
-HeedsAt port Service old evidence steps new = old.ports.state port ≡ Ready → ServesReady old evidence steps new port
-HeedsAt port Tick old evidence steps new = Unit {0}
-HeedsAt port Reset old evidence steps new = Unit {0}
-HeedsAt port ask old evidence steps new = IsInterrupted evidence port → ⊥
-
--- a call heeds what it finds of each port
-abbrev pub Heeds : {D : Type 0} → Ask D → Moment → Evidence → List Step → Moment → Type 0
-Heeds ask old evidence steps new = (port : Port) → HeedsAt port ask old evidence steps new
-
 -- ---- events, and runs of them
 
 -- the moment after the event
@@ -531,7 +462,6 @@ pub record Happens {D : Type 0} (old : Moment) (event : Event D) : Type 0 where
   pub fit : AreFit event.ports
   pub disks : KeepsDisks old (moment_after old event)
   pub answered : IsAnswered event.ask event.said old event.evidence event.steps (moment_after old event)
-  pub heeds : Heeds event.ask old event.evidence event.steps (moment_after old event)
 
 -- the moment after a run of events
 abbrev pub moment_of : {D : Type 0} → Moment → List (Event D) → Moment

@@ -56,8 +56,7 @@ IsCount Flush n = n ≡ 0
 abbrev pub frames_for : Op → ℕ → ℕ
 frames_for Read n = (n + 7) / 8
 frames_for Write n = (n + 7) / 8
-frames_for Trim n = 0
-frames_for Flush n = 0
+frames_for _ n = 0
 
 -- the frame at place i isn't the client's: another client's, or nobody's
 abbrev pub IsForeignAt : (Frame → Option ClientId) → ClientId → List Frame → ℕ → Type 0

@@ -7,7 +7,7 @@ use Rattle.ata_types.specs.declared.request.Frame.{Frame}
 use Rattle.ata_types.specs.declared.request.RequestId.{RequestId}
 use Rattle.ata_types.specs.declared.request.Request.{Request}
 use Rattle.ata_types.specs.declared.request.Op.{Op}
-use Rattle.ata_types.specs.declared.request.Op.TheVariants.{Read, Write, Trim, Flush}
+use Rattle.ata_types.specs.declared.request.Op.TheVariants.{Read, Write}
 use Rattle.ata_types.specs.declared.grant.GrantRow.{GrantRow}
 use Rattle.block_machine.specs.declared.due.Unanswered.{Unanswered}
 
@@ -98,13 +98,9 @@ pub record Machine : Type 0 where
 -- the operation moves sectors from the disk to frames
 abbrev pub is_reader : Op → Bool
 is_reader Read = true
-is_reader Write = false
-is_reader Trim = false
-is_reader Flush = false
+is_reader _ = false
 
 -- what a writer puts on its sector number i: its own bytes, or zeros
 abbrev pub written_by : Op → (ℕ → Block) → ℕ → Block
-written_by Read held i b = 0
 written_by Write held i b = held i b
-written_by Trim held i b = 0
-written_by Flush held i b = 0
+written_by _ held i b = 0

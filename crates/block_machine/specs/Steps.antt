@@ -7,7 +7,7 @@ use Rattle.ata_types.specs.declared.request.Frame.{Frame}
 use Rattle.ata_types.specs.declared.request.RequestId.{RequestId}
 use Rattle.ata_types.specs.declared.request.Op.TheVariants.{Write}
 use Rattle.ata_types.specs.declared.request.Outcome.{Outcome}
-use Rattle.ata_types.specs.declared.request.Outcome.TheVariants.{Ok, DeviceError, Aborted, Unplugged, PortDead, Revoked}
+use Rattle.ata_types.specs.declared.request.Outcome.TheVariants.{Aborted, PortDead, Revoked}
 use Rattle.ata_types.specs.declared.grant.GrantRow.{GrantRow}
 use Rattle.block_machine.specs.declared.due.Mode.{Mode}
 use Rattle.block_machine.specs.Rules.{IsNamed, BreaksNone, HasRow, without_row}
@@ -55,8 +55,7 @@ newly_accepted r = record { request = r; issues = 0; age = 0; issued = false; to
 
 -- the request issued once more: nothing touched, not ended, of age 0
 abbrev pub issue : Pending → Pending
-issue e =
-    record { request = e.request; issues = suc e.issues; age = 0; issued = true; touched = λ _. false; ended = false }
+issue e = record e { issues = suc e.issues; age = 0; issued = true; touched = λ _. false; ended = false }
 
 -- sector number i touched too
 abbrev pub touch : ℕ → Pending → Pending
@@ -118,12 +117,8 @@ memory_after r i block memory =
 
 -- a request that was issued and is answered PortDead is kept: the device may still move its sectors
 abbrev pub stays : Pending → Outcome → Bool
-stays e Ok = false
-stays e (DeviceError status error) = false
-stays e Aborted = false
-stays e Unplugged = false
 stays e PortDead = e.issued
-stays e Revoked = false
+stays e _ = false
 
 -- the machine after the step
 abbrev pub after_step : Machine → Step → Machine

@@ -18,12 +18,13 @@ use Rattle.adapter.specs.declared.tape.Entry.{Entry}
 use Rattle.agreement.specs.Acts.{InSlots}
 use Rattle.agreement.specs.Facts.{IsDisturbance, RunsWell, Undisturbed}
 use Rattle.agreement.specs.Slots.{ServesRequest}
-use Rattle.block_machine.specs.Events.{Ask, Said as MachineSaid, Service as AskService, Tick, Reset, RevokeOf, WasRevoked, Moment, EveryReadHolds, HeedsAt, IsAnswered, IsHung, IsRun, WasIssued, moment_after, steps_of}
+use Rattle.block_machine.specs.Events.{Ask, Said as MachineSaid, Service as AskService, Tick, Reset, RevokeOf, WasRevoked, Moment, EveryReadHolds, IsAnswered, IsHung, IsRun, WasIssued, moment_after, steps_of}
 use Rattle.block_machine.specs.Histories.{Happening, Instant, events_of, now}
 use Rattle.block_machine.specs.Ports.{AreFit, Evidence, Ports}
 use Rattle.block_machine.specs.State.{Pending}
 use Rattle.block_machine.specs.Steps.{AllTouched, Answer, Step}
 use Rattle.durability.specs.Durable.{EveryPlugFinds}
+use Rattle.driver_history.specs.Heeding.{HeedsAt}
 use Rattle.driver_history.specs.Claims.{AnswerRests, GoesWellFor, IsCalmlyTold, IsHealthyFor}
 use Rattle.driver_history.specs.Evidence.{StaysHealthy}
 use Rattle.driver_history.specs.Histories.{IsHistory}
@@ -38,7 +39,7 @@ use Rattle.identify.specs.declared.DiskInfo.{DiskInfo}
 use Rattle.identify.specs.declared.wanted.Wanted.{Wanted}
 use Rattle.server_history.specs.Histories.{AddsEvent, Leads}
 use Rattle.server_history.specs.Server.{is_served, ports_of, state_of}
-use Rattle.block_server.specs.Clients.{AreCalls, EachAfter, HoldsBetween, IsConfinedCall, IsInState, IsSeenAt}
+use Rattle.block_server.specs.Clients.{AreCalls, EachAfter, HoldsBetween, IsConfinedCall, IsInState, IsSeenAt, OutlivesUnplugs}
 use Rattle.block_server.specs.Made.{IsNew}
 use Rattle.block_server.specs.Promise.{IsServedWell, IsToldWell, Simulates, ServesPorts}
 use Rattle.block_server.specs.Running.{ask_of, said_of}
@@ -198,7 +199,7 @@ module _ (laws : HistoryLaws) where
   served_well wanted first past h port history healthy =
       let goes = laws.well wanted first past h port history healthy in
       let old = now first past in
-      let heeds = history.1.heeds port in (
+      let heeds = (history.2.port port).heeds in (
         goes,
         record {
           same = goes.spared.same;
@@ -233,10 +234,10 @@ module _ (laws : HistoryLaws) where
         to = seen_at device s first past leads;
         run = laws.run s.wanted first past leads.history;
         reads = laws.reads s.wanted first past leads.history;
-        lasts = laws.lasts s.wanted first past leads.history;
         begins = holds_between s.wanted (now first past) (holds_now s.wanted first past leads.history);
         confined = tt;
       };
+      disks = record { finds = laws.lasts s.wanted first past leads.history };
       driver = record { leads = leads; serves = tt; healthy = λ port ready stays spared. (tt, ready, stays.well) };
     }
 
@@ -274,10 +275,10 @@ module _ (laws : HistoryLaws) where
             to = seen_at device new first (h ∷ past) here;
             run = laws.run new.wanted first (h ∷ past) history;
             reads = laws.reads new.wanted first (h ∷ past) history;
-            lasts = laws.lasts new.wanted first (h ∷ past) history;
             begins = holds_between old.wanted (now first past) (holds_now old.wanted first past leads.history);
             confined = all_confined new.wanted first past (h ∷ []) history;
           };
+          disks = record { finds = laws.lasts new.wanted first (h ∷ past) history };
           driver = record {
             leads = here;
             serves = (
@@ -311,10 +312,10 @@ module _ (laws : HistoryLaws) where
             to = subst (λ (l : Calls). IsSeenAt (visible_of device new) (now first l)) whole b.clients.to;
             run = subst (λ (l : Calls). IsRun first.moment (events_of l)) whole b.clients.run;
             reads = subst (λ (l : Calls). first.device.telling ≡ true → EveryReadHolds first.moment (events_of l)) whole b.clients.reads;
-            lasts = subst (λ (l : Calls). first.device.telling ≡ true → EveryPlugFinds first.moment.machine (steps_of (events_of l))) whole b.clients.lasts;
             begins = a.clients.begins;
             confined = all_confined new.wanted first past (two ++ one) leads.history;
           };
+          disks = subst (OutlivesUnplugs first) whole b.disks;
           driver = record {
             leads = leads;
             serves = each_joined (ServesPorts first) past one two a.driver.serves b.driver.serves;

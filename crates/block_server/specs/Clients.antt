@@ -92,9 +92,9 @@ pub record IsConfinedCall (wanted : List Wanted) (first : Instant Device) (past 
 
 -- What is promised to clients of calls that asked that and said this, after a history from where the server was made.
 -- With them the history is a run of the block machine, which leads to the server as it is seen after them; in it each
--- read that was answered Ok has what was left, and each disk that comes back has the writes that were flushed, or later
--- ones, where the adapter's disks tell their sectors. And in each of the calls moves and clears keep to their places,
--- and before and after it there holds what holds between calls; the disks that are wanted stay so.
+-- read that was answered Ok has what was left, where the adapter's disks tell their sectors. And in each of the calls
+-- moves and clears keep to their places, and before and after it there holds what holds between calls; the disks that
+-- are wanted stay so.
 pub record ServesClients (first : Instant Device) (past added : List (Happening Device DeviceStep)) (old new : Visible)
     (asked : List (Ask DeviceStep)) (said : List Said) : Type 0 where
   pub calls : AreCalls added asked said
@@ -103,6 +103,11 @@ pub record ServesClients (first : Instant Device) (past added : List (Happening 
   pub to : IsSeenAt new (now first (added ++ past))
   pub run : IsRun first.moment (events_of (added ++ past))
   pub reads : first.device.telling ≡ true → EveryReadHolds first.moment (events_of (added ++ past))
-  pub lasts : first.device.telling ≡ true → EveryPlugFinds first.moment.machine (steps_of (events_of (added ++ past)))
   pub begins : HoldsBetween old.wanted (now first past)
   pub confined : EachAfter (IsConfinedCall new.wanted first) past added
+
+-- What is promised to clients of disks that are pulled out. Each disk that comes back into its port has, in each sector
+-- of a write or trim that a flush on it followed, what that left there, or a later one, where the adapter's disks tell
+-- their sectors.
+pub record OutlivesUnplugs (first : Instant Device) (calls : List (Happening Device DeviceStep)) : Type 0 where
+  pub finds : first.device.telling ≡ true → EveryPlugFinds first.moment.machine (steps_of (events_of calls))

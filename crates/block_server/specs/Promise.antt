@@ -1,4 +1,4 @@
--- What the calls of a list keep: a promise to clients, and one of the device (this project's own).
+-- What the calls of a list keep: two promises to clients, and one of the device (this project's own).
 use Rattle.std.specs.Prelude.{ℕ, true, false, ◌≡◌, ◌≢◌, List, ◌++◌, Contains, length, map}
 use Rattle.ata_types.specs.declared.Port.{Port}
 use Rattle.ata_types.specs.declared.PortState.TheVariants.{Ready}
@@ -20,7 +20,7 @@ use Rattle.driver_history.specs.Histories.{Issues}
 use Rattle.host_boot.specs.Taken.{found_of}
 use Rattle.server_history.specs.Histories.{Leads}
 use Rattle.server_history.specs.Server.{state_of}
-use Rattle.block_server.specs.Clients.{EachAfter, ServesClients}
+use Rattle.block_server.specs.Clients.{EachAfter, OutlivesUnplugs, ServesClients}
 use Rattle.block_server.specs.Running.{ask_of, said_of}
 use Rattle.block_server.specs.View.{ServerView, server_of, visible_of}
 use Rattle.block_server.specs.declared.types.Event.{Event}
@@ -63,12 +63,11 @@ pub record ServesPorts (first : Instant Device) (past : List (Happening Device D
 
 -- What is promised of the device. With these calls the history leads to the server after them: so `Ties` of
 -- driver_history has of each of them which accesses were made, what stands behind the evidence, that what is due was
--- issued, and of each port, ready or not, that the call did its part; and `heeds` of `Happens` that it heeded what the
--- evidence names. Each call serves the ports. And a port that is ready and runs well before the list, and on which
--- nothing goes wrong until its end (no fault, no fatal error, no disk that goes or comes), is served well by each of
--- its calls, and is ready and runs well after it, unless one of them is a reset, which boots each port, or a tick that
--- brings a request of the port to its age of three: that restarts the port, since nothing else tells that a request
--- hangs.
+-- issued, and of each port, ready or not, that the call did its part, and heeded what the evidence names. Each call
+-- serves the ports. And a port that is ready and runs well before the list, and on which nothing goes wrong until its
+-- end (no fault, no fatal error, no disk that goes or comes), is served well by each of its calls, and is ready and
+-- runs well after it, unless one of them is a reset, which boots each port, or a tick that brings a request of the port
+-- to its age of three: that restarts the port, since nothing else tells that a request hangs.
 pub record DrivesDevice {A : Type 0} (device : A → Device) (first : Instant Device)
     (past added : List (Happening Device DeviceStep))
     (old new : ServerView A) : Type 0 where
@@ -82,13 +81,14 @@ pub record DrivesDevice {A : Type 0} (device : A → Device) (first : Instant De
       × (state_of (found_of new.ports port.0) ≡ Ready) × RunsWell ((device new.adapter).port port.0)
 
 -- After a history that leads to the server before them, the calls of a list, which said this, add theirs: with what is
--- promised to clients, and of the device.
+-- promised to clients, of the calls and of disks that come back, and of the device.
 pub record KeepsPromise {A : Type 0} (device : A → Device) (first : Instant Device)
     (past : List (Happening Device DeviceStep))
     (old new : ServerView A) (events : List Event) (said : List Said) : Type 0 where
   pub added : List (Happening Device DeviceStep)
   pub clients : ServesClients first past added (visible_of device old) (visible_of device new) (map ask_of events)
       (map said_of said)
+  pub disks : OutlivesUnplugs first (added ++ past)
   pub driver : DrivesDevice device first past added old new
 
 -- So it is after each such history. (There is one since the server was made: `begun` of `IsNew`; and with the calls it

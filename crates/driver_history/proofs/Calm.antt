@@ -14,12 +14,13 @@ use Rattle.agreement.specs.Errors.{IsFatalOf}
 use Rattle.agreement.specs.Facts.{Undisturbed, IsDisturbance, IsFaultOf, ShowsNoTrouble}
 use Rattle.agreement.specs.Links.{IsPlugging}
 use Rattle.agreement.specs.Tape.{TellsAmong}
-use Rattle.block_machine.specs.Events.{Ask, Moment, Submit, StoreAt, LoadAt, Service, Tick, Reset, RevokeOf, State, Device as Told, Said, Submitted, Stored, Loaded, Served, WasReset, WasRevoked, Shown, Stepped, IsAnswered, IsDisturbed, IsHung, IsLeftAlone, RestartsHung, ServesReady, HeedsAt, Happens, changes_disk, moment_after}
+use Rattle.block_machine.specs.Events.{Ask, Moment, Submit, StoreAt, LoadAt, Service, Tick, Reset, RevokeOf, State, Device as Told, Said, Submitted, Stored, Loaded, Served, WasReset, WasRevoked, Shown, Stepped, IsAnswered, IsHung, RestartsHung, changes_disk, moment_after}
 use Rattle.block_machine.specs.Histories.{Instant, Happening}
 use Rattle.block_machine.specs.Ports.{Ports, Evidence, IsInterrupted}
 use Rattle.block_machine.specs.State.{Machine}
 use Rattle.block_machine.specs.Steps.{Step}
 use Rattle.identify.specs.declared.wanted.Wanted.{Wanted}
+use Rattle.driver_history.specs.Heeding.{IsDisturbed, IsLeftAlone, ServesReady, HeedsAt}
 use Rattle.driver_history.specs.Claims.{IsCalmlyTold, IsSpared}
 use Rattle.driver_history.specs.Evidence.{Gains, HasErrors, HasFatalErrors, IsEvidencedOf, IsGone, ShowsFailure, StaysHealthy}
 use Rattle.error_recovery.specs.Evidence.{GainsRunning, ShowsFatal}
@@ -129,7 +130,7 @@ module _ (port : Port) (old : Instant Device) (new : Device) (healthy : StaysHea
 
 -- ---- a call in which a port stays healthy
 
-module _ (told : EntryIsTold) (wanted : List Wanted) (old : Instant Device) (h : Happening Device DeviceStep) (happens : Happens old.moment h.event) (t : Ties wanted old h) (port : Port)
+module _ (told : EntryIsTold) (wanted : List Wanted) (old : Instant Device) (h : Happening Device DeviceStep) (t : Ties wanted old h) (port : Port)
     (healthy : StaysHealthy port.0 old.device h.device) where
   p : PortState
   p = old.device.port port.0
@@ -149,7 +150,7 @@ module _ (told : EntryIsTold) (wanted : List Wanted) (old : Instant Device) (h :
     serves : ServesReady old.moment h.event.evidence h.event.steps (moment_after old.moment h.event) port
     serves =
         let Heeded : Ask DeviceStep → Type 0 = λ ask. HeedsAt port ask old.moment h.event.evidence h.event.steps (moment_after old.moment h.event) in
-        let its : Heeded Service = subst Heeded asks (happens.heeds port) in
+        let its : Heeded Service = subst Heeded asks (t.port port).heeds in
         its ready
 
     alone : IsLeftAlone old.moment.ports h.event.evidence h.event.steps h.event.ports port
@@ -176,7 +177,7 @@ module _ (told : EntryIsTold) (wanted : List Wanted) (old : Instant Device) (h :
   no_interrupt (Told step) heeds other spares ready i = heeds i
 
   pub engine_left : h.event.ask ≢ Reset → (h.event.ask ≡ Tick → IsInterrupted h.event.evidence port → ⊥) → old.moment.ports.state port ≡ Ready → All (LeavesEngine port) t.accesses
-  engine_left other spares ready = ⊎_elim (λ a. a) (λ i. absurd (no_interrupt h.event.ask (happens.heeds port) other spares ready i)) ev.stopped_all
+  engine_left other spares ready = ⊎_elim (λ a. a) (λ i. absurd (no_interrupt h.event.ask (t.port port).heeds other spares ready i)) ev.stopped_all
 
 tick_restarts : (said : Said) (old : Moment) (evidence : Evidence) (steps : List Step) (new : Moment) → IsAnswered {D = DeviceStep} Tick said old evidence steps new → RestartsHung old evidence steps new
 tick_restarts (Served replies) old evidence steps new a = a.restarts

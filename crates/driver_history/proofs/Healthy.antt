@@ -79,11 +79,11 @@ module _ (told : EntryIsTold) (steps : KeepsWell) (wanted : List Wanted) (first 
     t = history.2
 
     engine : All (LeavesEngine port) t.accesses
-    engine = engine_left told wanted old h history.1 t port healthy.healthy healthy.no_reset
+    engine = engine_left told wanted old h t port healthy.healthy healthy.no_reset
         (tick_spares h.event.ask h.event.said old.moment h.event.evidence h.event.steps (moment_after old.moment h.event) port history.1.answered healthy.young) healthy.ready
 
     left_alone : Kind h.event.ask → IsSpared old h t.accesses port
-    left_alone (service asks) = spared told wanted old h history.1 t port healthy.healthy asks healthy.ready
+    left_alone (service asks) = spared told wanted old h t port healthy.healthy asks healthy.ready
     left_alone (reset asks) = absurd (healthy.no_reset asks)
     left_alone (tick asks) =
         let r = restarts_of h.event.ask h.event.said old.moment h.event.evidence h.event.steps (moment_after old.moment h.event) history.1.answered asks in

@@ -22,6 +22,6 @@ left_well told steps wanted first past h port history ready other young healthy 
     let t : Ties wanted old h = history.2 in
     let holds = holds_at wanted first past history.0 in
     let at = ready_at wanted old port (fit_at wanted first past history.0) holds.0 holds.1 ready in
-    let leaves = engine_left told wanted old h history.1 t port healthy other
+    let leaves = engine_left told wanted old h t port healthy other
     (tick_spares h.event.ask h.event.said old.moment h.event.evidence h.event.steps (moment_after old.moment h.event) port history.1.answered young) ready in
     runs_well steps port t.accesses old.device h.device at.on (came_calmly port old.moment t.accesses old.device h.device h.event.ask h.event.said t.came other leaves) healthy.undisturbed healthy.well

@@ -19,13 +19,14 @@ use Rattle.agreement.specs.Agrees.{Agrees, port_at}
 use Rattle.agreement.specs.Facts.{IsStill}
 use Rattle.agreement.specs.Links.{IsPlugging, PlugsNone}
 use Rattle.agreement.specs.Slots.{ServesRequest, Stage, Uses}
-use Rattle.block_machine.specs.Events.{Ask, Service, HeedsAt, moment_after}
+use Rattle.block_machine.specs.Events.{Ask, Service, moment_after}
 use Rattle.block_machine.specs.Histories.{Instant, Happening, IsReached, now}
 use Rattle.block_machine.specs.Ports.{SameDisk}
 use Rattle.block_machine.specs.State.{Accepted, Machine, Pending}
 use Rattle.block_machine.specs.Steps.{Answer}
 use Rattle.block_machine.proofs.HistoryLemmas.{history_reaches}
 use Rattle.identify.specs.declared.wanted.Wanted.{Wanted}
+use Rattle.driver_history.specs.Heeding.{HeedsAt}
 use Rattle.driver_history.specs.Evidence.{Gains, ShowsChange}
 use Rattle.driver_history.specs.Histories.{Begins, IsHistory, Ties}
 use Rattle.driver_history.proofs.Instants.{fit_at, holds_at, ready_at}
@@ -74,7 +75,7 @@ seen_answered wanted first past h port slot id history asks asked serves ci sact
     let booked : Contains old.moment.machine.book serves.pending = ⊎_elim (λ b. b.0) (λ k. absurd (at.kept serves.pending k same_port)) serves.moves in
     let ended : serves.pending.ended ≡ true = ended_of old.device.memory (old.device.port port.0) port.0 slot serves.pending serves.command serves.places serves.stage at.runs.st ci sact in
     let Heeded : Ask DeviceStep → Type 0 = λ ask. HeedsAt port ask old.moment h.event.evidence h.event.steps (moment_after old.moment h.event) in
-    let served : Heeded Service = subst Heeded asks (history.1.heeds port) in
+    let served : Heeded Service = subst Heeded asks (t.port port).heeds in
     let answer = (served asked).ended serves.pending booked same_port ended in
     (answer.0, ap (λ (r : Accepted). r.id) answer.1 ∙ serves.id_is, answer.2)
 

@@ -10,13 +10,14 @@ use Rattle.adapter.specs.Device.{Device}
 use Rattle.adapter.specs.Rules.{IsOn}
 use Rattle.adapter.specs.declared.access.DeviceStep.{DeviceStep}
 use Rattle.agreement.specs.Facts.{RunsWell}
-use Rattle.block_machine.specs.Events.{Ask, Reset, RevokeOf, Service, Tick, AnswersEnded, AreTold, IsHung, NoneKeepsIssue, WasIssued, moment_after, tells_fault}
+use Rattle.block_machine.specs.Events.{Ask, Reset, RevokeOf, Service, Tick, AnswersEnded, IsHung, NoneKeepsIssue, WasIssued, moment_after}
 use Rattle.block_machine.specs.Histories.{Instant, Happening}
 use Rattle.block_machine.specs.Ports.{IsInterrupted, SamePort}
 use Rattle.block_machine.specs.State.{Pending}
 use Rattle.block_machine.specs.Steps.{Answer, AllTouched, HasGrant}
 use Rattle.port_control.specs.Engines.{Stops}
 use Rattle.error_recovery.specs.Evidence.{ShowsFatal}
+use Rattle.driver_history.specs.Heeding.{AreTold, tells_fault}
 use Rattle.driver_history.specs.Evidence.{IsEndedReset, IsFaultTold, IsLost, StaysHealthy}
 use Rattle.driver_history.specs.Histories.{CameBy, FindsIn, Issues, TellsPlainFaults}
 use Rattle.driver_history.specs.Trace.{LeavesEngine}

@@ -35,6 +35,7 @@ use Rattle.identify.specs.declared.wanted.Wanted.{Wanted}
 use Rattle.host_boot.specs.Resets.{AwaitsReset, BeginsReset}
 use Rattle.error_recovery.specs.Evidence.{GainsRunning, ShowsFatal}
 use Rattle.driver_history.specs.Evidence.{Gains, ShowsChange, ShowsFailure, ShowsLoss, IsEvidenced}
+use Rattle.driver_history.specs.Heeding.{HeedsAt, IsGrounded}
 use Rattle.driver_history.specs.Holds.{HoldsAt}
 use Rattle.driver_history.specs.Trace.{ReadsMasks, ResetsLink, IsServing, IsDriversOwn, IsOfPorts}
 
@@ -252,8 +253,8 @@ RunsWellAnew evidence accesses old ports new port =
 
 -- ---- one port's part in a call, and the whole
 
--- What a call has done of a port, as far as it needs the device: what was found done, a plain request's fault, a disk
--- that is there, boots, and trouble. (That the call heeds what it finds of it, `Happens` has.)
+-- What a call has done of a port: what was found done, a plain request's fault, a disk that is there, boots, and
+-- trouble; and it heeds what the evidence names of the port.
 pub record TiesPort (old : Instant Device) (h : Happening Device DeviceStep) (accesses : List Access)
     (port : Port) : Type 0 where
   pub finds : FindsIn h.event.ask accesses old h.event.steps port
@@ -262,15 +263,17 @@ pub record TiesPort (old : Instant Device) (h : Happening Device DeviceStep) (ac
   pub boots : BootsAnew h.event.ask h.event.said accesses old h.event.ports h.device port
   pub trouble : LosesNoTrouble h.event.evidence old h.event.ports h.device port
   pub well : RunsWellAnew h.event.evidence accesses old h.event.ports h.device port
+  pub heeds : HeedsAt port h.event.ask old.moment h.event.evidence h.event.steps (moment_after old.moment h.event)
 
 -- The device's part in a call. Its accesses led there, and the tape backs the machine's steps. What stands behind the
--- evidence is so. It has issued what is due. Of each port it has done its part. And after it there holds what holds at
--- each instant.
+-- evidence is so, and what rests on it is grounded. It has issued what is due. Of each port it has done its part. And
+-- after it there holds what holds at each instant.
 pub record Ties (wanted : List Wanted) (old : Instant Device) (h : Happening Device DeviceStep) : Type 0 where
   pub accesses : List Access
   pub came : CameBy old.moment h.event.ask h.event.said accesses old.device h.device
   pub backed : IsBacked old.device h.device old.moment.machine h.event.steps
   pub evidenced : IsEvidenced h.event.ask h.event.said accesses old h.event.ports h.device h.event.evidence
+  pub grounded : IsGrounded h.event.ask h.event.evidence h.event.steps
   pub issues : (port : Port) → Issues h.event.ask h.event.steps (moment_after old.moment h.event).machine h.event.ports
       port
   pub port : (port : Port) → TiesPort old h accesses port

@@ -3,6 +3,7 @@ pub mod Evidence
 pub mod Parts
 pub mod Laws
 pub mod Holds
+pub mod Heeding
 pub mod Histories
 pub mod Moves
 pub mod Claims

@@ -17,7 +17,7 @@ use Rattle.adapter.specs.declared.access.DeviceStep.{DeviceStep}
 use Rattle.agreement.specs.Agrees.{port_at}
 use Rattle.agreement.specs.Slots.{ServesRequest, Stage}
 use Rattle.agreement.specs.Witness.{first_id}
-use Rattle.block_machine.specs.Events.{Happens, Moment, ServesReady, tells_fault}
+use Rattle.block_machine.specs.Events.{Happens, Moment}
 use Rattle.block_machine.specs.Histories.{Happening, Instant}
 use Rattle.block_machine.specs.Left.{after}
 use Rattle.block_machine.specs.Ports.{Evidence, Ports, SamePort}
@@ -25,6 +25,7 @@ use Rattle.block_machine.specs.State.{Machine, Pending, unanswered}
 use Rattle.block_machine.specs.Steps.{Accept, Answer, Issue, May, newly_accepted}
 use Rattle.block_machine.specs.declared.due.Unanswered.{Unanswered}
 use Rattle.identify.specs.declared.wanted.Wanted.TheVariants.{Any}
+use Rattle.driver_history.specs.Heeding.{ServesReady, tells_fault}
 use Rattle.driver_history.specs.Histories.{IsIssuedOn, IssuesOn, Ties, TiesPort}
 use Rattle.driver_history.specs.Holds.{HoldsWith}
 use Rattle.history_witnesses.specs.Begun.{ReadyPortHasBegun}

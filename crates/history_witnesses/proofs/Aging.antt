@@ -140,7 +140,6 @@ module _ (age : ℕ) where
         issues = λ port is. not_due (suc age) port;
         emptied = λ port is not_ready. absurd (not_ready is);
       };
-      heeds = λ _. tt;
     }
 
     pub tick_part : (n : ℕ) → TiesPort (issued_at age) tick [] (port_at n)
@@ -151,6 +150,7 @@ module _ (age : ℕ) where
       boots = λ h. absurd (not_hung age young (port_at n) h);
       trouble = no_trouble nothing (issued_at age) both submitted (port_at n) [] refl (All-nil (IsCalm n)) (served_ready n) (quiet n);
       well = λ why. absurd (⊎_elim (nowhere (port_at n)) (nowhere (port_at n)) why);
+      heeds = tt;
     }
 
     unfoldable pub tick_ties : Ties (Any ∷ Any ∷ []) (issued_at age) tick
@@ -159,6 +159,7 @@ module _ (age : ℕ) where
       came = (refl, All-nil (IsServing (IsHung (issued_at age).moment)));
       backed = backed;
       evidenced = record { faults = λ f here. absurd (nowhere f here); port = λ port. evidenced port.0 };
+      grounded = tt;
       issues = λ port is. issues port;
       port = λ port. tick_part port.0;
       holds = (first_slots, holds_issued (suc age));

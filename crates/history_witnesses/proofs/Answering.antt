@@ -16,7 +16,7 @@ use Rattle.agreement.specs.Agrees.{port_at}
 use Rattle.agreement.specs.Driver.{IsBacked}
 use Rattle.agreement.specs.Witness.{first_id}
 use Rattle.block_machine.specs.Histories.{Happening}
-use Rattle.block_machine.specs.Events.{HadDisk, Happens, Service, Served, ServesReady}
+use Rattle.block_machine.specs.Events.{HadDisk, Happens, Service, Served}
 use Rattle.block_machine.specs.Ports.{AreFit, IsInterrupted, IsServiced, SamePort}
 use Rattle.block_machine.specs.State.{Pending}
 use Rattle.block_machine.specs.Steps.{Step, End, Answer, Unplug}
@@ -31,6 +31,7 @@ use Rattle.adapter.specs.Access.Access.{Reading, Writing}
 use Rattle.adapter.specs.declared.access.DeviceStep.{DeviceStep}
 use Rattle.agreement.specs.Links.{IsPlugging}
 use Rattle.error_recovery.specs.Evidence.{ShowsFatal}
+use Rattle.driver_history.specs.Heeding.{ServesReady}
 use Rattle.driver_history.specs.Evidence.{Gains, IsEvidencedOf, ShowsLoss, ShowsFailure}
 use Rattle.driver_history.specs.Histories.{FindsDone, IsIssuedOn, Ties, TiesPort, BootsAnew, LosesNoTrouble, RunsWellAnew, TendsPort}
 use Rattle.driver_history.specs.Trace.{LeavesCommand}
@@ -338,14 +339,12 @@ service_happens = record {
   answered = record {
     tells = record { answers = (ended, outcome.Ok) ∷ []; same = IsPermutation-refl _; ordered = λ i j d less low. absurd (omega (arith, less, low)); told = refl };
     dead = λ e o here is. absurd (not_dead e.request.port.0 is);
-    grounded = tt;
     unplugs = record { emptied = λ e other here. absurd (not_unplugged e here); alike = λ e other here. absurd (not_unplugged e here) };
     issues = λ port is r at_port due. absurd (nowhere r due.here);
     emptied = λ port other e here. absurd (nowhere e here);
     becomes = λ port. becomes port.0;
     disk = λ port. had_disk port.0;
   };
-  heeds = λ port. heeds port.0;
 }
 
 service_part : (n : ℕ) → TiesPort submitted_at service turns (port_at n)
@@ -356,6 +355,7 @@ service_part n = record {
   boots = service_boots n;
   trouble = trouble n;
   well = well n;
+  heeds = heeds n;
 }
 
 service_ties : Ties (Any ∷ Any ∷ []) submitted_at service
@@ -364,6 +364,7 @@ service_ties = record {
   came = (does_append finding_turn losing_turn submitted between lost finds loses, serving (TendsPort both) turns of_served);
   backed = service_backed;
   evidenced = record { faults = λ f here. absurd (nowhere f here); port = λ port. service_evidenced port.0 };
+  grounded = tt;
   issues = λ port is r here. absurd (nowhere r here);
   port = λ port. service_part port.0;
   holds = (no_slots, holds_lost);

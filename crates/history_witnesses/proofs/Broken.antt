@@ -8,12 +8,13 @@ use Rattle.ata_types.specs.declared.request.Outcome.TheVariants as outcome
 use Rattle.adapter.specs.Device.{Device}
 use Rattle.adapter.specs.declared.access.DeviceStep.{DeviceStep}
 use Rattle.agreement.specs.Agrees.{port_at}
-use Rattle.block_machine.specs.Events.{HadDisk, Happens, Served, ServesReady, Service}
+use Rattle.block_machine.specs.Events.{HadDisk, Happens, Served, Service}
 use Rattle.block_machine.specs.Histories.{Happening}
 use Rattle.block_machine.specs.Ports.{IsInterrupted, IsServiced, SamePort}
 use Rattle.block_machine.specs.State.{Pending}
 use Rattle.block_machine.specs.Steps.{Step, Answer}
 use Rattle.identify.specs.declared.wanted.Wanted.TheVariants.{Any}
+use Rattle.driver_history.specs.Heeding.{ServesReady}
 use Rattle.driver_history.specs.Histories.{BootsAnew, FindsDone, IsIssuedOn, TendsPort, Ties, TiesPort}
 use Rattle.driver_history.specs.Trace.{LeavesCommand}
 use Rattle.history_witnesses.specs.Fatal.{FatalErrorIsAHistory, fatal_accesses, fatal_evidence, looking}
@@ -25,7 +26,7 @@ use Rattle.history_witnesses.proofs.Meeting.{broken_at, meeting, meeting_happens
 use Rattle.history_witnesses.proofs.Members.{nowhere}
 use Rattle.history_witnesses.proofs.Pages.{plain_disks}
 use Rattle.history_witnesses.proofs.Ready.{begins, fit_ready, not_dead, served_ready, starts}
-use Rattle.history_witnesses.proofs.Rebooted.{IsRestart, Restart, backed, booted_at, evidenced, fit_one, finds, holds_booted, may_become, not_dead_then, not_ready_then, of_first, of_served, one, others_same, quiet, replies, resets, there, trouble, unnamed, unplugs, well}
+use Rattle.history_witnesses.proofs.Rebooted.{IsRestart, Restart, backed, booted_at, evidenced, fit_one, finds, holds_booted, may_become, of_first, of_served, one, others_same, quiet, replies, resets, there, trouble, unnamed, unplugs, well}
 use Rattle.history_witnesses.proofs.Rebooted as rebooted
 
 -- ---- the restart
@@ -124,14 +125,12 @@ happens = record {
   answered = record {
     tells = record { answers = (waiting, outcome.Unplugged) ∷ []; same = IsPermutation-refl _; ordered = λ i j d less low. absurd (omega (arith, less, low)); told = refl };
     dead = λ e o here is. absurd (not_dead e.request.port.0 is);
-    grounded = tt;
     unplugs = unplugs restart is_restart;
     issues = λ port is r at_port due. absurd (nowhere r due.here);
     emptied = λ port other e here. absurd (nowhere e here);
     becomes = λ port. becomes port.0;
     disk = λ port. had_disk port.0;
   };
-  heeds = λ port. heeds port.0;
 }
 
 part_of : (n : ℕ) → TiesPort broken_at service fatal_accesses (port_at n)
@@ -142,6 +141,7 @@ part_of n = record {
   boots = boots n;
   trouble = trouble restart is_restart n;
   well = well restart is_restart n;
+  heeds = heeds n;
 }
 
 ties : Ties (Any ∷ Any ∷ []) broken_at service
@@ -150,6 +150,7 @@ ties = record {
   came = (does, serving (TendsPort both) fatal_accesses of_tended);
   backed = backed restart is_restart;
   evidenced = record { faults = λ f here. absurd (nowhere f here); port = λ port. evidenced restart is_restart port.0 };
+  grounded = tt;
   issues = λ port is r here. absurd (nowhere r here);
   port = λ port. part_of port.0;
   holds = (no_slots, holds_booted outset (unpaged 1));

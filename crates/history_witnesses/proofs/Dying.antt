@@ -147,7 +147,6 @@ reset_happens = record {
   fit = fit_dead;
   disks = λ e o here there same. (refl, refl);
   answered = (tt, λ port. stuck_is port.0);
-  heeds = λ _. tt;
 }
 
 unchanged : (d : Device) → ((n : ℕ) → (d.port n).plugged ≡ (d.port n).plugged ++ [])
@@ -189,6 +188,7 @@ reset_part n = record {
   boots = tt;
   trouble = no_trouble stuck_evidence submitted_at dead pending (port_at n) [] refl (All-nil (IsCalm n)) (served_ready n) (calm submitted.tape read_memory issued refl refl refl (λ place from. refl) pending n);
   well = λ why ready. absurd (not_ready n ready);
+  heeds = tt;
 }
 
 reset_ties : Ties (Any ∷ Any ∷ []) submitted_at reset
@@ -197,6 +197,7 @@ reset_ties = record {
   came = (resets, record { asked = []; shown = 0x80000001; here = refl; only = All-nil ReadsGlobalControl; pending = refl });
   backed = reset_backed;
   evidenced = record { faults = λ f here. absurd (nowhere f here); port = λ port. reset_evidenced port.0 };
+  grounded = tt;
   issues = λ port is. absurd (not_ready port.0 is);
   port = λ port. reset_part port.0;
   holds = (first_slots, holds_dead issuing (still_knows issuing holds_submitted.knows) waits_first (λ n ne e kept. absurd (nowhere e kept)));
@@ -295,14 +296,12 @@ service_happens = record {
   answered = record {
     tells = record { answers = (waiting, outcome.PortDead) ∷ []; same = IsPermutation-refl _; ordered = λ i j d less low. absurd (omega (arith, less, low)); told = refl };
     dead = λ e o here is. (the_answer outcome.PortDead e o here).1;
-    grounded = tt;
     unplugs = record { emptied = λ e other here. absurd (not_unplugged e here); alike = λ e other here. absurd (not_unplugged e here) };
     issues = λ port is r at_port due. absurd (nowhere r due.here);
     emptied = λ port other e here. absurd (nowhere e here);
     becomes = λ port. becomes port.0;
     disk = λ port. inl (refl, refl, refl, refl, refl, refl);
   };
-  heeds = λ port is. absurd (not_ready port.0 is);
 }
 
 service_evidenced : (n : ℕ) → IsEvidencedOf Service (Served replies) [] pending_at dead pending nothing (port_at n)
@@ -344,6 +343,7 @@ service_part n = record {
     disk = λ is. absurd (not_ready n is);
   };
   well = λ why is. absurd (not_ready n is);
+  heeds = λ is. absurd (not_ready n is);
 }
 
 service_backed : IsBacked pending pending issuing (answer ∷ [])
@@ -355,6 +355,7 @@ service_ties = record {
   came = (refl, All-nil (IsServing (TendsPort dead)));
   backed = service_backed;
   evidenced = record { faults = λ f here. absurd (nowhere f here); port = λ port. service_evidenced port.0 };
+  grounded = tt;
   issues = λ port is. absurd (not_ready port.0 is);
   port = λ port. service_part port.0;
   holds = (first_slots, holds_dead answered knows_kept (λ n ne e here. absurd (nowhere e here)) kept_first);

@@ -30,7 +30,7 @@ use Rattle.agreement.specs.Agrees.{port_at}
 use Rattle.agreement.specs.Driver.{IsBacked}
 use Rattle.agreement.specs.Slots.{ServesRequest}
 use Rattle.block_machine.specs.Due.{IsDue, NoneDue}
-use Rattle.block_machine.specs.Events.{Happens, Service, Served, ServesReady, ShowsDisk}
+use Rattle.block_machine.specs.Events.{Happens, Service, Served, ShowsDisk}
 use Rattle.block_machine.specs.Histories.{Instant, Happening}
 use Rattle.block_machine.specs.Left.{after}
 use Rattle.block_machine.specs.Ports.{Evidence, IsServiced}
@@ -38,6 +38,7 @@ use Rattle.block_machine.specs.State.{Block, Machine, Pending, unanswered}
 use Rattle.block_machine.specs.Steps.{Step, Answer, End, Touch, AllTouched, mark_ended, touch}
 use Rattle.block_machine.specs.declared.due.Unanswered.{Unanswered}
 use Rattle.identify.specs.declared.wanted.Wanted.TheVariants.{Any}
+use Rattle.driver_history.specs.Heeding.{ServesReady}
 use Rattle.driver_history.specs.Evidence.{IsEvidencedOf, ShowsFailure, ShowsLoss}
 use Rattle.driver_history.specs.Histories.{FindsDone, IsAnsweredOk, IsIssuedOn, TendsPort, Ties, TiesPort, unissued}
 use Rattle.driver_history.specs.Holds.{mode_of}
@@ -266,14 +267,12 @@ module _ (c : Discovery) where
       answered = record {
         tells = record { answers = (ended, outcome.Ok) ∷ []; same = IsPermutation-refl _; ordered = λ i j d less low. absurd (omega (arith, less, low)); told = refl };
         dead = λ e o here dead. absurd (not_dead e.request.port.0 dead);
-        grounded = tt;
         unplugs = record { emptied = λ e other here. absurd (not_unplugged e here); alike = λ e other here. absurd (not_unplugged e here) };
         issues = λ port ready. is.none_due port;
         emptied = λ port other e here at. other (ap (λ (n : ℕ). two_states (port_at n)) (ap (λ (q : Port). q.0) (sym at) ∙ is.agreeing.first_alone e here));
         becomes = λ port. stay_serviced c.disk nothing port.0 (nowhere port);
         disk = λ port. inl (refl, refl, refl, refl, refl, refl);
       };
-      heeds = λ port ready. heeds port.0;
     }
       where
         sizes : c.sector + 0 < c.machine.sizes (port_at 0)
@@ -287,6 +286,7 @@ module _ (c : Discovery) where
       boots = (λ ready f. absurd (⊎_elim (λ fatal. (quiet n ready).1 (inl fatal)) (quiet n ready).0 f), inl (refl, refl, refl, refl, refl, refl));
       trouble = no_trouble nothing before (two_ready c.disk) served_at.device (port_at n) gained refl (gained_calm n) (served_ready n) (quiet n);
       well = λ why. absurd (⊎_elim (nowhere (port_at n)) (nowhere (port_at n)) why);
+      heeds = λ ready. heeds n;
     }
 
     unfoldable pub service_ties : Ties (Any ∷ Any ∷ []) before service
@@ -295,6 +295,7 @@ module _ (c : Discovery) where
       came = (is.does, serving (TendsPort (two_ready c.disk)) masks ((refl, not_dead 0), ((refl, not_dead 0), tt)));
       backed = backed;
       evidenced = record { faults = λ f here. absurd (nowhere f here); port = λ port. evidenced port.0 };
+      grounded = tt;
       issues = λ port ready r here at_port. (
         λ issued. absurd (true≢false (sym issued)),
         λ due. absurd (is.none_due port r at_port (subst (λ (book : List Unanswered). IsDue (mode_of queueing_cap c.disk.info) book r) is.none_issued due)),

@@ -10,7 +10,7 @@ use Rattle.ata_types.specs.declared.Port.{Port}
 use Rattle.ata_types.specs.declared.PortState.TheVariants.{Absent, Foreign, Ready, Unfit}
 use Rattle.ata_types.specs.declared.request.RequestId.{RequestId}
 use Rattle.ata_types.specs.declared.limits.TheConstants.{READINGS}
-use Rattle.adapter.specs.Access.{Access}
+use Rattle.adapter.specs.Access.{Access, named_causes}
 use Rattle.adapter.specs.Device.{PortState, Device}
 use Rattle.adapter.specs.Device.Halt.{NotHalted, HaltedPlain, HaltedQueued}
 use Rattle.adapter.specs.FirstRead.{quiet_port}
@@ -29,7 +29,7 @@ use Rattle.block_machine.specs.Ports.{Ports, Evidence}
 use Rattle.block_machine.specs.State.{Pending}
 use Rattle.block_machine.specs.Steps.{NoneKept}
 use Rattle.block_machine.specs.declared.due.Mode.{Mode}
-use Rattle.port_boot.specs.States.{told_causes, HasFitDisk}
+use Rattle.port_boot.specs.States.{HasFitDisk}
 use Rattle.port_control.specs.Ports.{programmed}
 use Rattle.error_recovery.specs.Evidence.{GainsRunning}
 use Rattle.driver_history.specs.Evidence.{IsEvidencedOf, ShowsFailure, ShowsLoss, Gains}
@@ -90,7 +90,7 @@ runs_on port d st cr fre bases saw known linked calm whole = record {
 }
 
 -- the last page of its disk stands on the tape
-pub fit_disk : (disk : Kind) (port : ℕ) (d : Device) (before later : List Entry) → d.tape ≡ before ++ page_entry disk.page port ∷ later → (d.port port).sctl_det ≡ 0 → (d.port port).ie ≡ told_causes
+pub fit_disk : (disk : Kind) (port : ℕ) (d : Device) (before later : List Entry) → d.tape ≡ before ++ page_entry disk.page port ∷ later → (d.port port).sctl_det ≡ 0 → (d.port port).ie ≡ named_causes
     → (d.port port).notes.sctl_written_at ≡ 0 → All (λ e. IsMove port Identify e → ⊥) later → HasFitDisk None port d disk.info
 fit_disk disk port d before later is det ie since last = record {
   det = det;

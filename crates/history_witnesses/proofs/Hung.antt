@@ -150,7 +150,6 @@ happens = record {
     issues = λ port is r at_port due. absurd (nowhere r due.here);
     emptied = λ port is not_ready e here. absurd (nowhere e here);
   };
-  heeds = λ _. tt;
 }
 
 -- ---- what it owes each port
@@ -171,6 +170,7 @@ part_of n = record {
   boots = boots n;
   trouble = trouble restart is_restart n;
   well = well restart is_restart n;
+  heeds = tt;
 }
 
 ties : Ties (Any ∷ Any ∷ []) (issued_at 2) restarting_tick
@@ -179,6 +179,7 @@ ties = record {
   came = (restarts outset, serving (IsHung (issued_at 2).moment) restarting (of_served (IsHung (issued_at 2).moment) hung));
   backed = backed restart is_restart;
   evidenced = record { faults = λ f here. absurd (nowhere f here); port = λ port. evidenced restart is_restart port.0 };
+  grounded = tt;
   issues = λ port is r here. absurd (nowhere r here);
   port = λ port. part_of port.0;
   holds = (no_slots, holds_booted outset (no_page 1));

@@ -197,7 +197,6 @@ module _ (c : Submission) where
       fit = fit_ready c.disk;
       disks = λ e o here there same. (refl, refl);
       answered = (is_acceptable c.disk c.machine c.id c.sector c.frame_number is.takes, (accepted, refl, refl), λ port. (refl, refl, refl, refl, refl, refl), is.all_issued);
-      heeds = λ port why. ⊎_elim (λ h. nowhere port h) (λ h. nowhere port h) why;
     }
 
     pub backed : IsBacked before.device submitted_at.device c.machine submit_steps
@@ -224,6 +223,7 @@ module _ (c : Submission) where
       trouble = no_trouble nothing before (two_ready c.disk) submitted_at.device (port_at port) [] (sym (append-nil _)) (All-nil (IsCalm port)) (served_ready port)
           (shows_none before.device.tape c.memory c.port is.stands submitted_at.device port);
       well = λ why. absurd (⊎_elim (nowhere (port_at port)) (nowhere (port_at port)) why);
+      heeds = λ why. ⊎_elim (λ h. nowhere (port_at port) h) (λ h. nowhere (port_at port) h) why;
     }
 
     unfoldable pub submit_ties : Ties (Any ∷ Any ∷ []) before submit
@@ -232,6 +232,7 @@ module _ (c : Submission) where
       came = (is.does, (row 0, (subst (λ (rows : List GrantRow). Contains rows (row 0)) (sym is.takes.rows) (0, omega arith, refl), (refl, refl)), is.only));
       backed = backed;
       evidenced = record { faults = λ f here. absurd (nowhere f here); port = λ port. evidenced port.0 };
+      grounded = tt;
       issues = λ port ready. is.due port;
       port = λ port. submit_part port.0;
       holds = (c.slots_then, holds c.disk c.slots_then issuing [] c.memory_then c.port_then is.agreeing);

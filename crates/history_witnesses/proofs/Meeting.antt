@@ -142,7 +142,6 @@ meeting_happens = record {
   fit = fit_ready plain_disks;
   disks = λ e o here there same. (refl, refl);
   answered = (tt, λ port. (refl, refl, refl, refl, refl, refl));
-  heeds = λ port why. ⊎_elim (nowhere port) (nowhere port) why;
 }
 
 pub backed : IsBacked submitted (dev broken) issuing []
@@ -197,6 +196,7 @@ meeting_part n = record {
   boots = tt;
   trouble = trouble n;
   well = λ why. absurd (⊎_elim (nowhere (port_at n)) (nowhere (port_at n)) why);
+  heeds = λ why. ⊎_elim (nowhere (port_at n)) (nowhere (port_at n)) why;
 }
 
 unfoldable pub meeting_ties : Ties (Any ∷ Any ∷ []) submitted_at meeting
@@ -205,6 +205,7 @@ meeting_ties = record {
   came = (refl, inl (record { can = can_break; effect = breaks }));
   backed = backed;
   evidenced = record { faults = λ f here. absurd (nowhere f here); port = λ port. evidenced port.0 };
+  grounded = tt;
   issues = λ port. tt;
   port = λ port. meeting_part port.0;
   holds = (first_slots, holds_broken);

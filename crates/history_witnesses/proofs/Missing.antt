@@ -140,7 +140,6 @@ unplug_happens = record {
   fit = fit;
   disks = λ e o here. absurd (nowhere e here);
   answered = ((tt, tt), λ port. (refl, refl, refl, refl, refl, refl));
-  heeds = λ port why. ⊎_elim (nowhere port) (nowhere port) why;
 }
 
 -- another port's disk neither goes nor comes
@@ -169,6 +168,7 @@ unplug_part n = record {
     disk = λ ready g. absurd (not_ready n ready);
   };
   well = λ why ready. absurd (not_ready n ready);
+  heeds = λ why. ⊎_elim (nowhere (port_at n)) (nowhere (port_at n)) why;
 }
   where
     changes : (n : ℕ) → ShowsChange (rebooted.port n) ⊎ Gains (IsPlugging n) rebooted unplugged → ShowsChange (unplugged.port n)
@@ -239,6 +239,7 @@ unplug_ties = record {
   came = (refl, inl (record { can = can_go; effect = goes }));
   backed = unplug_backed;
   evidenced = record { faults = λ f here. absurd (nowhere f here); port = λ port. unplug_evidenced port.0 };
+  grounded = tt;
   issues = λ port. tt;
   port = λ port. unplug_part port.0;
   holds = (
@@ -258,7 +259,6 @@ answers : AnswersService unplugged_at.moment evidence [] [] looked_at.moment
 answers = record {
   tells = record { answers = []; same = IsPermutation-refl _; ordered = λ i j d less low. absurd (omega (arith, less, low)); told = refl };
   dead = λ e o here. absurd (nowhere (Answer e o) here);
-  grounded = tt;
   unplugs = record { emptied = λ e other here. absurd (nowhere (Answer e outcome.Unplugged) here); alike = λ e other here. absurd (nowhere (Answer e outcome.Unplugged) here) };
   issues = λ port ready. absurd (not_ready_then port.0 ready);
   emptied = λ port other e here. absurd (nowhere e here);
@@ -275,7 +275,6 @@ service_happens = record {
   fit = fit_then;
   disks = λ e o here. absurd (nowhere e here);
   answered = answers;
-  heeds = λ port ready. absurd (not_ready port.0 ready);
 }
 
 stops : Stops (port_at 0) (looking ++ passing)
@@ -368,6 +367,7 @@ service_part n = record {
     disk = λ ready g. absurd (not_ready_then n ready);
   };
   well = λ why ready. absurd (not_ready_then n ready);
+  heeds = λ ready. absurd (not_ready n ready);
 }
   where
     boots : (n : ℕ) → SamePort unfit_ports one_absent (port_at n) ⊎ ((one_absent.state (port_at n) ≡ Dead) ⊎ ((one_absent.state (port_at n) ≡ Absent) ⊎ ResetsLink (port_at n) (looking ++ passing)))
@@ -443,6 +443,7 @@ service_ties = record {
   came = (does, serving (TendsPort unfit_ports) (looking ++ passing) of_served);
   backed = service_backed;
   evidenced = record { faults = λ f here. absurd (nowhere f here); port = λ port. service_evidenced port.0 };
+  grounded = tt;
   issues = λ port ready. absurd (not_ready_then port.0 ready);
   port = λ port. service_part port.0;
   holds = (

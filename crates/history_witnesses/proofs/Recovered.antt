@@ -27,7 +27,7 @@ use Rattle.agreement.specs.Facts.{IsFaultOf, RunsWell}
 use Rattle.agreement.specs.Links.{IsPlugging}
 use Rattle.agreement.specs.Slots.{IsFree, IsMove}
 use Rattle.agreement.specs.Witness.{first_id}
-use Rattle.block_machine.specs.Events.{Service, Served, Happens, ServesReady}
+use Rattle.block_machine.specs.Events.{Service, Served, Happens}
 use Rattle.block_machine.specs.Histories.{Happening, Instant}
 use Rattle.block_machine.specs.Left.{after}
 use Rattle.block_machine.specs.State.{Pending, Machine}
@@ -35,6 +35,7 @@ use Rattle.block_machine.specs.Steps.{Step, Answer}
 use Rattle.host_boot.specs.Taken.{wanted_of}
 use Rattle.identify.specs.declared.wanted.Wanted.TheVariants.{Any}
 use Rattle.error_recovery.specs.Evidence.{GainsRunning}
+use Rattle.driver_history.specs.Heeding.{ServesReady}
 use Rattle.driver_history.specs.Evidence.{Gains, IsEvidencedOf, ShowsLoss, ShowsFailure}
 use Rattle.driver_history.specs.Histories.{Ties, TiesPort, FindsDone, IsAnsweredOk, IsIssuedOn, LosesNoTrouble, RunsWellAnew, TendsPort}
 use Rattle.driver_history.specs.Holds.{HoldsOf, HoldsWith, IsReadyAt}
@@ -271,6 +272,7 @@ part_of n = record {
   boots = (λ is f. absurd (⊎_elim (λ fatal. (quiet n is).1 (inl fatal)) (quiet n is).0 f), inl (refl, refl, refl, refl, refl, refl));
   trouble = trouble n;
   well = well n;
+  heeds = heeds n;
 }
 
 backed : IsBacked submitted recovered issuing (answer ∷ [])
@@ -310,14 +312,12 @@ happens = record {
   answered = record {
     tells = record { answers = (waiting, outcome.DeviceError 0x41 0x40) ∷ []; same = IsPermutation-refl _; ordered = λ i j d less low. absurd (omega (arith, less, low)); told = refl };
     dead = λ e o here is. absurd (not_dead e.request.port.0 is);
-    grounded = (tt, named 0);
     unplugs = record { emptied = λ e other here. absurd (unplugged_not e here); alike = λ e other here. absurd (unplugged_not e here) };
     issues = λ port is r at_port due. absurd (nowhere r due.here);
     emptied = λ port other e here. absurd (nowhere e here);
     becomes = λ port. stay_serviced plain_disks fault_evidence port.0 (nowhere port);
     disk = λ port. inl (refl, refl, refl, refl, refl, refl);
   };
-  heeds = λ port. heeds port.0;
 }
 
 ties : Ties (Any ∷ Any ∷ []) submitted_at service
@@ -329,6 +329,7 @@ ties = record {
     faults = λ f here. told f (only told_fault f here);
     port = λ port. evidenced_of port.0;
   };
+  grounded = (tt, named 0);
   issues = λ port is r here. absurd (nowhere r here);
   port = λ port. part_of port.0;
   holds = (no_slots, holds_recovered);

@@ -178,7 +178,6 @@ happens = record {
   fit = fit;
   disks = λ e o here. absurd (nowhere e here);
   answered = answers;
-  heeds = λ _. tt;
 }
 
 -- ---- the accesses
@@ -285,6 +284,7 @@ part_of n = record {
     disk = λ ready g. absurd (not_ready n ready);
   };
   well = λ why ready. absurd (not_ready n ready);
+  heeds = tt;
 }
   where
     was_served : (n : ℕ) → both.state (port_at n) ≡ Ready → both.served (port_at n) ≡ true
@@ -355,6 +355,7 @@ ties = record {
   came = (does, own, of_ports, record { rest = Reading Ghc 0 ∷ Writing Ghc 0x80000002 ∷ (booting 0 ++ booting 1); here = refl }, (record { ae = refl; no_reset = refl }, refl));
   backed = backed;
   evidenced = record { faults = λ f here. absurd (nowhere f here); port = λ port. evidenced port.0 };
+  grounded = tt;
   issues = λ port is. absurd (not_ready port.0 is);
   port = λ port. part_of port.0;
   holds = (

@@ -69,7 +69,6 @@ happens = record {
     same = λ port. (refl, refl, refl, refl, refl, refl);
     issues = λ port is. not_due 0 port;
   };
-  heeds = λ port why. ⊎_elim (nowhere port) (nowhere port) why;
 }
 
 part : (n : ℕ) → TiesPort (issued_at 0) revoke [] (port_at n)
@@ -80,6 +79,7 @@ part n = record {
   boots = tt;
   trouble = no_trouble nothing (issued_at 0) both submitted (port_at n) [] refl (All-nil (IsCalm n)) (served_ready n) (quiet n);
   well = λ why. absurd (⊎_elim (nowhere (port_at n)) (nowhere (port_at n)) why);
+  heeds = λ why. ⊎_elim (nowhere (port_at n)) (nowhere (port_at n)) why;
 }
 
 unfoldable ties : Ties (Any ∷ Any ∷ []) (issued_at 0) revoke
@@ -98,6 +98,7 @@ ties = record {
     faults = λ f here. absurd (nowhere f here);
     port = λ port. unnamed_evidenced (RevokeOf client 0) (WasRevoked (Some [])) [] (issued_at 0) both submitted nothing (port_at port.0) (none_named (port_at port.0)) (quiet port.0) (All-nil (LeavesEngine (port_at port.0)));
   };
+  grounded = tt;
   issues = λ port is r here at_port. (λ f. absurd (true≢false (sym f)), λ due. absurd (not_due 0 port r at_port due));
   port = λ port. part port.0;
   holds = (first_slots, holds plain_disks first_slots (issued_under left 0) [] read_memory issued (issued_agrees left 0));

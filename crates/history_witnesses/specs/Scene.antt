@@ -3,6 +3,7 @@ use Rattle.std.specs.Prelude.{ℕ, Bool, false, List, ◌∷◌, ◌++◌, repli
 use Rattle.ata_types.specs.declared.PortState as shown
 use Rattle.ata_types.specs.declared.PortState.TheVariants.{Absent}
 use Rattle.ata_types.specs.declared.limits.TheConstants.{READINGS}
+use Rattle.adapter.specs.Access.{named_causes}
 use Rattle.adapter.specs.Device.{PortState, Device}
 use Rattle.adapter.specs.FirstRead.{first_read, no_notes, quiet_port, reading_port}
 use Rattle.adapter.specs.Steps.{noted_bytes}
@@ -16,7 +17,6 @@ use Rattle.block_machine.specs.Ports.{Ports}
 use Rattle.block_machine.specs.declared.due.Mode.{Mode}
 use Rattle.driver_history.specs.Holds.{mode_of}
 use Rattle.identify.specs.declared.DiskInfo.{DiskInfo}
-use Rattle.port_boot.specs.States.{told_causes}
 use Rattle.port_control.specs.Ports.{programmed}
 
 -- ---- disks
@@ -59,7 +59,7 @@ abbrev pub running_port : ℕ → PortState
 running_port port = record reading_port {
   bases = programmed port;
   ci = λ _. false;
-  ie = told_causes;
+  ie = named_causes;
   notes = record no_notes { last_ssts = 3; link_count = READINGS };
 }
 

@@ -12,11 +12,11 @@ use Rattle.ata_types.specs.declared.request.Outcome.TheVariants as outcome
 use Rattle.block_machine.specs.Ports.{Evidence}
 use Rattle.block_machine.specs.State.{Accepted, Pending, unanswered}
 use Rattle.block_machine.specs.Steps.{Accept, Issue, Answer, newly_accepted, issue}
-use Rattle.block_machine.specs.Events.{Submit, Service, Submitted, Served, Event, Happens, ServesReady, Tells, IsToldBefore, reply_of, moment_of, situation_of}
+use Rattle.block_machine.specs.Events.{Submit, Service, Submitted, Served, Event, Happens, Tells, IsToldBefore, reply_of, moment_of, situation_of}
 use Rattle.machine_runs.specs.Worked.{DiesInAService}
 use Rattle.block_machine.proofs.Members.{contains_none, contains_here, contains_there, contains_cases}
 use Rattle.block_machine.proofs.Setting.{port, frame, empty_starts, acceptable, granted}
-use Rattle.machine_runs.proofs.Scene.{mode, id, call, one_sector, ports_in, first, ready_port, shows_none, changed_here, spares_ports, IsQuiet, row_zero, write_at, new, none_waits, none_ended, none_unplugged, no_faults, ports_fit, none_dead}
+use Rattle.machine_runs.proofs.Scene.{mode, id, call, one_sector, ports_in, first, shows_none, changed_here, IsQuiet, row_zero, write_at, new, none_waits, none_unplugged, ports_fit, none_dead}
 use Rattle.machine_runs.proofs.WaitingRun.{write, run1, happens1}
 use Rattle.machine_runs.proofs.ResetRun.{dead_not_ready, dead_here}
 
@@ -64,7 +64,6 @@ happens2 = record {
   fit = ports_fit Ready refl;
   disks = λ e o h i same. (refl, refl);
   answered = (acceptable 0 (situation_of (moment_of first run1)) other.asked (write_at 0 (moment_of first run1) 101 101 quiet (omega arith) (omega arith) refl refl), (other, refl, refl), λ p. (refl, refl, refl, refl, refl, refl), λ p _. none_waits _ refl p);
-  heeds = spares_ports;
 }
 
 tells : Tells service.steps (map reply_of told)
@@ -79,19 +78,6 @@ tells = record {
     go zero (suc zero) d lt below = inr (refl, omega arith)
     go i j d lt below = absurd (omega (arith, lt, below))
 
-notices : (p : Port) → first.ports.state p ≡ Ready → ServesReady (moment_of first run2) seen service.steps (moment_of first run3) p
-notices p ready = record {
-  ended = none_ended (moment_of first run2).machine service.steps refl p;
-  emptied = λ gone. absurd (contains_none p gone);
-  told = λ gone. absurd (contains_none p gone);
-  interrupts = λ _. inl (contains_here port [] p (ready_port p ready));
-  anew = λ _ e h. absurd (contains_none e h);
-  single = let zero = no_faults service.steps refl p in omega (arith, zero);
-  disk = λ shows. shows_none Dead (λ s. s) p shows;
-  fatal = λ _. (contains_here port [] p (ready_port p ready), no_faults service.steps refl p);
-  calm = inl (inl (contains_here port [] p (ready_port p ready)));
-}
-
 happens3 : Happens (moment_of first run2) service
 happens3 = record {
   may = ((tt, (contains_here one (two ∷ []) one refl, tt)), (contains_here two [] two refl, tt));
@@ -103,14 +89,12 @@ happens3 = record {
   answered = record {
     tells = tells;
     dead = λ e o h dead. none_dead e.request.port dead;
-    grounded = tt;
     unplugs = none_unplugged service.steps (moment_of first run3).machine refl;
     issues = λ p ready. dead_not_ready p ready;
     emptied = λ p ne e h. absurd (contains_none e h);
     becomes = λ p. (λ dead. none_dead p dead, λ _. (record { served = refl; stuck = dead_here p; dies = λ h. dies p h; keeps = λ _. (refl, refl) }, changed_here Ready Dead seen (inl (contains_here port [] port refl)) p));
     disk = λ p. inr (λ shows. shows_none Dead (λ s. s) p shows);
   };
-  heeds = notices;
 }
   where
     only : (x p : Port) → Contains (x ∷ []) p → p ≡ x

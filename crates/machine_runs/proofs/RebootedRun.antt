@@ -64,7 +64,6 @@ again m n rows present few = record {
       disk = λ _. inl (present p);
     };
   };
-  heeds = λ _. tt;
 }
 
 happens6 : Happens (moment_of first run5) abort
@@ -92,7 +91,6 @@ happens6 = record {
       disk = λ _. inl refl;
     };
   };
-  heeds = λ _. tt;
 }
 
 pub goes_again_in_resets : GoesAgainInResets

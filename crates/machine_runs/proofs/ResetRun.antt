@@ -14,8 +14,7 @@ use Rattle.machine_runs.specs.Worked.{EndsWithAReset}
 use Rattle.block_machine.proofs.Members.{contains_none, contains_here, contains_cases}
 use Rattle.block_machine.proofs.Keeps.{same_port}
 use Rattle.block_machine.proofs.Setting.{port, frame, empty_starts, granted}
-use Rattle.machine_runs.proofs.Scene.{mode, ports, ports_in, at_port, first, call, at_here, is_ready, is_dead, ready_here, none_dead, emptied_one, one_issued, none_there, one_told, none_told, none_ended, none_unplugged, finds_none, ready_port, restarts_here, only_one, ports_fit, row_zero}
-use Rattle.block_machine.proofs.Calm.{none}
+use Rattle.machine_runs.proofs.Scene.{none, mode, ports, ports_in, at_port, first, call, at_here, is_ready, is_dead, ready_here, none_dead, emptied_one, one_issued, none_there, one_told, none_told, none_ended, none_unplugged, finds_none, ready_port, restarts_here, only_one, ports_fit, row_zero}
 use Rattle.machine_runs.proofs.WaitingRun.{write, run1, happens1}
 
 -- the ports that a tick ages
@@ -129,7 +128,6 @@ happens2 = record {
     issues = λ p _. one_issued (unanswered (aged 1)) refl p;
     emptied = λ p _ ne e h. emptied_one (aged 1) refl p ne e h;
   };
-  heeds = λ _. tt;
 }
 
 pub happens3 : Happens (moment_of first run2) (tick [])
@@ -148,7 +146,6 @@ happens3 = record {
     issues = λ p _. one_issued (unanswered (aged 2)) refl p;
     emptied = λ p _ ne e h. emptied_one (aged 2) refl p ne e h;
   };
-  heeds = λ _. tt;
 }
 
 -- the third restarts it
@@ -222,7 +219,6 @@ happens4 = record {
     issues = λ p _. one_issued (unanswered again) refl p;
     emptied = λ p _ ne e h. emptied_one again refl p ne e h;
   };
-  heeds = λ _. tt;
 }
 
 -- The reset that is stuck, and what comes after it.
@@ -250,7 +246,6 @@ happens5 = record {
   fit = ports_fit Dead refl;
   disks = λ e o h i same. (refl, refl);
   answered = (tt, λ p. (refl, λ here. let dead = at_here Dead p here in (dead, dead_here p dead), (refl, refl)));
-  heeds = λ _. tt;
 }
 
 abbrev outcome_of : Step → Outcome
@@ -274,14 +269,12 @@ happens6 = record {
   answered = record {
     tells = one_told again outcome.PortDead service.steps refl (reply_of (again, outcome.PortDead)) refl;
     dead = told_dead;
-    grounded = tt;
     unplugs = none_unplugged service.steps (moment_of first run6).machine refl;
     issues = λ p ready. dead_not_ready p ready;
     emptied = λ p ne e h. absurd (contains_none e h);
     becomes = λ p. (λ _. (refl, refl, refl, refl, refl, refl), λ alive. (record { served = refl; stuck = λ dead. absurd (alive dead); dies = λ h. absurd (contains_none p h); keeps = λ _. (refl, refl) }, inl (refl, refl, refl, refl, refl, refl)));
     disk = λ p. inl (refl, refl, refl, refl, refl, refl);
   };
-  heeds = λ p ready. dead_not_ready p ready;
 }
 
 happens7 : Happens (moment_of first run6) reset
@@ -306,7 +299,6 @@ happens7 = record {
       disk = λ _. inl refl;
     };
   };
-  heeds = λ _. tt;
 }
 
 pub ends_with_a_reset : EndsWithAReset

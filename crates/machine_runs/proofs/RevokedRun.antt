@@ -13,7 +13,7 @@ use Rattle.block_machine.specs.Events.{RevokeOf, Service, Served, WasRevoked, Ev
 use Rattle.machine_runs.specs.Revoked.{IsTakenBack}
 use Rattle.block_machine.proofs.Members.{contains_none, contains_here, contains_there, contains_cases}
 use Rattle.block_machine.proofs.Setting.{client, row, empty_starts, granted, port}
-use Rattle.machine_runs.proofs.Scene.{first, reply, call, done, served, row_zero, one_issued, none_there, one_told, one_touched, ports_fit, none_ended, all_calmly, plain_service, in_ready, spares_ports, none_dead, none_unplugged, stay_ready, no_faults, ready_port}
+use Rattle.machine_runs.proofs.Scene.{first, reply, call, done, served, row_zero, one_issued, none_there, one_told, one_touched, ports_fit, plain_service, none_dead, none_unplugged, stay_ready}
 use Rattle.machine_runs.proofs.WaitingRun.{run2, write, read, happens1, happens2}
 use Rattle.block_machine.specs.Ports.{Evidence}
 
@@ -60,7 +60,6 @@ happens3 = record {
     same = λ p. (refl, refl, refl, refl, refl, refl);
     issues = λ p _. one_issued (unanswered (issue (newly_accepted write))) refl p;
   };
-  heeds = spares_ports;
 }
   where
     all : (e : Pending) → Contains (moment_of first run2).machine.book e → e.issued ≡ false → IsUnder client 0 e.request.asked.client e.request.asked.grant → Contains event3.steps (Answer e outcome.Revoked)
@@ -94,8 +93,7 @@ happens4 = record {
   lawful = (tt, (record { pending = issue (newly_accepted write); here = contains_here (issue (newly_accepted write)) [] (issue (newly_accepted write)) refl; id_is = refl; issued = refl }, refl, one_touched, refl));
   fit = ports_fit Ready refl;
   disks = λ e o h i same. (refl, refl);
-  answered = plain_service (moment_of first run3).machine (moment_of first run4).machine event4.steps (reply 1 ∷ []) (one_told (done write) outcome.Ok event4.steps refl (reply 1) refl) refl tt (λ p. none_there p) (λ e h. absurd (contains_none e h));
-  heeds = all_calmly (moment_of first run3) (moment_of first run4) event4.steps (in_ready (moment_of first run3).machine refl) (λ p. (refl, refl, refl, refl, refl, refl)) refl (none_ended (moment_of first run3).machine event4.steps refl);
+  answered = plain_service (moment_of first run3).machine (moment_of first run4).machine event4.steps (reply 1 ∷ []) (one_told (done write) outcome.Ok event4.steps refl (reply 1) refl) refl (λ p. none_there p) (λ e h. absurd (contains_none e h));
 }
 
 -- ---- where the port fails first
@@ -121,23 +119,11 @@ happens_failed = record {
   answered = record {
     tells = one_told running outcome.Revoked failed.steps refl (reply_of (running, outcome.Revoked)) refl;
     dead = λ e o i dead. none_dead e.request.port dead;
-    grounded = (tt, contains_here port [] port refl);
     unplugs = none_unplugged failed.steps (moment_of first (failed ∷ run3)).machine refl;
     issues = λ p _. none_there p;
     emptied = λ p ne e h. absurd (contains_none e h);
     becomes = λ p. (λ dead. none_dead p dead, λ _. (stay_ready failure refl p, inl (refl, refl, refl, refl, refl, refl)));
     disk = λ p. inl (refl, refl, refl, refl, refl, refl);
-  };
-  heeds = λ p ready. record {
-    ended = none_ended (moment_of first run3).machine failed.steps refl p;
-    emptied = λ gone. absurd (contains_none p gone);
-    told = λ gone. absurd (contains_none p gone);
-    interrupts = λ _. inl (contains_here port [] p (ready_port p ready));
-    anew = λ _ e h. absurd (contains_none e h);
-    single = let zero = no_faults failed.steps refl p in omega (arith, zero);
-    fatal = λ h. absurd (contains_none p h);
-    disk = λ _. inl (in_ready (moment_of first run3).machine refl p ready);
-    calm = inl (inl (contains_here port [] p (ready_port p ready)));
   };
 }
 

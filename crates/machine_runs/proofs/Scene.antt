@@ -1,7 +1,7 @@
 -- What the worked runs are made of: ports, calls and requests, and what holds of them.
 use Rattle.std.proofs.Common.{◌≡◌, ◌≢◌, ◌⊎◌, ℕ, ◌+◌, ◌<◌, ◌≤◌, true, false, not, List, [], ◌∷◌, ◌++◌, map, slice_get, Some, is_some, ◌||◌, ◌==◌, eq-eqb, None, inl, inr, ⊎_elim, refl, sym, ap, ◌∙◌, subst, arith, Bool, cond, eqb-true}
 use Rattle.std.proofs.lemmas.Bool.{false≢true, or_left, or_from, cond-true, cond-false}
-use Rattle.std.specs.List.{Contains, list_any, count_by}
+use Rattle.std.specs.List.{Contains, list_any}
 use Rattle.std.specs.List.Sorted.{IsPermutation}
 use Rattle.std.proofs.lemmas.Option.{slice_get_within, get_or_from_slice_get}
 use Rattle.std.proofs.lemmas.List.Sorted.{IsPermutation-refl}
@@ -26,13 +26,16 @@ use Rattle.block_machine.specs.Refusals.{IsOpen}
 use Rattle.block_machine.specs.Due.{NoneDue, is_flush}
 use Rattle.block_machine.specs.State.{Accepted, Pending, Machine, block_of, unanswered}
 use Rattle.block_machine.specs.Steps.{Step, Touch, End, Answer, newly_accepted, issue, touch, mark_ended, IsNew}
-use Rattle.block_machine.specs.Ports.{Ports, Evidence, AreFit, SamePort, SamePorts, IsInterrupted, MayBecome, IsServiced}
-use Rattle.block_machine.specs.Events.{Moment, Ask, Said, Event, ShowsDisk, IsHung, AllGrounded, AnswersEnded, UnplugsAll, FindsAnother, AnswersService, ServesReady, tells_fault, Tells, situation_of, answers_of, reply_of}
+use Rattle.block_machine.specs.Ports.{Ports, Evidence, AreFit, SamePort, IsInterrupted, MayBecome, IsServiced}
+use Rattle.block_machine.specs.Events.{Moment, Ask, Said, Event, ShowsDisk, IsHung, AnswersEnded, UnplugsAll, FindsAnother, AnswersService, Tells, situation_of, answers_of, reply_of}
 use Rattle.block_machine.proofs.Members.{contains_none, contains_here, contains_cases, append_in, none_of}
-use Rattle.block_machine.proofs.Counting.{count_cons, count_append, issued_not_due}
-use Rattle.block_machine.proofs.Calm.{none, is_refused, is_fault, its_fault, counts_none, calmly}
+use Rattle.block_machine.proofs.Counting.{issued_not_due}
 use Rattle.block_machine.proofs.Keeps.{same_port}
 use Rattle.block_machine.proofs.Setting.{client, on, port, frame, row, two_rows, request, empty, its_row, is_trim, IsFit, acceptable}
+
+-- no evidence
+abbrev pub none : Evidence
+none = record { faults = []; lost = []; gone = []; failed = []; fatal = []; stopped = []; stuck = [] }
 
 abbrev pub mode : Mode
 mode = record { queued = true; usable = 32 }
@@ -269,10 +272,6 @@ serviced p = (
   ),
 )
 
--- where port 0 has a disk, each ready port has
-pub in_ready : (m : Machine) → m.present port ≡ true → (p : Port) → at_port Ready p ≡ Ready → m.present p ≡ true
-in_ready m present p ready = ap m.present (ready_port p ready) ∙ present
-
 -- a state of port 0 that shows no disk shows none at any port
 pub shows_none : {A : Type 0} (state : PortState) → (ShowsDisk state → ⊥) → (p : Port) → ShowsDisk (at_port state p) → A
 shows_none {A} state none p shows = go (p.0 == 0) shows
@@ -318,10 +317,6 @@ pub restarts_here : (m : Machine) (evidence : Evidence) → evidence.stuck ≡ [
     → (p : Port) → ((IsHung (record { machine = m; ports = ports }) p → ⊥) × SamePort ports ports p) ⊎ (IsHung (record { machine = m; ports = ports }) p × MayBecome ports evidence ports p)
 restarts_here m evidence none hung = restarts_into m Ready evidence hung (stay_ready evidence none)
 
--- a call without evidence interrupts no port
-pub spares_ports : (p : Port) → IsInterrupted none p → ⊥
-spares_ports p i = ⊎_elim (contains_none p) (contains_none p) i
-
 -- What a service does where it has nothing to do but to answer.
 
 abbrev pub is_unplugged : Step → Bool
@@ -345,21 +340,6 @@ abbrev pub is_told_dead : Step → Bool
 is_told_dead (Answer e outcome.PortDead) = true
 is_told_dead _ = false
 
-pub no_faults : (steps : List Step) → list_any is_fault steps ≡ false → (p : Port) → count_by (tells_fault p) steps ≡ 0
-no_faults steps none p = counts_none is_fault p (its_fault p) steps none
-
--- one fault, and no other
-pub one_fault : (late : List Step) (step : Step) (early : List Step) → list_any is_fault late ≡ false → list_any is_fault early ≡ false → (p : Port) → count_by (tells_fault p) (late ++ step ∷ early) ≤ 1
-one_fault late step early before after p =
-    let a = no_faults late before p in
-    let b = no_faults early after p in
-    let c = at_most (tells_fault p step) in
-    omega (arith, a, b, c, count_append (tells_fault p) late (step ∷ early), count_cons (tells_fault p) step early)
-  where
-    at_most : (b : Bool) → cond b 1 0 ≤ 1
-    at_most true = omega arith
-    at_most false = omega arith
-
 pub none_ended : (m : Machine) (steps : List Step) → list_any (λ e. e.ended) m.book ≡ false → (p : Port) → AnswersEnded m steps p
 none_ended m steps none p e h here ended = absurd (false≢true (sym (none_of (λ (x : Pending). x.ended) m.book e none h) ∙ ended))
 
@@ -371,23 +351,17 @@ last_ended m steps others one is none done same told p e h here ended = ⊎_elim
     (λ (q : e ≡ one). (done, same ∙ ap (λ (x : Pending). x.request) (sym q), told))
     (append_in others one e (subst (λ (es : List Pending). Contains es e) is h))
 
--- and one that leaves all ports what they are
-pub all_calmly : (old new : Moment) (steps : List Step) → ((p : Port) → old.ports.state p ≡ Ready → old.machine.present p ≡ true) → SamePorts old.ports new.ports → list_any is_refused steps ≡ false → ((p : Port) → AnswersEnded old.machine steps p)
-    → (p : Port) → old.ports.state p ≡ Ready → ServesReady old none steps new p
-all_calmly old new steps present same ok ended p ready = calmly old new steps p (present p ready) (same p) ok (ended p)
-
 -- a book of this port's requests has none of a port that isn't ready
 pub emptied_of : (book : List Pending) → ((e : Pending) → Contains book e → e.request.port ≡ port) → (p : Port) → at_port Ready p ≢ Ready → (e : Pending) → Contains book e → e.request.port ≢ p
 emptied_of book mine p ne e h q = ne (subst (λ (x : Port). at_port Ready x ≡ Ready) (sym (mine e h) ∙ q) refl)
 
 -- a service with no evidence, of a server whose one port stays ready
-pub plain_service : (old new : Machine) (steps : List Step) (replies : List Reply) → Tells steps replies → list_any is_unplugged steps ≡ false → AllGrounded none steps
+pub plain_service : (old new : Machine) (steps : List Step) (replies : List Reply) → Tells steps replies → list_any is_unplugged steps ≡ false
     → ((p : Port) → NoneDue mode (map unanswered new.book) p) → ((e : Pending) → Contains new.book e → e.request.port ≡ port)
     → AnswersService (record { machine = old; ports = ports }) none steps replies (record { machine = new; ports = ports })
-plain_service old new steps replies tells plugged grounded issues mine = record {
+plain_service old new steps replies tells plugged issues mine = record {
   tells = tells;
   dead = λ e o h dead. none_dead e.request.port dead;
-  grounded = grounded;
   unplugs = none_unplugged steps new plugged;
   issues = λ p _. issues p;
   emptied = emptied_of new.book mine;

@@ -12,7 +12,7 @@ use Rattle.block_machine.specs.Events.{Tick, Device, Served, Stepped, Event, IsH
 use Rattle.machine_runs.specs.Worked.{EndsAtATick}
 use Rattle.block_machine.proofs.Members.{contains_none, contains_here, contains_cases}
 use Rattle.block_machine.proofs.Setting.{port, empty_starts}
-use Rattle.machine_runs.proofs.Scene.{first, ports, call, ready_port, none_there, one_told, none_unplugged, finds_none, last_ended, one_touched, restarts_here, spares_ports, ports_fit}
+use Rattle.machine_runs.proofs.Scene.{first, ports, call, ready_port, none_there, one_told, none_unplugged, finds_none, last_ended, one_touched, restarts_here, ports_fit}
 use Rattle.machine_runs.proofs.WaitingRun.{write, happens1}
 use Rattle.machine_runs.proofs.ResetRun.{aging, aged, halted, run3, happens2, happens3, ages_once}
 
@@ -45,7 +45,6 @@ happens4 = record {
   fit = ports_fit Ready refl;
   disks = λ e o h i same. (refl, refl);
   answered = (((tt, tt), tt), λ p. (refl, refl, refl, refl, refl, refl));
-  heeds = spares_ports;
 }
 
 hung : IsHung (moment_of first run4) port
@@ -105,7 +104,6 @@ happens5 = record {
     issues = λ p _. none_there p;
     emptied = λ p _ ne e h. absurd (contains_none e h);
   };
-  heeds = λ _. tt;
 }
 
 pub ends_at_a_tick : EndsAtATick

@@ -2,7 +2,7 @@
 use Rattle.std.proofs.Common.{◌≡◌, ◌⊎◌, ℕ, ◌<◌, ◌≤◌, ◌||◌, ◌==◌, Bool, true, false, cond, zero, suc, List, [], ◌∷◌, map, Ok, inl, inr, ⊎_elim, refl, sym, ap, ◌∙◌, subst, arith, eqb-true, eq-eqb}
 use Rattle.std.proofs.lemmas.Bool.{false≢true, or_cases, cond-true, cond-false}
 use Rattle.std.proofs.lemmas.List.Sorted.{IsPermutation-append_comm}
-use Rattle.std.specs.List.{Contains, list_any}
+use Rattle.std.specs.List.{Contains}
 use Rattle.std.specs.Prelude.{slice_index_or}
 use Rattle.ata_types.specs.declared.Port.{Port}
 use Rattle.ata_types.specs.declared.PortState.{PortState}
@@ -14,13 +14,12 @@ use Rattle.ata_types.specs.declared.request.Outcome.TheVariants as outcome
 use Rattle.block_machine.specs.Ports.{Ports, Evidence, AreFit, SamePort, IsInterrupted, IsServiced}
 use Rattle.block_machine.specs.State.{Accepted, Pending, Machine, unanswered, is_reader}
 use Rattle.block_machine.specs.Steps.{Step, Accept, Issue, Touch, End, Again, Answer, Unplug, newly_accepted, issue, touch, requeued}
-use Rattle.block_machine.specs.Events.{Moment, Submit, Service, Device, Submitted, Served, Stepped, Event, Happens, NoneKeepsIssue, ServesReady, UnplugsAll, Tells, IsToldBefore, IsIssuedIn, moment_after, moment_of, situation_of, steps_of, reply_of, ShowsDisk}
+use Rattle.block_machine.specs.Events.{Moment, Submit, Service, Device, Submitted, Served, Stepped, Event, Happens, UnplugsAll, Tells, IsToldBefore, IsIssuedIn, moment_after, moment_of, situation_of, steps_of, reply_of, ShowsDisk}
 use Rattle.machine_runs.specs.Worked.{MeetsTrouble}
 use Rattle.block_machine.proofs.Members.{contains_none, contains_here, contains_there, contains_cases, none_of}
 use Rattle.block_machine.proofs.Keeps.{same_port}
 use Rattle.block_machine.proofs.Setting.{on, frame, row, two_rows, empty, empty_starts, acceptable, granted}
-use Rattle.machine_runs.proofs.Scene.{mode, id, one_sector, done, is_ready, is_dead, IsQuiet, row_zero, write_at, fit_read, new, none_waits, none_there, one_told, none_told, one_touched, none_ended, last_ended, none_unplugged, is_unfit, is_told_dead, spares_ports, no_faults, one_fault, emptied_at}
-use Rattle.block_machine.proofs.Calm.{none, is_fault}
+use Rattle.machine_runs.proofs.Scene.{none, mode, id, one_sector, done, is_dead, IsQuiet, row_zero, write_at, fit_read, new, none_waits, none_there, one_told, none_told, one_touched, none_unplugged, is_unfit, is_told_dead, emptied_at}
 
 -- ports 0 and 1 in these states, and no other port
 abbrev both : PortState → PortState → Port → PortState
@@ -152,24 +151,6 @@ fit low high l h = record {
     go false true e = absurd (false≢true (sym e))
     go false false e = refl
 
--- where port 1 is out, port 0 alone is ready
-still_ready : (p : Port) → both Ready Ready p ≡ Ready → (p ≡ on 1) ⊎ (both Ready Absent p ≡ Ready)
-still_ready p e = go (p.0 == 0) refl (p.0 == 1) refl e
-  where
-    go : (a : Bool) → (p.0 == 0) ≡ a → (b : Bool) → (p.0 == 1) ≡ b → cond a Ready (cond b Ready Absent) ≡ Ready → (p ≡ on 1) ⊎ (both Ready Absent p ≡ Ready)
-    go true z b o e = inr (cond-true (p.0 == 0) Ready (cond (p.0 == 1) Absent Absent) z)
-    go false z true o e = inl (same_port p (on 1) (eqb-true p.0 1 o))
-    go false z false o e = absurd (false≢true (ap is_ready e))
-
--- and it is the one that is left
-zero_ready : (p : Port) → both Ready Absent p ≡ Ready → p ≡ on 0
-zero_ready p e = go (p.0 == 0) refl (p.0 == 1) e
-  where
-    go : (a : Bool) → (p.0 == 0) ≡ a → (b : Bool) → cond a Ready (cond b Absent Absent) ≡ Ready → p ≡ on 0
-    go true z b e = same_port p (on 0) (eqb-true p.0 0 z)
-    go false z true e = absurd (false≢true (ap is_ready e))
-    go false z false e = absurd (false≢true (ap is_ready e))
-
 -- where port 0 has a disk, each port that shows one has
 in_zero : (m : Machine) → m.present (on 0) ≡ true → (p : Port) → ShowsDisk (both Ready Absent p) → m.present p ≡ true
 in_zero m present p shows = go (p.0 == 0) refl (p.0 == 1) shows
@@ -232,7 +213,6 @@ happens1 = record {
   fit = fit Ready Ready refl refl;
   disks = λ e o h i same. (refl, refl);
   answered = (acceptable 1 (situation_of (moment_of first run0)) lost.asked (fit_read 1 (moment_of first run0) 102 quiet0 refl refl), (lost, refl, refl), λ p. (refl, refl, refl, refl, refl, refl), λ p _. none_waits _ refl p);
-  heeds = spares_ports;
 }
 
 -- a request of the book's end
@@ -254,7 +234,6 @@ happens2 = record {
   fit = fit Ready Ready refl refl;
   disks = λ e o h i same. (refl, refl);
   answered = (acceptable 0 (situation_of (moment_of first run1)) failed.asked (write_at 0 (moment_of first run1) 100 100 quiet1 (omega arith) (omega arith) refl refl), (failed, refl, refl), λ p. (refl, refl, refl, refl, refl, refl), λ p _. none_waits _ refl p);
-  heeds = spares_ports;
 }
 
 happens3 : Happens (moment_of first run2) (submit again)
@@ -266,7 +245,6 @@ happens3 = record {
   fit = fit Ready Ready refl refl;
   disks = λ e o h i same. (refl, refl);
   answered = (acceptable 0 (situation_of (moment_of first run2)) again.asked (write_at 0 (moment_of first run2) 101 101 quiet2 (omega arith) (omega arith) refl refl), (again, refl, refl), λ p. (refl, refl, refl, refl, refl, refl), λ p _. none_waits _ refl p);
-  heeds = spares_ports;
 }
 
 happens4 : Happens (moment_of first run3) (submit finished)
@@ -278,7 +256,6 @@ happens4 = record {
   fit = fit Ready Ready refl refl;
   disks = λ e o h i same. (refl, refl);
   answered = (acceptable 0 (situation_of (moment_of first run3)) finished.asked (write_at 0 (moment_of first run3) 102 103 quiet3 (omega arith) (omega arith) refl refl), (finished, refl, refl), λ p. (refl, refl, refl, refl, refl, refl), λ p _. none_waits _ refl p);
-  heeds = spares_ports;
 }
 
 happens5 : Happens (moment_of first run4) ending
@@ -290,7 +267,6 @@ happens5 = record {
   fit = fit Ready Ready refl refl;
   disks = λ e o h i same. (refl, refl);
   answered = (((tt, tt), tt), λ p. (refl, refl, refl, refl, refl, refl));
-  heeds = spares_ports;
 }
 
 happens6 : Happens (moment_of first run5) unplug
@@ -302,18 +278,11 @@ happens6 = record {
   fit = fit Ready Ready refl refl;
   disks = λ e o h i same. (refl, refl);
   answered = ((tt, tt), λ p. (refl, refl, refl, refl, refl, refl));
-  heeds = spares_ports;
 }
 
 -- The call that finds both troubles.
 
--- the one request that is left was issued in it, and isn't of the port that went
-left_anew : (n : ℕ) (steps : List Step) → IsIssuedIn again.id steps → (e : Pending) → Contains (tried n ∷ []) e → IsIssuedIn e.request.id steps
-left_anew n steps issued e h = ⊎_elim
-    (λ (same : e ≡ tried n). subst (λ (x : Pending). IsIssuedIn x.request.id steps) (sym same) issued)
-    (λ none. absurd (contains_none e none))
-    (contains_cases (tried n) [] e h)
-
+-- the one request that is left isn't of the port that went
 left_here : (n : ℕ) (e : Pending) → Contains (tried n ∷ []) e → e.request.port.0 ≡ 0
 left_here n e h = ⊎_elim (λ (same : e ≡ tried n). ap (λ (x : Pending). x.request.port.0) same) (λ none. absurd (contains_none e none)) (contains_cases (tried n) [] e h)
 
@@ -334,53 +303,10 @@ told_in_order = record {
     go (suc zero) (suc (suc zero)) d lt below = inl (omega arith)
     go i j d lt below = absurd (omega (arith, lt, below))
 
--- tests of steps
-
--- the step answers a request of port 1 otherwise than Ok and Unplugged
-abbrev tells_other : Step → Bool
-tells_other (Answer e outcome.Ok) = false
-tells_other (Answer e outcome.Unplugged) = false
-tells_other (Answer e o) = e.request.port.0 == 1
-tells_other _ = false
-
 -- the step answers a request of port 0 Unplugged
 abbrev unplugs_zero : Step → Bool
 unplugs_zero (Answer e outcome.Unplugged) = e.request.port.0 == 0
 unplugs_zero _ = false
-
-told_one : (e : Pending) (o : Outcome) → e.request.port.0 ≡ 1 → tells_other (Answer e o) ≡ false → (o ≡ outcome.Ok) ⊎ (o ≡ outcome.Unplugged)
-told_one e outcome.Ok one h = inl refl
-told_one e outcome.Unplugged one h = inr refl
-told_one e (outcome.DeviceError status error) one h = absurd (false≢true (sym h ∙ eq-eqb e.request.port.0 1 one))
-told_one e outcome.Revoked one h = absurd (false≢true (sym h ∙ eq-eqb e.request.port.0 1 one))
-told_one e outcome.Aborted one h = absurd (false≢true (sym h ∙ eq-eqb e.request.port.0 1 one))
-told_one e outcome.PortDead one h = absurd (false≢true (sym h ∙ eq-eqb e.request.port.0 1 one))
-
--- both ready ports were stopped
-stopped : (p : Port) → both Ready Ready p ≡ Ready → Contains (on 0 ∷ on 1 ∷ []) p
-stopped p ready = ⊎_elim (λ (same : p ≡ on 1). contains_there (on 0) (on 1 ∷ []) p (contains_here (on 1) [] p same)) (λ still. contains_here (on 0) (on 1 ∷ []) p (zero_ready p still)) (still_ready p ready)
-
--- what each ready port finds of it
-serves_ready : (p : Port) → both Ready Ready p ≡ Ready → ServesReady (moment_of first run6) trouble serving (moment_of first run7) p
-serves_ready p ready = record {
-  disk = λ shows. inl (in_zero (moment_of first run6).machine refl p shows);
-  ended = last_ended (moment_of first run6).machine serving (losing ∷ failing ∷ tried 1 ∷ []) (done finished) refl refl (done finished) refl
-      (contains_there (Answer losing outcome.Unplugged) (Issue mode (requeued (tried 1)) ∷ requeuing) (Answer (done finished) outcome.Ok)
-      (fourth (Issue mode (requeued (tried 1))) (Again (tried 1)) (Answer failing (outcome.DeviceError 65 64)) (Answer (done finished) outcome.Ok))) p;
-  emptied = λ gone e h q. other_port gone e h q;
-  told = λ gone. inl (λ e o h here. told_one e o (ap (λ (x : Port). x.0) (here ∙ only_one gone)) (none_of tells_other serving (Answer e o) refl h));
-  interrupts = λ _. inl (stopped p ready);
-  anew = λ _ e h _ _. left_anew 2 serving refl e h;
-  fatal = λ h. absurd (contains_none p h);
-  single = one_fault (Answer losing outcome.Unplugged ∷ Issue mode (requeued (tried 1)) ∷ Again (tried 1) ∷ []) (Answer failing (outcome.DeviceError 65 64)) (Answer (done finished) outcome.Ok ∷ []) refl refl p;
-  calm = inl (⊎_elim (λ same. inr (inl (contains_here (on 1) [] p same))) (λ still. inl (contains_here (on 0) [] p (zero_ready p still))) (still_ready p ready));
-}
-  where
-    only_one : Contains (on 1 ∷ []) p → p ≡ on 1
-    only_one gone = ⊎_elim (λ same. same) (λ n. absurd (contains_none p n)) (contains_cases (on 1) [] p gone)
-
-    other_port : Contains (on 1 ∷ []) p → (e : Pending) → Contains (tried 2 ∷ []) e → e.request.port ≡ p → ⊥
-    other_port gone e h q = let at_zero = left_here 2 e h in let at_one = ap (λ (x : Port). x.0) (q ∙ only_one gone) in omega (arith, at_zero, at_one)
 
 -- port 1's alone are answered Unplugged
 unplugs_all : UnplugsAll serving (moment_of first run7).machine
@@ -419,7 +345,6 @@ happens7 = record {
   answered = record {
     tells = told_in_order;
     dead = λ e o i dead. not_dead Ready Ready refl refl e.request.port dead;
-    grounded = ((tt, contains_here (on 0) [] (on 0) refl), contains_here (on 0) [] (on 0) refl);
     unplugs = unplugs_all;
     issues = λ p _. none_waits _ refl p;
     emptied = λ p ne e h. emptied_at (both Ready Absent) (tried 2) refl p ne e h;
@@ -437,7 +362,6 @@ happens7 = record {
     );
     disk = λ p. inr (λ shows. inl (in_zero (moment_of first run6).machine refl p shows));
   };
-  heeds = serves_ready;
 }
   where
     apart : (id : RequestId) → (1 == id.0) ≡ true → IsIssuedIn id (Issue mode (requeued (tried 1)) ∷ requeuing) → ⊥
@@ -448,30 +372,12 @@ happens7 = record {
 
 -- A service that issues the request again, and the one that aborts it.
 
--- port 0 has failed, where no request had ended and none keeps its issue
-fails : (old new : Moment) (steps : List Step) (p : Port) → both Ready Absent p ≡ Ready → old.machine.present (on 0) ≡ true → list_any (λ e. e.ended) old.machine.book ≡ false → list_any is_fault steps ≡ false
-    → NoneKeepsIssue steps new.machine p → ServesReady old failure steps new p
-fails old new steps p ready present none faults anew = record {
-  disk = λ _. inl (ap old.machine.present (zero_ready p ready) ∙ present);
-  ended = none_ended old.machine steps none p;
-  emptied = λ gone. absurd (contains_none p gone);
-  told = λ gone. absurd (contains_none p gone);
-  interrupts = λ _. inl (contains_here (on 0) [] p (zero_ready p ready));
-  anew = λ _. anew;
-  fatal = λ h. absurd (contains_none p h);
-  single = let zero = no_faults steps faults p in omega (arith, zero);
-  calm = inl (inl (contains_here (on 0) [] p (zero_ready p ready)));
-}
-
 -- the moment before such a service
 abbrev before : Machine → ℕ → Moment
 before m n = record { machine = record m { book = tried n ∷ []; kept = [] }; ports = ports_in Ready Absent }
 
-retry_heeds : (m : Machine) (n : ℕ) → m.present (on 0) ≡ true → (p : Port) → both Ready Absent p ≡ Ready → ServesReady (before m n) failure (retry n).steps (moment_after (before m n) (retry n)) p
-retry_heeds m n in_before p ready = fails (before m n) (moment_after (before m n) (retry n)) (retry n).steps p ready in_before refl refl (λ e h _ _. left_anew (suc n) (retry n).steps refl e h)
-
-retried : (m : Machine) (n : ℕ) → m.rows ≡ two_rows → m.present (on 0) ≡ true → n < 4 → Happens (before m n) (retry n)
-retried m n rows in_before few = record {
+retried : (m : Machine) (n : ℕ) → m.rows ≡ two_rows → n < 4 → Happens (before m n) (retry n)
+retried m n rows few = record {
   may = ((tt, (contains_here (tried n) [] (tried n) refl, refl, few, granted 0 row_zero rows)), (contains_here (requeued (tried n)) [] (requeued (tried n)) refl, record { here = contains_here (unanswered (requeued (tried n))) [] (unanswered (requeued (tried n))) refl; clear = refl; slot = λ _. omega arith }, λ e h. absurd (contains_none e h), granted 0 row_zero rows));
   belong = ((tt, inr refl), inr (refl, refl));
   last = ((tt, λ id h i. false≢true i), λ id h i. false≢true i);
@@ -481,14 +387,12 @@ retried m n rows in_before few = record {
   answered = record {
     tells = none_told (retry n).steps refl;
     dead = λ e o i dead. not_dead Ready Absent refl refl e.request.port dead;
-    grounded = (tt, contains_here (on 0) [] (on 0) refl);
     unplugs = none_unplugged (retry n).steps (moment_after (before m n) (retry n)).machine refl;
     issues = λ p _. none_waits _ refl p;
     emptied = λ p ne e h. emptied_at (both Ready Absent) (tried (suc n)) refl p ne e h;
     becomes = stays;
     disk = λ p. inl (refl, refl, refl, refl, refl, refl);
   };
-  heeds = retry_heeds m n in_before;
 }
 
 happens10 : Happens (moment_of first run9) abort
@@ -502,14 +406,12 @@ happens10 = record {
   answered = record {
     tells = one_told (tried 4) outcome.Aborted abort.steps refl (reply_of (tried 4, outcome.Aborted)) refl;
     dead = λ e o i dead. not_dead Ready Absent refl refl e.request.port dead;
-    grounded = (tt, contains_here (on 0) [] (on 0) refl);
     unplugs = none_unplugged abort.steps (moment_after (moment_of first run9) abort).machine refl;
     issues = λ p _. none_there p;
     emptied = λ p ne e h. absurd (contains_none e h);
     becomes = stays;
     disk = λ p. inl (refl, refl, refl, refl, refl, refl);
   };
-  heeds = λ p ready. fails (moment_of first run9) (moment_after (moment_of first run9) abort) abort.steps p ready refl refl refl (λ e h. absurd (contains_none e h));
 }
 
 pub meets_trouble : MeetsTrouble
@@ -520,7 +422,7 @@ meets_trouble = record {
   third = retry 2;
   fourth = retry 3;
   last = abort;
-  runs = (((((((((((empty_starts, fit Ready Ready refl refl), happens1), happens2), happens3), happens4), happens5), happens6), happens7), retried (moment_of first run7).machine 2 refl refl (omega arith)), retried (moment_of first (retry 2 ∷ run7)).machine 3 refl refl (omega arith)), happens10);
+  runs = (((((((((((empty_starts, fit Ready Ready refl refl), happens1), happens2), happens3), happens4), happens5), happens6), happens7), retried (moment_of first run7).machine 2 refl (omega arith)), retried (moment_of first (retry 2 ∷ run7)).machine 3 refl (omega arith)), happens10);
   told = (((((((((((((((((((((tt, tt), tt), tt), tt), tt), tt), tt), tt), λ e. absurd (false≢true (ap is_reader e))), tt), tt), tt), tt), tt), tt), tt), tt), tt), tt), tt), tt);
   lost = losing;
   failed = failing;

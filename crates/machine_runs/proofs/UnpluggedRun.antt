@@ -15,7 +15,7 @@ use Rattle.block_machine.specs.Events.{Moment, Tick, Device, Served, Stepped, Ev
 use Rattle.machine_runs.specs.Worked.{IsTakenOutBeforeATick}
 use Rattle.block_machine.proofs.Members.{contains_none, contains_here, contains_cases, none_of}
 use Rattle.block_machine.proofs.Setting.{port, frame, empty_starts}
-use Rattle.machine_runs.proofs.Scene.{first, ports, ports_in, call, none_told, ready_port, spares_ports, restarts_into, shows_none, is_told_dead, emptied_of, of_two, none_ended, none_unplugged, absent_not_ready, absent_not_dead, ports_fit}
+use Rattle.machine_runs.proofs.Scene.{first, ports, ports_in, call, none_told, ready_port, restarts_into, shows_none, is_told_dead, emptied_of, of_two, none_ended, none_unplugged, absent_not_ready, absent_not_dead, ports_fit}
 use Rattle.machine_runs.proofs.WaitingRun.{read, run2, happens1, happens2, none_due}
 use Rattle.machine_runs.proofs.ResetRun.{aging, aged, ages_once, ticks}
 use Rattle.machine_runs.proofs.ResetRun as reset_run
@@ -72,7 +72,6 @@ ticked m n young = record {
     issues = λ p _. none_due p;
     emptied = λ p _. emptied_of (older aging (aged n) ∷ older aging waits ∷ []) (of_two (older aging (aged n)) (older aging waits) (λ e. e.request.port ≡ port) refl refl) p;
   };
-  heeds = λ _. tt;
 }
 
 happens5 : Happens (moment_of first run4) going
@@ -84,7 +83,6 @@ happens5 = record {
   fit = ports_fit Ready refl;
   disks = λ e o h i same. (refl, refl);
   answered = ((tt, tt), λ p. (refl, refl, refl, refl, refl, refl));
-  heeds = spares_ports;
 }
 
 -- The third tick.
@@ -168,7 +166,6 @@ happens6 = record {
     issues = λ p ready. absent_not_ready p ready;
     emptied = λ p _ ne e h. absurd (contains_none e h);
   };
-  heeds = λ _. tt;
 }
 
 pub is_taken_out_before_a_tick : IsTakenOutBeforeATick

@@ -11,12 +11,11 @@ use Rattle.block_machine.specs.Due.{is_flush}
 use Rattle.block_machine.specs.Ports.{Evidence}
 use Rattle.block_machine.specs.State.{Block, Disk, Accepted, block_of, is_reader, unanswered}
 use Rattle.block_machine.specs.Steps.{Step, Accept, Issue, Touch, End, Answer, Unplug, Replace, Store, Load, newly_accepted, issue, touch, mark_ended, HasHeld, SameBytes}
-use Rattle.block_machine.specs.Events.{Submit, StoreAt, LoadAt, Service, Device, Submitted, Stored, Loaded, Served, Stepped, Event, Happens, IsRun, ServesReady, moment_of, situation_of, steps_of, ShowsDisk}
+use Rattle.block_machine.specs.Events.{Submit, StoreAt, LoadAt, Service, Device, Submitted, Stored, Loaded, Served, Stepped, Event, Happens, IsRun, moment_of, situation_of, steps_of, ShowsDisk}
 use Rattle.machine_runs.specs.Worked.{FindsTheFlushed, MayComeBack, ReadsOneOf}
 use Rattle.block_machine.proofs.Members.{contains_none, contains_here, contains_there, contains_cases}
 use Rattle.block_machine.proofs.Setting.{client, port, frame, request, empty_starts, acceptable, granted}
-use Rattle.machine_runs.proofs.Scene.{mode, first, at_port, ports_in, id, call, reply, sector_request, done, served, is_open, IsQuiet, row_zero, fit_write, fit_read, fit_flush, new, one_issued, none_there, one_told, none_told, one_touched, ports_fit, none_dead, none_ended, none_unplugged, all_calmly, plain_service, ready_port, in_ready, shows_none, changed_here, spares_ports, absent_not_ready, absent_not_dead}
-use Rattle.block_machine.proofs.Calm.{none}
+use Rattle.machine_runs.proofs.Scene.{none, mode, first, at_port, ports_in, id, call, reply, sector_request, done, served, is_open, IsQuiet, row_zero, fit_write, fit_read, fit_flush, new, one_issued, none_there, one_told, none_told, one_touched, ports_fit, none_dead, none_unplugged, plain_service, ready_port, shows_none, changed_here, absent_not_dead}
 
 abbrev run0 : List (Event (Unit {0}))
 run0 = []
@@ -163,7 +162,6 @@ happens1 = record {
   fit = ports_fit Ready refl;
   disks = λ e o h i same. (refl, refl);
   answered = (is_open (moment_of first run0).machine 100 0 1 refl refl (omega arith), refl, λ p. (refl, refl, refl, refl, refl, refl));
-  heeds = spares_ports;
 }
 
 happens2 : Happens (moment_of first run1) event2
@@ -175,7 +173,6 @@ happens2 = record {
   fit = ports_fit Ready refl;
   disks = λ e o h i same. (refl, refl);
   answered = (acceptable 0 (situation_of (moment_of first run1)) write.asked (fit_write (moment_of first run1) 100 quiet1 refl refl), (write, refl, refl), λ p. (refl, refl, refl, refl, refl, refl), λ p _. one_issued (unanswered (issue (newly_accepted write))) refl p);
-  heeds = spares_ports;
 }
 
 happens3 : Happens (moment_of first run2) event3
@@ -186,8 +183,7 @@ happens3 = record {
   lawful = (tt, (record { pending = issue (newly_accepted write); here = contains_here (issue (newly_accepted write)) [] (issue (newly_accepted write)) refl; id_is = refl; issued = refl }, refl, one_touched, refl));
   fit = ports_fit Ready refl;
   disks = λ e o h i same. (refl, refl);
-  answered = plain_service (moment_of first run2).machine (moment_of first run3).machine event3.steps (reply 1 ∷ []) (one_told (done write) outcome.Ok event3.steps refl (reply 1) refl) refl tt (λ p. none_there p) (λ e h. absurd (contains_none e h));
-  heeds = all_calmly (moment_of first run2) (moment_of first run3) event3.steps (in_ready (moment_of first run2).machine refl) (λ p. (refl, refl, refl, refl, refl, refl)) refl (none_ended (moment_of first run2).machine event3.steps refl);
+  answered = plain_service (moment_of first run2).machine (moment_of first run3).machine event3.steps (reply 1 ∷ []) (one_told (done write) outcome.Ok event3.steps refl (reply 1) refl) refl (λ p. none_there p) (λ e h. absurd (contains_none e h));
 }
 
 happens4 : Happens (moment_of first run3) event4
@@ -199,7 +195,6 @@ happens4 = record {
   fit = ports_fit Ready refl;
   disks = λ e o h i same. (refl, refl);
   answered = (acceptable 0 (situation_of (moment_of first run3)) flush.asked (fit_flush (moment_of first run3) quiet3), (flush, refl, refl), λ p. (refl, refl, refl, refl, refl, refl), λ p _. one_issued (unanswered (issue (newly_accepted flush))) refl p);
-  heeds = spares_ports;
 }
 
 happens5 : Happens (moment_of first run4) event5
@@ -210,8 +205,7 @@ happens5 = record {
   lawful = (tt, (record { pending = issue (newly_accepted flush); here = contains_here (issue (newly_accepted flush)) [] (issue (newly_accepted flush)) refl; id_is = refl; issued = refl }, refl, (λ k lt. absurd (omega (arith, lt))), refl));
   fit = ports_fit Ready refl;
   disks = λ e o h i same. (refl, refl);
-  answered = plain_service (moment_of first run4).machine (moment_of first run5).machine event5.steps (reply 2 ∷ []) (one_told (mark_ended (issue (newly_accepted flush))) outcome.Ok event5.steps refl (reply 2) refl) refl tt (λ p. none_there p) (λ e h. absurd (contains_none e h));
-  heeds = all_calmly (moment_of first run4) (moment_of first run5) event5.steps (in_ready (moment_of first run4).machine refl) (λ p. (refl, refl, refl, refl, refl, refl)) refl (none_ended (moment_of first run4).machine event5.steps refl);
+  answered = plain_service (moment_of first run4).machine (moment_of first run5).machine event5.steps (reply 2 ∷ []) (one_told (mark_ended (issue (newly_accepted flush))) outcome.Ok event5.steps refl (reply 2) refl) refl (λ p. none_there p) (λ e h. absurd (contains_none e h));
 }
 
 happens6 : Happens (moment_of first run5) event6
@@ -223,7 +217,6 @@ happens6 = record {
   fit = ports_fit Ready refl;
   disks = λ e o h i same. (refl, refl);
   answered = (is_open (moment_of first run5).machine 100 0 1 refl refl (omega arith), refl, λ p. (refl, refl, refl, refl, refl, refl));
-  heeds = spares_ports;
 }
 
 happens7 : Happens (moment_of first run6) event7
@@ -235,7 +228,6 @@ happens7 = record {
   fit = ports_fit Ready refl;
   disks = λ e o h i same. (refl, refl);
   answered = (acceptable 0 (situation_of (moment_of first run6)) later.asked (fit_write (moment_of first run6) 100 quiet6 refl refl), (later, refl, refl), λ p. (refl, refl, refl, refl, refl, refl), λ p _. one_issued (unanswered (issue (newly_accepted later))) refl p);
-  heeds = spares_ports;
 }
 
 happens8 : Happens (moment_of first run7) event8
@@ -246,8 +238,7 @@ happens8 = record {
   lawful = (tt, (record { pending = issue (newly_accepted later); here = contains_here (issue (newly_accepted later)) [] (issue (newly_accepted later)) refl; id_is = refl; issued = refl }, refl, one_touched, refl));
   fit = ports_fit Ready refl;
   disks = λ e o h i same. (refl, refl);
-  answered = plain_service (moment_of first run7).machine (moment_of first run8).machine event8.steps (reply 3 ∷ []) (one_told (done later) outcome.Ok event8.steps refl (reply 3) refl) refl tt (λ p. none_there p) (λ e h. absurd (contains_none e h));
-  heeds = all_calmly (moment_of first run7) (moment_of first run8) event8.steps (in_ready (moment_of first run7).machine refl) (λ p. (refl, refl, refl, refl, refl, refl)) refl (none_ended (moment_of first run7).machine event8.steps refl);
+  answered = plain_service (moment_of first run7).machine (moment_of first run8).machine event8.steps (reply 3 ∷ []) (one_told (done later) outcome.Ok event8.steps refl (reply 3) refl) refl (λ p. none_there p) (λ e h. absurd (contains_none e h));
 }
 
 happens9 : Happens (moment_of first run8) event9
@@ -259,23 +250,9 @@ happens9 = record {
   fit = ports_fit Ready refl;
   disks = λ e o h i same. (refl, refl);
   answered = ((tt, tt), λ p. (refl, refl, refl, refl, refl, refl));
-  heeds = spares_ports;
 }
 
 -- the service that notices
-notices : (p : Port) → at_port Ready p ≡ Ready → ServesReady (moment_of first run9) gone [] (moment_of first run10) p
-notices p ready = record {
-  ended = none_ended (moment_of first run9).machine [] refl p;
-  emptied = λ _ e h. absurd (contains_none e h);
-  told = λ _. inl (λ e o h. absurd (contains_none (Answer e o) h));
-  interrupts = λ _. inl (contains_here port [] p (ready_port p ready));
-  anew = λ _ e h. absurd (contains_none e h);
-  disk = λ shows. shows_none Absent (λ s. s) p shows;
-  fatal = λ h. absurd (contains_none p h);
-  single = omega arith;
-  calm = inl (inr (inl (contains_here port [] p (ready_port p ready))));
-}
-
 happens10 : Happens (moment_of first run9) event10
 happens10 = record {
   may = tt;
@@ -287,14 +264,12 @@ happens10 = record {
   answered = record {
     tells = none_told [] refl;
     dead = λ e o i dead. none_dead e.request.port dead;
-    grounded = tt;
     unplugs = none_unplugged [] (moment_of first run10).machine refl;
     issues = λ p _. none_there p;
     emptied = λ p ne e h. absurd (contains_none e h);
     becomes = λ p. (λ dead. none_dead p dead, λ _. (record { served = refl; stuck = λ dead. absent_not_dead p dead; dies = λ h. absurd (contains_none p h); keeps = λ _. (refl, refl) }, changed_here Ready Absent gone (inl (contains_here port [] port refl)) p));
     disk = λ p. inr (λ shows. shows_none Absent (λ s. s) p shows);
   };
-  heeds = notices;
 }
 
 happens11 : (disk : Disk) → Happens (moment_of first run10) (event11 disk)
@@ -306,7 +281,6 @@ happens11 disk = record {
   fit = ports_fit Absent refl;
   disks = λ e o h i same. (refl, refl);
   answered = ((tt, tt), λ p. (refl, refl, refl, refl, refl, refl));
-  heeds = spares_ports;
 }
 
 shows_ready : (p : Port) → ShowsDisk (at_port Ready p) → at_port Ready p ≡ Ready
@@ -331,14 +305,12 @@ happens12 disk = record {
   answered = record {
     tells = none_told [] refl;
     dead = λ e o i dead. absent_not_dead e.request.port dead;
-    grounded = tt;
     unplugs = none_unplugged [] (moment_of first (run12 disk)).machine refl;
     issues = λ p _. none_there p;
     emptied = λ p ne e h. absurd (contains_none e h);
     becomes = λ p. (λ dead. absent_not_dead p dead, λ _. (record { served = refl; stuck = λ dead. none_dead p dead; dies = λ h. absurd (contains_none p h); keeps = λ _. (refl, refl) }, changed_here Absent Ready booting (inl (contains_here port [] port refl)) p));
     disk = λ p. inr (λ shows. inl (present p (shows_ready p shows)));
   };
-  heeds = λ p ready. absent_not_ready p ready;
 }
 
 happens13 : (disk : Disk) → Happens (moment_of first (run12 disk)) (event13 disk)
@@ -350,7 +322,6 @@ happens13 disk = record {
   fit = ports_fit Ready refl;
   disks = λ e o h i same. (refl, refl);
   answered = (acceptable 0 (situation_of (moment_of first (run12 disk))) (read disk).asked (fit_read 0 (moment_of first (run12 disk)) 101 (quiet12 disk) refl refl), (read disk, refl, refl), λ p. (refl, refl, refl, refl, refl, refl), λ p _. one_issued (unanswered (issue (newly_accepted (read disk)))) refl p);
-  heeds = spares_ports;
 }
 
 happens14 : (disk : Disk) → Happens (moment_of first (run13 disk)) (event14 disk)
@@ -361,8 +332,7 @@ happens14 disk = record {
   lawful = (tt, (record { pending = issue (newly_accepted (read disk)); here = contains_here (issue (newly_accepted (read disk))) [] (issue (newly_accepted (read disk))) refl; id_is = refl; issued = refl }, refl, one_touched, refl));
   fit = ports_fit Ready refl;
   disks = λ e o h i same. (refl, refl);
-  answered = plain_service (moment_of first (run13 disk)).machine (moment_of first (run14 disk)).machine (event14 disk).steps (reply 4 ∷ []) (one_told (done (read disk)) outcome.Ok (event14 disk).steps refl (reply 4) refl) refl tt (λ p. none_there p) (λ e h. absurd (contains_none e h));
-  heeds = all_calmly (moment_of first (run13 disk)) (moment_of first (run14 disk)) (event14 disk).steps (in_ready (moment_of first (run13 disk)).machine refl) (λ p. (refl, refl, refl, refl, refl, refl)) refl (none_ended (moment_of first (run13 disk)).machine (event14 disk).steps refl);
+  answered = plain_service (moment_of first (run13 disk)).machine (moment_of first (run14 disk)).machine (event14 disk).steps (reply 4 ∷ []) (one_told (done (read disk)) outcome.Ok (event14 disk).steps refl (reply 4) refl) refl (λ p. none_there p) (λ e h. absurd (contains_none e h));
 }
 
 loaded : (disk : Disk) (b : ℕ) → b < 1 → slice_index (disk 100 0 ∷ []) b ≡ (moment_of first (run14 disk)).machine.memory (frame 101) (0 + b)
@@ -377,7 +347,6 @@ happens15 disk = record {
   fit = ports_fit Ready refl;
   disks = λ e o h i same. (refl, refl);
   answered = (is_open (moment_of first (run14 disk)).machine 101 0 1 refl refl (omega arith), refl, λ p. (refl, refl, refl, refl, refl, refl));
-  heeds = spares_ports;
 }
 
 runs10 : IsRun first run10

@@ -8,7 +8,7 @@ use Rattle.ata_types.specs.declared.PortState.TheVariants.{Absent, Ready, Foreig
 use Rattle.ata_types.specs.declared.memory.TheConstants.{DRIVER_BYTES}
 use Rattle.hba_regs.specs.declared.reg.PortReg.TheVariants.{Ci, Cmd, Ie}
 use Rattle.hba_regs.specs.declared.reg.Reg.TheVariants.{Px}
-use Rattle.adapter.specs.Access.{Access, Writes, port_written}
+use Rattle.adapter.specs.Access.{Access, Writes, port_written, named_causes}
 use Rattle.adapter.specs.Access.Access.{Writing}
 use Rattle.adapter.specs.Device.{Notes, Device}
 use Rattle.adapter.specs.Device as device
@@ -28,7 +28,7 @@ use Rattle.disk_page.specs.Asking.{IsAsking, LeavesRunning, Brings, Reads}
 use Rattle.identify.specs.declared.DiskInfo.{DiskInfo}
 use Rattle.port_control.specs.Engines.{FailsToStop, FailsToStopReceiving, Stops, StopsReceiving, Sticks}
 use Rattle.port_control.specs.Ports.{WritesCommand, IsPlacing, IsRunning, HasStopped, SawDevice}
-use Rattle.port_boot.specs.States.{told_causes, HasPage, IsFit, Judges, EndsAs, IsReady, IsBooting, IsOfBoot, IsBoot, IsBootTo, IsBootable, IsBroughtUp, IsHaltedAs, IsLate, StopsOnWay, TellsFault}
+use Rattle.port_boot.specs.States.{HasPage, IsFit, Judges, EndsAs, IsReady, IsBooting, IsOfBoot, IsBoot, IsBootTo, IsBootable, IsBroughtUp, IsHaltedAs, IsLate, StopsOnWay, TellsFault}
 use Rattle.port_control.specs.declared.PortFault.{PortFault}
 use Rattle.port_control.specs.declared.PortFault.TheVariants.{NoDevice, Busy, EngineStuck, NotAta}
 use Rattle.port_boot.proofs.Bringing.{placing, starting, told_boots}
@@ -233,7 +233,7 @@ module _ (laws : Laws) where
       pub enabled_since : (new.port port.0).notes.sctl_written_at ≡ (old.port port.0).notes.sctl_written_at
       enabled_since = enabled_written ∙ ap (λ (n : Notes). n.sctl_written_at) l.notes
 
-      pub enabled_ready : (wanted : Option (List ℕ)) (info : DiskInfo) → v ≡ told_causes → IsFit wanted page info → IsReady wanted port.0 new info
+      pub enabled_ready : (wanted : Option (List ℕ)) (info : DiskInfo) → v ≡ named_causes → IsFit wanted page info → IsReady wanted port.0 new info
       enabled_ready wanted info told fit =
           let h = identified in
           let r = h.runs in
@@ -263,7 +263,7 @@ module _ (laws : Laws) where
           }
 
       -- what halts the port then is of a command that is taken
-      pub enabled_halts : (AgreesWith (λ uses. AllFree uses port.0) old → (mid.port port.0).halt ≡ NotHalted) → (wanted : Option (List ℕ)) (info : DiskInfo) → v ≡ told_causes → IsFit wanted page info → HaltsAsTaken (new.port port.0)
+      pub enabled_halts : (AgreesWith (λ uses. AllFree uses port.0) old → (mid.port port.0).halt ≡ NotHalted) → (wanted : Option (List ℕ)) (info : DiskInfo) → v ≡ named_causes → IsFit wanted page info → HaltsAsTaken (new.port port.0)
       enabled_halts calm wanted info told fit =
           let a = identified.bootable.agreed in
           laws.halts_access a.0 a.2.machine port (Writing (Px port Ie) v) mid new a.2.reached a.2.knows.agrees (λ (e : Px port Ie ≡ Px port Cmd). absurd cc) call

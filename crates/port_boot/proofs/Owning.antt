@@ -10,7 +10,7 @@ use Rattle.hba_regs.specs.declared.reg.Reg.{Reg}
 use Rattle.hba_regs.specs.declared.reg.Reg.TheVariants.{Cap, Ghc, Pi, Vs, Cap2, Bohc, Px}
 use Rattle.hba_regs.specs.declared.reg.Reg.TheVariants as adapter
 use Rattle.adapter.specs.Steps.{restarted}
-use Rattle.adapter.specs.Access.{Access, Does, DoesAll, noted, port_written, unacknowledged, with_fre, with_st, written}
+use Rattle.adapter.specs.Access.{Access, Does, DoesAll, noted, port_written, unacknowledged, with_fre, with_st, written, named_causes}
 use Rattle.adapter.specs.Access.Access.{Reading, Writing, Loading, Storing}
 use Rattle.adapter.specs.Device.{Device, PortState}
 use Rattle.adapter.specs.Memory.{changed}
@@ -19,7 +19,7 @@ use Rattle.adapter.specs.Steps.Step.{Fetch, FetchFault, Move, Clear, Done, Fault
 use Rattle.adapter.proofs.Changed.{changed_other, changed_same}
 use Rattle.agreement.specs.Driven.{IsDrivenBy}
 use Rattle.port_control.specs.Ports.{FindsSignature, ReadsUntil}
-use Rattle.port_boot.specs.States.{GetsReady, ShowsOwnDisk, told_causes}
+use Rattle.port_boot.specs.States.{GetsReady, ShowsOwnDisk}
 
 not_three : ◌≡◌ {A = ℕ} 0 3 → ⊥
 not_three none = absurd cc
@@ -143,4 +143,4 @@ module _ (port : Port) where
       let ended = access_own port.0 (Writing (Px port Sctl) 0) resets.sent resets.ended resets.ends sent in
       let found = signature_own 0x101 resets.ended up.found resets.rest ended in
       let started = driven_own _ up.found way.up up.starts found in
-      access_own port.0 (Writing (Px port Ie) told_causes) way.then.asked new way.then.tells (driven_own _ way.up way.then.asked way.then.asks started)
+      access_own port.0 (Writing (Px port Ie) named_causes) way.then.asked new way.then.tells (driven_own _ way.up way.then.asked way.then.asks started)

@@ -99,16 +99,12 @@ EndsAs wanted Foreign port d = IsStopped (d.port port) × ((page : List ℕ) × 
 EndsAs wanted Dead port d = ((d.port port).st ≡ false) × Shows EngineStuck (d.port port).notes
 EndsAs wanted Ready port d = ⊥
 
--- The causes that a ready port tells of by interrupts: DHRS, PSS, SDBS, PCS, PRCS, IFS, HBDS, HBFS and TFES (PxIE: AHCI
--- 1.3.1, 3.3.6).
-abbrev pub told_causes : ℕ
-told_causes = named_causes
-
--- What stands behind a ready port as long as it isn't booted anew: no COMRESET is being sent, it tells of these causes,
--- and the last page is of a disk that fits.
+-- What stands behind a ready port as long as it isn't booted anew: no COMRESET is being sent, it tells by interrupts of
+-- DHRS, PSS, SDBS, PCS, PRCS, IFS, HBDS, HBFS and TFES (PxIE: AHCI 1.3.1, 3.3.6), and the last page is of a disk that
+-- fits.
 pub record HasFitDisk (wanted : Option (List ℕ)) (port : ℕ) (d : Device) (info : DiskInfo) : Type 0 where
   pub det : (d.port port).sctl_det ≡ 0
-  pub tells : (d.port port).ie ≡ told_causes
+  pub tells : (d.port port).ie ≡ named_causes
   pub page : List ℕ
   pub has : HasPage port d page
   pub fit : IsFit wanted page info
@@ -158,7 +154,7 @@ pub record GetsUp (port : Port) (old new : Device) : Type 0 where
 pub record GetsAsked (port : Port) (old new : Device) : Type 0 where
   pub asked : Device
   pub asks : IsDrivenBy (IsAsking port) old asked
-  pub tells : Writes (Px port Ie) told_causes asked new
+  pub tells : Writes (Px port Ie) named_causes asked new
 
 -- The whole way to a port that is ready. It runs well where no disk went or came on the way, and nothing went wrong
 -- since ST was set.

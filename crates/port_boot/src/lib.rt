@@ -6,6 +6,7 @@
 #![tactic(auto)]
 
 ghost use Rattle.std.specs.Prelude.{ℕ, List, Option, ◌≡◌, ◌≢◌, ◌≤◌, ◌⊎◌, ◌↔◌, IsTrue, length, IfOk, IfErr, OnOk, OnErr};
+ghost use Rattle.adapter.specs.Access.{named_causes};
 ghost use Rattle.adapter.specs.Device.{Device};
 ghost use Rattle.adapter.specs.Rules.{IsOn, HasPort};
 ghost use Rattle.agreement.specs.Driven.{AgreesWith, AnyUse, IsControl, IsFollowed, IsTold};
@@ -13,7 +14,7 @@ ghost use Rattle.agreement.specs.Driver.{AllFree};
 ghost use Rattle.agreement.specs.Halting.{HaltsAsTaken};
 ghost use Rattle.port_control.specs.Engines.{Stops, StopsReceiving};
 ghost use Rattle.port_control.specs.Ports.{IsStopped, HasStopped};
-ghost use Rattle.port_boot.specs.States.{told_causes, TellsFault, Fits, IsFit, Judges, EndsAs, IsReady, IsBooting, IsBoot, IsBootTo, IsBootable, IsOfBoot, IsBroughtUp, IsHaltedAs, GetsAsked, GetsReady, EndsEarly, EndsLate, IsEarly, IsLate, ShowsNews, RunsOn, StopsOnWay, StopsThen};
+ghost use Rattle.port_boot.specs.States.{TellsFault, Fits, IsFit, Judges, EndsAs, IsReady, IsBooting, IsBoot, IsBootTo, IsBootable, IsOfBoot, IsBroughtUp, IsHaltedAs, GetsAsked, GetsReady, EndsEarly, EndsLate, IsEarly, IsLate, ShowsNews, RunsOn, StopsOnWay, StopsThen};
 ghost use Rattle.adapter.specs.Counted.{MakesAtMost};
 ghost use Rattle.port_control.specs.Costs.{STOP_ACCESSES};
 ghost use Rattle.port_boot.specs.Costs.{BOOT_ACCESSES, IDENTIFY_ACCESSES, RISE_ACCESSES};
@@ -129,7 +130,7 @@ fn halt<A: Adapter>(adapter: &mut A, port: Port, state: PortState) -> PortState
 /// The causes of which a port tells by interrupts: TFES, HBFS, HBDS, IFS, PRCS, PCS, SDBS, PSS and DHRS (AHCI 1.3.1,
 /// 3.3.6).
 fn causes() -> u32
-    ensures { result ≡ told_causes }
+    ensures { result ≡ named_causes }
 {
     0x7840_004b
 }

@@ -12,13 +12,14 @@ use Rattle.adapter.specs.declared.tape.Fault as tape_fault
 use Rattle.agreement.specs.Agrees.{port_at}
 use Rattle.agreement.specs.Driven.{IsOf, SendsNone}
 use Rattle.agreement.specs.Driver.{IsBacked}
-use Rattle.block_machine.specs.Events.{Ask, AllGrounded, AllLawful, AllMay, AnswersEnded, Belong, FindsAnother, HadDisk, HeedsAt, IsDevices, IssuesLast, Moment, NoneKeepsIssue, Served, Service, Tells, Tick, UnplugsAll, moment_after}
+use Rattle.block_machine.specs.Events.{Ask, AllLawful, AllMay, AnswersEnded, Belong, FindsAnother, HadDisk, IsDevices, IssuesLast, Moment, NoneKeepsIssue, Served, Service, Tells, Tick, UnplugsAll}
 use Rattle.block_machine.specs.Due.{of_port}
 use Rattle.block_machine.specs.Histories.{Happening, Instant, IsReached}
 use Rattle.block_machine.specs.Left.{after}
 use Rattle.block_machine.specs.Ports.{Evidence, Fault, IsInterrupted, IsServiced, Ports, SameDisk, SamePort}
 use Rattle.block_machine.specs.State.{Machine, Pending}
 use Rattle.block_machine.specs.Steps.{Step, Again, Answer, Issue}
+use Rattle.driver_history.specs.Heeding.{AllGrounded}
 use Rattle.driver_history.specs.Evidence.{IsEvidencedOf}
 use Rattle.error_recovery.specs.Evidence.{BringsLog, HasFailed}
 use Rattle.error_log.specs.Log.{TellsError}
@@ -107,12 +108,6 @@ turn_of turn replies new evidence steps = record {
   device = new.device;
 }
 
--- What a call does of a port: its part in what ties the device to the event, and it heeds what it finds of the port.
-pub record DoesPort (old : Instant Device) (h : Happening Device DeviceStep) (accesses : List Access)
-    (port : Port) : Type 0 where
-  pub ties : TiesPort old h accesses port
-  pub heeds : HeedsAt port h.event.ask old.moment h.event.evidence h.event.steps (moment_after old.moment h.event)
-
 -- What a call does of a port's trouble: none is lost unless the port was stopped, and then it runs well anew.
 pub record HeedsTrouble (port : Port) (accesses : List Access) (old : Instant Device) (evidence : Evidence)
     (ports : Ports) (new : Device) : Type 0 where
@@ -123,11 +118,11 @@ pub record HeedsTrouble (port : Port) (accesses : List Access) (old : Instant De
 -- came, no link is due at its end (EndsLinked); and where it restarts the port it has done what a call does of trouble.
 abbrev pub TiesTurn : Turn → Port → List Reply → List Access → Server → Server → Machine → Evidence → List Step → Type 0
 TiesTurn InService port replies accesses old new m evidence steps =
-    DoesPort (instant_of old m) (turn_of InService replies new evidence steps) accesses port
+    TiesPort (instant_of old m) (turn_of InService replies new evidence steps) accesses port
 TiesTurn InRestart port replies accesses old new m evidence steps =
     HeedsTrouble port accesses (instant_of old m) evidence (ports_of new) new.device
 TiesTurn InTry port replies accesses old new m evidence steps =
-    DoesPort (instant_of old m) (turn_of InTry replies new evidence steps) accesses port
+    TiesPort (instant_of old m) (turn_of InTry replies new evidence steps) accesses port
     × EndsLinked port (instant_of old m) (ports_of new) new.device
 TiesTurn AtRest port replies accesses old new m evidence steps = Unit {0}
 

@@ -1,8 +1,9 @@
 -- Steps of a port's turn: which requests they leave, which they issue, and what they leave of other ports.
-use Rattle.std.proofs.Common.{eq-eqb, ◌≡◌, ◌≢◌, ◌==◌, true, List, [], ◌∷◌, map, refl, sym, ap, ◌∙◌, subst, ⊎_elim, eqb-true}
-use Rattle.std.specs.List.{All, Contains, list_any}
-use Rattle.std.proofs.lemmas.Bool.{false≢true, or_cases}
+use Rattle.std.proofs.Common.{ℕ, ◌+◌, eq-eqb, ◌≡◌, ◌≢◌, ◌==◌, Bool, true, false, cond, arith, List, [], ◌∷◌, map, refl, sym, ap, ◌∙◌, subst, ⊎_elim, eqb-true}
+use Rattle.std.specs.List.{All, Contains, count_by, list_any}
+use Rattle.std.proofs.lemmas.Bool.{false≢true, or_cases, or_parts}
 use Rattle.std.proofs.lemmas.List.Elements.{All-head, All-tail}
+use Rattle.std.proofs.lemmas.List.Sums.{sum_by-cons}
 use Rattle.ata_types.specs.declared.Port.{Port}
 use Rattle.ata_types.specs.declared.request.Outcome.{Outcome}
 use Rattle.ata_types.specs.declared.request.RequestId.{RequestId}
@@ -18,6 +19,16 @@ use Rattle.server_history.specs.Turns.{IsOfTurn}
 use Rattle.server_history.proofs.state.DeviceSteps.{not_handled}
 use Rattle.server_history.specs.Below.{LawsBelow}
 use Rattle.server_history.proofs.state.FirstMembers.{nowhere}
+
+-- where no step passes a test, none is counted
+pub counts_none : (p : Step → Bool) (steps : List Step) → list_any p steps ≡ false → count_by p steps ≡ 0
+counts_none p [] none = refl
+counts_none p (step ∷ steps) none =
+    let parts = or_parts (p step) (list_any p steps) none in
+    let rest = counts_none p steps parts.1 in
+    let zero : ◌≡◌ {A = ℕ} (cond (p step) 1 0) 0 = ap (λ (b : Bool). cond {A = ℕ} b 1 0) parts.0 in
+    let counted : count_by p (step ∷ steps) ≡ cond (p step) 1 0 + count_by p steps = sum_by-cons (λ (s : Step). cond (p s) 1 0) step steps in
+    omega (arith, rest, zero, counted)
 
 -- the same request, issued as it was; and where it had ended, it has
 pub record IsSame (old new : Pending) : Type 0 where

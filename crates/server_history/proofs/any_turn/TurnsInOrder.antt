@@ -9,12 +9,13 @@ use Rattle.ata_types.specs.declared.request.Outcome.TheVariants.{Ok, DeviceError
 use Rattle.ata_types.specs.declared.request.RequestId.{RequestId}
 use Rattle.adapter.specs.declared.access.DeviceStep.{DeviceStep}
 use Rattle.agreement.specs.Agrees.{port_at}
-use Rattle.block_machine.specs.Events.{Ask, Moment, AllGrounded, AllLawful, AllMay, Belong, IsIssuedIn, IsLawful, IssuesLast, UnplugsAll, changes_disk}
+use Rattle.block_machine.specs.Events.{Ask, Moment, AllLawful, AllMay, Belong, IsIssuedIn, IsLawful, IssuesLast, UnplugsAll, changes_disk}
 use Rattle.block_machine.specs.Histories.{IsReached}
 use Rattle.block_machine.specs.Left.{after}
 use Rattle.block_machine.specs.Ports.{Evidence, Ports}
 use Rattle.block_machine.specs.State.{Machine, Pending}
 use Rattle.block_machine.specs.Steps.{Step, Again, Answer, Issue, Replace, Unplug}
+use Rattle.driver_history.specs.Heeding.{AllGrounded}
 use Rattle.server_history.specs.Turns.{IsOfTurn, IsStepOf}
 use Rattle.server_history.proofs.any_turn.TurnSteps.{IsSame, StandsIn, handled_own, issued_before, others_left, others_were, same_as, same_more, stood}
 use Rattle.server_history.proofs.plain_calls.IssueRounds.{issued_parts}

@@ -5,10 +5,11 @@ use Rattle.std.proofs.lemmas.List.Elements.{All-head, All-tail}
 use Rattle.ata_types.specs.declared.PortState.TheVariants.{Dead}
 use Rattle.ata_types.specs.declared.request.Outcome.{Outcome}
 use Rattle.ata_types.specs.declared.request.Outcome.TheVariants as outcome
-use Rattle.block_machine.specs.Events.{AllGrounded, IsLawful, Moment, UnplugsAll}
+use Rattle.block_machine.specs.Events.{IsLawful, Moment, UnplugsAll}
 use Rattle.block_machine.specs.Ports.{Evidence, Ports}
 use Rattle.block_machine.specs.State.{Machine, Pending}
 use Rattle.block_machine.specs.Steps.{Step, Answer}
+use Rattle.driver_history.specs.Heeding.{AllGrounded}
 use Rattle.server_history.proofs.state.AnswerSteps.{IsAnswerOf, answer_told}
 
 -- a request of a port that is dead by these is told so

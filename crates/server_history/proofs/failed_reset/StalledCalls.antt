@@ -192,19 +192,18 @@ module _ (laws : LawsBelow) (s : Server) (t : IsStalled s) where
     ticked : (h : Happening Device DeviceStep) × (h.event.ask ≡ Tick) × (h.event.said ≡ Served []) × Leads first (h ∷ past) s
     ticked = lead_by laws first past s s Tick (Served []) ages refl refl leads (holds_off s b t.dead t.off) (tt, tt) (tt, inr tt) (tt, λ id h i. false≢true h) tt
         answers
+        tt
         []
         (refl, All-nil (IsServing (IsHung old)))
         (λ port. All-nil (LeavesEngine port))
         (λ port ready. absurd (never_ready s t.dead port.0 ready))
         (λ port. record {
-          ties = record {
-            finds = λ hung. absurd (not_hung port hung);
-            faults = tt;
-            tries = tt;
-            boots = λ hung. absurd (not_hung port hung);
-            trouble = never_troubled s t.dead (told_by s.device old.ports) (record { device = s.device; moment = old }) (ports_of s) s.device port leads.stands.ports_are (never_ready s t.dead port.0);
-            well = λ i. absurd (uninterrupted s.device old.ports port i);
-          };
+          finds = λ hung. absurd (not_hung port hung);
+          faults = tt;
+          tries = tt;
+          boots = λ hung. absurd (not_hung port hung);
+          trouble = never_troubled s t.dead (told_by s.device old.ports) (record { device = s.device; moment = old }) (ports_of s) s.device port leads.stands.ports_are (never_ready s t.dead port.0);
+          well = λ i. absurd (uninterrupted s.device old.ports port i);
           heeds = tt;
         })
         (laws.backed_own s.device old.machine (Age (λ port. false)) (λ none. none))

@@ -459,7 +459,6 @@ module _ (laws : LawsBelow) (s : Server) (t : IsStalled s) where
       answers = record {
         tells = record { answers = x.told.answers; same = x.told.permuted; ordered = x.told.ordered; told = x.told.told };
         dead = λ e o here is. (answer_told (IsDeath (ports_of s)) x.steps x.deaths e o here).0;
-        grounded = deaths_grounded (ports_of s) (told_by s.device old.ports) x.steps x.deaths;
         unplugs = deaths_unplug_none (ports_of s) x.steps x.deaths (after old.machine x.steps);
         issues = λ port ready. absurd (never_ready s t.dead port.0 ready);
         emptied = λ port unready. nobody_waits port;
@@ -488,19 +487,18 @@ module _ (laws : LawsBelow) (s : Server) (t : IsStalled s) where
           x.may (answers_belong (IsDeath (ports_of s)) Service (ports_of s) (λ e o death. tt) x.steps x.deaths) (none_last x.steps (λ id. answers_issue_none (IsDeath (ports_of s)) id x.steps x.deaths))
           (answers_lawful (IsDeath (ports_of s)) old no_evidence (ports_of s) (death_lawful (ports_of s) old no_evidence) x.steps x.deaths)
           answers
+          (deaths_grounded (ports_of s) (told_by s.device old.ports) x.steps x.deaths)
           []
           (refl, All-nil (IsServing (TendsPort old.ports)))
           (λ port. All-nil (LeavesEngine port))
           (λ port ready. absurd (never_ready s t.dead port.0 ready))
           (λ port. record {
-            ties = record {
-              finds = λ ready. absurd (was_never port ready);
-              faults = λ alone. absurd (was_never port alone.ready);
-              tries = λ its none. tries port its;
-              boots = ((λ ready. absurd (was_never port ready)), inl (same_ports port));
-              trouble = never_troubled s t.dead (told_by s.device old.ports) (record { device = s.device; moment = old }) (ports_of s) s.device port leads.stands.ports_are (never_ready s t.dead port.0);
-              well = λ i. absurd (uninterrupted s.device old.ports port i);
-            };
+            finds = λ ready. absurd (was_never port ready);
+            faults = λ alone. absurd (was_never port alone.ready);
+            tries = λ its none. tries port its;
+            boots = ((λ ready. absurd (was_never port ready)), inl (same_ports port));
+            trouble = never_troubled s t.dead (told_by s.device old.ports) (record { device = s.device; moment = old }) (ports_of s) s.device port leads.stands.ports_are (never_ready s t.dead port.0);
+            well = λ i. absurd (uninterrupted s.device old.ports port i);
             heeds = λ ready. absurd (was_never port ready);
           })
           x.backed

@@ -21,7 +21,7 @@ use Rattle.block_machine.specs.Ports.{AreFit, Evidence, Fault, IsStuck, Ports, S
 use Rattle.block_machine.specs.State.{Machine}
 use Rattle.block_machine.specs.Steps.{Step}
 use Rattle.driver_history.specs.Evidence.{IsEvidencedOf}
-use Rattle.driver_history.specs.Histories.{Begins, Ties}
+use Rattle.driver_history.specs.Histories.{Begins, Ties, TiesPort}
 use Rattle.driver_history.specs.Trace.{LeavesEngine}
 use Rattle.driver_history.proofs.Instants.{history_fit, ready_low}
 use Rattle.host_boot.specs.Resets.{IsOfReset}
@@ -35,7 +35,6 @@ use Rattle.server_history.specs.Below.{LawsBelow}
 use Rattle.server_history.specs.Histories.{AddsStalled, Leads}
 use Rattle.server_history.specs.Server.{Server, IsMachineOf, disk_in, disk_of, is_served, ports_of, remembered_at, sectors_of, serial_of, state_of, use_of}
 use Rattle.server_history.specs.Stalled.{AreDead, GetsStuck, KeepsBooks, IsStalled, stuck_found}
-use Rattle.server_history.specs.Turns.{DoesPort}
 use Rattle.server_history.proofs.state.DeviceSteps.{devices_belong, devices_last, devices_lawful}
 use Rattle.server_history.proofs.state.HistorySteps.{happening_with, lead_with, machine_on, with_device}
 use Rattle.server_history.proofs.state.FirstMembers.{nowhere}
@@ -251,23 +250,21 @@ module _ (laws : LawsBelow) (s new : Server) (b : KeepsBooks s) (g : GetsStuck s
     unfolding evidence
     no_fault told here = nowhere told here
 
-    part : (steps : List Step) (port : Port) → DoesPort began (happening_with evidence new.device Reset (WasReset None) steps (ports_of n)) its_accesses port
+    part : (steps : List Step) (port : Port) → TiesPort began (happening_with evidence new.device Reset (WasReset None) steps (ports_of n)) its_accesses port
     unfolding evidence
     part steps port = record {
-      ties = record {
-        finds = tt;
-        faults = tt;
-        tries = tt;
-        boots = tt;
-        trouble = record {
-          errors = λ ready shown. inl (inr (stuck_named port (was_served port (ready_low old port fit ready).0)));
-          changes = λ tends shown. inl (inr (stuck_named port (was_served port tends.0)));
-          fault = λ ready. absurd (never_ready n dead port.0 ready);
-          fatal = λ ready. absurd (never_ready n dead port.0 ready);
-          disk = λ ready. absurd (never_ready n dead port.0 ready);
-        };
-        well = λ i ready. absurd (never_ready n dead port.0 ready);
+      finds = tt;
+      faults = tt;
+      tries = tt;
+      boots = tt;
+      trouble = record {
+        errors = λ ready shown. inl (inr (stuck_named port (was_served port (ready_low old port fit ready).0)));
+        changes = λ tends shown. inl (inr (stuck_named port (was_served port tends.0)));
+        fault = λ ready. absurd (never_ready n dead port.0 ready);
+        fatal = λ ready. absurd (never_ready n dead port.0 ready);
+        disk = λ ready. absurd (never_ready n dead port.0 ready);
       };
+      well = λ i ready. absurd (never_ready n dead port.0 ready);
       heeds = tt;
     }
 
@@ -278,6 +275,7 @@ module _ (laws : LawsBelow) (s new : Server) (b : KeepsBooks s) (g : GetsStuck s
         f.may (devices_belong {D = DeviceStep} Reset (ports_of n) f.steps f.only) (devices_last f.steps f.only) (devices_lawful old.moment evidence (ports_of n) f.steps f.only)
         (λ e o here there same. same_disk e.request.port)
         (f.only, gets_stuck)
+        tt
         its_accesses
         (g.stays.followed.driven.all, g.stays.awaited)
         (record { faults = λ told here. absurd (no_fault told here); port = evidenced_port })

@@ -10,11 +10,12 @@ use Rattle.ata_types.specs.declared.request.Outcome.TheVariants as outcome
 use Rattle.ata_types.specs.declared.request.Reply.{Reply}
 use Rattle.ata_types.specs.declared.request.RequestId.{RequestId}
 use Rattle.adapter.specs.declared.access.DeviceStep.{DeviceStep}
-use Rattle.block_machine.specs.Events.{AllGrounded, AllLawful, Belong, GivesUp, IsDevices, IsIssuedIn, IsLawful, IsServers, Moment, Service, Tick, issues_it}
+use Rattle.block_machine.specs.Events.{AllLawful, Belong, GivesUp, IsDevices, IsIssuedIn, IsLawful, IsServers, Moment, Service, Tick, issues_it}
 use Rattle.block_machine.specs.Ports.{Evidence, Ports}
 use Rattle.block_machine.specs.State.{Pending}
 use Rattle.block_machine.specs.Steps.{Step, Again, Answer, Issue}
 use Rattle.block_machine.specs.declared.due.Mode.{Mode}
+use Rattle.driver_history.specs.Heeding.{AllGrounded}
 use Rattle.server_history.proofs.state.ListMembers.{contains_cases, contains_there}
 use Rattle.request_queue.specs.Entries.{Held}
 use Rattle.request_queue.specs.Fates.{Holdings, MeetFates, MeetsFate, fate_of, fate_on}

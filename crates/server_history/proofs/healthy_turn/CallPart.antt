@@ -17,13 +17,14 @@ use Rattle.adapter.specs.declared.access.DeviceStep.{DeviceStep}
 use Rattle.adapter.specs.declared.command.Operation.TheVariants.{ReadLog}
 use Rattle.agreement.specs.Driven.{SendsNone}
 use Rattle.agreement.specs.Driver.{IsBacked}
-use Rattle.block_machine.specs.Events.{AllDevices, AllGrounded, AllLawful, AllMay, Belong, IsDevices, IsLawful, IssuesLast, IsToldBefore, Moment, Served, Service, Tells, answers_of, issues_it}
+use Rattle.block_machine.specs.Events.{AllDevices, AllLawful, AllMay, Belong, IsDevices, IsLawful, IssuesLast, IsToldBefore, Moment, Served, Service, Tells, answers_of, issues_it}
 use Rattle.block_machine.specs.Histories.{IsReached}
 use Rattle.block_machine.specs.Left.{after}
 use Rattle.block_machine.specs.Ports.{Evidence, IsServiced, Ports, SamePort}
 use Rattle.block_machine.specs.State.{Machine, Pending}
 use Rattle.block_machine.specs.Steps.{Step, Again, Answer, Issue}
 use Rattle.block_machine.specs.declared.due.Mode.{Mode}
+use Rattle.driver_history.specs.Heeding.{AllGrounded}
 use Rattle.driver_history.specs.Evidence.{IsEvidencedOf}
 use Rattle.driver_history.specs.Histories.{IssuesDue}
 use Rattle.host_boot.specs.Taken.{found_of}

@@ -18,15 +18,15 @@ use Rattle.adapter.specs.Device.{Device}
 use Rattle.agreement.specs.Driven.{Grows, IsDrivenBy}
 use Rattle.agreement.specs.Driver.{IsBacked}
 use Rattle.agreement.specs.Slots.{IsFree, IsServed, Serves, ServesRequest, Stage, Use}
-use Rattle.block_machine.specs.Events.{AllMay, AnswersEnded, ServesReady, changes_disk, tells_fault}
+use Rattle.block_machine.specs.Events.{AllMay, AnswersEnded, changes_disk}
 use Rattle.block_machine.specs.Histories.{IsReached}
 use Rattle.block_machine.specs.Left.{after}
 use Rattle.block_machine.specs.Ports.{Evidence, IsInterrupted, SamePort}
 use Rattle.block_machine.specs.State.{Pending, Machine}
 use Rattle.block_machine.specs.Steps.{Step, Answer}
 use Rattle.block_machine.specs.declared.due.Mode.{Mode}
-use Rattle.block_machine.proofs.Calm.{counts_none}
 use Rattle.server_history.proofs.state.ListMembers.{into_map, map_in}
+use Rattle.driver_history.specs.Heeding.{ServesReady, tells_fault}
 use Rattle.driver_history.specs.Evidence.{ShowsFailure, ShowsLoss}
 use Rattle.driver_history.specs.Histories.{FindsDone, IsUnfitOrForeign, IsAnsweredOk, IsIssuedOn}
 use Rattle.driver_history.specs.Trace.{ReadsMasks}
@@ -36,6 +36,7 @@ use Rattle.port_look.specs.declared.Look.TheVariants.{Lost, Undisturbed as Calm}
 use Rattle.slots.specs.declared.Use.{Use as SlotUse}
 use Rattle.server_history.specs.Below.{LawsBelow}
 use Rattle.server_history.specs.Served.{AnswersBy, Checks, HasEnded, HasTurn, IsAnsweredIn, IsMaskOf, answers_in, done_reply, is_used}
+use Rattle.server_history.proofs.any_turn.TurnSteps.{counts_none}
 use Rattle.server_history.proofs.any_turn.UnusedSlotBits.{unused_clear}
 use Rattle.server_history.specs.Turns.{FindsTurn, InService, TiesTurn, instant_of, moment_of}
 use Rattle.server_history.specs.Server.{Server, IsKept, IsMachineOf, IsSettled, mode_in, ports_of, slots_at, state_of, used_for}
@@ -293,7 +294,7 @@ module _ (laws : LawsBelow) (port : Port) (replies : List Reply) (old new : Serv
       told = λ gone. absurd (nowhere port gone);
       interrupts = λ trouble. absurd (⊎_elim (nowhere port) (nowhere port) trouble);
       anew = λ trouble. absurd (⊎_elim (nowhere port) (nowhere port) trouble);
-      single = let none = counts_none (tells_fault port) port (λ step is. is) steps (tells_none port steps (λ e o here. (turn_ended e o here).1)) in omega (arith, none);
+      single = let none = counts_none (tells_fault port) steps (tells_none port steps (λ e o here. (turn_ended e o here).1)) in omega (arith, none);
       fatal = λ here. absurd (nowhere port here);
       disk = λ shows. had;
       calm = inr (record { same = same; told = λ e o here own. inl (turn_ended e o here).1; uninterrupted = uninterrupted });
@@ -301,18 +302,16 @@ module _ (laws : LawsBelow) (port : Port) (replies : List Reply) (old new : Serv
 
     pub ties : TiesTurn InService port replies list.driven.accesses old new m its steps
     ties = record {
-      ties = record {
-        finds = λ is e own. finding turn.quiet e own;
-        faults = λ alone. absurd (unfailing (inr alone.shows.fault));
-        tries = λ served coming. record {
-          shown = λ absent det. absurd (not_absent absent);
-          absent = λ absent det fresh. absurd (not_absent absent);
-          missing = λ bad. absurd (not_bad bad);
-          changed = λ bad. absurd (not_bad bad);
-        };
-        boots = (λ is trouble. absurd (⊎_elim (λ fatal. unfailing (inl fatal)) never_lost trouble), inl same);
-        trouble = trouble_shown laws port (slots_at old.slots port.0) replies (instant_of old m) new.device turn kept.on turn.quiet its (ports_of new);
-        well = λ i. absurd (uninterrupted i);
+      finds = λ is e own. finding turn.quiet e own;
+      faults = λ alone. absurd (unfailing (inr alone.shows.fault));
+      tries = λ served coming. record {
+        shown = λ absent det. absurd (not_absent absent);
+        absent = λ absent det fresh. absurd (not_absent absent);
+        missing = λ bad. absurd (not_bad bad);
+        changed = λ bad. absurd (not_bad bad);
       };
+      boots = (λ is trouble. absurd (⊎_elim (λ fatal. unfailing (inl fatal)) never_lost trouble), inl same);
+      trouble = trouble_shown laws port (slots_at old.slots port.0) replies (instant_of old m) new.device turn kept.on turn.quiet its (ports_of new);
+      well = λ i. absurd (uninterrupted i);
       heeds = λ is. serves_ready;
     }

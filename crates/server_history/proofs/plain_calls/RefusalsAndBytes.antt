@@ -28,7 +28,7 @@ use Rattle.agreement.proofs.driver.AddedSteps.{device_adds, nothing_backed}
 use Rattle.server_history.proofs.state.DrivenAccesses.{by_one}
 use Rattle.agreement.proofs.device.AdapterOverAccesses.{access_same}
 use Rattle.agreement.proofs.driver.AskedPages.{access_sends_none}
-use Rattle.block_machine.specs.Events.{Ask, Submit, StoreAt, LoadAt, RevokeOf, State, AllMay, Device as Told, Said, Submitted, Shown, Stepped, IsAnswered, Moment, WasRevoked}
+use Rattle.block_machine.specs.Events.{Ask, Submit, StoreAt, LoadAt, Service, Tick, Reset, RevokeOf, State, AllMay, Device as Told, Said, Submitted, Shown, Stepped, IsAnswered, Moment, WasRevoked}
 use Rattle.block_machine.specs.Rules.{HasRow}
 use Rattle.block_machine.specs.Histories.{Instant, Happening, IsReached, now}
 use Rattle.block_machine.specs.Left.{after}
@@ -47,11 +47,11 @@ use Rattle.ata_types.specs.declared.PortState.TheVariants.{Dead}
 use Rattle.ata_types.specs.declared.memory.TheConstants.{DRIVER_BYTES, DRIVER_FRAMES}
 use Rattle.port_look.specs.Services.{IsService}
 use Rattle.server_history.specs.Below.{LawsBelow}
-use Rattle.driver_history.specs.Histories.{CameBy, Issues, IssuesDue, LosesNoTrouble}
+use Rattle.driver_history.specs.Heeding.{IsGrounded}
+use Rattle.driver_history.specs.Histories.{CameBy, Issues, IssuesDue, LosesNoTrouble, TiesPort}
 use Rattle.driver_history.specs.Trace.{ClearsNone, LeavesEngine}
 use Rattle.server_history.specs.Histories.{Adds, AddsEvent, Leads, Stands, load_said, store_said}
 use Rattle.server_history.specs.Server.{HasCommand, Server, IsKept, IsMachineOf, IsPortOf, IsSettled, OwnsClientFrames, mode_in, ports_of, situation_of, used_for}
-use Rattle.server_history.specs.Turns.{DoesPort}
 use Rattle.slots.specs.declared.Use.{Use as SlotUse}
 use Rattle.agreement.specs.Agrees.{port_at}
 use Rattle.agreement.specs.Places.{IsTable}
@@ -117,7 +117,7 @@ pub record GoesTo (s : Server) (new : Device) : Type 0 where
 
 -- what of it stands in the device's terms, for each port
 abbrev Parts : Server → Device → Ask DeviceStep → Said → List Step → List Access → Type 0
-Parts s new ask said steps accesses = (m : Moment) → m.ports ≡ ports_of s → (port : Port) → DoesPort (still s m) (happening (still s m) new ask said steps (ports_of s)) accesses port
+Parts s new ask said steps accesses = (m : Moment) → m.ports ≡ ports_of s → (port : Port) → TiesPort (still s m) (happening (still s m) new ask said steps (ports_of s)) accesses port
 
 module _ (laws : LawsBelow) where
   -- what a request meets is what it meets in the machine
@@ -156,6 +156,18 @@ module _ (laws : LawsBelow) where
 
   -- ---- calls that do nothing
 
+  -- where there is no step, nothing needs a ground
+  none_grounded : (ask : Ask DeviceStep) (evidence : Evidence) → IsGrounded ask evidence []
+  none_grounded Service evidence = tt
+  none_grounded (Submit r) evidence = tt
+  none_grounded (StoreAt client frame offset bytes) evidence = tt
+  none_grounded (LoadAt client frame offset count) evidence = tt
+  none_grounded Tick evidence = tt
+  none_grounded Reset evidence = tt
+  none_grounded (RevokeOf client number) evidence = tt
+  none_grounded (State port) evidence = tt
+  none_grounded (Told step) evidence = tt
+
   pub nothing_event : (s : Server) (ask : Ask DeviceStep) (said : Said) → GoesTo s s.device → ((m : Moment) → CameBy m ask said [] s.device s.device)
       → ((old : Instant Device) → Stands old s → (evidence : Evidence) → IsAnswered ask said old.moment evidence [] (record { machine = old.moment.machine; ports = ports_of s }))
       → ((old : Instant Device) → IsReached old.moment.machine → Stands old s → (port : Port) → Issues ask [] old.moment.machine (ports_of s) port)
@@ -163,7 +175,7 @@ module _ (laws : LawsBelow) where
       → AddsEvent s s ask said
   nothing_event s ask said goes came answered issues parts first past leads =
       let old : Instant Device = now first past in
-      lead_by laws first past s s ask said [] refl refl leads goes.holds tt tt tt tt (answered old leads.stands (told_by s.device old.moment.ports)) [] (came old.moment)
+      lead_by laws first past s s ask said [] refl refl leads goes.holds tt tt tt tt (answered old leads.stands (told_by s.device old.moment.ports)) (none_grounded ask (told_by s.device old.moment.ports)) [] (came old.moment)
       (λ port. All-nil (LeavesEngine port)) (issues old (reached laws first past s leads) leads.stands) (parts old.moment leads.stands.ports_are) (nothing_backed s.device old.moment.machine) leads.stands.machine
 
   module _ (s : Server) (goes : GoesTo s s.device) where
@@ -171,13 +183,13 @@ module _ (laws : LawsBelow) where
     undone_event step =
         nothing_event s (Told step) (Stepped false) goes (λ m. (refl, refl))
         (λ old at evidence. (refl, ports_same old.moment.ports (ports_of s) at.ports_are)) (λ old was at port. tt)
-        (λ m are port. record { ties = record { finds = tt; faults = tt; tries = tt; boots = tt; trouble = goes.trouble m are port; well = λ i. absurd (uninterrupted s.device m.ports port i) }; heeds = uninterrupted s.device m.ports port })
+        (λ m are port. record { finds = tt; faults = tt; tries = tt; boots = tt; trouble = goes.trouble m are port; well = λ i. absurd (uninterrupted s.device m.ports port i); heeds = uninterrupted s.device m.ports port })
 
     pub state_event : (port : Port) → AddsEvent s s (State port) (Shown ((ports_of s).state port))
     state_event port =
         nothing_event s (State port) (Shown ((ports_of s).state port)) goes (λ m. (refl, refl))
         (λ old at evidence. (ap (λ (ports : Ports). ports.state port) (sym at.ports_are), refl, ports_same old.moment.ports (ports_of s) at.ports_are)) (λ old was at q. tt)
-        (λ m are q. record { ties = record { finds = tt; faults = tt; tries = tt; boots = tt; trouble = goes.trouble m are q; well = λ i. absurd (uninterrupted s.device m.ports q i) }; heeds = uninterrupted s.device m.ports q })
+        (λ m are q. record { finds = tt; faults = tt; tries = tt; boots = tt; trouble = goes.trouble m are q; well = λ i. absurd (uninterrupted s.device m.ports q i); heeds = uninterrupted s.device m.ports q })
 
     pub store_refused_event : (client : ClientId) (frame : Frame) (offset : ℕ) (bytes : List ℕ) (fault : MemFault)
         → IsFirstMemFault (owner_of s.table) (lent_to s.table) client frame offset (length bytes) fault → AddsEvent s s (StoreAt client frame offset bytes) (store_said (Err fault))
@@ -185,7 +197,7 @@ module _ (laws : LawsBelow) where
         nothing_event s (StoreAt client frame offset bytes) (store_said (Err fault)) goes (λ m. (refl, refl))
         (λ old at evidence. (as_told s old.moment.machine at.machine (λ owner lent. IsFirstMemFault owner lent client frame offset (length bytes) fault) is, refl, ports_same old.moment.ports (ports_of s) at.ports_are))
         (λ old was at port. tt)
-        (λ m are port. record { ties = record { finds = tt; faults = tt; tries = tt; boots = tt; trouble = goes.trouble m are port; well = λ i. absurd (uninterrupted s.device m.ports port i) }; heeds = uninterrupted s.device m.ports port })
+        (λ m are port. record { finds = tt; faults = tt; tries = tt; boots = tt; trouble = goes.trouble m are port; well = λ i. absurd (uninterrupted s.device m.ports port i); heeds = uninterrupted s.device m.ports port })
 
     pub load_refused_event : (client : ClientId) (frame : Frame) (offset count : ℕ) (bytes : List ℕ) (fault : MemFault)
         → IsFirstMemFault (owner_of s.table) (lent_to s.table) client frame offset count fault → AddsEvent s s (LoadAt client frame offset count) (load_said (Err fault) bytes)
@@ -193,7 +205,7 @@ module _ (laws : LawsBelow) where
         nothing_event s (LoadAt client frame offset count) (load_said (Err fault) bytes) goes (λ m. (refl, refl))
         (λ old at evidence. (as_told s old.moment.machine at.machine (λ owner lent. IsFirstMemFault owner lent client frame offset count fault) is, refl, ports_same old.moment.ports (ports_of s) at.ports_are))
         (λ old was at port. tt)
-        (λ m are port. record { ties = record { finds = tt; faults = tt; tries = tt; boots = tt; trouble = goes.trouble m are port; well = λ i. absurd (uninterrupted s.device m.ports port i) }; heeds = uninterrupted s.device m.ports port })
+        (λ m are port. record { finds = tt; faults = tt; tries = tt; boots = tt; trouble = goes.trouble m are port; well = λ i. absurd (uninterrupted s.device m.ports port i); heeds = uninterrupted s.device m.ports port })
 
     -- where nothing is due on a ready port
     pub submit_refused_event : (r : Request) (refusal : Refusal) → IsFirstRefusal (situation_of s) r refusal
@@ -202,7 +214,7 @@ module _ (laws : LawsBelow) where
         nothing_event s (Submit r) (Submitted (Err refusal)) goes (λ m. (refl, refl))
         (λ old at evidence. (subst (λ (x : Situation). IsFirstRefusal x r refusal) (sym (situation_is s old at)) is, refl, ports_same old.moment.ports (ports_of s) at.ports_are))
         (λ old was at port ready. undue old.moment.machine at.machine port ready)
-        (λ m are port. record { ties = record { finds = tt; faults = tt; tries = tt; boots = tt; trouble = goes.trouble m are port; well = λ i. absurd (uninterrupted s.device m.ports port i) }; heeds = uninterrupted s.device m.ports port })
+        (λ m are port. record { finds = tt; faults = tt; tries = tt; boots = tt; trouble = goes.trouble m are port; well = λ i. absurd (uninterrupted s.device m.ports port i); heeds = uninterrupted s.device m.ports port })
 
     pub revoke_refused_event : (client : ClientId) (number : ℕ) → (HasRow client number s.grants → ⊥)
         → ((m : Machine) → IsMachineOf s m → (port : Port) → (ports_of s).state port ≡ ReadyState → IssuesDue (mode_in s port) [] m port) → AddsEvent s s (RevokeOf client number) (WasRevoked None)
@@ -210,7 +222,7 @@ module _ (laws : LawsBelow) where
         nothing_event s (RevokeOf client number) (WasRevoked None) goes (λ m. (refl, refl))
         (λ old at evidence. (λ has. none (subst (HasRow client number) at.machine.rows has), refl, ports_same old.moment.ports (ports_of s) at.ports_are))
         (λ old was at port ready. undue old.moment.machine at.machine port ready)
-        (λ m are port. record { ties = record { finds = tt; faults = tt; tries = tt; boots = tt; trouble = goes.trouble m are port; well = λ i. absurd (uninterrupted s.device m.ports port i) }; heeds = uninterrupted s.device m.ports port })
+        (λ m are port. record { finds = tt; faults = tt; tries = tt; boots = tt; trouble = goes.trouble m are port; well = λ i. absurd (uninterrupted s.device m.ports port i); heeds = uninterrupted s.device m.ports port })
 
   -- ---- calls that lead to another device
 
@@ -228,11 +240,12 @@ module _ (laws : LawsBelow) where
         lead_by laws first past s then_is (Told step) (Stepped true) steps refl refl leads goes.holds x.1 (devices_belong (Told step) (ports_of s) steps x.3.only) (devices_last steps x.3.only)
         (devices_lawful old.moment no_evidence (ports_of s) steps x.3.only)
         (x.3.only, ports_same old.moment.ports (ports_of s) at.ports_are)
+        tt
         []
         (refl, asked)
         (λ port. All-nil (LeavesEngine port))
         (λ port. tt)
-        (λ port. record { ties = record { finds = tt; faults = tt; tries = tt; boots = tt; trouble = goes.trouble old.moment at.ports_are port; well = λ i. absurd (uninterrupted s.device old.moment.ports port i) }; heeds = uninterrupted s.device old.moment.ports port })
+        (λ port. record { finds = tt; faults = tt; tries = tt; boots = tt; trouble = goes.trouble old.moment at.ports_are port; well = λ i. absurd (uninterrupted s.device old.moment.ports port i); heeds = uninterrupted s.device old.moment.ports port })
         x.3.backed
         (machine_on laws s new old.moment.machine steps m x.3.only x.2)
 
@@ -247,11 +260,12 @@ module _ (laws : LawsBelow) where
           (devices_last x.0.steps x.0.only, λ id h i. false≢true h)
           (devices_lawful old.moment no_evidence (ports_of s) x.0.steps x.0.only)
           (as_told s old.moment.machine at.machine (λ owner lent. IsOpen owner lent client frame offset (length bytes)) opens, ap (λ (rest : List (List ℕ)). bytes ∷ rest) (devices_transfer x.0.steps x.0.only), ports_same old.moment.ports (ports_of s) at.ports_are)
+          tt
           (Loading (4096 * frame.0 + offset) bytes ∷ [])
           ((new, loads, refl), refl)
           (λ port. All-cons (LeavesEngine port) (Loading (4096 * frame.0 + offset) bytes) [] (tt, tt) (All-nil (LeavesEngine port)))
           (λ port. tt)
-          (λ port. record { ties = record { finds = tt; faults = tt; tries = tt; boots = tt; trouble = goes.trouble old.moment at.ports_are port; well = λ i. absurd (uninterrupted s.device old.moment.ports port i) }; heeds = uninterrupted s.device old.moment.ports port })
+          (λ port. record { finds = tt; faults = tt; tries = tt; boots = tt; trouble = goes.trouble old.moment at.ports_are port; well = λ i. absurd (uninterrupted s.device old.moment.ports port i); heeds = uninterrupted s.device old.moment.ports port })
           x.0.backed x.1
 
       pub store_event : Stores (4096 * frame.0 + offset) bytes s.device new → AddsEvent s (record s { device = new }) (StoreAt client frame offset bytes) (store_said (Ok tt))
@@ -264,11 +278,12 @@ module _ (laws : LawsBelow) where
           (devices_last x.0.steps x.0.only, λ id h i. false≢true h)
           (devices_lawful old.moment no_evidence (ports_of s) x.0.steps x.0.only)
           (as_told s old.moment.machine at.machine (λ owner lent. IsOpen owner lent client frame offset (length bytes)) opens, ap (λ (rest : List (List ℕ)). bytes ∷ rest) (devices_transfer x.0.steps x.0.only), ports_same old.moment.ports (ports_of s) at.ports_are)
+          tt
           (Storing (4096 * frame.0 + offset) bytes ∷ [])
           ((new, stores, refl), refl)
           (λ port. All-cons (LeavesEngine port) (Storing (4096 * frame.0 + offset) bytes) [] (tt, tt) (All-nil (LeavesEngine port)))
           (λ port. tt)
-          (λ port. record { ties = record { finds = tt; faults = tt; tries = tt; boots = tt; trouble = goes.trouble old.moment at.ports_are port; well = λ i. absurd (uninterrupted s.device old.moment.ports port i) }; heeds = uninterrupted s.device old.moment.ports port })
+          (λ port. record { finds = tt; faults = tt; tries = tt; boots = tt; trouble = goes.trouble old.moment at.ports_are port; well = λ i. absurd (uninterrupted s.device old.moment.ports port i); heeds = uninterrupted s.device old.moment.ports port })
           x.0.backed x.1
 
   -- ---- clients' bytes

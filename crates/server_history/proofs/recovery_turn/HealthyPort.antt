@@ -9,7 +9,7 @@ use Rattle.ata_types.specs.declared.PortState.TheVariants.{Dead as DeadState, Re
 use Rattle.ata_types.specs.declared.request.Reply.{Reply}
 use Rattle.hba_regs.specs.declared.reg.PortReg.TheVariants.{Ie, Sctl}
 use Rattle.hba_regs.specs.declared.reg.Reg.TheVariants.{Ghc, Px}
-use Rattle.adapter.specs.Access.{Access, DoesAll}
+use Rattle.adapter.specs.Access.{Access, DoesAll, named_causes}
 use Rattle.adapter.specs.Access.Access.{Writing}
 use Rattle.adapter.specs.Device.{Device, PortState}
 use Rattle.adapter.specs.Rules.{IsOn}
@@ -31,7 +31,7 @@ use Rattle.host_boot.specs.declared.Found.{Found}
 use Rattle.host_boot.specs.declared.Found.TheVariants.{Ready}
 use Rattle.identify.specs.declared.DiskInfo.{DiskInfo}
 use Rattle.identify.specs.declared.wanted.Wanted.{Wanted}
-use Rattle.port_boot.specs.States.{GetsReady, told_causes}
+use Rattle.port_boot.specs.States.{GetsReady}
 use Rattle.port_look.specs.Looks.{IsLooking}
 use Rattle.port_look.specs.declared.Trouble.{Trouble}
 use Rattle.port_look.specs.declared.Trouble.TheVariants.{Failed}
@@ -101,7 +101,7 @@ module _ (laws : LawsBelow) (port : Port) (old asked mid new : Device) (on : IsO
   ready_well none unfailed unbroken =
       let since = ready_since laws port old asked mid new on way later in
       let up = (let x = up_driven laws port asked way.up way.first in grows_over laws x.accesses asked way.up x.all) in
-      let told = laws.looks.tape.grows_more way.up way.then.asked mid (grows_over laws way.then.asks.accesses way.up way.then.asked way.then.asks.all) (laws.looks.tape.access_grows (Writing (Px port Ie) told_causes) way.then.asked mid way.then.tells) in
+      let told = laws.looks.tape.grows_more way.up way.then.asked mid (grows_over laws way.then.asks.accesses way.up way.then.asked way.then.asks.all) (laws.looks.tape.access_grows (Writing (Px port Ie) named_causes) way.then.asked mid way.then.tells) in
       let whole = laws.looks.tape.grows_more asked way.up mid up told in
       let last = grows_over laws later.accesses mid new later.all in
       let rest = laws.looks.tape.grows_more asked mid new whole last in

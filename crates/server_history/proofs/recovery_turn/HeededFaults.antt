@@ -15,12 +15,13 @@ use Rattle.ata_types.specs.declared.request.Reply.{Reply}
 use Rattle.ata_types.specs.declared.request.RequestId.{RequestId}
 use Rattle.adapter.specs.Device.{PortState as DevicePort}
 use Rattle.agreement.specs.Driven.{AnyUse, IsFollowed}
-use Rattle.block_machine.specs.Events.{IsDisturbed, IsIssuedIn, NoneKeepsIssue, ServesReady, answers_of, issues_it, tells_fault}
+use Rattle.block_machine.specs.Events.{IsIssuedIn, NoneKeepsIssue, answers_of, issues_it}
 use Rattle.block_machine.specs.Histories.{IsReached}
 use Rattle.block_machine.specs.Left.{after}
 use Rattle.block_machine.specs.State.{Machine, Pending}
 use Rattle.block_machine.specs.Steps.{Answer, Issue, Step, at, issue}
 use Rattle.block_machine.specs.declared.due.Mode.{Mode}
+use Rattle.driver_history.specs.Heeding.{IsDisturbed, ServesReady, tells_fault}
 use Rattle.server_history.proofs.state.ListMembers.{at_cases, contains_cases, contains_here, contains_there, map_in}
 use Rattle.host_boot.specs.Taken.{found_of}
 use Rattle.port_look.specs.Looks.{IsLooking}

@@ -7,7 +7,7 @@ use Rattle.ata_types.specs.declared.request.Reply.{Reply}
 use Rattle.hba_regs.specs.declared.reg.PortReg.TheVariants.{Ci, Cmd, Ie, Is, Sact, Sctl, Serr}
 use Rattle.hba_regs.specs.declared.reg.Reg.{Reg}
 use Rattle.hba_regs.specs.declared.reg.Reg.TheVariants.{Ghc, Px}
-use Rattle.adapter.specs.Access.{Access}
+use Rattle.adapter.specs.Access.{Access, named_causes}
 use Rattle.adapter.specs.Access.Access.{Loading, Reading, Storing, Writing}
 use Rattle.adapter.specs.Device.{Device}
 use Rattle.adapter.specs.Rules.{IsOn}
@@ -27,7 +27,7 @@ use Rattle.host_boot.specs.declared.Booted.{Booted}
 use Rattle.host_boot.specs.declared.Found.{Found}
 use Rattle.host_boot.specs.declared.Found.TheVariants.{Ready, Unready}
 use Rattle.identify.specs.declared.DiskInfo.{DiskInfo}
-use Rattle.port_boot.specs.States.{GetsReady, IsOfBoot, told_causes}
+use Rattle.port_boot.specs.States.{GetsReady, IsOfBoot}
 use Rattle.port_look.specs.Looks.{IsLooking}
 use Rattle.request_queue.specs.Entries.{asks_of, due_ids}
 use Rattle.identify.specs.declared.wanted.Wanted.{Wanted}
@@ -102,7 +102,7 @@ module _ (laws : LawsBelow) (port : Port) (old asked mid new : Device) (on : IsO
   ready_since =
       by_then (driven_as (IsAsking port) (LeavesTrouble port) way.up way.then.asked (asking_leaves port) way.then.asks)
       (by_then
-      (record { accesses = Writing (Px port Ie) told_causes ∷ []; all = (mid, way.then.tells, refl); only = All-cons (LeavesTrouble port) (Writing (Px port Ie) told_causes) [] (ie_apart port told_causes) (All-nil (LeavesTrouble port)) })
+      (record { accesses = Writing (Px port Ie) named_causes ∷ []; all = (mid, way.then.tells, refl); only = All-cons (LeavesTrouble port) (Writing (Px port Ie) named_causes) [] (ie_apart port named_causes) (All-nil (LeavesTrouble port)) })
       later)
 
   pub ready_shows : ShowsTrouble port.0 old new

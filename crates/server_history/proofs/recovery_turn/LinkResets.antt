@@ -10,7 +10,7 @@ use Rattle.hba_regs.specs.declared.reg.PortReg.{PortReg}
 use Rattle.hba_regs.specs.declared.reg.PortReg.TheVariants.{Cmd, Clb, Clbu, Fb, Fbu, Ie, Is, Sctl, Serr, Sig, Ssts, Tfd, Ci}
 use Rattle.hba_regs.specs.declared.reg.Reg.{Reg}
 use Rattle.hba_regs.specs.declared.reg.Reg.TheVariants.{Px}
-use Rattle.adapter.specs.Access.{Access, Does, Reads, Writes}
+use Rattle.adapter.specs.Access.{Access, Does, Reads, Writes, named_causes}
 use Rattle.adapter.specs.Access.Access.{Loading, Reading, Storing, Writing}
 use Rattle.adapter.specs.Device.{Device}
 use Rattle.agreement.specs.Driven.{IsControl, IsDrivenBy}
@@ -20,7 +20,7 @@ use Rattle.server_history.proofs.state.DrivenAccesses.{by_none, driven_as}
 use Rattle.disk_page.specs.Asking.{IsAsking}
 use Rattle.driver_history.specs.Trace.{ResetsLink}
 use Rattle.error_recovery.specs.Recovery.{IsRecovered, IsRecovering}
-use Rattle.port_boot.specs.States.{EndsEarly, EndsLate, GetsReady, GetsUp, IsBooting, IsOfBoot, told_causes}
+use Rattle.port_boot.specs.States.{EndsEarly, EndsLate, GetsReady, GetsUp, IsBooting, IsOfBoot}
 use Rattle.port_control.specs.Ports.{ClearsErrors, FindsLink, FindsSignature, IsPlacing, Looks, ReadsNot, ReadsUntil, ReadsWithout, WritesCommand}
 use Rattle.port_control.specs.declared.PortFault.{PortFault}
 use Rattle.port_control.specs.declared.PortFault.TheVariants.{NoDevice, Busy, EngineStuck, NotAta}
@@ -152,7 +152,7 @@ module _ (laws : LawsBelow) (port : Port) where
 
   -- what comes once a port was started that is ready then, or stopped
   pub ready_then : (old new : Device) (g : GetsReady port old new) → IsDrivenBy (IsBeside port) g.up new
-  ready_then old new g = by_then (asking g.up g.then.asked g.then.asks) (write_one Ie told_causes g.then.asked new (inr (inr refl)) (λ e. let z : Ie ≡ Sctl = e in cc) g.then.tells)
+  ready_then old new g = by_then (asking g.up g.then.asked g.then.asks) (write_one Ie named_causes g.then.asked new (inr (inr refl)) (λ e. let z : Ie ≡ Sctl = e in cc) g.then.tells)
 
   pub late_then : (old new : Device) (g : EndsLate port old new) → IsDrivenBy (IsBeside port) g.up new
   late_then old new g = by_then (asking g.up g.then.asked g.then.asks) (commanding g.then.asked new g.then.stops)

@@ -85,18 +85,16 @@ module _ (laws : LawsBelow) (port : Port) (replies : List Reply) (old new : Serv
 
   pub ties_recovered : r.settled.mended.trouble ≢ Hung → TiesTurn InService port replies evident.accesses old new m (evidence_by r.settled) d.steps
   ties_recovered unhung = record {
-    ties = record {
-      finds = λ _ e issued. finding laws port replies old new k ready r looks kept evident m reached is d;
-      faults = λ alone e slot issued unended says plain. faulting laws port replies old new k ready r looks kept m reached is d (failing unhung alone) e slot issued unended says plain;
-      tries = λ _ _. record {
-        shown = λ absent. absurd (not_absent absent);
-        absent = λ absent. absurd (not_absent absent);
-        missing = λ bad. absurd (not_bad bad);
-        changed = λ bad. absurd (not_bad bad);
-      };
-      boots = reboots laws port replies old new k ready r looks kept evident m;
-      trouble = heeds_trouble.trouble;
-      well = heeds_trouble.well;
+    finds = λ _ e issued. finding laws port replies old new k ready r looks kept evident m reached is d;
+    faults = λ alone e slot issued unended says plain. faulting laws port replies old new k ready r looks kept m reached is d (failing unhung alone) e slot issued unended says plain;
+    tries = λ _ _. record {
+      shown = λ absent. absurd (not_absent absent);
+      absent = λ absent. absurd (not_absent absent);
+      missing = λ bad. absurd (not_bad bad);
+      changed = λ bad. absurd (not_bad bad);
     };
+    boots = reboots laws port replies old new k ready r looks kept evident m;
+    trouble = heeds_trouble.trouble;
+    well = heeds_trouble.well;
     heeds = λ _. serves_ready laws port replies old new k ready r looks kept evident m reached is d unhung;
   }

@@ -25,7 +25,7 @@ use Rattle.block_machine.specs.State.{Machine, Pending, unanswered}
 use Rattle.block_machine.specs.Steps.{Again, Answer, Release, Step}
 use Rattle.block_machine.specs.declared.due.Mode.{Mode}
 use Rattle.driver_history.specs.Evidence.{IsEvidenced, IsEvidencedOf}
-use Rattle.driver_history.specs.Histories.{BootsAnew, IssuesDue, LosesNoTrouble, RunsWellAnew, ServesPort}
+use Rattle.driver_history.specs.Histories.{BootsAnew, IssuesDue, LosesNoTrouble, RunsWellAnew, ServesPort, TiesPort}
 use Rattle.driver_history.specs.Trace.{IsOfPorts}
 use Rattle.hba_regs.specs.Bits.{bit}
 use Rattle.host_boot.specs.Taken.{IsServed, StandsBehind, StillStandsBehind, found_of, wanted_of}
@@ -65,7 +65,7 @@ use Rattle.server_history.proofs.reset_call.ResetDevice.{IsRebootedBy}
 use Rattle.server_history.specs.Resets.{IsProspectAnew, IsTakenAgain, IssuePorts, ResetsServer, SettlePorts}
 use Rattle.server_history.specs.Server.{IsKept, IsMachineOf, IsSettled, Server, disk_in, disk_of, is_served, mode_in, ports_of, remembered_at, sectors_of, serial_of, state_of}
 use Rattle.server_history.specs.Stalled.{KeepsBooks}
-use Rattle.server_history.specs.Turns.{DoesPort, instant_of, moment_of}
+use Rattle.server_history.specs.Turns.{instant_of, moment_of}
 use Rattle.ata_types.specs.declared.request.Outcome.TheVariants as outcome
 
 -- a port that is found in the state of a dead one is dead
@@ -523,16 +523,14 @@ module _ (laws : ResetLaws) (s taken settled new : Server) (replies : List Reply
     port = λ port. subst (λ (old : Instant Device). IsEvidencedOf Reset (WasReset (Some replies)) by.accesses old (ports_of new) new.device by.evidence port) instant_is (by.evidenced m port);
   }
 
-  port_part : (port : Port) → DoesPort (with_device s.device (now first past)) (happening_with by.evidence new.device Reset (WasReset (Some replies)) steps (ports_of new)) by.accesses port
+  port_part : (port : Port) → TiesPort (with_device s.device (now first past)) (happening_with by.evidence new.device Reset (WasReset (Some replies)) steps (ports_of new)) by.accesses port
   port_part port = record {
-    ties = record {
-      finds = tt;
-      faults = tt;
-      tries = tt;
-      boots = subst (λ (old : Instant Device). BootsAnew Reset (WasReset (Some replies)) by.accesses old (ports_of new) new.device port) instant_is (by.boots m port);
-      trouble = subst (λ (old : Instant Device). LosesNoTrouble by.evidence old (ports_of new) new.device port) instant_is (by.trouble m port);
-      well = subst (λ (old : Instant Device). RunsWellAnew by.evidence by.accesses old (ports_of new) new.device port) instant_is (by.well m port);
-    };
+    finds = tt;
+    faults = tt;
+    tries = tt;
+    boots = subst (λ (old : Instant Device). BootsAnew Reset (WasReset (Some replies)) by.accesses old (ports_of new) new.device port) instant_is (by.boots m port);
+    trouble = subst (λ (old : Instant Device). LosesNoTrouble by.evidence old (ports_of new) new.device port) instant_is (by.trouble m port);
+    well = subst (λ (old : Instant Device). RunsWellAnew by.evidence by.accesses old (ports_of new) new.device port) instant_is (by.well m port);
     heeds = tt;
   }
 
@@ -550,6 +548,7 @@ module _ (laws : ResetLaws) (s taken settled new : Server) (replies : List Reply
       (ap (λ (c : Server). c.wanted) a.settings ∙ wanted_then laws s taken settled booked takes replies settles m reached is) leads (holding new a.kept) (kept_fit new a.kept)
       may belong last lawful disks
       (subst (λ (old : Moment). AnswersReset old by.evidence steps replies end) was_is answered)
+      tt
       by.accesses
       (by.does, by.own, subst (λ (ports : Ports). All (IsOfPorts (ServesPort ports)) by.accesses) (sym same) by.of, by.begins, by.tells)
       evidenced due_then port_part backed stands_new

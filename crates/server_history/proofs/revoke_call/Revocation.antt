@@ -95,11 +95,12 @@ module _ (laws : LawsBelow) (s : Server) (client : ClientId) (number : ℕ) (rep
         (revoked.last laws s client number replies mid r m h)
         (revoked.lawful laws s client number replies mid r m h old.moment no_evidence (ports_of s))
         (answers then_is refl refl old.moment leads.stands.ports_are h [] (λ e o here. nowhere (Answer e o) here) refl stands issued)
+        tt
         []
         (refl, (revoked.has_row laws s client number replies mid r m h, All-nil (IssuesOn port), λ other. refl))
         (λ q. All-nil (LeavesEngine q))
         (λ q ready. none_issued then_is (after m steps) stands steps (revoked.issue_none laws s client number replies mid r m h) (mode_in s q) q (issued q ready))
-        (λ q. record { ties = record { finds = tt; faults = tt; tries = tt; boots = tt; trouble = goes.trouble old.moment leads.stands.ports_are q; well = λ i. absurd (uninterrupted s.device old.moment.ports q i) }; heeds = uninterrupted s.device old.moment.ports q })
+        (λ q. record { finds = tt; faults = tt; tries = tt; boots = tt; trouble = goes.trouble old.moment leads.stands.ports_are q; well = λ i. absurd (uninterrupted s.device old.moment.ports q i); heeds = uninterrupted s.device old.moment.ports q })
         (revoked.backed laws s client number replies mid r m h)
         stands
       where
@@ -169,20 +170,19 @@ module _ (laws : LawsBelow) (s : Server) (client : ClientId) (number : ℕ) (rep
             (last_on mode port x.steps early x.only x.last (revoked.last laws s client number replies mid r m h) (λ id late first_too. false≢true (sym (revoked.issue_none laws s client number replies mid r m h id) ∙ first_too)))
             (lawful_on mode port old.moment no_evidence (ports_of new) x.steps early x.only (revoked.lawful laws s client number replies mid r m h old.moment no_evidence (ports_of new)))
             (answers new (ap ports_of same) (ap (λ (n : Server). n.grants) same) old.moment leads.stands.ports_are h x.steps (no_answer_issuing mode port x.steps x.only) (issuing_answers mode port x.steps early x.only) stands (λ q on. settles.issued q))
+            tt
             driven.accesses
             (driven.all, (revoked.has_row laws s client number replies mid r m h, All-weaker (IssuesIn port) (IssuesOn port) (λ access here. issuing_is port port_low access here) driven.accesses driven.only, λ other. absurd (other its_state)))
             (λ q. All-weaker (IssuesIn port) (LeavesEngine q) (issuing_leaves port q) driven.accesses driven.only)
             (λ q is_ready. due_now q)
             (λ q. record {
-              ties = record {
-                finds = tt;
-                faults = tt;
-                tries = tt;
-                boots = tt;
-                trouble = laws.calls.ordinary q (with_device s.device old) new.device driven.accesses (told_by s.device old.moment.ports) (ports_of new) k.on driven.all
-                    (All-weaker (IssuesIn port) (SparesRegister Ghc) (issuing_spares_host port) driven.accesses driven.only) (All-weaker (IssuesIn port) (ClearsNone q) (issuing_clears_none port q) driven.accesses driven.only);
-                well = λ i. absurd (uninterrupted s.device old.moment.ports q i);
-              };
+              finds = tt;
+              faults = tt;
+              tries = tt;
+              boots = tt;
+              trouble = laws.calls.ordinary q (with_device s.device old) new.device driven.accesses (told_by s.device old.moment.ports) (ports_of new) k.on driven.all
+                  (All-weaker (IssuesIn port) (SparesRegister Ghc) (issuing_spares_host port) driven.accesses driven.only) (All-weaker (IssuesIn port) (ClearsNone q) (issuing_clears_none port q) driven.accesses driven.only);
+              well = λ i. absurd (uninterrupted s.device old.moment.ports q i);
               heeds = uninterrupted s.device old.moment.ports q;
             })
             (laws.backed_parts s.device s.device new.device m early x.steps (revoked.backed laws s client number replies mid r m h) x.backed)

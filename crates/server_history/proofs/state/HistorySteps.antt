@@ -26,7 +26,8 @@ use Rattle.dma_frames.specs.Table.{Table}
 use Rattle.host_boot.specs.Taken.{found_of}
 use Rattle.host_boot.specs.declared.Found.{Found}
 use Rattle.driver_history.specs.Evidence.{IsEvidenced}
-use Rattle.driver_history.specs.Histories.{Begins, CameBy, Issues, Ties}
+use Rattle.driver_history.specs.Heeding.{IsGrounded}
+use Rattle.driver_history.specs.Histories.{Begins, CameBy, Issues, Ties, TiesPort}
 use Rattle.driver_history.specs.Trace.{LeavesEngine}
 use Rattle.driver_history.specs.Holds.{HoldsAt}
 use Rattle.driver_history.proofs.Instants.{history_fit, ready_low}
@@ -40,7 +41,6 @@ use Rattle.block_machine.specs.Due.{is_plain}
 use Rattle.server_history.proofs.state.ServerInstant.{holds_with, slots}
 use Rattle.server_history.proofs.state.CallEvidence.{evidenced, lawful_told, no_evidence, told_by}
 use Rattle.server_history.specs.Below.{LawsBelow}
-use Rattle.server_history.specs.Turns.{DoesPort}
 
 -- ---- the book
 
@@ -189,21 +189,22 @@ pub lead_with : LawsBelow → (first : Instant Device) (past : List (Happening D
     → AllLawful (now first past).moment evidence (ports_of new) steps
     → KeepsDisks (now first past).moment (record { machine = after (now first past).moment.machine steps; ports = ports_of new })
     → IsAnswered ask said (now first past).moment evidence steps (record { machine = after (now first past).moment.machine steps; ports = ports_of new })
+    → IsGrounded ask evidence steps
     → (accesses : List Access) → CameBy (now first past).moment ask said accesses s.device new.device
     → IsEvidenced ask said accesses (with_device s.device (now first past)) (ports_of new) new.device evidence
     → ((port : Port) → Issues ask steps (after (now first past).moment.machine steps) (ports_of new) port)
-    → ((port : Port) → DoesPort (with_device s.device (now first past)) (happening_with evidence new.device ask said steps (ports_of new)) accesses port)
+    → ((port : Port) → TiesPort (with_device s.device (now first past)) (happening_with evidence new.device ask said steps (ports_of new)) accesses port)
     → IsBacked s.device new.device (now first past).moment.machine steps
     → IsMachineOf new (after (now first past).moment.machine steps)
     → (h : Happening Device DeviceStep) × (h.event.ask ≡ ask) × (h.event.said ≡ said) × Leads first (h ∷ past) new
-lead_with laws first past s new ask said evidence steps wanted_is leads holds fit may belong last lawful disks answered accesses came evidenced issues parts backed stands = (
+lead_with laws first past s new ask said evidence steps wanted_is leads holds fit may belong last lawful disks answered grounded accesses came evidenced issues parts backed stands = (
   h,
   refl,
   refl,
   record {
     history = (
       subst (λ wanted. IsHistory (Begins wanted) (Ties wanted) first past) (sym wanted_is) leads.history,
-      record { may = may; belong = belong; last = last; lawful = lawful; fit = fit; disks = disks; answered = answered; heeds = λ port. (parts port).heeds },
+      record { may = may; belong = belong; last = last; lawful = lawful; fit = fit; disks = disks; answered = answered },
       subst (λ (d : Device). Ties new.wanted (with_device d old) h) (sym leads.stands.device_is) ties,
     );
     stands = record { device_is = refl; ports_are = refl; machine = stands };
@@ -228,8 +229,9 @@ lead_with laws first past s new ask said evidence steps wanted_is leads holds fi
       came = came;
       backed = backed;
       evidenced = evidenced;
+      grounded = grounded;
       issues = issues;
-      port = λ port. (parts port).ties;
+      port = parts;
       holds = holds later reached stands;
     }
 
@@ -239,18 +241,19 @@ pub lead_by : LawsBelow → (first : Instant Device) (past : List (Happening Dev
     → AllMay (now first past).moment.machine steps → Belong ask (ports_of new) steps → IssuesLast steps
     → AllLawful (now first past).moment no_evidence (ports_of new) steps
     → IsAnswered ask said (now first past).moment (told_by s.device (now first past).moment.ports) steps (record { machine = after (now first past).moment.machine steps; ports = ports_of new })
+    → IsGrounded ask (told_by s.device (now first past).moment.ports) steps
     → (accesses : List Access) → CameBy (now first past).moment ask said accesses s.device new.device
     → ((port : Port) → All (LeavesEngine port) accesses)
     → ((port : Port) → Issues ask steps (after (now first past).moment.machine steps) (ports_of new) port)
-    → ((port : Port) → DoesPort (with_device s.device (now first past)) (happening (with_device s.device (now first past)) new.device ask said steps (ports_of new)) accesses port)
+    → ((port : Port) → TiesPort (with_device s.device (now first past)) (happening (with_device s.device (now first past)) new.device ask said steps (ports_of new)) accesses port)
     → IsBacked s.device new.device (now first past).moment.machine steps
     → IsMachineOf new (after (now first past).moment.machine steps)
     → (h : Happening Device DeviceStep) × (h.event.ask ≡ ask) × (h.event.said ≡ said) × Leads first (h ∷ past) new
-lead_by laws first past s new ask said steps wanted_is ports_is leads holds may belong last lawful answered accesses came leaves issues parts backed stands =
+lead_by laws first past s new ask said steps wanted_is ports_is leads holds may belong last lawful answered grounded accesses came leaves issues parts backed stands =
     lead_with laws first past s new ask said (told_by s.device old.moment.ports) steps wanted_is leads holds (subst AreFit ports fit) may belong last
     (lawful_told s.device old.moment.ports old.moment (ports_of new) steps lawful)
     (λ e o here i same. disks_same old.moment.ports (ports_of new) ports e.request.port)
-    answered accesses came
+    answered grounded accesses came
     (evidenced ask said accesses (with_device s.device old) (ports_of new) new.device (λ port ready. (ready_low old port fit ready).1) leaves)
     issues parts backed stands
   where

@@ -12,11 +12,12 @@ use Rattle.adapter.specs.Access.{Access}
 use Rattle.adapter.specs.declared.access.DeviceStep.{DeviceStep}
 use Rattle.agreement.specs.Driver.{IsBacked}
 use Rattle.agreement.specs.Errors.{NoneComes}
-use Rattle.block_machine.specs.Events.{AllDevices, AllGrounded, AllMay, HadDisk, Served, Service, Tells, UnplugsAll}
+use Rattle.block_machine.specs.Events.{AllDevices, AllMay, HadDisk, Served, Service, Tells, UnplugsAll}
 use Rattle.block_machine.specs.Left.{after}
 use Rattle.block_machine.specs.Ports.{Evidence, IsInterrupted, IsServiced, SamePort}
 use Rattle.block_machine.specs.State.{Machine}
 use Rattle.block_machine.specs.Steps.{Step}
+use Rattle.driver_history.specs.Heeding.{AllGrounded}
 use Rattle.driver_history.specs.Evidence.{IsEvidencedOf}
 use Rattle.driver_history.specs.Histories.{LosesNoTrouble, RunsWellAnew, TriesDisk}
 use Rattle.driver_history.specs.Holds.{NoneWaits}
@@ -130,14 +131,12 @@ module _ (laws : LawsBelow) (port : Port) (old : Server) (k : IsKept old) (unrea
       ties : TiesTurn InTry port [] accesses old new m its x.steps
       ties = (
         record {
-          ties = record {
-            finds = λ ready. absurd (unready ready);
-            faults = λ alone. absurd (unready alone.ready);
-            tries = λ served comes. did.tries m comes;
-            boots = (λ ready. absurd (unready ready), did.boots);
-            trouble = did.trouble m;
-            well = did.well m;
-          };
+          finds = λ ready. absurd (unready ready);
+          faults = λ alone. absurd (unready alone.ready);
+          tries = λ served comes. did.tries m comes;
+          boots = (λ ready. absurd (unready ready), did.boots);
+          trouble = did.trouble m;
+          well = did.well m;
           heeds = λ ready. absurd (unready ready);
         },
         did.linked m,

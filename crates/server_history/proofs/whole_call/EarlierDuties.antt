@@ -10,7 +10,7 @@ use Rattle.ata_types.specs.declared.request.Reply.{Reply}
 use Rattle.adapter.specs.Access.{Access}
 use Rattle.adapter.specs.Device.{Device}
 use Rattle.agreement.specs.Agrees.{port_at}
-use Rattle.block_machine.specs.Events.{AreTold, IsLeftAlone, Moment, Served, ServesReady, changes_disk, tells_fault}
+use Rattle.block_machine.specs.Events.{Moment, Served, changes_disk}
 use Rattle.block_machine.specs.Histories.{Instant, IsReached}
 use Rattle.block_machine.specs.Left.{after}
 use Rattle.block_machine.specs.Ports.{Evidence, IsInterrupted, SamePort}
@@ -18,11 +18,12 @@ use Rattle.block_machine.specs.State.{Machine}
 use Rattle.block_machine.specs.Steps.{Step, Answer}
 use Rattle.block_machine.proofs.Counting.{count_append}
 use Rattle.host_boot.specs.Taken.{found_of}
+use Rattle.driver_history.specs.Heeding.{AreTold, IsLeftAlone, ServesReady, tells_fault}
 use Rattle.driver_history.specs.Evidence.{ShowsChange, ShowsFailure}
-use Rattle.driver_history.specs.Histories.{IsUnfitOrForeign, HasFaultAlone, IsAnsweredFaulty}
+use Rattle.driver_history.specs.Histories.{IsUnfitOrForeign, HasFaultAlone, IsAnsweredFaulty, TiesPort}
 use Rattle.driver_history.specs.Parts.{HasTurnIn, NamesAlike}
 use Rattle.server_history.specs.Below.{LawsBelow}
-use Rattle.server_history.specs.Turns.{DoesPort, HasPart, HeedsTrouble, InService, MakesTurn, turn_of}
+use Rattle.server_history.specs.Turns.{HasPart, HeedsTrouble, InService, MakesTurn, turn_of}
 use Rattle.server_history.specs.Server.{Server, IsKept, IsMachineOf, IsSettled, ports_of}
 use Rattle.server_history.proofs.any_turn.JoinedParts.{same_then}
 use Rattle.server_history.proofs.any_turn.TurnSteps.{stood}
@@ -66,7 +67,7 @@ module _ (laws : LawsBelow) (s : Server) (start : IsSettled s) (old : Moment) (r
       abbrev t : HasTurnIn q s.device mid.device
       t = carrying.t AService laws s start old reached at ports_are n c mid before its p part m_reached q apart
 
-      abbrev did : DoesPort began (turn_of InService [] c p.evidence p.steps) p.accesses q
+      abbrev did : TiesPort began (turn_of InService [] c p.evidence p.steps) p.accesses q
       did = d.ties.0
 
       abbrev serves : ServesReady old p.evidence p.steps (record { machine = m; ports = ports_of c }) q
@@ -132,25 +133,23 @@ module _ (laws : LawsBelow) (s : Server) (start : IsSettled s) (old : Moment) (r
       not_absent absent = let z : Absent ≡ ReadyState = sym absent ∙ asked in absurd cc
 
       heeds_trouble : HeedsTrouble q accesses began evidence (ports_of mid) mid.device
-      heeds_trouble = carrying.trouble_still AService laws s start old reached at ports_are n c mid before its p part m_reached q apart d evidence alike same (λ _. stops_troubled) (λ _. inl undue) (record { trouble = did.ties.trouble; well = did.ties.well })
+      heeds_trouble = carrying.trouble_still AService laws s start old reached at ports_are n c mid before its p part m_reached q apart d evidence alike same (λ _. stops_troubled) (λ _. inl undue) (record { trouble = did.trouble; well = did.well })
 
-      pub ties_still : DoesPort began (turn_of InService [] mid evidence all) accesses q
+      pub ties_still : TiesPort began (turn_of InService [] mid evidence all) accesses q
       ties_still = record {
-        ties = record {
-          finds = λ is_ready e own. carrying.finds_more AService laws s start old reached at ports_are n c mid before its p part m_reached q apart (did.ties.finds is_ready e own);
-          faults = λ alone e slot own unended says plain. ⊎_elim
-              (λ (a : IsAnsweredFaulty e p.steps). inl (a.0, a.1, a.2, a.3, Contains-append_right x.steps p.steps (Answer a.0 (DeviceError a.1 a.2)) a.4))
-              (λ dead. inr (same.1 ∙ dead))
-              (did.ties.faults (alone_so_far alone) e slot own unended says plain);
-          tries = λ served coming. record {
-            shown = λ absent det. absurd (not_absent absent);
-            absent = λ absent det fresh. absurd (not_absent absent);
-            missing = λ bad. absurd (not_bad bad);
-            changed = λ bad. absurd (not_bad bad);
-          };
-          boots = laws.calls.call_boots q began old (ports_of c) (ports_of mid) mid.device (Served []) (Served []) kept.on (λ _. undue) t p.on same same_self did.ties.boots;
-          trouble = heeds_trouble.trouble;
-          well = heeds_trouble.well;
+        finds = λ is_ready e own. carrying.finds_more AService laws s start old reached at ports_are n c mid before its p part m_reached q apart (did.finds is_ready e own);
+        faults = λ alone e slot own unended says plain. ⊎_elim
+            (λ (a : IsAnsweredFaulty e p.steps). inl (a.0, a.1, a.2, a.3, Contains-append_right x.steps p.steps (Answer a.0 (DeviceError a.1 a.2)) a.4))
+            (λ dead. inr (same.1 ∙ dead))
+            (did.faults (alone_so_far alone) e slot own unended says plain);
+        tries = λ served coming. record {
+          shown = λ absent det. absurd (not_absent absent);
+          absent = λ absent det fresh. absurd (not_absent absent);
+          missing = λ bad. absurd (not_bad bad);
+          changed = λ bad. absurd (not_bad bad);
         };
+        boots = laws.calls.call_boots q began old (ports_of c) (ports_of mid) mid.device (Served []) (Served []) kept.on (λ _. undue) t p.on same same_self did.boots;
+        trouble = heeds_trouble.trouble;
+        well = heeds_trouble.well;
         heeds = λ _. heeds_whole;
       }

@@ -25,12 +25,12 @@ use Rattle.block_machine.specs.State.{Pending}
 use Rattle.block_machine.specs.Steps.{Step, Again, Answer}
 use Rattle.host_boot.specs.Taken.{found_of}
 use Rattle.driver_history.specs.Evidence.{IsEvidencedOf, IsFaultTold}
-use Rattle.driver_history.specs.Histories.{FindsDone, IsUnfitOrForeign, IssuesDue}
+use Rattle.driver_history.specs.Histories.{FindsDone, IsUnfitOrForeign, IssuesDue, TiesPort}
 use Rattle.driver_history.specs.Holds.{NoneWaits}
 use Rattle.driver_history.specs.Parts.{EndsLinked, IsOfOther}
 use Rattle.driver_history.specs.Trace.{IsServing, LeavesEngine, ResetsLink}
 use Rattle.server_history.specs.Below.{LawsBelow}
-use Rattle.server_history.specs.Turns.{DoesPort, HeedsTrouble, InService, IsStepOf, moment_of, turn_of}
+use Rattle.server_history.specs.Turns.{HeedsTrouble, InService, IsStepOf, moment_of, turn_of}
 use Rattle.server_history.proofs.whole_call.ServiceAndTick.{AService, ATick, OwesBy, Plan, TakesTurn, Uses, asks_for, owes_nothing, ready_takes}
 use Rattle.server_history.specs.Server.{Server, IsKept, IsMachineOf, IsSettled, mode_at, mode_in, ports_of, remembered_at, slots_at, state_of}
 use Rattle.server_history.proofs.state.DueRequests.{none_issued}
@@ -69,7 +69,7 @@ pub record HasTicked (hung : ℕ → Bool) (s : Server) (old : Moment) (port : P
 
 abbrev pub TiesSoFar : Plan → Server → Moment → Port → List Access → Server → Evidence → List Step → Type 0
 TiesSoFar AService s old port accesses c evidence steps =
-    DoesPort (record { device = s.device; moment = old }) (turn_of InService [] c evidence steps) accesses port × EndsLinked port (record { device = s.device; moment = old }) (ports_of c) c.device
+    TiesPort (record { device = s.device; moment = old }) (turn_of InService [] c evidence steps) accesses port × EndsLinked port (record { device = s.device; moment = old }) (ports_of c) c.device
 TiesSoFar (ATick hung) s old port accesses c evidence steps = HasTicked hung s old port accesses c evidence steps
 
 -- nothing is done of a port that had no turn
@@ -77,25 +77,23 @@ rested_ties : (plan : Plan) (s : Server) (old : Moment) (port : Port) (accesses 
     → TiesSoFar plan s old port accesses c evidence steps
 rested_ties AService s old port accesses c evidence steps ports_are not rests = (
   record {
-    ties = record {
-      finds = λ ready. absurd (unready ready);
-      faults = λ alone. absurd (unready alone.ready);
-      tries = λ served comes. record {
-        shown = λ absent. absurd (not (sym (ap (λ (ports : Ports). ports.served port) ports_are) ∙ served, λ dead. let z : Absent ≡ Dead = sym absent ∙ state_was ∙ dead in cc));
-        absent = λ absent. absurd (not (sym (ap (λ (ports : Ports). ports.served port) ports_are) ∙ served, λ dead. let z : Absent ≡ Dead = sym absent ∙ state_was ∙ dead in cc));
-        missing = λ bad. absurd (no_bad bad);
-        changed = λ bad. absurd (no_bad bad);
-      };
-      boots = (λ ready. absurd (unready ready), inl rests.same);
-      trouble = record {
-        errors = λ ready. absurd (unready ready);
-        changes = λ tends. absurd (not (sym (ap (λ (ports : Ports). ports.served port) ports_are) ∙ tends.0, λ dead. tends.1 (state_was ∙ dead)));
-        fault = λ ready. absurd (unready (sym rests.same.1 ∙ ready));
-        fatal = λ ready. absurd (unready (sym rests.same.1 ∙ ready));
-        disk = λ ready. absurd (unready (sym rests.same.1 ∙ ready));
-      };
-      well = λ i. absurd (rests.uninterrupted i);
+    finds = λ ready. absurd (unready ready);
+    faults = λ alone. absurd (unready alone.ready);
+    tries = λ served comes. record {
+      shown = λ absent. absurd (not (sym (ap (λ (ports : Ports). ports.served port) ports_are) ∙ served, λ dead. let z : Absent ≡ Dead = sym absent ∙ state_was ∙ dead in cc));
+      absent = λ absent. absurd (not (sym (ap (λ (ports : Ports). ports.served port) ports_are) ∙ served, λ dead. let z : Absent ≡ Dead = sym absent ∙ state_was ∙ dead in cc));
+      missing = λ bad. absurd (no_bad bad);
+      changed = λ bad. absurd (no_bad bad);
     };
+    boots = (λ ready. absurd (unready ready), inl rests.same);
+    trouble = record {
+      errors = λ ready. absurd (unready ready);
+      changes = λ tends. absurd (not (sym (ap (λ (ports : Ports). ports.served port) ports_are) ∙ tends.0, λ dead. tends.1 (state_was ∙ dead)));
+      fault = λ ready. absurd (unready (sym rests.same.1 ∙ ready));
+      fatal = λ ready. absurd (unready (sym rests.same.1 ∙ ready));
+      disk = λ ready. absurd (unready (sym rests.same.1 ∙ ready));
+    };
+    well = λ i. absurd (rests.uninterrupted i);
     heeds = λ ready. absurd (unready ready);
   },
   λ bad. absurd (no_bad bad),

@@ -17,12 +17,13 @@ use Rattle.block_machine.specs.State.{Pending}
 use Rattle.host_boot.specs.Taken.{found_of}
 use Rattle.host_boot.specs.declared.Found.{Found}
 use Rattle.host_boot.specs.declared.Found.TheVariants.{Unready}
+use Rattle.driver_history.specs.Histories.{TiesPort}
 use Rattle.server_history.proofs.any_turn.JoinedParts.{dead_or_not}
 use Rattle.driver_history.specs.Evidence.{IsEvidenced}
 use Rattle.request_queue.specs.Machine.{IsEntry}
 use Rattle.server_history.specs.Histories.{Adds, Leads}
 use Rattle.server_history.specs.Below.{LawsBelow}
-use Rattle.server_history.specs.Turns.{DoesPort, HasPart, ServePorts, ServesPort, TriesUnready}
+use Rattle.server_history.specs.Turns.{HasPart, ServePorts, ServesPort, TriesUnready}
 use Rattle.server_history.specs.Tried.{IsLookedAt}
 use Rattle.server_history.specs.Server.{Server, IsKept, IsMachineOf, IsSettled, mode_in, ports_of, state_of}
 use Rattle.server_history.proofs.state.DueRequests.{none_due}
@@ -104,7 +105,6 @@ module _ (laws : LawsBelow) (s new : Server) (replies : List Reply) (start : IsS
   all_answered = record {
     tells = record { answers = p.answers; same = p.permuted; ordered = p.ordered; told = p.told };
     dead = λ e o h dead. absurd ((answered_was AService laws s start old reached at same ends.count new replies p e o h).1 (sym (is_ready e.request.port) ∙ dead));
-    grounded = p.owes;
     unplugs = p.unplugs;
     issues = λ port ready. none_due new (after old.machine p.steps) p.stands (mode_in new port) port (p.settled.issued port);
     emptied = none_waits;
@@ -135,15 +135,15 @@ module _ (laws : LawsBelow) (s new : Server) (replies : List Reply) (start : IsS
   }
 
   -- what the service has done of each port
-  port_part : (port : Port) → DoesPort began (happening_with p.evidence new.device Service (Served replies) p.steps (ports_of new)) p.accesses port
+  port_part : (port : Port) → TiesPort began (happening_with p.evidence new.device Service (Served replies) p.steps (ports_of new)) p.accesses port
   port_part port =
       let did = (done port).ties.0 in
-      record { ties = record { finds = did.ties.finds; faults = did.ties.faults; tries = did.ties.tries; boots = did.ties.boots; trouble = did.ties.trouble; well = did.ties.well }; heeds = did.heeds }
+      record { finds = did.finds; faults = did.faults; tries = did.tries; boots = did.boots; trouble = did.trouble; well = did.well; heeds = did.heeds }
 
   pub service_event : (h : Happening Device DeviceStep) × (h.event.ask ≡ Service) × (h.event.said ≡ Served replies) × Leads first (h ∷ past) new
   service_event =
       lead_with laws first past s new Service (Served replies) p.evidence p.steps p.wanted leads (holding new holds) (kept_fit new holds)
-      p.turns.may p.belong p.turns.last p.lawful keeps all_answered
+      p.turns.may p.belong p.turns.last p.lawful keeps all_answered p.owes
       p.accesses
       (p.does, p.serving)
       evidenced

@@ -10,12 +10,13 @@ use Rattle.ata_types.specs.declared.request.Reply.{Reply}
 use Rattle.adapter.specs.Access.{Access}
 use Rattle.adapter.specs.Device.{Device}
 use Rattle.adapter.specs.declared.access.DeviceStep.{DeviceStep}
-use Rattle.block_machine.specs.Events.{Ask, AllGrounded, Belong, IsServers, Served, Service, Tick}
+use Rattle.block_machine.specs.Events.{Ask, Belong, IsServers, Served, Service, Tick}
 use Rattle.block_machine.specs.Histories.{Instant}
 use Rattle.block_machine.specs.Ports.{Evidence, Ports}
 use Rattle.block_machine.specs.State.{Machine, Pending}
 use Rattle.block_machine.specs.Steps.{Step, Again, Answer, Issue}
 use Rattle.block_machine.specs.declared.due.Mode.{Mode}
+use Rattle.driver_history.specs.Heeding.{AllGrounded}
 use Rattle.driver_history.specs.Evidence.{IsEndedReset, IsEvidencedOf}
 use Rattle.driver_history.specs.Histories.{TendsPort}
 use Rattle.host_boot.specs.declared.Found.{Found}

@@ -34,7 +34,7 @@ use Rattle.block_machine.specs.State.{Machine, Pending, unanswered}
 use Rattle.block_machine.specs.Steps.{Step, Age, Again, Answer, after_step, older}
 use Rattle.server_history.proofs.state.ListMembers.{contains_cases, contains_here, into_map, map_in, none_of}
 use Rattle.driver_history.specs.Evidence.{IsEvidenced}
-use Rattle.driver_history.specs.Histories.{FindsDone, IssuesDue}
+use Rattle.driver_history.specs.Histories.{FindsDone, IssuesDue, TiesPort}
 use Rattle.driver_history.specs.Parts.{IsOfOther}
 use Rattle.driver_history.specs.Trace.{ClearsNone, IsDriversOwn, IsServing, LeavesEngine}
 use Rattle.host_boot.specs.Taken.{found_of}
@@ -45,7 +45,7 @@ use Rattle.request_queue.specs.Machine.{IsEntry}
 use Rattle.server_history.specs.Below.{LawsBelow}
 use Rattle.server_history.specs.Histories.{Adds, Leads}
 use Rattle.server_history.specs.Server.{Server, IsKept, IsMachineOf, IsSettled, mode_in, ports_of, state_of}
-use Rattle.server_history.specs.Turns.{DoesPort, AtRest, HasPart, HeedsTrouble, InRestart, InService, IsStepOf, Ticks, TicksPort, a_tick_older, instant_of, is_ready}
+use Rattle.server_history.specs.Turns.{AtRest, HasPart, HeedsTrouble, InRestart, InService, IsStepOf, Ticks, TicksPort, a_tick_older, instant_of, is_ready}
 use Rattle.server_history.proofs.plain_calls.OlderRequests.{older_by, older_ended, older_issued, older_request, older_settled, older_stands, serves_on}
 use Rattle.server_history.proofs.plain_calls.Acceptances.{any_in}
 use Rattle.server_history.proofs.state.DueRequests.{none_due, none_issued}
@@ -497,18 +497,16 @@ module _ (laws : LawsBelow) (s new : Server) (replies : List Reply) (start : IsS
       })
       (restarted_or_not port)
 
-  port_part : (port : Port) → DoesPort (with_device s.device (now first past)) (happening_with p.evidence new.device Tick (Served replies) steps (ports_of new)) p.accesses port
+  port_part : (port : Port) → TiesPort (with_device s.device (now first past)) (happening_with p.evidence new.device Tick (Served replies) steps (ports_of new)) p.accesses port
   port_part port =
       let t = trouble_of port in
       record {
-        ties = record {
-          finds = λ h. finds_before port (restart port h).finds;
-          faults = tt;
-          tries = tt;
-          boots = λ h. (restart port h).boots;
-          trouble = record { errors = t.trouble.errors; changes = t.trouble.changes; fault = t.trouble.fault; fatal = t.trouble.fatal; disk = t.trouble.disk };
-          well = t.well;
-        };
+        finds = λ h. finds_before port (restart port h).finds;
+        faults = tt;
+        tries = tt;
+        boots = λ h. (restart port h).boots;
+        trouble = record { errors = t.trouble.errors; changes = t.trouble.changes; fault = t.trouble.fault; fatal = t.trouble.fatal; disk = t.trouble.disk };
+        well = t.well;
         heeds = tt;
       }
 
@@ -522,7 +520,7 @@ module _ (laws : LawsBelow) (s new : Server) (replies : List Reply) (start : IsS
       (laws.basic.may was.machine p.steps (Age ready ∷ []) (tt, tt) p.turns.may)
       (belong_join Tick (ports_of new) p.steps (Age ready ∷ []) p.belong (tt, inr tt))
       (last_after ready p.steps p.turns.last)
-      lawful keeps all_answered
+      lawful keeps all_answered tt
       p.accesses
       (p.does, All-weaker (IsServing (Uses plan old.ports)) (IsServing (IsHung was)) (serving_on (Uses plan old.ports) (IsHung was) (λ q used. is_hung q used)) p.accesses p.serving)
       evidenced

@@ -15,7 +15,7 @@ use Rattle.adapter.specs.Rules.{InUse, IsOn}
 use Rattle.agreement.specs.Agrees.{port_at}
 use Rattle.agreement.specs.Facts.{HasFaults, ShowsFault}
 use Rattle.agreement.specs.Slots.{ServesRequest}
-use Rattle.block_machine.specs.Events.{AreTold, IsLeftAlone, Moment, Served, Service, ServesReady, changes_disk, tells_fault}
+use Rattle.block_machine.specs.Events.{Moment, Served, Service, changes_disk}
 use Rattle.block_machine.specs.Histories.{Instant, IsReached}
 use Rattle.block_machine.specs.Left.{after}
 use Rattle.block_machine.specs.Ports.{Evidence, IsInterrupted, SamePort}
@@ -24,14 +24,14 @@ use Rattle.block_machine.specs.Steps.{Step, Answer}
 use Rattle.block_machine.proofs.Counting.{count_append}
 use Rattle.host_boot.specs.Taken.{found_of}
 use Rattle.host_boot.specs.declared.Found.{Found}
+use Rattle.driver_history.specs.Heeding.{AreTold, IsLeftAlone, ServesReady, tells_fault}
 use Rattle.driver_history.specs.Evidence.{ShowsChange, ShowsFailure}
-use Rattle.driver_history.specs.Histories.{BootsAnew, FindsDone, IsUnfitOrForeign, HasFaultAlone, IsAnsweredFaulty, IsIssuedOn}
+use Rattle.driver_history.specs.Histories.{BootsAnew, FindsDone, IsUnfitOrForeign, HasFaultAlone, IsAnsweredFaulty, IsIssuedOn, TiesPort}
 use Rattle.driver_history.specs.Parts.{HasTurnIn, NamesAlike}
 use Rattle.server_history.specs.Below.{LawsBelow}
-use Rattle.server_history.specs.Turns.{DoesPort, HasPart, HeedsTrouble, InService, MakesTurn, TiesTurn, Turn, instant_of, moment_of, turn_of}
+use Rattle.server_history.specs.Turns.{HasPart, HeedsTrouble, InService, MakesTurn, TiesTurn, Turn, instant_of, moment_of, turn_of}
 use Rattle.server_history.specs.Server.{HasCommand, Server, IsKept, IsMachineOf, IsSettled, ports_of, state_of}
 use Rattle.server_history.proofs.any_turn.JoinedParts.{same_then}
-use Rattle.server_history.proofs.whole_call.Progress.{others_leave}
 use Rattle.server_history.proofs.whole_call.TurnResults as lifting
 use Rattle.server_history.proofs.whole_call.TurnResults.{counts_apart}
 use Rattle.server_history.proofs.whole_call.ServiceAndTick.{AService, turn_at}
@@ -104,7 +104,7 @@ module _ (laws : LawsBelow) (s : Server) (start : IsSettled s) (old : Moment) (r
     whole_is = lifting.whole_is AService laws s start old reached at ports_are n c mid before its p next part m_reached on_mid
 
     module _ (evidence : Evidence) (alike : NamesAlike (port_at n) x.evidence evidence) (same_n : SamePort old.ports (ports_of c) (port_at n)) where
-      abbrev did : DoesPort (instant_of c m) (turn_of InService its mid x.evidence x.steps) part.accesses (port_at n)
+      abbrev did : TiesPort (instant_of c m) (turn_of InService its mid x.evidence x.steps) part.accesses (port_at n)
       did = its_ties
 
       abbrev serves : ServesReady (moment_of c m) x.evidence x.steps (record { machine = after m x.steps; ports = ports_of mid }) (port_at n)
@@ -169,7 +169,7 @@ module _ (laws : LawsBelow) (s : Server) (start : IsSettled s) (old : Moment) (r
         fault_told = ⊎_elim
             (λ (a : IsAnsweredFaulty it.now_is x.steps). inl (a.0, a.1, a.2, a.3 ∙ it.same_as.request, Contains-append_left x.steps p.steps (Answer a.0 (DeviceError a.1 a.2)) a.4))
             (λ dead. inr dead)
-            (did.ties.faults alone_now it.now_is it.has.slot (then_issued e own it) unended_now (lifting.by AService laws s start old reached at ports_are n c mid before its p next part m_reached on_mid ready e it).serves plain_now)
+            (did.faults alone_now it.now_is it.has.slot (then_issued e own it) unended_now (lifting.by AService laws s start old reached at ports_are n c mid before its p next part m_reached on_mid ready e it).serves plain_now)
 
       -- ---- what it heeds
 
@@ -229,23 +229,21 @@ module _ (laws : LawsBelow) (s : Server) (start : IsSettled s) (old : Moment) (r
       not_absent absent = let z : Absent ≡ ReadyState = sym absent ∙ was_ready in absurd cc
 
       heeds_trouble : HeedsTrouble (port_at n) accesses began evidence (ports_of mid) mid.device
-      heeds_trouble = lifting.trouble_whole AService laws s start old reached at ports_are n c mid before its p next part m_reached on_mid evidence alike same_n (λ _. stops_troubled) (λ _. inl undue) (record { trouble = did.ties.trouble; well = did.ties.well })
+      heeds_trouble = lifting.trouble_whole AService laws s start old reached at ports_are n c mid before its p next part m_reached on_mid evidence alike same_n (λ _. stops_troubled) (λ _. inl undue) (record { trouble = did.trouble; well = did.well })
 
-      pub ties_whole : DoesPort began (turn_of InService [] mid evidence all) accesses (port_at n)
+      pub ties_whole : TiesPort began (turn_of InService [] mid evidence all) accesses (port_at n)
       ties_whole = record {
-        ties = record {
-          finds = λ _ e own. finding e own;
-          faults = λ alone e slot own unended says plain. fault_told alone e slot own unended says plain;
-          tries = λ served coming. record {
-            shown = λ absent det. absurd (not_absent absent);
-            absent = λ absent det fresh. absurd (not_absent absent);
-            missing = λ bad. absurd (not_bad bad);
-            changed = λ bad. absurd (not_bad bad);
-          };
-          boots = subst (λ (list : List Access). BootsAnew Service (Served []) (p.accesses ++ list) began (ports_of mid) mid.device (port_at n)) (append-nil part.accesses)
-              (laws.calls.call_boots (port_at n) began (moment_of c m) (ports_of mid) (ports_of mid) mid.device (Served its) (Served []) kept.on (λ _. undue) t on_mid same_self same_n did.ties.boots);
-          trouble = heeds_trouble.trouble;
-          well = heeds_trouble.well;
+        finds = λ _ e own. finding e own;
+        faults = λ alone e slot own unended says plain. fault_told alone e slot own unended says plain;
+        tries = λ served coming. record {
+          shown = λ absent det. absurd (not_absent absent);
+          absent = λ absent det fresh. absurd (not_absent absent);
+          missing = λ bad. absurd (not_bad bad);
+          changed = λ bad. absurd (not_bad bad);
         };
+        boots = subst (λ (list : List Access). BootsAnew Service (Served []) (p.accesses ++ list) began (ports_of mid) mid.device (port_at n)) (append-nil part.accesses)
+            (laws.calls.call_boots (port_at n) began (moment_of c m) (ports_of mid) (ports_of mid) mid.device (Served its) (Served []) kept.on (λ _. undue) t on_mid same_self same_n did.boots);
+        trouble = heeds_trouble.trouble;
+        well = heeds_trouble.well;
         heeds = λ _. heeds_whole;
       }

@@ -22,14 +22,14 @@ use Rattle.agreement.specs.Agrees.{port_at}
 use Rattle.agreement.specs.Driven.{IsOf}
 use Rattle.agreement.specs.Links.{SparesRegister}
 use Rattle.agreement.specs.Slots.{IsFree, IsServed, Serves, ServesRequest, Stage, Use}
-use Rattle.block_machine.specs.Events.{AnswersEnded, HadDisk, Moment, NoneKeepsIssue, changes_disk, tells_fault}
+use Rattle.block_machine.specs.Events.{AnswersEnded, HadDisk, Moment, NoneKeepsIssue, changes_disk}
 use Rattle.block_machine.specs.Histories.{Instant, IsReached}
 use Rattle.block_machine.specs.Left.{after}
 use Rattle.block_machine.specs.Ports.{Evidence, IsInterrupted, Ports, SamePort}
 use Rattle.block_machine.specs.State.{Pending, Machine}
 use Rattle.block_machine.specs.Steps.{Step, Again, Answer}
-use Rattle.block_machine.proofs.Calm.{counts_none}
 use Rattle.host_boot.specs.Taken.{found_of}
+use Rattle.driver_history.specs.Heeding.{tells_fault}
 use Rattle.driver_history.specs.Evidence.{ShowsChange, ShowsFailure}
 use Rattle.driver_history.specs.Histories.{FindsDone, IsAnsweredOk, IsIssuedOn, RunsWellAnew}
 use Rattle.driver_history.specs.Parts.{HasTurnIn, IsOfOther, NamesAlike}
@@ -39,7 +39,7 @@ use Rattle.server_history.specs.Below.{LawsBelow}
 use Rattle.server_history.specs.Turns.{FindsTurn, HasPart, HeedsTrouble, MakesTurn, instant_of, moment_of}
 use Rattle.server_history.proofs.whole_call.ServiceAndTick.{Plan, TakesTurn, not_reset, turn_at}
 use Rattle.server_history.specs.Server.{Server, IsKept, IsMachineOf, IsSettled, ports_of, state_of, used_for}
-use Rattle.server_history.proofs.any_turn.TurnSteps.{IsSame}
+use Rattle.server_history.proofs.any_turn.TurnSteps.{IsSame, counts_none}
 use Rattle.server_history.proofs.whole_call.Progress.{others_leave}
 use Rattle.server_history.proofs.whole_call.Progress as progress
 use Rattle.server_history.proofs.plain_calls.IssueRounds.{any_append, issued_late}
@@ -60,7 +60,7 @@ none_told q (Answer e (DeviceError status error) ∷ steps) apart =
 none_told q (step ∷ steps) apart = none_told q steps (λ y o here. apart y o (Contains-append_right (step ∷ []) steps (Answer y o) here))
 
 pub counts_apart : (q : Port) (steps : List Step) → ((e : Pending) (o : Outcome) → Contains steps (Answer e o) → e.request.port ≢ q) → count_by (tells_fault q) steps ≡ 0
-counts_apart q steps apart = counts_none (tells_fault q) q (λ step t. t) steps (none_told q steps apart)
+counts_apart q steps apart = counts_none (tells_fault q) steps (none_told q steps apart)
 
 module _ (plan : Plan) (laws : LawsBelow) (s : Server) (start : IsSettled s) (old : Moment) (reached : IsReached old.machine) (at : IsMachineOf s old.machine) (ports_are : old.ports ≡ ports_of s) where
   abbrev kept : IsKept s

@@ -14,7 +14,7 @@ use Rattle.block_machine.specs.Left.{after}
 use Rattle.block_machine.specs.Ports.{Evidence, IsInterrupted, Ports, SamePort}
 use Rattle.block_machine.specs.State.{Machine}
 use Rattle.block_machine.specs.Steps.{Step}
-use Rattle.driver_history.specs.Histories.{BootsAnew, IsUnfitOrForeign, TriesDisk}
+use Rattle.driver_history.specs.Histories.{BootsAnew, IsUnfitOrForeign, TriesDisk, TiesPort}
 use Rattle.driver_history.specs.Parts.{EndsLinked, HasTurnIn, NamesAlike}
 use Rattle.driver_history.specs.Trace.{ResetsLink}
 use Rattle.host_boot.specs.Taken.{found_of}
@@ -22,7 +22,7 @@ use Rattle.host_boot.specs.declared.Found.{Found}
 use Rattle.host_boot.specs.declared.Found.TheVariants.{Ready, Unready, Unserved}
 use Rattle.server_history.specs.Below.{LawsBelow}
 use Rattle.server_history.specs.Server.{Server, IsKept, IsMachineOf, IsSettled, ports_of, state_of}
-use Rattle.server_history.specs.Turns.{DoesPort, HasPart, HeedsTrouble, InService, InTry, MakesTurn, TiesTurn, Turn, instant_of, moment_of, turn_of}
+use Rattle.server_history.specs.Turns.{HasPart, HeedsTrouble, InService, InTry, MakesTurn, TiesTurn, Turn, instant_of, moment_of, turn_of}
 use Rattle.server_history.proofs.whole_call.EarlierResults as carrying
 use Rattle.server_history.proofs.any_turn.JoinedParts.{dead_or_not}
 use Rattle.server_history.proofs.whole_call.TurnResults as lifting
@@ -78,7 +78,7 @@ module _ (laws : LawsBelow) (s : Server) (start : IsSettled s) (old : Moment) (r
     its_ties : TiesTurn InTry (port_at n) its part.accesses c mid m x.evidence x.steps
     its_ties = subst (λ (turn : Turn). TiesTurn turn (port_at n) its part.accesses c mid m x.evidence x.steps) (is_tried (found_of s.ports n) n unready) x.ties
 
-    abbrev did : DoesPort (instant_of c m) (turn_of InTry its mid x.evidence x.steps) part.accesses (port_at n)
+    abbrev did : TiesPort (instant_of c m) (turn_of InTry its mid x.evidence x.steps) part.accesses (port_at n)
     did = its_ties.0
 
     abbrev t : HasTurnIn (port_at n) s.device mid.device
@@ -109,25 +109,23 @@ module _ (laws : LawsBelow) (s : Server) (start : IsSettled s) (old : Moment) (r
       resets ready = ⊎_elim
           (λ same. absurd (no_same ready same))
           (λ anew. ⊎_elim (λ dead. let z : Dead ≡ ReadyState = sym dead ∙ ready in absurd cc) (λ rest. ⊎_elim (λ absent. let z : Absent ≡ ReadyState = sym absent ∙ ready in absurd cc) (λ r. r) rest) anew)
-          did.ties.boots.1
+          did.boots.1
 
       heeds : HeedsTrouble (port_at n) accesses began evidence (ports_of mid) mid.device
       heeds = lifting.trouble_whole AService laws s start old reached at ports_are n c mid before its p next part m_reached on_mid evidence alike same_n
-          (λ ready trouble. ⊎_elim (λ before. absurd (never_then before)) stopped ready) (λ ready. inr (resets ready)) (record { trouble = did.ties.trouble; well = did.ties.well })
+          (λ ready trouble. ⊎_elim (λ before. absurd (never_then before)) stopped ready) (λ ready. inr (resets ready)) (record { trouble = did.trouble; well = did.well })
 
-      pub tried_whole : DoesPort began (turn_of InService [] mid evidence all) accesses (port_at n) × EndsLinked (port_at n) began (ports_of mid) mid.device
+      pub tried_whole : TiesPort began (turn_of InService [] mid evidence all) accesses (port_at n) × EndsLinked (port_at n) began (ports_of mid) mid.device
       tried_whole = (
         record {
-          ties = record {
-            finds = λ ready. absurd (never ready);
-            faults = λ alone. absurd (never alone.ready);
-            tries = λ served comes. subst (λ (list : List Access). TriesDisk (p.accesses ++ list) began (ports_of mid) mid.device (port_at n)) (append-nil part.accesses)
-                (laws.calls.call_tries (port_at n) began (moment_of c m) (ports_of mid) (ports_of mid) mid.device kept.on t on_mid same_self same_n (there (port_at n)) its_ties.1 (λ none. did.ties.tries (same_n.0 ∙ served) none) comes);
-            boots = subst (λ (list : List Access). BootsAnew Service (Served []) (p.accesses ++ list) began (ports_of mid) mid.device (port_at n)) (append-nil part.accesses)
-                (laws.calls.call_boots (port_at n) began (moment_of c m) (ports_of mid) (ports_of mid) mid.device (Served its) (Served []) kept.on (λ ready. absurd (never ready)) t on_mid same_self same_n did.ties.boots);
-            trouble = heeds.trouble;
-            well = heeds.well;
-          };
+          finds = λ ready. absurd (never ready);
+          faults = λ alone. absurd (never alone.ready);
+          tries = λ served comes. subst (λ (list : List Access). TriesDisk (p.accesses ++ list) began (ports_of mid) mid.device (port_at n)) (append-nil part.accesses)
+              (laws.calls.call_tries (port_at n) began (moment_of c m) (ports_of mid) (ports_of mid) mid.device kept.on t on_mid same_self same_n (there (port_at n)) its_ties.1 (λ none. did.tries (same_n.0 ∙ served) none) comes);
+          boots = subst (λ (list : List Access). BootsAnew Service (Served []) (p.accesses ++ list) began (ports_of mid) mid.device (port_at n)) (append-nil part.accesses)
+              (laws.calls.call_boots (port_at n) began (moment_of c m) (ports_of mid) (ports_of mid) mid.device (Served its) (Served []) kept.on (λ ready. absurd (never ready)) t on_mid same_self same_n did.boots);
+          trouble = heeds.trouble;
+          well = heeds.well;
           heeds = λ ready. absurd (never ready);
         },
         laws.calls.call_linked (port_at n) began (moment_of c m) (ports_of mid) (ports_of mid) mid.device kept.on t on_mid same_self same_n its_ties.1,
@@ -149,7 +147,7 @@ module _ (laws : LawsBelow) (s : Server) (start : IsSettled s) (old : Moment) (r
     abbrev accesses_then : List Access
     accesses_then = p.accesses ++ part.accesses
 
-    abbrev so_far : DoesPort began (turn_of InService [] c p.evidence p.steps) p.accesses q
+    abbrev so_far : TiesPort began (turn_of InService [] c p.evidence p.steps) p.accesses q
     so_far = d.ties.0
 
     abbrev turn : HasTurnIn q s.device mid.device
@@ -171,23 +169,21 @@ module _ (laws : LawsBelow) (s : Server) (start : IsSettled s) (old : Moment) (r
     reset_so_far ready = ⊎_elim
         (λ is. absurd (was_another ready is))
         (λ anew. ⊎_elim (λ dead. let z : Dead ≡ ReadyState = sym dead ∙ ready in absurd cc) (λ rest. ⊎_elim (λ absent. let z : Absent ≡ ReadyState = sym absent ∙ ready in absurd cc) (λ r. r) rest) anew)
-        so_far.ties.boots.1
+        so_far.boots.1
 
     heeds_still : HeedsTrouble q accesses_then began evidence (ports_of mid) mid.device
     heeds_still = carrying.trouble_still AService laws s start old reached at ports_are n c mid before its p part m_reached q apart d evidence alike same
-        (λ ready trouble. ⊎_elim (λ before. absurd (unready before)) stopped_so_far ready) (λ ready. inr (reset_so_far ready)) (record { trouble = so_far.ties.trouble; well = so_far.ties.well })
+        (λ ready trouble. ⊎_elim (λ before. absurd (unready before)) stopped_so_far ready) (λ ready. inr (reset_so_far ready)) (record { trouble = so_far.trouble; well = so_far.well })
 
-    pub tried_still : DoesPort began (turn_of InService [] mid evidence steps_then) accesses_then q × EndsLinked q began (ports_of mid) mid.device
+    pub tried_still : TiesPort began (turn_of InService [] mid evidence steps_then) accesses_then q × EndsLinked q began (ports_of mid) mid.device
     tried_still = (
       record {
-        ties = record {
-          finds = λ ready. absurd (unready ready);
-          faults = λ alone. absurd (unready alone.ready);
-          tries = λ served comes. laws.calls.call_tries q began old (ports_of c) (ports_of mid) mid.device kept.on turn p.on same same_old (there q) d.ties.1 (λ none. so_far.ties.tries served none) comes;
-          boots = laws.calls.call_boots q began old (ports_of c) (ports_of mid) mid.device (Served []) (Served []) kept.on (λ ready. absurd (unready ready)) turn p.on same same_old so_far.ties.boots;
-          trouble = heeds_still.trouble;
-          well = heeds_still.well;
-        };
+        finds = λ ready. absurd (unready ready);
+        faults = λ alone. absurd (unready alone.ready);
+        tries = λ served comes. laws.calls.call_tries q began old (ports_of c) (ports_of mid) mid.device kept.on turn p.on same same_old (there q) d.ties.1 (λ none. so_far.tries served none) comes;
+        boots = laws.calls.call_boots q began old (ports_of c) (ports_of mid) mid.device (Served []) (Served []) kept.on (λ ready. absurd (unready ready)) turn p.on same same_old so_far.boots;
+        trouble = heeds_still.trouble;
+        well = heeds_still.well;
         heeds = λ ready. absurd (unready ready);
       },
       laws.calls.call_linked q began old (ports_of c) (ports_of mid) mid.device kept.on turn p.on same same_old d.ties.1,

@@ -3,4 +3,4 @@ use Rattle.block_machine.specs.Histories.{now}
 use Rattle.driver_history.proofs.laws.healthy_ports_are_left_alone.Goals as goal
 
 pub returns : goal.returns
-returns c = λ wanted first past h port history asks ready healthy. spared c.disks_are_told.ensures.entry wanted (now first past) h history.1 history.2 port healthy asks ready
+returns c = λ wanted first past h port history asks ready healthy. spared c.disks_are_told.ensures.entry wanted (now first past) h history.2 port healthy asks ready

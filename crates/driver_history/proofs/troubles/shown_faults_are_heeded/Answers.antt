@@ -4,9 +4,10 @@ use Rattle.adapter.specs.Device.{Device}
 use Rattle.adapter.specs.declared.access.DeviceStep.{DeviceStep}
 use Rattle.ata_types.specs.declared.Port.{Port}
 use Rattle.ata_types.specs.declared.PortState.TheVariants.{Ready}
-use Rattle.block_machine.specs.Events.{Ask, HeedsAt, Service, ServesReady, moment_after}
+use Rattle.block_machine.specs.Events.{Ask, Service, moment_after}
 use Rattle.block_machine.specs.Histories.{Happening, Instant, now}
 use Rattle.identify.specs.declared.wanted.Wanted.{Wanted}
+use Rattle.driver_history.specs.Heeding.{HeedsAt, ServesReady}
 use Rattle.driver_history.specs.Claims.{HeedsFailure}
 use Rattle.driver_history.specs.Evidence.{ShowsFailure}
 use Rattle.driver_history.specs.Histories.{IsHistory, TellsPlainFaults}
@@ -21,7 +22,7 @@ heeds_fault wanted first past h port history asks asked failure =
     let evidenced = history.2.evidenced.port port in
     let failed = evidenced.failed_all asked failure in
     let serves : ServesReady old.moment h.event.evidence h.event.steps (moment_after old.moment h.event) port =
-    subst (λ (ask : Ask DeviceStep). HeedsAt port ask old.moment h.event.evidence h.event.steps (moment_after old.moment h.event)) asks (history.1.heeds port) asked in
+    subst (λ (ask : Ask DeviceStep). HeedsAt port ask old.moment h.event.evidence h.event.steps (moment_after old.moment h.event)) asks (history.2.port port).heeds asked in
     record {
       ended = serves.ended;
       stopped = serves.interrupts (inl failed);

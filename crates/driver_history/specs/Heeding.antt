@@ -1,0 +1,76 @@
+-- What a call makes of the trouble that its evidence names (this project's own).
+use Rattle.std.specs.Prelude.{◌≡◌, ◌≢◌, ◌⊎◌, ◌≤◌, ◌==◌, Bool, true, false, List, [], ◌∷◌, count_by, Contains}
+use Rattle.std.specs.List.{list_any}
+use Rattle.ata_types.specs.declared.Port.{Port}
+use Rattle.ata_types.specs.declared.PortState.TheVariants.{Ready}
+use Rattle.ata_types.specs.declared.request.Outcome.{Outcome}
+use Rattle.ata_types.specs.declared.request.Outcome.TheVariants as outcome
+use Rattle.block_machine.specs.Events.{Ask, Service, Tick, Reset, Moment, AnswersEnded, HadDisk, NoneKeepsIssue, changes_disk}
+use Rattle.block_machine.specs.Ports.{Ports, SamePort, Evidence, IsInterrupted}
+use Rattle.block_machine.specs.State.{Pending}
+use Rattle.block_machine.specs.Steps.{Step, Again, Answer}
+
+-- requests wait again, are aborted, are told Revoked, or have a fault told of them, on ports that failed
+abbrev pub AllGrounded : Evidence → List Step → Type 0
+AllGrounded evidence [] = Unit {0}
+AllGrounded evidence (Again e ∷ before) = AllGrounded evidence before × Contains evidence.failed e.request.port
+AllGrounded evidence (Answer e outcome.Aborted ∷ before) = AllGrounded evidence before
+    × Contains evidence.failed e.request.port
+AllGrounded evidence (Answer e outcome.Revoked ∷ before) = AllGrounded evidence before
+    × Contains evidence.failed e.request.port
+AllGrounded evidence (Answer e (outcome.DeviceError status error) ∷ before) = AllGrounded evidence before
+    × Contains evidence.failed e.request.port
+AllGrounded evidence (step ∷ before) = AllGrounded evidence before
+
+-- so they are in a service
+abbrev pub IsGrounded : {D : Type 0} → Ask D → Evidence → List Step → Type 0
+IsGrounded Service evidence steps = AllGrounded evidence steps
+IsGrounded ask evidence steps = Unit {0}
+
+-- each answer to a request of the port is Ok, or this one
+abbrev pub AreTold : Outcome → List Step → Port → Type 0
+AreTold told steps port = (e : Pending) (o : Outcome) → Contains steps (Answer e o) → e.request.port ≡ port
+    → (o ≡ outcome.Ok) ⊎ (o ≡ told)
+
+-- the port failed, or its link had told of a change when the call began, or a disk goes or comes in it
+abbrev pub IsDisturbed : Evidence → List Step → Port → Type 0
+IsDisturbed evidence steps port = Contains evidence.failed port ⊎ Contains evidence.gone port
+    ⊎ (list_any (changes_disk port) steps ≡ true)
+
+-- the step tells a fault of a request of the port
+abbrev pub tells_fault : Port → Step → Bool
+tells_fault port (Answer e (outcome.DeviceError status error)) = e.request.port.0 == port.0
+tells_fault port _ = false
+
+-- Nothing interrupts the port: it stays what it is, and nothing but Ok is told.
+pub record IsLeftAlone (old : Ports) (evidence : Evidence) (steps : List Step) (new : Ports)
+    (port : Port) : Type 0 where
+  pub same : SamePort old new port
+  pub told : AreTold outcome.Ok steps port
+  pub uninterrupted : IsInterrupted evidence port → ⊥
+
+-- What a service owes a port that was ready when it began. What had ended is answered Ok. Where the port's link had
+-- told of a change, all its requests are answered, and those that aren't Ok are all told Unplugged, or all PortDead.
+-- Where that is so, or it failed, the port is stopped, or gets stuck. Where it failed or was stopped, no request keeps
+-- its issue. One fault is told at most, and none where an error was fatal, which is a failure, too. It shows a disk
+-- after the call only where one was in. And where nothing disturbs it, the port is left alone. (That it is what it was
+-- unless it was interrupted, `IsServiced` has of each port.)
+pub record ServesReady (old : Moment) (evidence : Evidence) (steps : List Step) (new : Moment)
+    (port : Port) : Type 0 where
+  pub ended : AnswersEnded old.machine steps port
+  pub emptied : Contains evidence.gone port → (e : Pending) → Contains new.machine.book e → e.request.port ≢ port
+  pub told : Contains evidence.gone port → AreTold outcome.Unplugged steps port ⊎ AreTold outcome.PortDead steps port
+  pub interrupts : Contains evidence.failed port ⊎ Contains evidence.gone port → IsInterrupted evidence port
+  pub anew : Contains evidence.failed port ⊎ Contains evidence.stopped port → NoneKeepsIssue steps new.machine port
+  pub single : count_by (tells_fault port) steps ≤ 1
+  pub fatal : Contains evidence.fatal port → Contains evidence.failed port × (count_by (tells_fault port) steps ≡ 0)
+  pub disk : HadDisk old steps new port
+  pub calm : IsDisturbed evidence steps port ⊎ IsLeftAlone old.ports evidence steps new.ports port
+
+-- A call heeds what it finds of a port: a service serves one that was ready when it began. A tick and a reset are bound
+-- by what they answer; and no other call stops a port, or gets one stuck.
+abbrev pub HeedsAt : {D : Type 0} → Port → Ask D → Moment → Evidence → List Step → Moment → Type 0
+HeedsAt port Service old evidence steps new = old.ports.state port ≡ Ready → ServesReady old evidence steps new port
+HeedsAt port Tick old evidence steps new = Unit {0}
+HeedsAt port Reset old evidence steps new = Unit {0}
+HeedsAt port ask old evidence steps new = IsInterrupted evidence port → ⊥
