@@ -106,8 +106,9 @@ pub record ServesClients (first : Instant Device) (past added : List (Happening 
   pub begins : HoldsBetween old.wanted (now first past)
   pub confined : EachAfter (IsConfinedCall new.wanted first) past added
 
--- What is promised to clients of disks that are pulled out. Each disk that comes back into its port has, in each sector
--- of a write or trim that a flush on it followed, what that left there, or a later one, where the adapter's disks tell
--- their sectors.
+-- What is promised to clients of disks that are pulled out. Of a write or trim that was answered Ok before a flush of its
+-- port was accepted that was answered Ok, too, with its disk in from the acceptance of the write on and no other one
+-- since: where that disk comes back it has, in each sector of it, the bytes that it put there, or those of a write or
+-- trim accepted later, where the adapter's disks tell their sectors.
 pub record OutlivesUnplugs (first : Instant Device) (calls : List (Happening Device DeviceStep)) : Type 0 where
   pub finds : first.device.telling ≡ true → EveryPlugFinds first.moment.machine (steps_of (events_of calls))

@@ -1,15 +1,18 @@
 -- What is stored for a slot's command (AHCI 1.3.1, 4.2.2 and 4.2.3), and what the stores may touch.
-use Rattle.std.specs.Prelude.{ℕ, ◌≡◌, ◌+◌, ◌*◌, ◌≤◌, ◌<◌, ◌⊎◌, List, length, slice_index_or, take, All}
-use Rattle.ata_types.specs.declared.memory.TheConstants.{HEADER_BYTES, PRD_BYTES, TABLE_BYTES, TABLE_HEAD}
+use Rattle.std.specs.Prelude.{ℕ, ◌≡◌, ◌+◌, ◌*◌, ◌^◌, ◌≤◌, ◌<◌, ◌⊎◌, List, length, slice_index_or, take, All}
+use Rattle.ata_types.specs.declared.limits.TheConstants.{MOST_REQUEST_FRAMES}
+use Rattle.ata_types.specs.declared.memory.TheConstants.{DRIVER_BYTES, HEADER_BYTES, PRD_BYTES, TABLE_BYTES, TABLE_HEAD}
 use Rattle.byteorder.specs.Endian.{little_from}
 use Rattle.adapter.specs.Access.{Access, Stores}
 use Rattle.adapter.specs.Access.Access.{Storing}
 use Rattle.adapter.specs.Device.{Device}
 use Rattle.adapter.specs.Commands.{Meaning, IsMeaning, command_of, pieces_moved}
+use Rattle.adapter.specs.Rules.{IsOn}
 use Rattle.adapter.specs.Says.{pieces, IsWhole}
-use Rattle.adapter.specs.Spelling.{AreZero, SpellsCommand, SpellsPrd}
+use Rattle.adapter.specs.Spelling.{AreZero, IsAllowed, SpellsCommand, SpellsPrd}
 use Rattle.adapter.specs.declared.command.Command.{Command}
 use Rattle.adapter.specs.declared.command.Prd.{Prd}
+use Rattle.agreement.specs.Driven.{AgreesWith}
 use Rattle.agreement.specs.Places.{list_of, scratch_of, table_of}
 use Rattle.agreement.specs.Slots.{Free, Uses}
 use Rattle.command_table.specs.Bytes.{part}
@@ -22,6 +25,14 @@ pub record IsTable (bytes : List ℕ) (command : Command) (prds : List Prd) : Ty
   pub between : AreZero bytes 20 TABLE_HEAD
   pub entries : (i : ℕ) (d : Prd) → i < length prds
       → SpellsPrd (part bytes (TABLE_HEAD + PRD_BYTES * i) 16) (slice_index_or prds i d)
+
+-- The slot is one of 32, and its table has room for the PRDs, which are allowed, as is the command's address (AHCI
+-- 1.3.1, 4.2.3.3).
+pub record FitsTable (slot : ℕ) (command : Command) (prds : List Prd) : Type 0 where
+  pub small : slot < 32
+  pub lba : command.lba < 2 ^ 48
+  pub few : length prds ≤ MOST_REQUEST_FRAMES
+  pub allowed : All IsAllowed prds
 
 -- such a table was stored here at once, without what is behind its last PRD
 pub record StoresTable (at : ℕ) (command : Command) (prds : List Prd) (old new : Device) : Type 0 where
@@ -66,3 +77,11 @@ IsStoreWithBlock port slot access = IsTableStore port slot access ⊎ IsBlockSto
 -- the slot isn't used
 abbrev pub IsUnused : ℕ → ℕ → Uses → Type 0
 IsUnused port slot uses = uses port slot ≡ Free
+
+-- Header and table of a port's slot may be written: the slot is unused in a machine that agrees, and memory has the
+-- driver's areas.
+pub record MayWriteTable (port slot : ℕ) (d : Device) : Type 0 where
+  pub on : IsOn d
+  pub agreed : AgreesWith (IsUnused port slot) d
+  pub room : DRIVER_BYTES ≤ d.size
+  pub small : port < 4

@@ -5,22 +5,22 @@
 //! slot has to be unused in a machine that agrees with the device in all slots (`AgreesWith`).
 #![tactic(auto)]
 
-ghost use Rattle.std.specs.Prelude.{◌≡◌, ℕ, List, [], ◌∷◌, ◌+◌, ◌*◌, ◌/◌, ◌%◌, ◌^◌, ◌<◌, ◌≤◌, length, take, drop, All};
+ghost use Rattle.std.specs.Prelude.{◌≡◌, ℕ, List, [], ◌∷◌, ◌+◌, ◌*◌, ◌/◌, ◌%◌, ◌^◌, ◌<◌, ◌≤◌, length, drop, All};
 ghost use Rattle.byteorder.specs.Endian.{little_from};
 ghost use Rattle.adapter.specs.Says.{pieces, IsWhole};
-ghost use Rattle.adapter.specs.Spelling.{AreZero, SpellsCommand, SpellsHeader, SpellsPrd, IsAllowed};
+ghost use Rattle.adapter.specs.Spelling.{AreZero, SpellsHeader, SpellsPrd, IsAllowed};
 ghost use Rattle.adapter.specs.Commands.{IsMeaning, Meaning, command_of, pieces_moved, reads_memory};
 ghost use Rattle.adapter.specs.Memory.{bytes_at};
 ghost use Rattle.adapter.specs.Rules.{IsFree, IsOn, Stays};
 ghost use Rattle.adapter.specs.declared.command.Operation.{Operation};
 ghost use Rattle.adapter.specs.declared.command.Prd.{Prd};
-ghost use Rattle.agreement.specs.Driven.{AgreesWith, IsFollowed};
+ghost use Rattle.agreement.specs.Driven.{IsFollowed};
 ghost use Rattle.agreement.specs.Places.{list_of, scratch_of};
 ghost use Rattle.agreement.specs.Slots.{Told};
-ghost use Rattle.command_table.specs.Written.{IsStoreWithBlock, IsTable, IsTableFor, IsTableStore, IsUnused, StoresTable};
+ghost use Rattle.command_table.specs.Written.{FitsTable, IsStoreWithBlock, IsTable, IsTableFor, IsTableStore, IsUnused, MayWriteTable, StoresTable};
 ghost use Rattle.command_table.specs.Places.{places_of};
 ghost use Rattle.command_table.specs.Runs.{AreJoined, IsLongestRun};
-ghost use Rattle.command_table.specs.Bytes.{Stores, part};
+ghost use Rattle.command_table.specs.Bytes.{Stores};
 ghost use Rattle.adapter.specs.Counted.{MakesAtMost};
 ghost use Rattle.command_table.specs.Costs.{BLOCK_ACCESSES, TABLE_ACCESSES};
 
@@ -188,14 +188,8 @@ pub fn write_table<A: Adapter>(
     command: &Command,
     prds: &[Prd],
 )
-    requires on { IsOn (A.device adapter.old) }
-    requires agreed { AgreesWith (IsUnused port.0 slot.0) (A.device adapter.old) }
-    requires room { DRIVER_BYTES ≤ (A.device adapter.old).size }
-    requires port { port.0 < 4 }
-    requires slot { slot.0 < 32 }
-    requires lba { command.now.lba < 2 ^ 48 }
-    requires few { length prds.now ≤ MOST_REQUEST_FRAMES }
-    requires allowed { All IsAllowed prds.now }
+    requires may { MayWriteTable port.0 slot.0 (A.device adapter.old) }
+    requires fits { FitsTable slot.0 command.now prds.now }
     ensures on { IsOn (A.device adapter.new) }
     ensures followed { IsFollowed (IsTableStore port.0 slot.0) (IsUnused port.0 slot.0) (A.device adapter.old)
         (A.device adapter.new) }
@@ -221,10 +215,7 @@ pub fn write_table_with_block<A: Adapter>(
     command: &Command,
     block: &[u8; 512],
 )
-    requires on { IsOn (A.device adapter.old) }
-    requires agreed { AgreesWith (IsUnused port.0 0) (A.device adapter.old) }
-    requires room { DRIVER_BYTES ≤ (A.device adapter.old).size }
-    requires port { port.0 < 4 }
+    requires may { MayWriteTable port.0 0 (A.device adapter.old) }
     requires lba { command.now.lba < 2 ^ 48 }
     ensures on { IsOn (A.device adapter.new) }
     ensures followed { IsFollowed (IsStoreWithBlock port.0 0) (IsUnused port.0 0) (A.device adapter.old)

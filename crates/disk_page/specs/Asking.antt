@@ -1,20 +1,24 @@
 -- Pages that a disk sends to the driver itself (ACS-3: IDENTIFY DEVICE, READ LOG EXT), and how they are asked for.
-use Rattle.std.specs.Prelude.{ℕ, true, false, ◌≡◌, ◌≢◌, ◌≤◌, ◌++◌, List, All, length, Option, None, Some}
+use Rattle.std.specs.Prelude.{ℕ, true, false, ◌≡◌, ◌≢◌, ◌≤◌, ◌++◌, List, All, length, Option, None, Some, IfSome}
 use Rattle.ata_types.specs.declared.Port.{Port}
 use Rattle.ata_types.specs.declared.limits.TheConstants.{READINGS}
+use Rattle.ata_types.specs.declared.memory.TheConstants.{DRIVER_BYTES}
 use Rattle.hba_regs.specs.Bits.{bit}
 use Rattle.hba_regs.specs.declared.reg.Reg.TheVariants.{Px}
 use Rattle.hba_regs.specs.declared.reg.PortReg.TheVariants.{Ci}
 use Rattle.adapter.specs.Access.{Access}
 use Rattle.adapter.specs.Access.Access.{Reading, Writing, Loading, Storing}
 use Rattle.adapter.specs.Device.{Notes, Device}
+use Rattle.adapter.specs.Device.Halt.{NotHalted}
 use Rattle.adapter.specs.Kept.{KeepsControls}
+use Rattle.adapter.specs.Rules.{IsOn, HasPort}
 use Rattle.adapter.specs.declared.command.Operation.{Operation}
 use Rattle.adapter.specs.declared.command.Operation.TheVariants.{Identify, ReadLog}
-use Rattle.agreement.specs.Driven.{IsAgreed, IsFollowed, IsToldTo}
+use Rattle.agreement.specs.Driven.{AgreesWith, IsAgreed, IsFollowed, IsToldTo, SendsNone}
+use Rattle.agreement.specs.Driver.{AllFree}
 use Rattle.agreement.specs.Facts.{IsClear, IsRecorded}
 use Rattle.agreement.specs.Places.{list_of, scratch_of}
-use Rattle.agreement.specs.Slots.{Own, Uses, put, Brought}
+use Rattle.agreement.specs.Slots.{Own, Uses, op_of, put, Brought}
 use Rattle.command_table.specs.Written.{IsTableStore, IsUnused}
 use Rattle.disk_page.specs.declared.Page.{Page}
 use Rattle.disk_page.specs.declared.Page.TheVariants.{Identity, Errors}
@@ -30,6 +34,14 @@ pub record MayAsk (port : ℕ) (d : Device) : Type 0 where
   pub list : (d.port port).bases.clb ≡ list_of port
   pub det : (d.port port).sctl_det ≡ 0
   pub known : (d.port port).notes.st_set_at ≤ length d.tape
+
+-- A page may be asked for: slot 0 of such a port is unused, and memory has the driver's areas.
+pub record MayGetPage (port : Port) (d : Device) : Type 0 where
+  pub on : IsOn d
+  pub there : HasPort d port.0
+  pub room : DRIVER_BYTES ≤ d.size
+  pub agreed : AgreesWith (IsUnused port.0 0) d
+  pub may : MayAsk port.0 d
 
 -- all that readings noted is as it was, but for those of PxCI
 abbrev pub SameButIssued : Notes → Notes → Type 0
@@ -94,3 +106,14 @@ Reads port o None old new = ((new.port port.0).notes.command_count ≡ READINGS)
 abbrev pub AgreesAfter : Port → Operation → Option (List ℕ) → Uses → Device → Type 0
 AgreesAfter port o (Some bytes) uses new = IsAgreed uses new
 AgreesAfter port o None uses new = IsAgreed (put uses port.0 0 (Own o)) new
+
+-- The page was asked for, and came or didn't. The port is left as asking leaves it. Where no slot was used, no fault
+-- halts the port once a page has come; and no page of another command comes.
+pub record GetsPage (port : Port) (page : Page) (result : Option (List ℕ)) (old new : Device) : Type 0 where
+  pub leaves : LeavesRunning port.0 old new
+  pub agrees : (uses : Uses) → IsUnused port.0 0 uses → IsAgreed uses old
+      → AgreesAfter port (operation_of page) result uses new
+  pub reads : Reads port (operation_of page) result old new
+  pub running : IfSome result (λ _. AgreesWith (λ uses. AllFree uses port.0) old
+      → (new.port port.0).halt ≡ NotHalted)
+  pub silent : (o : Operation) → op_of o ≡ None → o ≢ operation_of page → SendsNone port.0 o old new

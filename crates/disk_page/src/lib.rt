@@ -5,19 +5,16 @@
 //! port before it uses the slot again.
 #![tactic(auto)]
 
-ghost use Rattle.std.specs.Prelude.{◌≡◌, ◌≢◌, ◌≤◌, ◌<◌, ◌+◌, ◌*◌, true, false, None, ℕ, IfSome, List, length};
+ghost use Rattle.std.specs.Prelude.{◌≡◌, ◌<◌, ◌+◌, ◌*◌, true, false, None, ℕ};
 ghost use Rattle.adapter.specs.Commands.{command_of};
 ghost use Rattle.adapter.specs.Device.{Device};
-ghost use Rattle.adapter.specs.Device.Halt.{NotHalted};
 ghost use Rattle.adapter.specs.Rules.{IsOn, HasPort};
 ghost use Rattle.adapter.specs.declared.command.Operation.{Operation};
-ghost use Rattle.agreement.specs.Driven.{AnyUse, AgreesWith, IsAgreed, IsFollowed, IsFollowedTo, IsTold, SendsNone};
-ghost use Rattle.agreement.specs.Driver.{AllFree};
+ghost use Rattle.agreement.specs.Driven.{AnyUse, IsFollowed, IsTold};
 ghost use Rattle.agreement.specs.Facts.{IsClear};
-ghost use Rattle.agreement.specs.Slots.{Own, Uses, op_of, put};
-ghost use Rattle.command_table.specs.Written.{IsUnused};
-ghost use Rattle.disk_page.specs.Asking.{operation_of, AreInVain, MayAsk, IsAsking, LeavesRunning, Reads, AgreesAfter};
-ghost use Rattle.disk_page.specs.Waiting.{IsWaiting};
+ghost use Rattle.agreement.specs.Slots.{Uses};
+ghost use Rattle.disk_page.specs.Asking.{GetsPage, MayGetPage, operation_of, AreInVain, IsAsking};
+ghost use Rattle.disk_page.specs.Waiting.{Asks, IsWaiting};
 ghost use Rattle.adapter.specs.Counted.{MakesAtMost};
 ghost use Rattle.disk_page.specs.Costs.{ASK_ACCESSES, PAGE_ACCESSES};
 
@@ -66,20 +63,9 @@ fn command(page: Page) -> Command
 
 /// Issues the command that brings the page to the scratch frame, in slot 0.
 fn ask<A: Adapter>(adapter: &mut A, port: Port, page: Page)
-    requires on { IsOn (A.device adapter.old) }
-    requires there { HasPort (A.device adapter.old) port.0 }
-    requires room { DRIVER_BYTES ≤ (A.device adapter.old).size }
-    requires agreed { AgreesWith (IsUnused port.0 0) (A.device adapter.old) }
-    requires may { MayAsk port.0 (A.device adapter.old) }
-    ensures followed { IsFollowedTo (IsAsking port) (IsUnused port.0 0)
-        (λ uses. put uses port.0 0 (Own (operation_of page))) (A.device adapter.old) (A.device adapter.new) }
-    ensures waiting { (uses : Uses) → IsUnused port.0 0 uses → IsAgreed uses (A.device adapter.old)
-        → IsWaiting port (operation_of page) (length (A.device adapter.new).tape)
-        (put uses port.0 0 (Own (operation_of page))) (A.device adapter.old) (A.device adapter.new) }
+    requires may { MayGetPage port (A.device adapter.old) }
     ensures on { IsOn (A.device adapter.new) }
-    ensures there { HasPort (A.device adapter.new) port.0 }
-    ensures later { length (A.device adapter.old).tape ≤ length (A.device adapter.new).tape }
-    ensures det { ((A.device adapter.new).port port.0).sctl_det ≡ 0 }
+    ensures asks { Asks port page (A.device adapter.old) (A.device adapter.new) }
     ensures cost { MakesAtMost ASK_ACCESSES (A.access_count adapter.old) (A.access_count adapter.new) }
 {
     laws_hold();
@@ -121,20 +107,9 @@ fn wait<A: Adapter>(adapter: &mut A, port: Port) -> bool
 /// Where none of them is used, no fault halts the port once a page has come: the end of READ LOG EXT ends the halt of a
 /// queued fault. No page of another command comes.
 pub fn read_page<A: Adapter>(adapter: &mut A, port: Port, page: Page) -> Option<[u8; 512]>
-    requires on { IsOn (A.device adapter.old) }
-    requires there { HasPort (A.device adapter.old) port.0 }
-    requires room { DRIVER_BYTES ≤ (A.device adapter.old).size }
-    requires agreed { AgreesWith (IsUnused port.0 0) (A.device adapter.old) }
-    requires may { MayAsk port.0 (A.device adapter.old) }
+    requires may { MayGetPage port (A.device adapter.old) }
     ensures on { IsOn (A.device adapter.new) }
-    ensures leaves { LeavesRunning port.0 (A.device adapter.old) (A.device adapter.new) }
-    ensures agrees { (uses : Uses) → IsUnused port.0 0 uses → IsAgreed uses (A.device adapter.old)
-        → AgreesAfter port (operation_of page) result uses (A.device adapter.new) }
-    ensures reads { Reads port (operation_of page) result (A.device adapter.old) (A.device adapter.new) }
-    ensures running { IfSome result (λ _. AgreesWith (λ uses. AllFree uses port.0) (A.device adapter.old)
-        → ((A.device adapter.new).port port.0).halt ≡ NotHalted) }
-    ensures silent { (o : Operation) → op_of o ≡ None → o ≢ operation_of page
-        → SendsNone port.0 o (A.device adapter.old) (A.device adapter.new) }
+    ensures gets { GetsPage port page result (A.device adapter.old) (A.device adapter.new) }
     ensures cost { MakesAtMost PAGE_ACCESSES (A.access_count adapter.old) (A.access_count adapter.new) }
 {
     laws_hold();

@@ -7,16 +7,15 @@
 //! knows no client and no book.
 #![tactic(auto)]
 
-ghost use Rattle.std.specs.Prelude.{ℕ, Bool, true, false, None, Some, ◌≡◌, ◌≢◌, ◌<◌, ◌≤◌, ◌%◌, ◌/◌, ◌+◌, ◌||◌, IfSome, IfNone};
+ghost use Rattle.std.specs.Prelude.{ℕ, Bool, true, false, None, Some, ◌≡◌, ◌<◌, ◌≤◌, ◌%◌, ◌/◌, IfSome, IfNone};
 ghost use Rattle.hba_regs.specs.Bits.{bit};
 ghost use Rattle.adapter.specs.Device.{Device};
 ghost use Rattle.adapter.specs.Device.Halt.{NotHalted};
 ghost use Rattle.adapter.specs.Rules.{IsOn, HasPort};
-ghost use Rattle.adapter.specs.declared.command.Operation.TheVariants.{Identify, ReadLog};
-ghost use Rattle.agreement.specs.Driven.{AgreesWith, AnyUse, IsAgreed, SendsNone};
+ghost use Rattle.adapter.specs.declared.command.Operation.TheVariants.{Identify};
+ghost use Rattle.agreement.specs.Driven.{AgreesWith, AnyUse, SendsNone};
 ghost use Rattle.agreement.specs.Driver.{AllFree};
-ghost use Rattle.agreement.specs.Slots.{Uses};
-ghost use Rattle.disk_page.specs.Asking.{AgreesAfter, LeavesRunning, MayAsk};
+ghost use Rattle.disk_page.specs.Asking.{LeavesRunning, MayAsk};
 ghost use Rattle.error_recovery.specs.Parts.{GetsStuck, GoesOn, HasRoom, MayGoOn, Quiets, ReadsLog, Resumes};
 ghost use Rattle.error_recovery.specs.Recovery.{FitsFor, GivesUp, IsAloneIn, IsNamed, MayRecover, Parts, Recovers};
 ghost use Rattle.adapter.specs.Counted.{MakesAtMost};
@@ -102,10 +101,7 @@ fn go_on<A: Adapter>(adapter: &mut A, stopped: Stopped) -> Running
 {
     laws_hold();
     let receiving = keep_receiving(adapter, stopped);
-    match start(adapter, receiving) {
-        Ok(running) => running,
-        Err(_) => unreachable!(),
-    }
+    start(adapter, receiving)
 }
 
 /// Which of the outstanding queued commands failed, as the disk's log tells.

@@ -5,18 +5,14 @@
 //! scratch frame.
 #![tactic(auto)]
 
-ghost use Rattle.std.specs.Prelude.{◌≡◌, ◌+◌, ◌^◌, ◌<◌, ◌≤◌, true, List};
+ghost use Rattle.std.specs.Prelude.{◌≡◌, ◌+◌, ◌^◌, ◌<◌, ◌≤◌, List};
 ghost use Rattle.ata_types.specs.declared.range.Range.{Range};
 ghost use Rattle.ata_types.specs.declared.request.Frame.{Frame};
 ghost use Rattle.ata_types.specs.declared.request.Op.TheVariants.{Trim, Flush};
 ghost use Rattle.adapter.specs.Commands.{command_of};
-ghost use Rattle.adapter.specs.Rules.{IsOn, HasPort};
 ghost use Rattle.adapter.specs.Trim.{consecutive, trim_sectors};
 ghost use Rattle.adapter.specs.declared.command.Operation.TheVariants as operation;
-ghost use Rattle.agreement.specs.Driven.{AgreesWith};
-ghost use Rattle.agreement.specs.Readying.{IsStored};
-ghost use Rattle.command_table.specs.Written.{IsUnused};
-ghost use Rattle.ncq.specs.Tasks.{HasBlockOf, IssuesTask, RunsItsList, addresses_of, meaning_of};
+ghost use Rattle.ncq.specs.Issuing.{IsIssued, MayIssue};
 ghost use Rattle.flush_trim.specs.Block.{IsCut, entry_first, entry_length, first_of, length_of};
 ghost use Rattle.flush_trim.specs.Tasks.{flush_of, trim_of};
 ghost use Rattle.adapter.specs.Counted.{MakesAtMost};
@@ -109,18 +105,9 @@ fn trim_command() -> Command
 /// Has the disk of a port that runs write its cache back (FLUSH CACHE EXT), by slot 0, which is unused. A flush names
 /// no sectors, so the range of its request is any.
 pub fn issue_flush<A: Adapter>(adapter: &mut A, port: Port)
-    requires on { IsOn (A.device adapter.old) }
-    requires there { HasPort (A.device adapter.old) port.0 }
-    requires room { DRIVER_BYTES ≤ (A.device adapter.old).size }
-    requires agreed { AgreesWith (IsUnused port.0 0) (A.device adapter.old) }
-    requires may { RunsItsList port.0 (A.device adapter.old) }
-    ensures on { IsOn (A.device adapter.new) }
-    ensures issues { (range : Range) (frames : List Frame)
-        → IssuesTask port 0 (flush_of range) frames (A.device adapter.old) (A.device adapter.new) }
-    ensures stored { (range : Range) (frames : List Frame)
-        → IsStored (A.device adapter.new) port.0 0 (meaning_of (flush_of range))
-        (addresses_of port.0 Flush range.count frames) }
-    ensures set { ((A.device adapter.new).port port.0).ci 0 ≡ true }
+    requires may { MayIssue port 0 (A.device adapter.old) }
+    ensures issued { (range : Range) (frames : List Frame)
+        → IsIssued port 0 (flush_of range) frames (A.device adapter.old) (A.device adapter.new) }
     ensures cost { MakesAtMost (TABLE_ACCESSES + 1) (A.access_count adapter.old) (A.access_count adapter.new) }
 {
     writing_issues();
@@ -132,20 +119,11 @@ pub fn issue_flush<A: Adapter>(adapter: &mut A, port: Port)
 /// Has the disk of a port that runs forget these sectors (DATA SET MANAGEMENT with TRIM), by slot 0, which is unused:
 /// 4,194,240 of them at most, each below 2^48. The block that names them stands in the port's scratch frame.
 pub fn issue_trim<A: Adapter>(adapter: &mut A, port: Port, range: &Range)
-    requires on { IsOn (A.device adapter.old) }
-    requires there { HasPort (A.device adapter.old) port.0 }
-    requires room { DRIVER_BYTES ≤ (A.device adapter.old).size }
-    requires agreed { AgreesWith (IsUnused port.0 0) (A.device adapter.old) }
-    requires may { RunsItsList port.0 (A.device adapter.old) }
+    requires may { MayIssue port 0 (A.device adapter.old) }
     requires count { range.now.count ≤ 4194240 }
     requires sectors { 0 < range.now.count → range.now.first.0 + range.now.count ≤ 2 ^ 48 }
-    ensures on { IsOn (A.device adapter.new) }
-    ensures issues { (frames : List Frame) → IssuesTask port 0 (trim_of range.now) frames (A.device adapter.old)
+    ensures issued { (frames : List Frame) → IsIssued port 0 (trim_of range.now) frames (A.device adapter.old)
         (A.device adapter.new) }
-    ensures stored { (frames : List Frame) → IsStored (A.device adapter.new) port.0 0 (meaning_of (trim_of range.now))
-        (addresses_of port.0 Trim range.now.count frames) }
-    ensures block { HasBlockOf Trim range.now port.0 (A.device adapter.new).memory }
-    ensures set { ((A.device adapter.new).port port.0).ci 0 ≡ true }
     ensures cost { MakesAtMost (BLOCK_ACCESSES + 1) (A.access_count adapter.old) (A.access_count adapter.new) }
 {
     writing_issues();

@@ -4,6 +4,7 @@ use Rattle.std.specs.Prelude.{ℕ, [], ◌∷◌, true, ◌≡◌, ◌≢◌, �
 use Rattle.ata_types.specs.declared.Port.{Port}
 use Rattle.ata_types.specs.declared.PortState.{PortState as ShownState}
 use Rattle.ata_types.specs.declared.PortState.TheVariants.{Foreign, Unfit, Dead}
+use Rattle.ata_types.specs.declared.memory.TheConstants.{DRIVER_BYTES}
 use Rattle.hba_regs.specs.Bits.{bit}
 use Rattle.hba_regs.specs.declared.reg.Reg.TheVariants.{Cap, Ghc, Pi}
 use Rattle.adapter.specs.Access.{Access, Writes}
@@ -13,7 +14,8 @@ use Rattle.adapter.specs.Idle.{IsIdlePort}
 use Rattle.adapter.specs.Rules.{IsOn}
 use Rattle.adapter.specs.declared.command.Operation.TheVariants.{Identify}
 use Rattle.agreement.specs.Agrees.{port_at}
-use Rattle.agreement.specs.Driven.{IsAgreed, IsControl, IsDrivenBy, IsFollowedTo, IsUse, LeavesPort}
+use Rattle.agreement.specs.Driven.{AgreesWith, IsAgreed, IsControl, IsDrivenBy, IsFollowedTo, IsUse, LeavesPort}
+use Rattle.agreement.specs.Driver.{AllFree}
 use Rattle.agreement.specs.Halting.{HaltsAsTaken}
 use Rattle.agreement.specs.Links.{SameAdapter}
 use Rattle.agreement.specs.Slots.{Free, Own, Uses}
@@ -133,6 +135,29 @@ GoesThrough port (Ready info) old new = (stopped : Device) × IsDrivenBy (IsCont
 GoesThrough port (Unready state) old new = (stopped : Device) × IsDrivenBy (IsControl WritesCommand port) old stopped
     × IsDrivenBy (IsOfBoot port) stopped new × (IsEarly state → EndsEarly port state stopped new)
     × (IsLate state → EndsLate port stopped new) × (state ≡ Dead → SticksOnWay port old new)
+
+-- ---- one port
+
+-- An idle port may be booted, if it is wanted and the adapter has it: the ports that it has are these, by bit; memory
+-- has the driver's areas; and no slot of the port is used.
+pub record MayBootIdle (port : Port) (implemented : ℕ) (d : Device) : Type 0 where
+  pub on : IsOn d
+  pub small : port.0 < 4
+  pub there : implemented ≡ d.pi
+  pub room : DRIVER_BYTES ≤ d.size
+  pub agreed : AgreesWith (λ uses. AllFree uses port.0) d
+  pub idle : IsIdlePort (d.port port.0)
+
+-- It was found to be this: what stands behind that; PxSCTL was written in it; what halts a ready one is of a command
+-- that is taken; what it is to a machine that agrees; and its way.
+pub record FindsPort (wanted : Wanted) (port : Port) (found : Found) (old new : Device) : Type 0 where
+  pub stands : StandsBehind wanted found port.0 new
+  pub reset : WroteControl found port.0 (length old.tape) new
+  pub halts : HaltsFound found port.0 new
+  pub boots : Boots port found old new
+  pub way : GoesThrough port found old new
+
+-- ---- the whole way
 
 -- so it was with these ports, one after another, of which the first has this number
 abbrev pub GoThrough : ℕ → List Found → Device → Device → Type 0

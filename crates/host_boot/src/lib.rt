@@ -7,20 +7,16 @@
 //! anew.
 #![tactic(auto)]
 
-ghost use Rattle.std.specs.Prelude.{ℕ, ◌≡◌, ◌≢◌, ◌<◌, ◌≤◌, length, true};
-ghost use Rattle.hba_regs.specs.Bits.{bit};
+ghost use Rattle.std.specs.Prelude.{◌≡◌, ◌<◌, ◌≤◌, length, true};
 ghost use Rattle.hba_regs.specs.declared.reg.Reg.TheVariants.{Ghc};
 ghost use Rattle.adapter.specs.Access.{Writes};
-ghost use Rattle.adapter.specs.Device.{Device};
-ghost use Rattle.adapter.specs.Idle.{IsIdle, IsIdlePort};
+ghost use Rattle.adapter.specs.Idle.{IsIdle};
 ghost use Rattle.adapter.specs.Rules.{IsOn};
-ghost use Rattle.agreement.specs.Driven.{AgreesWith, AnyUse, IsDrivenBy, IsFollowed};
-ghost use Rattle.agreement.specs.Driver.{AllFree};
-ghost use Rattle.agreement.specs.Links.{SameAdapter};
+ghost use Rattle.agreement.specs.Driven.{AnyUse, IsDrivenBy, IsFollowed};
 ghost use Rattle.port_boot.specs.States.{IsBootable};
 ghost use Rattle.port_control.specs.Ports.{IsStopped};
 ghost use Rattle.host_boot.specs.Again.{BootsAgain, BootsIfThere, BootsStopped};
-ghost use Rattle.host_boot.specs.Taken.{Boots, HaltsFound, WroteControl, StandsBehind, GoesThrough, IsOfHost, IsSurvey, LeavesPorts, TakesOver};
+ghost use Rattle.host_boot.specs.Taken.{FindsPort, IsOfHost, IsSurvey, MayBootIdle, LeavesPorts, TakesOver};
 ghost use Rattle.adapter.specs.Counted.{MakesAtMost};
 ghost use Rattle.port_boot.specs.Costs.{BOOT_ACCESSES};
 ghost use Rattle.host_boot.specs.Costs.{BOOT_AGAIN_ACCESSES, BOOT_IF_THERE_ACCESSES, FIRST_BOOT_ACCESSES, TAKE_OVER_ACCESSES};
@@ -118,18 +114,9 @@ fn boot_stopped<A: Adapter>(adapter: &mut A, stopped: Stopped, wanted: &Wanted) 
 
 /// Boots an idle port, if it is wanted and the adapter has it.
 fn boot_port<A: Adapter>(adapter: &mut A, port: Port, implemented: u32, wanted: &Wanted) -> Found
-    requires on { IsOn (A.device adapter.old) }
-    requires port { port.0 < 4 }
-    requires there { implemented ≡ (A.device adapter.old).pi }
-    requires room { DRIVER_BYTES ≤ (A.device adapter.old).size }
-    requires agreed { AgreesWith (λ uses. AllFree uses port.0) (A.device adapter.old) }
-    requires idle { IsIdlePort ((A.device adapter.old).port port.0) }
+    requires may { MayBootIdle port implemented (A.device adapter.old) }
     ensures on { IsOn (A.device adapter.new) }
-    ensures stands { StandsBehind wanted.now result port.0 (A.device adapter.new) }
-    ensures reset { WroteControl result port.0 (length (A.device adapter.old).tape) (A.device adapter.new) }
-    ensures halts { HaltsFound result port.0 (A.device adapter.new) }
-    ensures boots { Boots port result (A.device adapter.old) (A.device adapter.new) }
-    ensures way { GoesThrough port result (A.device adapter.old) (A.device adapter.new) }
+    ensures finds { FindsPort wanted.now port result (A.device adapter.old) (A.device adapter.new) }
     ensures cost { MakesAtMost FIRST_BOOT_ACCESSES (A.access_count adapter.old) (A.access_count adapter.new) }
 {
     laws_hold();

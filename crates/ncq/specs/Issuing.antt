@@ -1,6 +1,8 @@
--- What was done before PxCI is written (this project's own).
+-- When a task's command may be issued in a slot, what was done before PxCI is written, and what that makes of it
+-- (AHCI 1.3.1, 5.5.1; the order is this project's own).
 use Rattle.std.specs.Prelude.{ℕ, true, ◌≡◌, ◌<◌, ◌≤◌, ◌/◌, ◌%◌, List}
 use Rattle.ata_types.specs.declared.Port.{Port}
+use Rattle.ata_types.specs.declared.memory.TheConstants.{DRIVER_BYTES}
 use Rattle.ata_types.specs.declared.request.Frame.{Frame}
 use Rattle.ata_types.specs.declared.request.Op.TheVariants.{Trim}
 use Rattle.adapter.specs.Commands.{is_queued}
@@ -13,6 +15,15 @@ use Rattle.agreement.specs.Slots.{Told}
 use Rattle.command_table.specs.Written.{IsUnused}
 use Rattle.ncq.specs.Tasks.{Arms, HasBlockOf, IsStoreFor, IssuesTask, RunsItsList, addresses_of, meaning_of}
 use Rattle.ncq.specs.declared.Task.{Task}
+
+-- A command may be issued in the port's slot: the slot is unused, memory has the driver's areas, and the port runs,
+-- with its command list in its place (AHCI 1.3.1, 5.5.1).
+pub record MayIssue (port : Port) (slot : ℕ) (d : Device) : Type 0 where
+  pub on : IsOn d
+  pub there : HasPort d port.0
+  pub room : DRIVER_BYTES ≤ d.size
+  pub agreed : AgreesWith (IsUnused port.0 slot) d
+  pub may : RunsItsList port.0 d
 
 -- A task's command might be issued in the slot, queued if the task is, and a trim's in slot 0; what it needs was
 -- stored: header and table, which say it, and a trim's block, which names its sectors; and the slot's bit of PxSACT was

@@ -10,14 +10,12 @@
 ghost use Rattle.std.specs.Prelude.{◌≡◌, ◌≤◌, ◌<◌, ◌*◌, ◌/◌, ◌%◌, true, false};
 ghost use Rattle.adapter.specs.Commands.{command_of};
 ghost use Rattle.adapter.specs.Rules.{IsOn, HasPort};
-ghost use Rattle.agreement.specs.Driven.{AgreesWith, IsBitOf};
-ghost use Rattle.agreement.specs.Readying.{IsStored};
-ghost use Rattle.command_table.specs.Written.{IsUnused};
+ghost use Rattle.agreement.specs.Driven.{IsBitOf};
 ghost use Rattle.hba_regs.specs.declared.reg.PortReg.TheVariants.{Ci, Sact};
 ghost use Rattle.hba_regs.specs.declared.reg.Reg.TheVariants.{Px};
-ghost use Rattle.ncq.specs.Issuing.{IsArmedFor};
+ghost use Rattle.ncq.specs.Issuing.{IsArmedFor, IsIssued, MayIssue};
 ghost use Rattle.ncq.specs.Masks.{AreClear, ReadsDone, SeesClear};
-ghost use Rattle.ncq.specs.Tasks.{Arms, IsFit, IsTransfer, IssuesTask, RunsItsList, addresses_of, meaning_of, operation_of};
+ghost use Rattle.ncq.specs.Tasks.{Arms, IsFit, IsTransfer, operation_of};
 ghost use Rattle.adapter.specs.Counted.{MakesAtMost};
 ghost use Rattle.ncq.specs.Costs.{ARM_ACCESSES, DONE_ACCESSES, ISSUE_ACCESSES};
 
@@ -118,13 +116,9 @@ fn prepare<A: Adapter>(
     transfer: &Task,
     frames: &[Frame],
 ) -> u32
-    requires on { IsOn (A.device adapter.old) }
-    requires there { HasPort (A.device adapter.old) port.0 }
-    requires room { DRIVER_BYTES ≤ (A.device adapter.old).size }
+    requires may { MayIssue port slot.0 (A.device adapter.old) }
     requires slot { slot.0 < 32 }
     requires usable { slot.0 ≤ (A.device adapter.old).cap / 256 % 32 }
-    requires agreed { AgreesWith (IsUnused port.0 slot.0) (A.device adapter.old) }
-    requires may { RunsItsList port.0 (A.device adapter.old) }
     requires fits { IsFit transfer.now frames.now }
     ensures armed { IsArmedFor port slot.0 transfer.now frames.now result (A.device adapter.old)
         (A.device adapter.new) }
@@ -147,20 +141,11 @@ fn prepare<A: Adapter>(
 /// Issues a transfer, eight sectors to a frame, in an unused slot of a port that runs: a queued one as READ or WRITE
 /// FPDMA QUEUED, for which the slot's bit of PxSACT is set first, and a plain one as READ or WRITE DMA EXT.
 pub fn issue<A: Adapter>(adapter: &mut A, port: Port, slot: Slot, transfer: &Task, frames: &[Frame])
-    requires on { IsOn (A.device adapter.old) }
-    requires there { HasPort (A.device adapter.old) port.0 }
-    requires room { DRIVER_BYTES ≤ (A.device adapter.old).size }
+    requires may { MayIssue port slot.0 (A.device adapter.old) }
     requires slot { slot.0 < 32 }
     requires usable { slot.0 ≤ (A.device adapter.old).cap / 256 % 32 }
-    requires agreed { AgreesWith (IsUnused port.0 slot.0) (A.device adapter.old) }
-    requires may { RunsItsList port.0 (A.device adapter.old) }
     requires fits { IsFit transfer.now frames.now }
-    ensures on { IsOn (A.device adapter.new) }
-    ensures issues { IssuesTask port slot.0 transfer.now frames.now (A.device adapter.old) (A.device adapter.new) }
-    ensures stored { IsStored (A.device adapter.new) port.0 slot.0 (meaning_of transfer.now)
-        (addresses_of port.0 transfer.now.op transfer.now.range.count frames.now) }
-    ensures set { ((A.device adapter.new).port port.0).ci slot.0 ≡ true }
-    ensures active { transfer.now.queued ≡ true → ((A.device adapter.new).port port.0).sact slot.0 ≡ true }
+    ensures issued { IsIssued port slot.0 transfer.now frames.now (A.device adapter.old) (A.device adapter.new) }
     ensures cost { MakesAtMost ISSUE_ACCESSES (A.access_count adapter.old) (A.access_count adapter.new) }
 {
     let own = prepare(adapter, port, slot, transfer, frames);

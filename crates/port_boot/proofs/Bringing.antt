@@ -10,14 +10,11 @@ use Rattle.adapter.specs.Device.{Notes, Device}
 use Rattle.adapter.specs.declared.tape.Entry.{Entry}
 use Rattle.agreement.specs.Driven.{AnyUse, IsControl, IsFollowed, IsTold}
 use Rattle.agreement.specs.Driver.{AllFree}
-use Rattle.agreement.specs.Errors.{NoneComes, ChangesByDisks}
-use Rattle.agreement.specs.Facts.{IsQuiet, IsRecorded}
-use Rattle.agreement.specs.Links.{PlugsNone}
 use Rattle.agreement.specs.Slots.{Uses}
-use Rattle.agreement.specs.Started.{IsUp, IsComingUp, IsStarted}
 use Rattle.agreement.specs.Driven.{Grows}
+use Rattle.port_control.specs.Calls.{FindsDisk, FindsFault, ResetsLink, Starts}
 use Rattle.port_control.specs.Engines.{StopsReceiving}
-use Rattle.port_control.specs.Ports.{WritesCommand, IsPlacing, IsResetting, IsRunning, ReceivesFises, Shows, SameButStart, SawDevice, SawIdle, FindsSignature, Looks, WasReset, IsFound}
+use Rattle.port_control.specs.Ports.{WritesCommand, IsPlacing, IsResetting, ReceivesFises, Shows, WasReset, IsFound}
 use Rattle.port_control.specs.declared.PortFault.{PortFault}
 use Rattle.port_control.specs.declared.PortFault.TheVariants.{NoDevice, Busy, EngineStuck, NotAta}
 use Rattle.port_boot.specs.States.{EndsAs, IsBooting, IsBootable, IsBroughtUp, EndsEarly, TellsFault}
@@ -27,29 +24,6 @@ use Rattle.port_boot.specs.Laws.Stretch.{Controlling}
 use Rattle.port_boot.specs.Laws.{Laws, Fitting, RegisterSet, registers_of, uses_of}
 use Rattle.agreement.specs.Tape.{Tells}
 use Rattle.port_boot.proofs.Stretching.{driven_grows, stays_on, there_after, told_then, comes_in_parts, plugs_in_parts, same_over, told_wider}
-
--- a device was found, and is idle
-pub record HasFound (port : Port) (old new : Device) : Type 0 where
-  pub resets : WasReset port (FindsSignature port 0x101) old new
-  pub found : IsFound port.0 old new
-  pub saw : SawDevice (new.port port.0).notes
-  pub idle : SawIdle (new.port port.0).notes
-
--- there was a fault
-pub record FoundFault (port : Port) (fault : PortFault) (old new : Device) : Type 0 where
-  pub resets : WasReset port (Looks port fault) old new
-  pub coming : NoneComes port.0 old new → IsComingUp (new.port port.0)
-  pub found : fault ≢ NoDevice → IsFound port.0 old new
-
--- the port was started
-pub record HasStarted (port : Port) (old new : Device) : Type 0 where
-  pub runs : IsRunning port.0 (new.port port.0)
-  pub same : SameButStart (old.port port.0) (new.port port.0)
-  pub set : (new.port port.0).notes.st_set_at ≡ length new.tape
-  pub calm : (place : ℕ) → (old.port port.0).is place ≡ false → (new.port port.0).is place ≡ false
-  pub changes : (old.port port.0).link_due ≡ false → ChangesByDisks port.0 old new
-  pub recorded : IsQuiet (old.port port.0) → IsRecorded new.tape (new.port port.0) port.0
-  pub well : IsUp (old.port port.0) → PlugsNone port.0 old new → IsStarted (new.port port.0)
 
 -- where neither is set, the second isn't
 neither_second : (a b : Bool) → a || b ≡ false → b ≡ false
@@ -142,14 +116,14 @@ module _ (laws : Laws) where
       quiet = found.quiet;
     }
 
-    pub ends_early : (state : PortState) (fault : PortFault) → TellsFault state fault → FoundFault port fault mid reset → EndsEarly port state old reset
-    ends_early state fault told f = record {
+    pub ends_early : (state : PortState) (fault : PortFault) → TellsFault state fault → ResetsLink port mid reset → FindsFault port fault mid reset → EndsEarly port state old reset
+    ends_early state fault told r f = record {
       fault = fault;
       told = told;
       placed = mid;
       places = first.followed.driven;
-      resets = f.resets;
-      coming = λ none. f.coming (comes_in_parts laws port.0 old mid reset early late none).1;
+      resets = f.reset;
+      coming = λ none. r.coming (comes_in_parts laws port.0 old mid reset early late none).1;
       found = λ other. found_before (f.found other);
     }
 
@@ -161,26 +135,26 @@ module _ (laws : Laws) where
       last : Grows reset new
       last = driven_grows laws (IsControl WritesCommand port) reset new third.driven
 
-      pub brought_up : HasFound port mid reset → HasStarted port reset new → IsBroughtUp port old new
+      pub brought_up : FindsDisk port mid reset → Starts port reset new → IsBroughtUp port old new
       brought_up f s =
           let written = ap (λ (n : Notes). n.sctl_written_at) s.same.1 in
           let l = later Commanding PortUnused port reset new third in
-          let marked = f.resets.marked in
-          let since = reset_since f.resets in
+          let marked = f.reset.marked in
+          let since = reset_since f.reset in
           let still : (new.port port.0).notes.sctl_written_at ≤ length new.tape = omega (arith, written, l, marked) in
           let later_still : length old.tape ≤ (new.port port.0).notes.sctl_written_at = omega (arith, since, written) in
           let found = found_before f.found in
-          let quiet = found.quiet (neither_second _ _ f.idle) in
+          let quiet = found.quiet (neither_second _ _ f.ready.1) in
           let changes = s.changes quiet.linked in
           record {
             bootable = bootable_after Commanding PortUnused port reset new third (λ uses free. free) reset_bootable;
             runs = s.runs;
-            det = s.same.0 ∙ f.resets.det;
-            saw = (ap (λ (n : Notes). n.last_ssts % 16) s.same.1 ∙ f.saw.0, ap (λ (n : Notes). n.link_count) s.same.1 ∙ f.saw.1);
+            det = s.same.0 ∙ f.reset.det;
+            saw = (ap (λ (n : Notes). n.last_ssts % 16) s.same.1 ∙ f.ready.0.0, ap (λ (n : Notes). n.link_count) s.same.1 ∙ f.ready.0.1);
             known = subst (λ (n : ℕ). n ≤ length new.tape) (sym s.set) (le_refl (length new.tape));
             since = later_still;
             marked = still;
-            way = record { placed = mid; places = first.followed.driven; found = reset; resets = f.resets; starts = third.driven; set = s.set };
+            way = record { placed = mid; places = first.followed.driven; found = reset; resets = f.reset; starts = third.driven; set = s.set };
             calm = λ place small. s.calm place (found.calm place small);
             clear = record {
               serr_n = λ none. let parts = plugs_in_parts laws port.0 old reset new (laws.tape.grows_more old mid reset early late) last none in changes.serr_n parts.1 (found.clear.serr_n parts.0);

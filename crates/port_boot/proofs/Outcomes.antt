@@ -1,11 +1,11 @@
 -- What a port shows of trouble after a boot, whatever comes of it.
-use Rattle.std.proofs.Common.{ℕ, ◌≡◌, ◌≢◌, ◌≤◌, ◌⊎◌, false, inl, inr, refl, sym, ◌∙◌, subst, arith}
-use Rattle.std.specs.Prelude.{Result, Ok, Err, OnOk, IfErr}
+use Rattle.std.proofs.Common.{ℕ, ◌≡◌, ◌≢◌, ◌≤◌, ◌<◌, ◌⊎◌, false, inl, inr, List, Option, length, refl, sym, ◌∙◌, subst, arith}
+use Rattle.std.specs.Prelude.{Result, Ok, Err, IfOk, IfErr}
 use Rattle.std.specs.Result.{IsErrAnd}
 use Rattle.std.proofs.lemmas.Bool.{cases_eq}
 use Rattle.ata_types.specs.declared.Port.{Port}
 use Rattle.ata_types.specs.declared.PortState.{PortState}
-use Rattle.ata_types.specs.declared.PortState.TheVariants.{Unfit, Dead}
+use Rattle.ata_types.specs.declared.PortState.TheVariants.{Absent, Ready, Foreign, Unfit, Dead}
 use Rattle.hba_regs.specs.declared.reg.Reg.{Reg}
 use Rattle.hba_regs.specs.declared.reg.Reg.TheVariants.{Ghc, Px}
 use Rattle.hba_regs.specs.declared.reg.PortReg.TheVariants.{Ci, Cmd, Ie, Sctl}
@@ -13,8 +13,7 @@ use Rattle.adapter.specs.Access.{Access, Writes}
 use Rattle.adapter.specs.Access.Access.{Reading, Writing, Loading, Storing}
 use Rattle.adapter.specs.Device.{Device}
 use Rattle.adapter.specs.Rules.{IsOn}
-use Rattle.agreement.specs.Driven.{IsControl, IsDrivenBy, IsFollowed}
-use Rattle.agreement.specs.Driver.{AllFree}
+use Rattle.agreement.specs.Driven.{IsControl, IsDrivenBy}
 use Rattle.agreement.specs.Errors.{NoneFatal, NoneFails}
 use Rattle.agreement.specs.Facts.{Undisturbed, ShowsNoTrouble}
 use Rattle.agreement.specs.Links.{PlugsNone, SparesRegister}
@@ -25,7 +24,13 @@ use Rattle.port_control.specs.Engines.{Stops}
 use Rattle.port_control.specs.Ports.{WritesCommand, HasClearErrors}
 use Rattle.port_control.specs.declared.PortFault.{PortFault}
 use Rattle.port_control.specs.declared.PortFault.TheVariants.{NoDevice, Busy, EngineStuck, NotAta}
-use Rattle.port_boot.specs.States.{TellsFault, IsOfBoot, IsBootTo, IsBroughtUp, GetsAsked, GetsReady, EndsEarly, EndsLate, IsLate, ShowsNews, HasCauses, RunsOn, StopsThen}
+use Rattle.identify.specs.Page.{number_of}
+use Rattle.identify.specs.declared.DiskInfo.{DiskInfo}
+use Rattle.identify.specs.declared.Unfit.{Unfit as Fault}
+use Rattle.identify.specs.declared.Unfit.TheVariants.{BadChecksum, Word83, No48Bit, SectorSize, NoFlush, NoSectors}
+use Rattle.port_boot.specs.Outcomes.{EndsReady, EndsUnready, FailsToIdentify, Identifies, Rises}
+use Rattle.port_boot.specs.States.{TellsFault, Judges, IsBooting, IsEarly, IsHaltedAs, IsOfBoot, IsBroughtUp, GetsAsked, GetsReady, EndsEarly, EndsLate, IsLate, ShowsNews, HasCauses, RunsOn, StopsThen}
+use Rattle.port_boot.proofs.Identifying.{whole_ended, whole_ready}
 use Rattle.port_boot.proofs.Staying.{boot_driven}
 use Rattle.port_boot.proofs.Enduring.{Endures, Lasts, endures, lasts, lasts_access, lasts_more, goes_more}
 use Rattle.port_boot.specs.Laws.{Laws}
@@ -52,6 +57,39 @@ early_is_not_late port state old new (inr e) late = absurd (by e.fault e.told)
     by Busy told = let l : IsLate (Unfit 7) = subst IsLate told late in l.0 refl
     by EngineStuck told = subst IsLate told late
     by (NotAta signature) told = let l : IsLate (Unfit 8) = subst IsLate told late in l.1 refl
+
+-- if it is in an early state, that is how it ended
+pub early_alone : (port : Port) (state : PortState) (old new : Device) → (state ≡ Dead) ⊎ EndsEarly port state old new → IsEarly state → EndsEarly port state old new
+early_alone port state old new (inl dead) early = absurd (subst IsEarly dead early)
+early_alone port state old new (inr e) early = e
+
+-- a port that was asked for its page doesn't end early, whatever is made of the page
+pub halted_late : (port : Port) (wanted state : PortState) (old new : Device) → (IsEarly wanted → ⊥) → IsHaltedAs port wanted state old new → IsEarly state → ⊥
+halted_late port wanted state old new late (inl x) early = late (subst IsEarly x.0 early)
+halted_late port wanted state old new late (inr x) early = subst IsEarly x.0 early
+
+pub no_page_late : IsEarly (Unfit 9) → ⊥
+no_page_late (inl e) = absurd (omega (arith, e))
+no_page_late (inr e) = absurd (omega (arith, e))
+
+no_fault : (n small : ℕ) → n ≡ small → small < 7 → IsEarly (Unfit n) → ⊥
+no_fault n small is low (inl e) = absurd (omega (arith, is, low, e))
+no_fault n small is low (inr e) = absurd (omega (arith, is, low, e))
+
+fault_late : (n : ℕ) (fault : Fault) → n ≡ number_of fault → IsEarly (Unfit n) → ⊥
+fault_late n BadChecksum is early = no_fault n 1 is (omega arith) early
+fault_late n Word83 is early = no_fault n 2 is (omega arith) early
+fault_late n No48Bit is early = no_fault n 3 is (omega arith) early
+fault_late n SectorSize is early = no_fault n 4 is (omega arith) early
+fault_late n NoFlush is early = no_fault n 5 is (omega arith) early
+fault_late n NoSectors is early = no_fault n 6 is (omega arith) early
+
+pub judged_late : (wanted : Option (List ℕ)) (state : PortState) (page : List ℕ) → Judges wanted state page → IsEarly state → ⊥
+judged_late wanted Absent page judged early = absurd judged
+judged_late wanted Ready page judged early = absurd judged
+judged_late wanted Dead page judged early = absurd judged
+judged_late wanted Foreign page judged early = early
+judged_late wanted (Unfit n) page judged early = fault_late n judged.0 judged.2 early
 
 -- what is said of a state that was handed on
 pub handed_on : {T : Type 0} (P : PortState → Type 0) (result : Result T PortState) (state : PortState) → IsErrAnd result (λ s. s ≡ state) → P state → IfErr result P
@@ -161,17 +199,33 @@ module _ (laws : Laws) where
 
   -- ---- by what is answered
 
-  module _ {T : Type 0} (port : Port) (start old new : Device) (early : Grows start old) where
-    pub whole_way : (result : Result T PortState) → IsBroughtUp port start old → OnOk result (GetsAsked port old new) → OnOk result (IsFollowed (IsOfBoot port) (λ uses. AllFree uses port.0) old new) → OnOk result (RunsOn port.0 old new) →
-        OnOk result (GetsReady port start new)
-    whole_way (Ok x) up then boots runs = gets_ready port start old new up early (driven_grows laws (IsOfBoot port) old new boots.driven) then runs
-    whole_way (Err state) up then boots runs = runs
+  module _ (port : Port) (start old new : Device) (rises : Rises port start old) (wanted : Option (List ℕ))
+      (written : (new.port port.0).notes.sctl_written_at ≡ (old.port port.0).notes.sctl_written_at) where
+    risen : Grows start old
+    risen = driven_grows laws (IsControl IsBooting port) start old rises.boots.followed.driven
 
-    pub whole_news : (result : Result T PortState) → IsBroughtUp port start old → OnOk result (IsFollowed (IsOfBoot port) (λ uses. AllFree uses port.0) old new) → OnOk result (RunsOn port.0 old new) → OnOk result (ShowsNews port.0 start new)
-    whole_news (Ok x) up boots runs = shows_news port start old new up early (driven_grows laws (IsOfBoot port) old new boots.driven) runs
-    whole_news (Err state) up boots runs = runs
+    since : length start.tape ≤ (new.port port.0).notes.sctl_written_at
+    since = let before = rises.up.since in omega (arith, before, written)
 
-    pub whole_late : (result : Result T PortState) → IsBroughtUp port start old → IfErr result (λ state. IsBootTo (Stops port) port state old new) → IfErr result (λ state. StopsThen port old new) →
-        IfErr result (λ state. IsLate state → EndsLate port start new)
-    whole_late (Ok x) up boots stops = stops
-    whole_late (Err state) up boots stops = λ late. ends_late port start old new up early (driven_grows laws (IsOfBoot port) old new (boot_driven (Stops port) port old new state boots)) stops
+    pub whole_identified : (result : Result DiskInfo PortState) → IfOk result (λ info. Identifies wanted port info old new) → IfOk result (λ info. EndsReady wanted port info start new)
+    whole_identified (Ok info) i =
+        let late = driven_grows laws (IsOfBoot port) old new i.boots.driven in
+        record {
+          ready = i.ready;
+          since = since;
+          boots = whole_ready laws port start old new rises.boots (Ok info) i.boots;
+          way = gets_ready port start old new rises.up risen late i.asked i.runs_on;
+          news = shows_news port start old new rises.up risen late i.runs_on;
+          halts = i.halts;
+        }
+    whole_identified (Err state) i = i
+
+    pub whole_stopped : (result : Result DiskInfo PortState) → IfErr result (λ state. FailsToIdentify wanted port state old new) → IfErr result (λ state. EndsUnready wanted port state start new)
+    whole_stopped (Ok info) f = f
+    whole_stopped (Err state) f = record {
+      ended = f.ended;
+      since = λ _. since;
+      boots = whole_ended laws port start old new rises.boots (Err state) f.boots;
+      early = λ early. absurd (f.late early);
+      late = λ _. ends_late port start old new rises.up risen (driven_grows laws (IsOfBoot port) old new (boot_driven (Stops port) port old new state f.boots)) f.stops;
+    }

@@ -1,3 +1,4 @@
 pub mod Laws
 pub mod States
+pub mod Outcomes
 pub mod Costs

@@ -5,16 +5,14 @@
 //! the state that is told goes on until the port is booted anew (law `what_was_found_goes_on`).
 #![tactic(auto)]
 
-ghost use Rattle.std.specs.Prelude.{ℕ, List, Option, ◌≡◌, ◌≢◌, ◌≤◌, ◌⊎◌, ◌↔◌, IsTrue, length, IfOk, IfErr, OnOk, OnErr};
+ghost use Rattle.std.specs.Prelude.{Option, ◌≡◌, ◌↔◌, IsTrue, IfOk, IfErr, OnOk};
 ghost use Rattle.adapter.specs.Access.{named_causes};
 ghost use Rattle.adapter.specs.Device.{Device};
 ghost use Rattle.adapter.specs.Rules.{IsOn, HasPort};
-ghost use Rattle.agreement.specs.Driven.{AgreesWith, AnyUse, IsControl, IsFollowed, IsTold};
-ghost use Rattle.agreement.specs.Driver.{AllFree};
-ghost use Rattle.agreement.specs.Halting.{HaltsAsTaken};
-ghost use Rattle.port_control.specs.Engines.{Stops, StopsReceiving};
+ghost use Rattle.agreement.specs.Driven.{AgreesWith, AnyUse};
 ghost use Rattle.port_control.specs.Ports.{IsStopped, HasStopped};
-ghost use Rattle.port_boot.specs.States.{TellsFault, Fits, IsFit, Judges, EndsAs, IsReady, IsBooting, IsBoot, IsBootTo, IsBootable, IsOfBoot, IsBroughtUp, IsHaltedAs, GetsAsked, GetsReady, EndsEarly, EndsLate, IsEarly, IsLate, ShowsNews, RunsOn, StopsOnWay, StopsThen};
+ghost use Rattle.port_boot.specs.Outcomes.{EndsReady, EndsUnready, FailsToIdentify, FailsToRise, Identifies, Rises};
+ghost use Rattle.port_boot.specs.States.{TellsFault, Fits, IsFit, Judges, IsBootable, IsBroughtUp, IsHaltedAs};
 ghost use Rattle.adapter.specs.Counted.{MakesAtMost};
 ghost use Rattle.port_control.specs.Costs.{STOP_ACCESSES};
 ghost use Rattle.port_boot.specs.Costs.{BOOT_ACCESSES, IDENTIFY_ACCESSES, RISE_ACCESSES};
@@ -83,18 +81,10 @@ fn bring_up<A: Adapter>(adapter: &mut A, stopped: Stopped) -> Result<Running, Po
     requires bootable { IsBootable stopped.port (A.device adapter.old) }
     requires stopped { IsStopped ((A.device adapter.old).port stopped.port.0) }
     ensures on { IsOn (A.device adapter.new) }
-    ensures boots { OnOk result (IsTold (StopsReceiving stopped.port) (IsControl IsBooting stopped.port)
-        (λ uses. AllFree uses stopped.port.0) (A.device adapter.old) (A.device adapter.new)) }
-    ensures boots_to { IfErr result (λ state. IsBootTo (StopsOnWay stopped.port state) stopped.port state
-        (A.device adapter.old) (A.device adapter.new)) }
     ensures names { IfOk result (λ running. running.port ≡ stopped.port) }
-    ensures up { OnOk result (IsBroughtUp stopped.port (A.device adapter.old) (A.device adapter.new)) }
-    ensures ended { IfErr result (λ state. (wanted : Option (List ℕ))
-        → EndsAs wanted state stopped.port.0 (A.device adapter.new)) }
-    ensures since { IfErr result (λ state. state ≢ PortState.Dead → length (A.device adapter.old).tape
-        ≤ ((A.device adapter.new).port stopped.port.0).notes.sctl_written_at) }
-    ensures early { IfErr result (λ state. (state ≡ PortState.Dead)
-        ⊎ EndsEarly stopped.port state (A.device adapter.old) (A.device adapter.new)) }
+    ensures rises { OnOk result (Rises stopped.port (A.device adapter.old) (A.device adapter.new)) }
+    ensures fails { IfErr result (λ state. FailsToRise stopped.port state (A.device adapter.old)
+        (A.device adapter.new)) }
     ensures cost { MakesAtMost RISE_ACCESSES (A.access_count adapter.old) (A.access_count adapter.new) }
 {
     laws_hold();
@@ -105,10 +95,7 @@ fn bring_up<A: Adapter>(adapter: &mut A, stopped: Stopped) -> Result<Running, Po
         Ok(receiving) => receiving,
         Err((fault, _receiving)) => return Err(state_of(fault)),
     };
-    match start(adapter, receiving) {
-        Ok(running) => Ok(running),
-        Err(_) => unreachable!(),
-    }
+    Ok(start(adapter, receiving))
 }
 
 /// Stops the port, which then is in this state; or `Dead`, where its engine is stuck.
@@ -143,19 +130,12 @@ fn identify_disk<A: Adapter>(
 ) -> Result<DiskInfo, PortState>
     requires up { (start : Device) × IsBroughtUp port start (A.device adapter.old) }
     ensures on { IsOn (A.device adapter.new) }
-    ensures ready { IfOk result (IsReady wanted.now port.0 (A.device adapter.new)) }
-    ensures ended { IfErr result (λ state. EndsAs wanted.now state port.0 (A.device adapter.new)) }
     ensures written { ((A.device adapter.new).port port.0).notes.sctl_written_at
         ≡ ((A.device adapter.old).port port.0).notes.sctl_written_at }
-    ensures boots { OnOk result (IsFollowed (IsOfBoot port) (λ uses. AllFree uses port.0) (A.device adapter.old)
+    ensures identifies { IfOk result (λ info. Identifies wanted.now port info (A.device adapter.old)
         (A.device adapter.new)) }
-    ensures boots_to { IfErr result (λ state. IsBootTo (Stops port) port state (A.device adapter.old)
+    ensures fails { IfErr result (λ state. FailsToIdentify wanted.now port state (A.device adapter.old)
         (A.device adapter.new)) }
-    ensures asked { OnOk result (GetsAsked port (A.device adapter.old) (A.device adapter.new)) }
-    ensures halts { OnOk result (HaltsAsTaken ((A.device adapter.new).port port.0)) }
-    ensures runs_on { OnOk result (RunsOn port.0 (A.device adapter.old) (A.device adapter.new)) }
-    ensures stops { IfErr result (λ state. StopsThen port (A.device adapter.old) (A.device adapter.new)) }
-    ensures late { IfErr result (λ state. IsEarly state → ⊥) }
     ensures cost { MakesAtMost IDENTIFY_ACCESSES (A.access_count adapter.old) (A.access_count adapter.new) }
 {
     laws_hold();
@@ -186,23 +166,10 @@ pub fn boot<A: Adapter>(
     requires bootable { IsBootable stopped.port (A.device adapter.old) }
     requires stopped { IsStopped ((A.device adapter.old).port stopped.port.0) }
     ensures on { IsOn (A.device adapter.new) }
-    ensures ready { IfOk result (IsReady wanted.now stopped.port.0 (A.device adapter.new)) }
-    ensures ended { IfErr result (λ state. EndsAs wanted.now state stopped.port.0 (A.device adapter.new)) }
-    ensures since { OnOk result (length (A.device adapter.old).tape
-        ≤ ((A.device adapter.new).port stopped.port.0).notes.sctl_written_at) }
-    ensures since_ended { IfErr result (λ state. state ≢ PortState.Dead → length (A.device adapter.old).tape
-        ≤ ((A.device adapter.new).port stopped.port.0).notes.sctl_written_at) }
-    ensures boots { OnOk result (IsBoot (StopsReceiving stopped.port) stopped.port (A.device adapter.old)
+    ensures ready { IfOk result (λ info. EndsReady wanted.now stopped.port info (A.device adapter.old)
         (A.device adapter.new)) }
-    ensures boots_to { IfErr result (λ state. IsBootTo (StopsOnWay stopped.port state) stopped.port state
-        (A.device adapter.old) (A.device adapter.new)) }
-    ensures way { OnOk result (GetsReady stopped.port (A.device adapter.old) (A.device adapter.new)) }
-    ensures news { OnOk result (ShowsNews stopped.port.0 (A.device adapter.old) (A.device adapter.new)) }
-    ensures halts { OnOk result (HaltsAsTaken ((A.device adapter.new).port stopped.port.0)) }
-    ensures early { IfErr result (λ state. IsEarly state → EndsEarly stopped.port state (A.device adapter.old)
+    ensures unready { IfErr result (λ state. EndsUnready wanted.now stopped.port state (A.device adapter.old)
         (A.device adapter.new)) }
-    ensures late { IfErr result (λ state. IsLate state
-        → EndsLate stopped.port (A.device adapter.old) (A.device adapter.new)) }
     ensures cost { MakesAtMost BOOT_ACCESSES (A.access_count adapter.old) (A.access_count adapter.new) }
 {
     laws_hold();

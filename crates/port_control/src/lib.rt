@@ -6,19 +6,18 @@
 //! up had 64 readings. `start` doesn't fail. It knows no client and no command.
 #![tactic(auto)]
 
-ghost use Rattle.std.specs.Prelude.{ℕ, ◌≡◌, ◌≢◌, ◌<◌, ◌≤◌, ◌%◌, ◌||◌, true, false, length, IfOk, IfErr, OnOk, OnErr, IsOk};
+ghost use Rattle.std.specs.Prelude.{ℕ, ◌≡◌, ◌≢◌, ◌<◌, ◌≤◌, ◌||◌, true, false, IfOk, IfErr, OnOk};
 ghost use Rattle.hba_regs.specs.Bits.{bit};
 ghost use Rattle.hba_regs.specs.declared.reg.PortReg.TheVariants.{Ssts, Tfd};
-ghost use Rattle.adapter.specs.Rules.{IsOn, HasPort};
-ghost use Rattle.agreement.specs.Driven.{AgreesWith, AnyUse, IsControl, IsFollowed, IsTold};
+ghost use Rattle.adapter.specs.Rules.{IsOn};
+ghost use Rattle.agreement.specs.Driven.{AnyUse, IsControl, IsFollowed, IsTold};
 ghost use Rattle.agreement.specs.Driver.{AllFree};
-ghost use Rattle.agreement.specs.Errors.{NoneComes, ChangesByDisks};
-ghost use Rattle.agreement.specs.Facts.{IsAfterReset, IsAwaited, IsQuiet, IsRecorded, IsUnflagged};
-ghost use Rattle.agreement.specs.Links.{PlugsNone};
-ghost use Rattle.agreement.specs.Recovering.{IsLinked, RunsLinked};
-ghost use Rattle.agreement.specs.Started.{IsUp, IsComingUp, IsStarted};
+ghost use Rattle.agreement.specs.Errors.{NoneComes};
+ghost use Rattle.agreement.specs.Facts.{IsAfterReset, IsAwaited, IsQuiet, IsUnflagged};
+ghost use Rattle.agreement.specs.Started.{IsUp, IsComingUp};
+ghost use Rattle.port_control.specs.Calls.{AsksForDevice, FindsDisk, FindsFault, MayBeginReceiving, MayBeStarted, MayForget, MayResetLink, ResetsLink, Starts, StaysStopped};
 ghost use Rattle.port_control.specs.Engines.{FailsToStopReceiving, StopsReceiving};
-ghost use Rattle.port_control.specs.Ports.{FailsToHalt, FailsToReceive, Halts, Receives, WritesCommand, IsPlacing, IsClearing, IsResetting, IsUsable, IsStopped, ReceivesFises, IsRunning, SawDevice, SawIdle, Shows, SameBeside, HasStopped, HasLink, ShowsIdle, ReadsWithout, ReadsUntil, ClearsErrors, FindsSignature, Looks, WasReset, HasClearErrors, FindsAwaited, IsFound, Forgets, ShowsSignature, SameButStart, programmed};
+ghost use Rattle.port_control.specs.Ports.{FailsToHalt, FailsToReceive, Halts, Receives, WritesCommand, IsPlacing, IsClearing, IsResetting, IsUsable, IsStopped, ReceivesFises, SawDevice, SawIdle, Shows, SameBeside, HasStopped, HasLink, ShowsIdle, ReadsWithout, ReadsUntil, ClearsErrors, FindsSignature, Looks, WasReset, HasClearErrors, FindsAwaited, Forgets, ShowsSignature, programmed};
 ghost use Rattle.adapter.specs.Counted.{MakesAtMost};
 ghost use Rattle.port_control.specs.Costs.{AWAIT_DEVICE_ACCESSES, CLEAR_ACCESSES, COMRESET_ACCESSES, FORGET_ACCESSES, RECEIVE_ACCESSES, SHOW_ACCESSES, START_ACCESSES, STOP_ACCESSES};
 
@@ -103,15 +102,13 @@ pub fn is_occupied(task_file: TaskFile) -> bool
 ///
 /// `EngineStuck` where 64 readings find CR set: ST is 0 then, too.
 pub fn stop<A: Adapter>(adapter: &mut A, port: Port) -> Result<Stopped, PortFault>
-    requires on { IsOn (A.device adapter.old) }
-    requires there { HasPort (A.device adapter.old) port.0 }
-    requires agreed { AgreesWith AnyUse (A.device adapter.old) }
+    requires usable { IsUsable AnyUse port (A.device adapter.old) }
     ensures on { IsOn (A.device adapter.new) }
     ensures has { HasStopped ((A.device adapter.old).port port.0) ((A.device adapter.new).port port.0) }
     ensures names { IfOk result (λ token. token.port ≡ port) }
     ensures halts { OnOk result (Halts port (A.device adapter.old) (A.device adapter.new)) }
-    ensures fault { IfErr result (λ fault. fault ≡ PortFault.EngineStuck) }
-    ensures fails { OnErr result (FailsToHalt port (A.device adapter.old) (A.device adapter.new)) }
+    ensures fails { IfErr result (λ fault. (fault ≡ PortFault.EngineStuck) × FailsToHalt port (A.device adapter.old)
+        (A.device adapter.new)) }
     ensures cost { MakesAtMost STOP_ACCESSES (A.access_count adapter.old) (A.access_count adapter.new) }
 {
     laws_hold();
@@ -197,19 +194,13 @@ pub fn receive<A: Adapter>(
     adapter: &mut A,
     stopped: Stopped,
 ) -> Result<Receiving, (PortFault, Stopped)>
-    requires on { IsOn (A.device adapter.old) }
-    requires there { HasPort (A.device adapter.old) stopped.port.0 }
-    requires agreed { AgreesWith AnyUse (A.device adapter.old) }
-    requires stopped { IsStopped ((A.device adapter.old).port stopped.port.0) }
-    requires room { DRIVER_BYTES ≤ (A.device adapter.old).size }
+    requires may { MayBeginReceiving stopped.port (A.device adapter.old) }
     ensures on { IsOn (A.device adapter.new) }
-    ensures stopped { IsStopped ((A.device adapter.new).port stopped.port.0) }
-    ensures same { SameBeside ((A.device adapter.old).port stopped.port.0)
-        ((A.device adapter.new).port stopped.port.0) }
+    ensures stays { StaysStopped stopped.port (A.device adapter.old) (A.device adapter.new) }
     ensures names { IfOk result (λ token. token.port ≡ stopped.port) }
     ensures receives { OnOk result (Receives stopped.port (A.device adapter.old) (A.device adapter.new)) }
-    ensures fault { IfErr result (λ fault. (fault.0 ≡ PortFault.EngineStuck) × (fault.1 ≡ stopped)) }
-    ensures fails { OnErr result (FailsToReceive stopped.port (A.device adapter.old) (A.device adapter.new)) }
+    ensures fails { IfErr result (λ fault. (fault.0 ≡ PortFault.EngineStuck) × (fault.1 ≡ stopped)
+        × FailsToReceive stopped.port (A.device adapter.old) (A.device adapter.new)) }
     ensures cost { MakesAtMost RECEIVE_ACCESSES (A.access_count adapter.old) (A.access_count adapter.new) }
 {
     laws_hold();
@@ -285,12 +276,7 @@ fn clear_errors<A: Adapter>(adapter: &mut A, port: Port)
 /// and reads what its device shows then, PxTFD (AHCI 1.3.1, 6.2.2). No COMRESET may be under way, so that no link is
 /// due.
 pub fn forget_errors<A: Adapter>(adapter: &mut A, port: Port) -> TaskFile
-    requires on { IsOn (A.device adapter.old) }
-    requires there { HasPort (A.device adapter.old) port.0 }
-    requires agreed { AgreesWith AnyUse (A.device adapter.old) }
-    requires receives { ReceivesFises port.0 ((A.device adapter.old).port port.0) }
-    requires undue { ((A.device adapter.old).port port.0).link_due ≡ false }
-    requires det { ((A.device adapter.old).port port.0).sctl_det ≡ 0 }
+    requires may { MayForget port (A.device adapter.old) }
     ensures followed { IsFollowed (IsControl IsClearing port) AnyUse (A.device adapter.old) (A.device adapter.new) }
     ensures on { IsOn (A.device adapter.new) }
     ensures forgets { Forgets port result.0 (A.device adapter.old) (A.device adapter.new) }
@@ -304,18 +290,10 @@ pub fn forget_errors<A: Adapter>(adapter: &mut A, port: Port) -> TaskFile
 /// Whether a device with a link shows in a port, as where a device went or came: clears each bit of PxSERR, and reads
 /// PxSSTS (AHCI 1.3.1, 3.3.10 and 3.3.12). A stopped port stays stopped.
 pub fn shows_device<A: Adapter>(adapter: &mut A, port: Port) -> bool
-    requires on { IsOn (A.device adapter.old) }
-    requires there { HasPort (A.device adapter.old) port.0 }
-    requires agreed { AgreesWith AnyUse (A.device adapter.old) }
+    requires usable { IsUsable AnyUse port (A.device adapter.old) }
     ensures on { IsOn (A.device adapter.new) }
     ensures followed { IsFollowed (IsControl IsClearing port) AnyUse (A.device adapter.old) (A.device adapter.new) }
-    ensures stopped { IsStopped ((A.device adapter.old).port port.0) → IsStopped ((A.device adapter.new).port port.0) }
-    ensures clear { ((A.device adapter.old).port port.0).link_due ≡ false → HasClearErrors port.0
-        (A.device adapter.old) (A.device adapter.new) }
-    ensures there { result ≡ true → ((A.device adapter.new).port port.0).ssts_det ≡ 3 }
-    ensures none { result ≡ false → ((A.device adapter.old).port port.0).notes.link_count ≡ READINGS
-        → Shows PortFault.NoDevice
-        ((A.device adapter.new).port port.0).notes }
+    ensures asks { AsksForDevice port result (A.device adapter.old) (A.device adapter.new) }
     ensures cost { MakesAtMost SHOW_ACCESSES (A.access_count adapter.old) (A.access_count adapter.new) }
 {
     laws_hold();
@@ -406,33 +384,15 @@ pub fn comreset<A: Adapter>(
     adapter: &mut A,
     receiving: Receiving,
 ) -> Result<Receiving, (PortFault, Receiving)>
-    requires on { IsOn (A.device adapter.old) }
-    requires there { HasPort (A.device adapter.old) receiving.port.0 }
-    requires agreed { AgreesWith AnyUse (A.device adapter.old) }
-    requires receives { ReceivesFises receiving.port.0 ((A.device adapter.old).port receiving.port.0) }
+    requires may { MayResetLink receiving.port (A.device adapter.old) }
     ensures followed { IsFollowed (IsControl IsResetting receiving.port) AnyUse (A.device adapter.old)
         (A.device adapter.new) }
     ensures on { IsOn (A.device adapter.new) }
-    ensures receives { ReceivesFises receiving.port.0 ((A.device adapter.new).port receiving.port.0) }
-    ensures reset { OnOk result (WasReset receiving.port (FindsSignature receiving.port 0x101) (A.device adapter.old)
-        (A.device adapter.new)) }
-    ensures reset_at_fault { IfErr result (λ fault. WasReset receiving.port (Looks receiving.port fault.0)
-        (A.device adapter.old) (A.device adapter.new)) }
-    ensures coming { NoneComes receiving.port.0 (A.device adapter.old) (A.device adapter.new) → IsComingUp
-        ((A.device adapter.new).port receiving.port.0) }
-    ensures names { IfOk result (λ token. token.port ≡ receiving.port) }
-    ensures ready { OnOk result (let notes =
-        ((A.device adapter.new).port receiving.port.0).notes in SawDevice notes × SawIdle notes
-        × (notes.last_sig ≡ 0x101)) }
-    ensures found { OnOk result (IsFound receiving.port.0 (A.device adapter.old) (A.device adapter.new)) }
-    ensures signature { OnOk result (ShowsSignature ((A.device adapter.new).port receiving.port.0)) }
-    ensures back { IfErr result (λ fault. fault.1 ≡ receiving) }
-    ensures fault { IfErr result (λ fault. Shows fault.0 ((A.device adapter.new).port receiving.port.0).notes
-        × (fault.0 ≢ PortFault.EngineStuck)) }
-    ensures found_at_fault { IfErr result (λ fault. fault.0 ≢ PortFault.NoDevice → IsFound receiving.port.0
-        (A.device adapter.old) (A.device adapter.new)) }
-    ensures signature_at_fault { IfErr result (λ fault. (signature : ℕ) → fault.0 ≡ PortFault.NotAta signature
-        → ShowsSignature ((A.device adapter.new).port receiving.port.0)) }
+    ensures resets { ResetsLink receiving.port (A.device adapter.old) (A.device adapter.new) }
+    ensures finds { IfOk result (λ token. (token.port ≡ receiving.port)
+        × FindsDisk receiving.port (A.device adapter.old) (A.device adapter.new)) }
+    ensures fault { IfErr result (λ fault. (fault.1 ≡ receiving)
+        × FindsFault receiving.port fault.0 (A.device adapter.old) (A.device adapter.new)) }
     ensures cost { MakesAtMost COMRESET_ACCESSES (A.access_count adapter.old) (A.access_count adapter.new) }
 {
     laws_hold();
@@ -450,47 +410,18 @@ pub fn comreset<A: Adapter>(
 ///
 /// It doesn't fail: all that could keep a port from starting is known before, by readings. It reads no PxSIG, since to
 /// set ST again after an error needs no COMRESET.
-pub fn start<A: Adapter>(
-    adapter: &mut A,
-    receiving: Receiving,
-) -> Result<Running, (PortFault, Receiving)>
-    requires on { IsOn (A.device adapter.old) }
-    requires there { HasPort (A.device adapter.old) receiving.port.0 }
-    requires agreed { AgreesWith (λ uses. AllFree uses receiving.port.0) (A.device adapter.old) }
-    requires receives { ReceivesFises receiving.port.0 ((A.device adapter.old).port receiving.port.0) }
-    requires linked { ((A.device adapter.old).port receiving.port.0).notes.last_ssts % 16 ≡ 3 }
-    requires idle { SawIdle ((A.device adapter.old).port receiving.port.0).notes }
+pub fn start<A: Adapter>(adapter: &mut A, receiving: Receiving) -> Running
+    requires may { MayBeStarted receiving.port (A.device adapter.old) }
     ensures followed { IsFollowed (IsControl WritesCommand receiving.port) (λ uses. AllFree uses receiving.port.0)
         (A.device adapter.old) (A.device adapter.new) }
     ensures on { IsOn (A.device adapter.new) }
-    ensures ok { IsOk result }
-    ensures names { IfOk result (λ token. token.port ≡ receiving.port) }
-    ensures runs { IsRunning receiving.port.0 ((A.device adapter.new).port receiving.port.0) }
-    ensures same { SameButStart ((A.device adapter.old).port receiving.port.0)
-        ((A.device adapter.new).port receiving.port.0) }
-    ensures set { ((A.device adapter.new).port receiving.port.0).notes.st_set_at ≡ length (A.device adapter.new).tape }
-    ensures marked { ((A.device adapter.old).port receiving.port.0).notes.sctl_written_at ≤ length
-        (A.device adapter.old).tape
-        → ((A.device adapter.new).port receiving.port.0).notes.sctl_written_at ≤ length (A.device adapter.new).tape }
-    ensures well { IsUp ((A.device adapter.old).port receiving.port.0) → PlugsNone receiving.port.0
-        (A.device adapter.old) (A.device adapter.new)
-        → IsStarted ((A.device adapter.new).port receiving.port.0) }
-    ensures linked { IsLinked ((A.device adapter.old).port receiving.port.0) → PlugsNone receiving.port.0
-        (A.device adapter.old) (A.device adapter.new)
-        → RunsLinked ((A.device adapter.new).port receiving.port.0) }
-    ensures recorded { IsQuiet ((A.device adapter.old).port receiving.port.0) → IsRecorded
-        (A.device adapter.new).tape ((A.device adapter.new).port receiving.port.0) receiving.port.0 }
-    ensures calm { (place : ℕ) → ((A.device adapter.old).port receiving.port.0).is place ≡ false
-        → ((A.device adapter.new).port receiving.port.0).is place ≡ false }
-    ensures undue { ((A.device adapter.old).port receiving.port.0).link_due ≡ false
-        → ((A.device adapter.new).port receiving.port.0).link_due ≡ false }
-    ensures changes { ((A.device adapter.old).port receiving.port.0).link_due ≡ false → ChangesByDisks
-        receiving.port.0 (A.device adapter.old) (A.device adapter.new) }
+    ensures names { result.port ≡ receiving.port }
+    ensures starts { Starts receiving.port (A.device adapter.old) (A.device adapter.new) }
     ensures cost { MakesAtMost START_ACCESSES (A.access_count adapter.old) (A.access_count adapter.new) }
 {
     laws_hold();
     let port = receiving.port;
     let command = PortCommand(adapter.read(Reg::Px(port, PortReg::Cmd)));
     adapter.write(Reg::Px(port, PortReg::Cmd), command.with_start().0);
-    Ok(Running { port })
+    Running { port }
 }

@@ -8,17 +8,11 @@ use Rattle.disk_page.proofs.Asking.{asked_back, asked_then, asked_in_vain, page_
 use Rattle.disk_page.proofs.Leaving.{asking_leaves_running}
 use Rattle.disk_page.proofs.read_page.Goals as goal
 
-pub returns-then-not-wait-clause-reads : goal.returns-then-not-wait-clause-reads
-returns-then-not-wait-clause-reads g c = (
-  c.wait.ensures.still c.if-not-wait.true,
-  asked_in_vain c.laws_hold.ensures c.args.port (λ uses. put uses c.args.port.0 0 (Own (operation_of c.args.page))) _ _ _ c.ask.ensures.followed (c.wait.ensures.vain c.if-not-wait.true),
-)
-
 pub load-requires : goal.load-requires
 load-requires g c =
-    let r = c.requires in
+    let r = c.requires.may in
     let at : 4096 * c.from-scratch.result ≡ scratch_of c.args.port.0 = let x = c.from-scratch.ensures in let y = c.from.ensures in omega (arith, x, y) in
-    let asked = c.ask.ensures.waiting r.agreed.0 r.agreed.1 r.agreed.2 in
+    let asked = c.ask.ensures.asks.waiting r.agreed.0 r.agreed.1 r.agreed.2 in
     let waiting = c.wait.ensures.waiting _ _ _ _ asked in
     let clear = c.wait.ensures.over c.if-not-wait.false _ _ _ _ asked in
     let F : ℕ → Type 0 = λ place. Stays (IsFree place 512) (g.A.Adapter.device c.wait.new.adapter) in
@@ -26,9 +20,9 @@ load-requires g c =
 
 pub returns-clause-on : goal.returns-clause-on
 returns-clause-on g c =
-    let r = c.requires in
+    let r = c.requires.may in
     let at : 4096 * c.from-scratch.result ≡ scratch_of c.args.port.0 = let x = c.from-scratch.ensures in let y = c.from.ensures in omega (arith, x, y) in
-    let asked = c.ask.ensures.waiting r.agreed.0 r.agreed.1 r.agreed.2 in
+    let asked = c.ask.ensures.asks.waiting r.agreed.0 r.agreed.1 r.agreed.2 in
     let waiting = c.wait.ensures.waiting _ _ _ _ asked in
     let clear = c.wait.ensures.over c.if-not-wait.false _ _ _ _ asked in
     let L : ℕ → Type 0 = λ place. Loads place c.load.new.out (g.A.Adapter.device c.wait.new.adapter) (g.A.Adapter.device c.load.new.self) in
@@ -36,11 +30,23 @@ returns-clause-on g c =
     let size = c.load.auto.out in
     load_on c.laws_hold.ensures c.args.port _ _ _ _ _ r.there.0 waiting clear _ _ load size
 
-pub returns-clause-reads : goal.returns-clause-reads
-returns-clause-reads g c =
-    let r = c.requires in
+pub returns-then-not-wait-clause-gets : goal.returns-then-not-wait-clause-gets
+returns-then-not-wait-clause-gets g c =
+    let r = c.requires.may in
+    let told = asked_in_vain c.laws_hold.ensures c.args.port (λ uses. put uses c.args.port.0 0 (Own (operation_of c.args.page))) _ _ _ c.ask.ensures.asks.followed (c.wait.ensures.vain c.if-not-wait.true) in
+    record {
+      leaves = asking_leaves_running c.laws_hold.ensures c.args.port _ _ r.on told.followed.driven;
+      agrees = λ uses free agreed. (c.wait.ensures.waiting _ _ _ _ (c.ask.ensures.asks.waiting uses free agreed)).agreed;
+      reads = (c.wait.ensures.still c.if-not-wait.true, told);
+      running = tt;
+      silent = λ o page differs. (c.wait.ensures.waiting _ _ _ _ (c.ask.ensures.asks.waiting r.agreed.0 r.agreed.1 r.agreed.2)).silent o page differs;
+    }
+
+pub returns-clause-gets : goal.returns-clause-gets
+returns-clause-gets g c =
+    let r = c.requires.may in
     let at : 4096 * c.from-scratch.result ≡ scratch_of c.args.port.0 = let x = c.from-scratch.ensures in let y = c.from.ensures in omega (arith, x, y) in
-    let asked = c.ask.ensures.waiting r.agreed.0 r.agreed.1 r.agreed.2 in
+    let asked = c.ask.ensures.asks.waiting r.agreed.0 r.agreed.1 r.agreed.2 in
     let waiting = c.wait.ensures.waiting _ _ _ _ asked in
     let clear = c.wait.ensures.over c.if-not-wait.false _ _ _ _ asked in
     let L : ℕ → Type 0 = λ place. Loads place c.load.new.out (g.A.Adapter.device c.wait.new.adapter) (g.A.Adapter.device c.load.new.self) in
@@ -48,58 +54,24 @@ returns-clause-reads g c =
     let size = c.load.auto.out in
     let followed =
     asked_then c.laws_hold.ensures c.args.port (λ uses. put uses c.args.port.0 0 (Own (operation_of c.args.page))) _ _ _
-    (asked_then c.laws_hold.ensures c.args.port (λ uses. put uses c.args.port.0 0 (Own (operation_of c.args.page))) _ _ _ c.ask.ensures.followed c.wait.ensures.followed)
-    (load_followed c.laws_hold.ensures c.args.port _ _ _ _ _ r.there.0 waiting clear _ _ load size) in (
-      load_brings c.laws_hold.ensures c.args.port _ _ _ _ _ r.there.0 waiting clear _ _ load size _ c.ask.ensures.later,
-      asked_back c.laws_hold.ensures c.args.port (operation_of c.args.page) _ _ (load_clear c.laws_hold.ensures c.args.port _ _ _ _ _ r.there.0 waiting clear _ _ load size).over followed,
-    )
-
-pub returns-then-not-wait-clause-leaves : goal.returns-then-not-wait-clause-leaves
-returns-then-not-wait-clause-leaves g c = asking_leaves_running c.laws_hold.ensures c.args.port _ _ c.requires.on (returns-then-not-wait-clause-reads g c).1.followed.driven
-
-pub returns-clause-leaves : goal.returns-clause-leaves
-returns-clause-leaves g c = asking_leaves_running c.laws_hold.ensures c.args.port _ _ c.requires.on (returns-clause-reads g c).1.driven
-
-pub returns-then-not-wait-clause-agrees : goal.returns-then-not-wait-clause-agrees
-returns-then-not-wait-clause-agrees g c = λ uses free agreed. (c.wait.ensures.waiting _ _ _ _ (c.ask.ensures.waiting uses free agreed)).agreed
-
-pub returns-clause-agrees : goal.returns-clause-agrees
-returns-clause-agrees g c = λ uses free agreed.
-    let r = c.requires in
-    let at : 4096 * c.from-scratch.result ≡ scratch_of c.args.port.0 = let x = c.from-scratch.ensures in let y = c.from.ensures in omega (arith, x, y) in
-    let asked = c.ask.ensures.waiting uses free agreed in
-    let waiting = c.wait.ensures.waiting _ _ _ _ asked in
-    let clear = c.wait.ensures.over c.if-not-wait.false _ _ _ _ asked in
-    let L : ℕ → Type 0 = λ place. Loads place c.load.new.out (g.A.Adapter.device c.wait.new.adapter) (g.A.Adapter.device c.load.new.self) in
-    let load : Loads (scratch_of c.args.port.0) c.load.new.out (g.A.Adapter.device c.wait.new.adapter) (g.A.Adapter.device c.load.new.self) = subst L at c.load.ensures.does in
-    let size = c.load.auto.out in
-    c.laws_hold.ensures.agrees_released uses c.args.port.0 (operation_of c.args.page) _ free (load_clear c.laws_hold.ensures c.args.port _ _ _ _ _ r.there.0 waiting clear _ _ load size).over
-    (load_agrees c.laws_hold.ensures c.args.port _ _ _ _ _ r.there.0 waiting clear _ _ load size)
-
-pub returns-clause-running : goal.returns-clause-running
-returns-clause-running g c = λ (uses, free, agreed).
-    let r = c.requires in
-    let at : 4096 * c.from-scratch.result ≡ scratch_of c.args.port.0 = let x = c.from-scratch.ensures in let y = c.from.ensures in omega (arith, x, y) in
-    let asked = c.ask.ensures.waiting uses (free 0) agreed in
-    let waiting = c.wait.ensures.waiting _ _ _ _ asked in
-    let clear = c.wait.ensures.over c.if-not-wait.false _ _ _ _ asked in
-    let L : ℕ → Type 0 = λ place. Loads place c.load.new.out (g.A.Adapter.device c.wait.new.adapter) (g.A.Adapter.device c.load.new.self) in
-    let load : Loads (scratch_of c.args.port.0) c.load.new.out (g.A.Adapter.device c.wait.new.adapter) (g.A.Adapter.device c.load.new.self) = subst L at c.load.ensures.does in
-    load_running c.laws_hold.ensures c.args.port _ _ _ _ _ r.there.0 waiting clear _ _ load c.load.auto.out
-    (λ slot other. c.laws_hold.ensures.put_others uses c.args.port.0 0 (Own (operation_of c.args.page)) c.args.port.0 slot (λ same here. other here) ∙ free slot)
-
-pub returns-then-not-wait-clause-silent : goal.returns-then-not-wait-clause-silent
-returns-then-not-wait-clause-silent g c = λ o page differs.
-    let r = c.requires in
-    (c.wait.ensures.waiting _ _ _ _ (c.ask.ensures.waiting r.agreed.0 r.agreed.1 r.agreed.2)).silent o page differs
-
-pub returns-clause-silent : goal.returns-clause-silent
-returns-clause-silent g c = λ o page differs.
-    let r = c.requires in
-    let at : 4096 * c.from-scratch.result ≡ scratch_of c.args.port.0 = let x = c.from-scratch.ensures in let y = c.from.ensures in omega (arith, x, y) in
-    let asked = c.ask.ensures.waiting r.agreed.0 r.agreed.1 r.agreed.2 in
-    let waiting = c.wait.ensures.waiting _ _ _ _ asked in
-    let clear = c.wait.ensures.over c.if-not-wait.false _ _ _ _ asked in
-    let L : ℕ → Type 0 = λ place. Loads place c.load.new.out (g.A.Adapter.device c.wait.new.adapter) (g.A.Adapter.device c.load.new.self) in
-    let load : Loads (scratch_of c.args.port.0) c.load.new.out (g.A.Adapter.device c.wait.new.adapter) (g.A.Adapter.device c.load.new.self) = subst L at c.load.ensures.does in
-    load_silent c.laws_hold.ensures c.args.port _ _ _ _ _ r.there.0 waiting clear _ _ load c.load.auto.out o page differs
+    (asked_then c.laws_hold.ensures c.args.port (λ uses. put uses c.args.port.0 0 (Own (operation_of c.args.page))) _ _ _ c.ask.ensures.asks.followed c.wait.ensures.followed)
+    (load_followed c.laws_hold.ensures c.args.port _ _ _ _ _ r.there.0 waiting clear _ _ load size) in
+    let back = asked_back c.laws_hold.ensures c.args.port (operation_of c.args.page) _ _ (load_clear c.laws_hold.ensures c.args.port _ _ _ _ _ r.there.0 waiting clear _ _ load size).over followed in
+    record {
+      leaves = asking_leaves_running c.laws_hold.ensures c.args.port _ _ r.on back.driven;
+      agrees = λ uses free agreed.
+          let asked = c.ask.ensures.asks.waiting uses free agreed in
+          let waiting = c.wait.ensures.waiting _ _ _ _ asked in
+          let clear = c.wait.ensures.over c.if-not-wait.false _ _ _ _ asked in
+          c.laws_hold.ensures.agrees_released uses c.args.port.0 (operation_of c.args.page) _ free (load_clear c.laws_hold.ensures c.args.port _ _ _ _ _ r.there.0 waiting clear _ _ load size).over
+          (load_agrees c.laws_hold.ensures c.args.port _ _ _ _ _ r.there.0 waiting clear _ _ load size);
+      reads = (load_brings c.laws_hold.ensures c.args.port _ _ _ _ _ r.there.0 waiting clear _ _ load size _ c.ask.ensures.asks.later, back);
+      running = λ (uses, free, agreed).
+          let asked = c.ask.ensures.asks.waiting uses (free 0) agreed in
+          let waiting = c.wait.ensures.waiting _ _ _ _ asked in
+          let clear = c.wait.ensures.over c.if-not-wait.false _ _ _ _ asked in
+          load_running c.laws_hold.ensures c.args.port _ _ _ _ _ r.there.0 waiting clear _ _ load c.load.auto.out
+          (λ slot other. c.laws_hold.ensures.put_others uses c.args.port.0 0 (Own (operation_of c.args.page)) c.args.port.0 slot (λ same here. other here) ∙ free slot);
+      silent = λ o page differs.
+          load_silent c.laws_hold.ensures c.args.port _ _ _ _ _ r.there.0 waiting clear _ _ load c.load.auto.out o page differs;
+    }

@@ -44,13 +44,13 @@ returns-in-Some-clause-recovers g c = λ old r.
     names_one c.laws_hold.ensures port c.args.outstanding true _ _ old _ r _ c.go_on-running.ensures.goes _ refl x.0 x.1 c.in-Some.failed c.others-again.result c.go_on-running.result c.go_on-running.ensures.names
     x.2 x.3 c.others-again.ensures
 
-pub stop-requires-clause-there : goal.stop-requires-clause-there
-stop-requires-clause-there g c =
+pub stop-requires : goal.stop-requires
+stop-requires g c =
     let same = c.port-port.ensures ∙ c.go_on-running.ensures.names in
     let R : Port → Type 0 = λ p. ReadsLog p c.args.outstanding None (g.A.Adapter.device c.go_on-running.new.adapter) (g.A.Adapter.device c.read_log.new.adapter) in
     let H : Port → Type 0 = λ p. HasPort (g.A.Adapter.device c.read_log.new.adapter) p.0 in
     let e = c.in_default.ensures in
-    subst H (sym same) (log_room c.laws_hold.ensures c.args.quieted.stopped.port c.args.outstanding _ _ e.on (subst R same e.reads) c.go_on-running.ensures.goes.room).there
+    record { usable = record { on = e.on; there = subst H (sym same) (log_room c.laws_hold.ensures c.args.quieted.stopped.port c.args.outstanding _ _ e.on (subst R same e.reads) c.go_on-running.ensures.goes.room).there; agreed = e.agreed } }
 
 pub returns-in-Ok-clause-recovers : goal.returns-in-Ok-clause-recovers
 returns-in-Ok-clause-recovers g c = λ old r.
@@ -75,7 +75,7 @@ returns-in-Err-clause-recovers g c = λ old r.
     let new = g.A.Adapter.device c.stop.new.adapter in
     let P : Port → Type 0 = λ p. LeavesRunning p.0 start log × SendsNone p.0 Identify start log × ReadsLog p c.args.outstanding None start log × FailsToHalt p log new × HasStopped (log.port p.0) (new.port p.0) in
     let e = c.in_default.ensures in
-    let x = subst P same (e.leaves, e.silent, e.reads, c.in-Err.ensures.fails, c.stop.ensures.has) in
+    let x = subst P same (e.leaves, e.silent, e.reads, c.in-Err.ensures.fails.1, c.stop.ensures.has) in
     let R : recovered.Recovered → Type 0 = λ result. Recovers port c.args.outstanding true result old new in
     subst R (sym c.unnamed-in-Err.ensures)
     (gets_stuck c.laws_hold.ensures port c.args.outstanding true _ _ old _ r _ c.go_on-running.ensures.goes _ refl x.0 x.1 _ x.4 x.3 x.2)

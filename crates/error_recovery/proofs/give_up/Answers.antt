@@ -12,4 +12,4 @@ returns-in-Ok-clause-gives_up g c = λ queued.
 pub returns-in-Err-clause-gives_up : goal.returns-in-Err-clause-gives_up
 returns-in-Err-clause-gives_up g c = λ queued.
     let R : recovered.Recovered → Type 0 = λ result. GivesUp c.args.port c.args.outstanding queued result (g.A.Adapter.device c.args.adapter.now) (g.A.Adapter.device c.stop.new.adapter) in
-    subst R (sym c.unnamed-in-Err.ensures) (gives_up_stuck c.laws_hold.ensures c.args.port c.args.outstanding queued _ _ c.requires.on c.in-Err.ensures.has c.in-Err.ensures.fails)
+    subst R (sym c.unnamed-in-Err.ensures) (gives_up_stuck c.laws_hold.ensures c.args.port c.args.outstanding queued _ _ c.requires.on c.in-Err.ensures.has c.in-Err.ensures.fails.1)

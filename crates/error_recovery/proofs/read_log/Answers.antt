@@ -3,8 +3,14 @@ use Rattle.hba_regs.specs.Bits.{bit}
 use Rattle.error_recovery.proofs.Starting.{tag_is_small}
 use Rattle.error_recovery.proofs.read_log.Goals as goal
 
+pub read_page-requires : goal.read_page-requires
+read_page-requires g c =
+    let r = c.requires in
+    let a = r.agreed in
+    record { may = record { on = r.room.on; there = r.room.there; room = r.room.room; agreed = (a.0, a.1 0, a.2); may = r.may } }
+
 pub returns-in_default-clause-agreed : goal.returns-in_default-clause-agreed
-returns-in_default-clause-agreed g c = let a = c.requires.agreed in (_, tt, c.in_default.ensures.agrees a.0 (a.1 0) a.2)
+returns-in_default-clause-agreed g c = let a = c.requires.agreed in (_, tt, c.in_default.ensures.gets.agrees a.0 (a.1 0) a.2)
 
 pub is_set-requires : goal.is_set-requires
 is_set-requires g c =
@@ -16,14 +22,14 @@ is_set-requires g c =
 pub returns-then-is_set-clause-reads : goal.returns-then-is_set-clause-reads
 returns-then-is_set-clause-reads g c =
     let told = (c.in-Some-parse_log.ensures.told c.in-Some-parse_log.failed).0 refl in
-    (_, c.in-Some.ensures.reads, told, ap (λ (n : ℕ). bit c.args.outstanding n) (sym c.from.ensures) ∙ (sym c.is_set.ensures ∙ c.if-is_set.true))
+    (_, c.in-Some.ensures.gets.reads, told, ap (λ (n : ℕ). bit c.args.outstanding n) (sym c.from.ensures) ∙ (sym c.is_set.ensures ∙ c.if-is_set.true))
 
 pub returns-else-is_set-clause-reads : goal.returns-else-is_set-clause-reads
 returns-else-is_set-clause-reads g c =
     let told = (c.in-Some-parse_log.ensures.told c.in-Some-parse_log.failed).0 refl in
     inr (
       _,
-      c.in-Some.ensures.reads,
+      c.in-Some.ensures.gets.reads,
       inr (record {
         tag = _;
         status = _;

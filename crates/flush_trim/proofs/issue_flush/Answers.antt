@@ -1,7 +1,5 @@
-use Rattle.std.proofs.Common.{List, [], arith}
+use Rattle.std.proofs.Common.{[], arith}
 use Rattle.ata_types.specs.declared.range.Range.{Range}
-use Rattle.ata_types.specs.declared.request.Frame.{Frame}
-use Rattle.ncq.specs.Issuing.{IsIssued}
 use Rattle.flush_trim.specs.Tasks.{flush_of}
 use Rattle.flush_trim.proofs.Armed.{armed_flush, flush, flush_table}
 use Rattle.flush_trim.proofs.issue_flush.Goals as goal
@@ -15,20 +13,16 @@ write-requires g c =
     let q = c.requires in
     let table = c.write_table.ensures in
     (c.writing_issues.ensures c.args.port 0 (flush_of nowhere) [] _ _ _
-    (armed_flush c.args.port nowhere [] _ _ _ q.on q.there q.agreed q.may table.on c.bit_of-own.ensures table.followed (table.says flush [] (flush_table _ c.flush_command.ensures)))).0
+    (armed_flush c.args.port nowhere [] _ _ _ q.may.on q.may.there q.may.agreed q.may.may table.on c.bit_of-own.ensures table.followed (table.says flush [] (flush_table _ c.flush_command.ensures)))).0
 
 pub returns : goal.returns
 returns g c =
     let q = c.requires in
     let table = c.write_table.ensures in
-    let issued : (range : Range) (frames : List Frame) → IsIssued c.args.port 0 (flush_of range) frames (g.A.Adapter.device c.args.adapter.now) (g.A.Adapter.device c.write.new.self) = λ range frames.
-    (c.writing_issues.ensures c.args.port 0 (flush_of range) frames _ _ _
-    (armed_flush c.args.port range frames _ _ _ q.on q.there q.agreed q.may table.on c.bit_of-own.ensures table.followed (table.says flush [] (flush_table _ c.flush_command.ensures)))).1 _
-    c.write.ensures.does in
     record {
-      on = (issued nowhere []).on;
-      issues = λ range frames. (issued range frames).issues;
-      stored = λ range frames. (issued range frames).stored;
-      set = (issued nowhere []).set;
+      issued = λ range frames.
+          (c.writing_issues.ensures c.args.port 0 (flush_of range) frames _ _ _
+          (armed_flush c.args.port range frames _ _ _ q.may.on q.may.there q.may.agreed q.may.may table.on c.bit_of-own.ensures table.followed (table.says flush [] (flush_table _ c.flush_command.ensures)))).1 _
+          c.write.ensures.does;
       cost = omega arith;
     }

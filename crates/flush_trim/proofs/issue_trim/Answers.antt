@@ -1,7 +1,5 @@
-use Rattle.std.proofs.Common.{List, [], refl, ap, ◌∙◌, arith}
-use Rattle.ata_types.specs.declared.request.Frame.{Frame}
+use Rattle.std.proofs.Common.{[], refl, ap, ◌∙◌, arith}
 use Rattle.adapter.specs.Trim.{trim_sectors}
-use Rattle.ncq.specs.Issuing.{IsIssued}
 use Rattle.flush_trim.specs.Tasks.{trim_of}
 use Rattle.flush_trim.proofs.Armed.{armed_trim, is_trim, trim}
 use Rattle.flush_trim.proofs.issue_trim.Goals as goal
@@ -11,22 +9,17 @@ write-requires g c =
     let q = c.requires in
     let table = c.write_table_with_block.ensures in
     (c.writing_issues.ensures c.args.port 0 (trim_of c.args.range.now) [] _ _ _
-    (armed_trim c.args.port c.args.range.now [] _ _ _ q.on q.there q.agreed q.may table.on c.bit_of.ensures table.followed (table.says trim is_trim c.trim_command.ensures refl)
+    (armed_trim c.args.port c.args.range.now [] _ _ _ q.may.on q.may.there q.may.agreed q.may.may table.on c.bit_of.ensures table.followed (table.says trim is_trim c.trim_command.ensures refl)
     (ap trim_sectors table.block ∙ c.trim_block.ensures.means))).0
 
 pub returns : goal.returns
 returns g c =
     let q = c.requires in
     let table = c.write_table_with_block.ensures in
-    let issued : (frames : List Frame) → IsIssued c.args.port 0 (trim_of c.args.range.now) frames (g.A.Adapter.device c.args.adapter.now) (g.A.Adapter.device c.write.new.self) = λ frames.
-    (c.writing_issues.ensures c.args.port 0 (trim_of c.args.range.now) frames _ _ _
-    (armed_trim c.args.port c.args.range.now frames _ _ _ q.on q.there q.agreed q.may table.on c.bit_of.ensures table.followed (table.says trim is_trim c.trim_command.ensures refl)
-    (ap trim_sectors table.block ∙ c.trim_block.ensures.means))).1 _ c.write.ensures.does in
     record {
-      on = (issued []).on;
-      issues = λ frames. (issued frames).issues;
-      stored = λ frames. (issued frames).stored;
-      block = (issued []).block;
-      set = (issued []).set;
+      issued = λ frames.
+          (c.writing_issues.ensures c.args.port 0 (trim_of c.args.range.now) frames _ _ _
+          (armed_trim c.args.port c.args.range.now frames _ _ _ q.may.on q.may.there q.may.agreed q.may.may table.on c.bit_of.ensures table.followed (table.says trim is_trim c.trim_command.ensures refl)
+          (ap trim_sectors table.block ∙ c.trim_block.ensures.means))).1 _ c.write.ensures.does;
       cost = omega arith;
     }

@@ -2,9 +2,8 @@ use Rattle.std.proofs.Common.{ℕ, ◌≡◌, ◌+◌, ◌∙◌, sym, ap, subst
 use Rattle.ata_types.specs.declared.Port.{Port}
 use Rattle.ata_types.specs.declared.limits.TheConstants.{READINGS}
 use Rattle.adapter.specs.Device.{Notes}
-use Rattle.adapter.specs.Rules.{HasPort}
 use Rattle.agreement.specs.Driven.{AnyUse, IsControl, IsFollowed}
-use Rattle.port_control.specs.Ports.{IsClearing, IsStopped, Shows}
+use Rattle.port_control.specs.Ports.{IsClearing, IsStopped, IsUsable, Shows}
 use Rattle.port_control.specs.declared.PortFault.TheVariants.{NoDevice}
 use Rattle.host_boot.specs.Again.{BootsStopped}
 use Rattle.host_boot.specs.declared.Found.{Found}
@@ -13,17 +12,11 @@ use Rattle.host_boot.proofs.Leaving.{cap_leaves}
 use Rattle.host_boot.proofs.boot_if_there.Goals as goal
 use Rattle.host_boot.proofs.boot_if_there.Goals.{then-shows_device, else-shows_device}
 
-pub shows_device-requires-clause-on : goal.shows_device-requires-clause-on
-shows_device-requires-clause-on g c = (asked_bootable c.laws_hold.ensures _ _ _ c.read.ensures.does c.args.stopped.port c.requires.bootable).on
-
-pub shows_device-requires-clause-there : goal.shows_device-requires-clause-there
-shows_device-requires-clause-there g c =
-    subst (λ (p : Port). HasPort (g.A.Adapter.device c.read.new.self) p.0) (sym c.port.ensures) (asked_bootable c.laws_hold.ensures _ _ _ c.read.ensures.does c.args.stopped.port c.requires.bootable).there
-
-pub shows_device-requires-clause-agreed : goal.shows_device-requires-clause-agreed
-shows_device-requires-clause-agreed g c =
-    let a = (asked_bootable c.laws_hold.ensures _ _ _ c.read.ensures.does c.args.stopped.port c.requires.bootable).agreed in
-    (a.0, tt, a.2)
+pub shows_device-requires : goal.shows_device-requires
+shows_device-requires g c =
+    let b = asked_bootable c.laws_hold.ensures _ _ _ c.read.ensures.does c.args.stopped.port c.requires.bootable in
+    let U : Port → Type 0 = λ p. IsUsable AnyUse p (g.A.Adapter.device c.read.new.self) in
+    record { usable = subst U (sym c.port.ensures) (record { on = b.on; there = b.there; agreed = (b.agreed.0, tt, b.agreed.2) }) }
 
 pub boot_stopped-found-requires-clause-bootable : goal.boot_stopped-found-requires-clause-bootable
 boot_stopped-found-requires-clause-bootable g c =
@@ -38,7 +31,7 @@ boot_stopped-found-requires-clause-stopped g c =
     let port = c.args.stopped.port in
     let asked = g.A.Adapter.device c.read.new.self in
     let seen = g.A.Adapter.device c.shows_device.new.adapter in
-    let stays = subst (λ (p : Port). IsStopped (asked.port p.0) → IsStopped (seen.port p.0)) c.port.ensures c.shows_device.ensures.stopped in
+    let stays = subst (λ (p : Port). IsStopped (asked.port p.0) → IsStopped (seen.port p.0)) c.port.ensures c.shows_device.ensures.asks.stopped in
     stays (asked_stopped laws _ _ _ c.read.ensures.does port (cap_leaves laws _ c.requires.bootable.on.no_reset port.0 _ _ c.read.ensures.does) c.requires.stopped)
 
 pub returns-clause-boots : goal.returns-clause-boots
@@ -53,14 +46,14 @@ returns-clause-boots g c =
     let looks = subst (λ (p : Port). IsFollowed (IsControl IsClearing p) AnyUse asked seen) c.port.ensures c.shows_device.ensures.followed in
     elim c.if-shows_device.branch [
       | then-shows_device w ↦
-          let there = subst (λ (p : Port). (seen.port p.0).ssts_det ≡ 3) c.port.ensures (c.shows_device.ensures.there w.if-shows_device.true) in
+          let there = subst (λ (p : Port). (seen.port p.0).ssts_det ≡ 3) c.port.ensures (c.shows_device.ensures.asks.there w.if-shows_device.true) in
           let booted = subst (λ (f : Found). BootsStopped wanted port f seen (device w.boot_stopped-found.new.adapter)) (sym w.found-is) w.boot_stopped-found.ensures.boots in
           let boots = subst (λ a. BootsStopped wanted port c.if-shows_device.found seen (device a)) (sym w.adapter-is) booted in
           seen_boots laws _ _ asked c.read.ensures.does port seen looks _ wanted _ there boots slots c.has_ncq.ensures
       | else-shows_device w ↦
           let left = cap_leaves laws _ c.requires.bootable.on.no_reset port.0 _ _ c.read.ensures.does in
-          let stays = subst (λ (p : Port). IsStopped (asked.port p.0) → IsStopped (seen.port p.0)) c.port.ensures c.shows_device.ensures.stopped in
-          let none = subst (λ (p : Port). (asked.port p.0).notes.link_count ≡ READINGS → Shows NoDevice (seen.port p.0).notes) c.port.ensures (c.shows_device.ensures.none w.if-shows_device.false) in
+          let stays = subst (λ (p : Port). IsStopped (asked.port p.0) → IsStopped (seen.port p.0)) c.port.ensures c.shows_device.ensures.asks.stopped in
+          let none = subst (λ (p : Port). (asked.port p.0).notes.link_count ≡ READINGS → Shows NoDevice (seen.port p.0).notes) c.port.ensures (c.shows_device.ensures.asks.none w.if-shows_device.false) in
           let stopped = stays (asked_stopped laws _ _ _ c.read.ensures.does port left c.requires.stopped) in
           let full = ap (λ (n : Notes). n.link_count) left.notes ∙ c.requires.saw in
           seen_absent laws _ _ asked c.read.ensures.does port seen looks _ wanted _ (ap device w.adapter-is) w.found-is stopped (none full)

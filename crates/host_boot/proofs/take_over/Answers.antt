@@ -30,33 +30,30 @@ loop-number-init g c =
       cost = omega arith;
     }
 
-pub boot_port-requires-clause-on : goal.boot_port-requires-clause-on
-boot_port-requires-clause-on g c = c.loop-number.invariant.underway.on
-
-pub boot_port-requires-clause-there : goal.boot_port-requires-clause-there
-boot_port-requires-clause-there g c = c.loop-number.invariant.there
-
-pub boot_port-requires-clause-room : goal.boot_port-requires-clause-room
-boot_port-requires-clause-room g c = let same = c.loop-number.invariant.underway.same.size in let room = c.requires.room in omega (arith, same, room)
-
-pub boot_port-requires-clause-agreed : goal.boot_port-requires-clause-agreed
-boot_port-requires-clause-agreed g c =
+pub boot_port-requires : goal.boot_port-requires
+boot_port-requires g c =
     let u = c.loop-number.invariant.underway in
-    (u.uses, λ slot. u.free c.loop-number.number slot (omega arith), u.agreed)
-
-pub boot_port-requires-clause-idle : goal.boot_port-requires-clause-idle
-boot_port-requires-clause-idle g c = c.loop-number.invariant.underway.idle c.loop-number.number (omega arith)
+    record {
+      may = record {
+        on = u.on;
+        small = c.loop-number-test.true;
+        there = c.loop-number.invariant.there;
+        room = let same = u.same.size in let room = c.requires.room in omega (arith, same, room);
+        agreed = (u.uses, λ slot. u.free c.loop-number.number slot (omega arith), u.agreed);
+        idle = u.idle c.loop-number.number (omega arith);
+      };
+    }
 
 pub loop-number-preserved : goal.loop-number-preserved
 loop-number-preserved g c =
     let port : Port = record { 0 = c.loop-number.number } in
     let same : SameAdapter (g.A.Adapter.device c.loop-number.adapter) (g.A.Adapter.device c.boot_port.new.adapter) =
-    boots_same c.laws_hold.ensures port _ _ c.boot_port.result c.boot_port.ensures.boots in
+    boots_same c.laws_hold.ensures port _ _ c.boot_port.result c.boot_port.ensures.finds.boots in
     record {
       underway = next c.laws_hold.ensures c.args.wanted.now c.loop-number.ports port c.loop-number-test.true _ _ _ c.boot_port.result c.loop-number.invariant.underway
-          c.boot_port.ensures.on c.boot_port.ensures.stands c.boot_port.ensures.reset c.boot_port.ensures.halts c.boot_port.ensures.boots;
+          c.boot_port.ensures.on c.boot_port.ensures.finds.stands c.boot_port.ensures.finds.reset c.boot_port.ensures.finds.halts c.boot_port.ensures.finds.boots;
       way = way_more c.loop-number.ports c.loop-number.number c.boot_port.result _ _ _ c.loop-number.invariant.underway.long c.loop-number-test.true c.loop-number.invariant.way
-          c.boot_port.ensures.way;
+          c.boot_port.ensures.finds.way;
       there = c.loop-number.invariant.there ∙ sym same.pi;
       capable = c.loop-number.invariant.capable ∙ sym same.cap;
       cost = omega arith;

@@ -7,4 +7,4 @@ write-requires g c = (c.writing_issues.ensures c.args.port c.args.slot.0 c.args.
 pub returns : goal.returns
 returns g c =
     let z = (c.writing_issues.ensures c.args.port c.args.slot.0 c.args.transfer.now c.args.frames.now c.prepare-own.result _ _ c.prepare-own.ensures.armed).1 _ c.write.ensures.does in
-    record { on = z.on; issues = z.issues; stored = z.stored; set = z.set; active = z.active; cost = omega arith }
+    record { issued = z; cost = omega arith }

@@ -9,10 +9,10 @@ use Rattle.ncq.proofs.Telling.{kind_of, never_trim, no_block, stored_for, table_
 use Rattle.ncq.proofs.prepare.Goals as goal
 
 pub arm-requires-clause-there : goal.arm-requires-clause-there
-arm-requires-clause-there g c = (c.stores_leave_the_port.ensures c.args.port c.args.slot.0 _ _ c.requires.on c.requires.there c.requires.may c.write_table.ensures.followed).0
+arm-requires-clause-there g c = (c.stores_leave_the_port.ensures c.args.port c.args.slot.0 _ _ c.requires.may.on c.requires.may.there c.requires.may.may c.write_table.ensures.followed).0
 
 pub arm-requires-clause-started : goal.arm-requires-clause-started
-arm-requires-clause-started g c = (c.stores_leave_the_port.ensures c.args.port c.args.slot.0 _ _ c.requires.on c.requires.there c.requires.may c.write_table.ensures.followed).1.started
+arm-requires-clause-started g c = (c.stores_leave_the_port.ensures c.args.port c.args.slot.0 _ _ c.requires.may.on c.requires.may.there c.requires.may.may c.write_table.ensures.followed).1.started
 
 pub returns-clause-armed : goal.returns-clause-armed
 returns-clause-armed g c =
@@ -27,12 +27,12 @@ returns-clause-armed g c =
     let table = table_says transfer c.args.frames.now port slot q.fits.transfers q.fits.some few q.fits.first c.command.result c.prds-prds.result.items c.command.ensures
     (c.prds-prds.ensures.whole (omega arith)) places in
     record {
-      on = q.on;
-      there = q.there;
+      on = q.may.on;
+      there = q.may.there;
       small = q.slot;
       usable = q.usable;
-      agreed = q.agreed;
-      may = q.may;
+      agreed = q.may.agreed;
+      may = q.may.may;
       kind = kind_of transfer.queued transfer.op q.fits.transfers;
       head = never_trim slot transfer.op q.fits.transfers;
       mid = g.A.Adapter.device c.write_table.new.adapter;

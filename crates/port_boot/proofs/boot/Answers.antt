@@ -1,69 +1,36 @@
-use Rattle.std.proofs.Common.{◌≢◌, ◌≤◌, length, ◌∙◌, subst}
-use Rattle.std.specs.Prelude.{OnOk, IfErr}
+use Rattle.std.proofs.Common.{◌≡◌, ◌∙◌, subst}
+use Rattle.std.specs.Prelude.{IfOk, IfErr}
 use Rattle.ata_types.specs.declared.Port.{Port}
-use Rattle.ata_types.specs.declared.PortState.TheVariants.{Dead}
-use Rattle.agreement.specs.Driven.{IsFollowed, IsControl}
-use Rattle.agreement.specs.Driver.{AllFree}
-use Rattle.agreement.specs.Halting.{HaltsAsTaken}
-use Rattle.port_control.specs.Engines.{Stops}
-use Rattle.port_boot.specs.States.{IsBooting, IsBootTo, IsOfBoot, GetsAsked, EndsLate, IsLate, RunsOn, StopsOnWay, StopsThen}
-use Rattle.port_boot.proofs.Identifying.{whole_ready, whole_ended}
-use Rattle.port_boot.proofs.Outcomes.{whole_way, whole_news, whole_late, early_is_not_late, handed_on}
+use Rattle.port_boot.specs.Outcomes.{EndsUnready, FailsToIdentify, Identifies}
+use Rattle.port_boot.proofs.Outcomes.{whole_identified, whole_stopped, early_alone, early_is_not_late, handed_on}
 use Rattle.port_boot.proofs.boot.Goals as goal
-use Rattle.port_boot.proofs.Stretching.{driven_grows}
 
-pub returns-clause-boots : goal.returns-clause-boots
-returns-clause-boots g c =
-    let P : Port → Type 0 = λ p. OnOk c.identify_disk.result (IsFollowed (IsOfBoot p) (λ uses. AllFree uses p.0) (g.A.Adapter.device c.bring_up.new.adapter) (g.A.Adapter.device c.identify_disk.new.adapter)) in
-    whole_ready c.laws_hold.ensures c.args.stopped.port _ _ _ c.in_ok-running.ensures.boots _ (subst P (c.port.ensures ∙ c.in_ok-running.ensures.names) c.identify_disk.ensures.boots)
+pub returns-clause-ready : goal.returns-clause-ready
+returns-clause-ready g c =
+    let risen = c.in_ok-running.ensures in
+    let P : Port → Type 0 = λ p. IfOk c.identify_disk.result (λ info. Identifies c.args.wanted.now p info (g.A.Adapter.device c.bring_up.new.adapter) (g.A.Adapter.device c.identify_disk.new.adapter))
+    × (((g.A.Adapter.device c.identify_disk.new.adapter).port p.0).notes.sctl_written_at ≡ ((g.A.Adapter.device c.bring_up.new.adapter).port p.0).notes.sctl_written_at) in
+    let then = subst P (c.port.ensures ∙ risen.names) (c.identify_disk.ensures.identifies, c.identify_disk.ensures.written) in
+    whole_identified c.laws_hold.ensures c.args.stopped.port _ _ _ risen.rises c.args.wanted.now then.1 c.identify_disk.result then.0
 
-pub returns-clause-boots_to : goal.returns-clause-boots_to
-returns-clause-boots_to g c =
-    let P : Port → Type 0 = λ p. IfErr c.identify_disk.result (λ state. IsBootTo (Stops p) p state (g.A.Adapter.device c.bring_up.new.adapter) (g.A.Adapter.device c.identify_disk.new.adapter)) in
-    whole_ended c.laws_hold.ensures c.args.stopped.port _ _ _ c.in_ok-running.ensures.boots _ (subst P (c.port.ensures ∙ c.in_ok-running.ensures.names) c.identify_disk.ensures.boots_to)
+pub returns-clause-unready : goal.returns-clause-unready
+returns-clause-unready g c =
+    let risen = c.in_ok-running.ensures in
+    let P : Port → Type 0 = λ p. IfErr c.identify_disk.result (λ state. FailsToIdentify c.args.wanted.now p state (g.A.Adapter.device c.bring_up.new.adapter) (g.A.Adapter.device c.identify_disk.new.adapter))
+    × (((g.A.Adapter.device c.identify_disk.new.adapter).port p.0).notes.sctl_written_at ≡ ((g.A.Adapter.device c.bring_up.new.adapter).port p.0).notes.sctl_written_at) in
+    let then = subst P (c.port.ensures ∙ risen.names) (c.identify_disk.ensures.fails, c.identify_disk.ensures.written) in
+    whole_stopped c.laws_hold.ensures c.args.stopped.port _ _ _ risen.rises c.args.wanted.now then.1 c.identify_disk.result then.0
 
-pub returns-clause-way : goal.returns-clause-way
-returns-clause-way g c =
-    let at = c.port.ensures ∙ c.in_ok-running.ensures.names in
-    let P : Port → Type 0 = λ p. OnOk c.identify_disk.result (GetsAsked p (g.A.Adapter.device c.bring_up.new.adapter) (g.A.Adapter.device c.identify_disk.new.adapter)) in
-    let F : Port → Type 0 = λ p. OnOk c.identify_disk.result (IsFollowed (IsOfBoot p) (λ uses. AllFree uses p.0) (g.A.Adapter.device c.bring_up.new.adapter) (g.A.Adapter.device c.identify_disk.new.adapter)) in
-    let R : Port → Type 0 = λ p. OnOk c.identify_disk.result (RunsOn p.0 (g.A.Adapter.device c.bring_up.new.adapter) (g.A.Adapter.device c.identify_disk.new.adapter)) in
-    let early = driven_grows c.laws_hold.ensures (IsControl IsBooting c.args.stopped.port) _ _ c.in_ok-running.ensures.boots.followed.driven in
-    whole_way c.laws_hold.ensures c.args.stopped.port _ _ _ early c.identify_disk.result c.in_ok-running.ensures.up (subst P at c.identify_disk.ensures.asked) (subst F at c.identify_disk.ensures.boots) (subst R at c.identify_disk.ensures.runs_on)
-
-pub returns-clause-news : goal.returns-clause-news
-returns-clause-news g c =
-    let at = c.port.ensures ∙ c.in_ok-running.ensures.names in
-    let P : Port → Type 0 = λ p. OnOk c.identify_disk.result (IsFollowed (IsOfBoot p) (λ uses. AllFree uses p.0) (g.A.Adapter.device c.bring_up.new.adapter) (g.A.Adapter.device c.identify_disk.new.adapter)) in
-    let R : Port → Type 0 = λ p. OnOk c.identify_disk.result (RunsOn p.0 (g.A.Adapter.device c.bring_up.new.adapter) (g.A.Adapter.device c.identify_disk.new.adapter)) in
-    let early = driven_grows c.laws_hold.ensures (IsControl IsBooting c.args.stopped.port) _ _ c.in_ok-running.ensures.boots.followed.driven in
-    whole_news c.laws_hold.ensures c.args.stopped.port _ _ _ early c.identify_disk.result c.in_ok-running.ensures.up (subst P at c.identify_disk.ensures.boots) (subst R at c.identify_disk.ensures.runs_on)
-
-pub returns-clause-halts : goal.returns-clause-halts
-returns-clause-halts g c =
-    let H : Port → Type 0 = λ p. OnOk c.identify_disk.result (HaltsAsTaken ((g.A.Adapter.device c.identify_disk.new.adapter).port p.0)) in
-    subst H (c.port.ensures ∙ c.in_ok-running.ensures.names) c.identify_disk.ensures.halts
-
-pub returns-clause-late : goal.returns-clause-late
-returns-clause-late g c =
-    let at = c.port.ensures ∙ c.in_ok-running.ensures.names in
-    let P : Port → Type 0 = λ p. IfErr c.identify_disk.result (λ state. IsBootTo (Stops p) p state (g.A.Adapter.device c.bring_up.new.adapter) (g.A.Adapter.device c.identify_disk.new.adapter)) in
-    let R : Port → Type 0 = λ p. IfErr c.identify_disk.result (λ state. StopsThen p (g.A.Adapter.device c.bring_up.new.adapter) (g.A.Adapter.device c.identify_disk.new.adapter)) in
-    let early = driven_grows c.laws_hold.ensures (IsControl IsBooting c.args.stopped.port) _ _ c.in_ok-running.ensures.boots.followed.driven in
-    whole_late c.laws_hold.ensures c.args.stopped.port _ _ _ early c.identify_disk.result c.in_ok-running.ensures.up (subst P at c.identify_disk.ensures.boots_to) (subst R at c.identify_disk.ensures.stops)
-
-pub returns-in_err-running-clause-since_ended : goal.returns-in_err-running-clause-since_ended
-returns-in_err-running-clause-since_ended g c =
-    handed_on (λ state. state ≢ Dead → length (g.A.Adapter.device c.args.adapter.now).tape ≤ ((g.A.Adapter.device c.bring_up.new.adapter).port c.args.stopped.port.0).notes.sctl_written_at)
-    c.from_residual.result c.in_err-running.field-0.0 c.from_residual.ensures.1 c.in_err-running.ensures.since
-
-pub returns-in_err-running-clause-boots_to : goal.returns-in_err-running-clause-boots_to
-returns-in_err-running-clause-boots_to g c =
-    handed_on (λ state. IsBootTo (StopsOnWay c.args.stopped.port state) c.args.stopped.port state (g.A.Adapter.device c.args.adapter.now) (g.A.Adapter.device c.bring_up.new.adapter))
-    c.from_residual.result c.in_err-running.field-0.0 c.from_residual.ensures.1 c.in_err-running.ensures.boots_to
-
-pub returns-in_err-running-clause-late : goal.returns-in_err-running-clause-late
-returns-in_err-running-clause-late g c =
-    handed_on (λ state. IsLate state → EndsLate c.args.stopped.port (g.A.Adapter.device c.args.adapter.now) (g.A.Adapter.device c.bring_up.new.adapter))
-    c.from_residual.result c.in_err-running.field-0.0 c.from_residual.ensures.1
-    (early_is_not_late c.args.stopped.port c.in_err-running.field-0.0 _ _ c.in_err-running.ensures.early)
+pub returns-in_err-running-clause-unready : goal.returns-in_err-running-clause-unready
+returns-in_err-running-clause-unready g c =
+    let e = c.in_err-running.ensures.fails in
+    let state = c.in_err-running.field-0.0 in
+    handed_on (λ state. EndsUnready c.args.wanted.now c.args.stopped.port state (g.A.Adapter.device c.args.adapter.now) (g.A.Adapter.device c.bring_up.new.adapter))
+    c.from_residual.result state c.from_residual.ensures.1
+    (record {
+      ended = e.ended c.args.wanted.now;
+      since = e.since;
+      boots = e.boots;
+      early = early_alone c.args.stopped.port state _ _ e.early;
+      late = early_is_not_late c.args.stopped.port state _ _ e.early;
+    })

@@ -4,22 +4,22 @@ use Rattle.port_control.proofs.Clearing.{forgets, forgets_followed, forgets_on}
 use Rattle.port_control.proofs.forget_errors.Goals as goal
 
 pub clear_errors-requires-clause-usable : goal.clear_errors-requires-clause-usable
-clear_errors-requires-clause-usable g c = record { on = c.requires.on; there = c.requires.there; agreed = c.requires.agreed }
+clear_errors-requires-clause-usable g c = record { on = c.requires.may.on; there = c.requires.may.there; agreed = c.requires.may.agreed }
 
 pub read-requires : goal.read-requires
 read-requires g c =
-    let u = usable_after c.laws_hold.ensures Clearing c.args.port _ _ (record { on = c.requires.on; there = c.requires.there; agreed = c.requires.agreed }) c.clear_errors.ensures.followed in
+    let u = usable_after c.laws_hold.ensures Clearing c.args.port _ _ (record { on = c.requires.may.on; there = c.requires.may.there; agreed = c.requires.may.agreed }) c.clear_errors.ensures.followed in
     (u.on, u.there)
 
 pub returns-clause-followed : goal.returns-clause-followed
 returns-clause-followed g c =
-    forgets_followed c.laws_hold.ensures c.args.port _ _ _ _ (record { on = c.requires.on; there = c.requires.there; agreed = c.requires.agreed }) c.requires.receives c.requires.undue c.requires.det c.clear_errors.ensures.followed c.clear_errors.ensures.clears c.read.ensures.does
+    forgets_followed c.laws_hold.ensures c.args.port _ _ _ _ (record { on = c.requires.may.on; there = c.requires.may.there; agreed = c.requires.may.agreed }) c.requires.may.receives c.requires.may.undue c.requires.may.det c.clear_errors.ensures.followed c.clear_errors.ensures.clears c.read.ensures.does
 
 pub returns-clause-on : goal.returns-clause-on
 returns-clause-on g c =
-    forgets_on c.laws_hold.ensures c.args.port _ _ _ _ (record { on = c.requires.on; there = c.requires.there; agreed = c.requires.agreed }) c.requires.receives c.requires.undue c.requires.det c.clear_errors.ensures.followed c.clear_errors.ensures.clears c.read.ensures.does
+    forgets_on c.laws_hold.ensures c.args.port _ _ _ _ (record { on = c.requires.may.on; there = c.requires.may.there; agreed = c.requires.may.agreed }) c.requires.may.receives c.requires.may.undue c.requires.may.det c.clear_errors.ensures.followed c.clear_errors.ensures.clears c.read.ensures.does
 
 pub returns-clause-forgets : goal.returns-clause-forgets
 returns-clause-forgets g c =
-    forgets c.laws_hold.ensures c.args.port _ _ _ _ (record { on = c.requires.on; there = c.requires.there; agreed = c.requires.agreed }) c.requires.receives c.requires.undue c.requires.det c.clear_errors.ensures.followed c.clear_errors.ensures.clears c.read.ensures.does
-    c.clear_errors.ensures.calm (c.clear_errors.ensures.clear c.requires.undue)
+    forgets c.laws_hold.ensures c.args.port _ _ _ _ (record { on = c.requires.may.on; there = c.requires.may.there; agreed = c.requires.may.agreed }) c.requires.may.receives c.requires.may.undue c.requires.may.det c.clear_errors.ensures.followed c.clear_errors.ensures.clears c.read.ensures.does
+    c.clear_errors.ensures.calm (c.clear_errors.ensures.clear c.requires.may.undue)

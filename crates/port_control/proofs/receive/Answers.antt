@@ -1,4 +1,4 @@
-use Rattle.std.proofs.Common.{inl, rules}
+use Rattle.std.proofs.Common.{inl, refl}
 use Rattle.port_control.specs.Engines.{FailsToStopReceiving, StopsReceiving}
 use Rattle.port_control.proofs.Using.{falls_then, same_adapter, usable_after}
 use Rattle.port_control.proofs.receive.Goals as goal
@@ -8,30 +8,33 @@ use Rattle.port_control.proofs.Stretching.{followed_then, followed_wider, told_b
 
 pub returns-then-not-stop_receiving-clause-on : goal.returns-then-not-stop_receiving-clause-on
 returns-then-not-stop_receiving-clause-on g c =
-    let first = usable_after c.laws_hold.ensures Commanding c.args.stopped.port _ _ (record { on = c.requires.on; there = c.requires.there; agreed = c.requires.agreed }) (c.stop_receiving.ensures.sticks c.if-not-stop_receiving.true).followed in
+    let first = usable_after c.laws_hold.ensures Commanding c.args.stopped.port _ _ (record { on = c.requires.may.on; there = c.requires.may.there; agreed = c.requires.may.agreed }) (c.stop_receiving.ensures.sticks c.if-not-stop_receiving.true).followed in
     first.on
 
 pub returns-then-not-stop_receiving-clause-fails : goal.returns-then-not-stop_receiving-clause-fails
 returns-then-not-stop_receiving-clause-fails g c =
-    let stuck = c.if-not-stop_receiving.true in
-    record {
-      told = told_wider c.laws_hold.ensures Commanding Placing c.args.stopped.port _ _ (λ r is. inl is) (FailsToStopReceiving c.args.stopped.port) (c.stop_receiving.ensures.sticks stuck);
-      stuck = c.stop_receiving.ensures.stuck stuck;
-      fre = c.stop_receiving.ensures.fre;
-      bases = c.stop_receiving.ensures.bases;
-    }
+    let stuck = c.if-not-stop_receiving.true in (
+      refl,
+      refl,
+      record {
+        told = told_wider c.laws_hold.ensures Commanding Placing c.args.stopped.port _ _ (λ r is. inl is) (FailsToStopReceiving c.args.stopped.port) (c.stop_receiving.ensures.sticks stuck);
+        stuck = c.stop_receiving.ensures.stuck stuck;
+        fre = c.stop_receiving.ensures.fre;
+        bases = c.stop_receiving.ensures.bases;
+      },
+    )
 
 pub place-requires-clause-usable : goal.place-requires-clause-usable
 place-requires-clause-usable g c =
-    let first = usable_after c.laws_hold.ensures Commanding c.args.stopped.port _ _ (record { on = c.requires.on; there = c.requires.there; agreed = c.requires.agreed }) (c.stop_receiving.ensures.stops c.if-not-stop_receiving.false).followed in
+    let first = usable_after c.laws_hold.ensures Commanding c.args.stopped.port _ _ (record { on = c.requires.may.on; there = c.requires.may.there; agreed = c.requires.may.agreed }) (c.stop_receiving.ensures.stops c.if-not-stop_receiving.false).followed in
     first
 
 pub place-requires-clause-room : goal.place-requires-clause-room
-place-requires-clause-room g c = rw (same_adapter c.laws_hold.ensures Commanding c.args.stopped.port _ _ (c.stop_receiving.ensures.stops c.if-not-stop_receiving.false).followed.driven).size c.requires.room
+place-requires-clause-room g c = rw (same_adapter c.laws_hold.ensures Commanding c.args.stopped.port _ _ (c.stop_receiving.ensures.stops c.if-not-stop_receiving.false).followed.driven).size c.requires.may.room
 
 pub start_receiving-requires-clause-usable : goal.start_receiving-requires-clause-usable
 start_receiving-requires-clause-usable g c =
-    let first = usable_after c.laws_hold.ensures Commanding c.args.stopped.port _ _ (record { on = c.requires.on; there = c.requires.there; agreed = c.requires.agreed }) (c.stop_receiving.ensures.stops c.if-not-stop_receiving.false).followed in
+    let first = usable_after c.laws_hold.ensures Commanding c.args.stopped.port _ _ (record { on = c.requires.may.on; there = c.requires.may.there; agreed = c.requires.may.agreed }) (c.stop_receiving.ensures.stops c.if-not-stop_receiving.false).followed in
     let second = usable_after c.laws_hold.ensures Placing c.args.stopped.port _ _ first c.place.ensures.followed in
     second
 
@@ -49,9 +52,6 @@ returns-clause-receives g c = record {
 
 pub returns-clause-on : goal.returns-clause-on
 returns-clause-on g c =
-    let first = usable_after c.laws_hold.ensures Commanding c.args.stopped.port _ _ (record { on = c.requires.on; there = c.requires.there; agreed = c.requires.agreed }) (c.stop_receiving.ensures.stops c.if-not-stop_receiving.false).followed in
+    let first = usable_after c.laws_hold.ensures Commanding c.args.stopped.port _ _ (record { on = c.requires.may.on; there = c.requires.may.there; agreed = c.requires.may.agreed }) (c.stop_receiving.ensures.stops c.if-not-stop_receiving.false).followed in
     let second = usable_after c.laws_hold.ensures Placing c.args.stopped.port _ _ first c.place.ensures.followed in
     (usable_after c.laws_hold.ensures Commanding c.args.stopped.port _ _ second c.start_receiving.ensures.followed).on
-
-pub returns-then-not-stop_receiving-clause-fault : goal.returns-then-not-stop_receiving-clause-fault
-returns-then-not-stop_receiving-clause-fault g c = search rules

@@ -5,27 +5,23 @@ use Rattle.port_control.proofs.Seeing.{seen_clear, seen_followed, seen_none, see
 use Rattle.port_control.proofs.shows_device.Goals as goal
 
 pub write-requires : goal.write-requires
-write-requires g c = serr_may c.laws_hold.ensures c.args.port 0xffffffff _ (record { on = c.requires.on; there = c.requires.there; agreed = c.requires.agreed })
+write-requires g c = serr_may c.laws_hold.ensures c.args.port 0xffffffff _ c.requires.usable
 
 pub read-requires : goal.read-requires
 read-requires g c =
-    let u = clearing c.laws_hold.ensures c.args.port _ _ (g.A.Adapter.device c.args.adapter.now) (record { on = c.requires.on; there = c.requires.there; agreed = c.requires.agreed }) c.write.ensures.does in
+    let u = clearing c.laws_hold.ensures c.args.port _ _ (g.A.Adapter.device c.args.adapter.now) c.requires.usable c.write.ensures.does in
     (u.on, u.there)
 
 pub returns-clause-on : goal.returns-clause-on
-returns-clause-on g c = seen_on c.laws_hold.ensures c.args.port _ _ _ _ (record { on = c.requires.on; there = c.requires.there; agreed = c.requires.agreed }) c.write.ensures.does c.read.ensures.does
+returns-clause-on g c = seen_on c.laws_hold.ensures c.args.port _ _ _ _ c.requires.usable c.write.ensures.does c.read.ensures.does
 
 pub returns-clause-followed : goal.returns-clause-followed
-returns-clause-followed g c = seen_followed c.laws_hold.ensures c.args.port _ _ _ _ (record { on = c.requires.on; there = c.requires.there; agreed = c.requires.agreed }) c.write.ensures.does c.read.ensures.does
+returns-clause-followed g c = seen_followed c.laws_hold.ensures c.args.port _ _ _ _ c.requires.usable c.write.ensures.does c.read.ensures.does
 
-pub returns-clause-stopped : goal.returns-clause-stopped
-returns-clause-stopped g c = seen_stopped c.laws_hold.ensures c.args.port _ _ _ _ (record { on = c.requires.on; there = c.requires.there; agreed = c.requires.agreed }) c.write.ensures.does c.read.ensures.does
-
-pub returns-clause-clear : goal.returns-clause-clear
-returns-clause-clear g c = seen_clear c.laws_hold.ensures c.args.port _ _ _ _ (record { on = c.requires.on; there = c.requires.there; agreed = c.requires.agreed }) c.write.ensures.does c.read.ensures.does
-
-pub returns-clause-there : goal.returns-clause-there
-returns-clause-there g c = λ is. let device = eqb-true _ _ is in let shown = c.detection.ensures in seen_there c.laws_hold.ensures c.args.port _ _ _ _ (record { on = c.requires.on; there = c.requires.there; agreed = c.requires.agreed }) c.write.ensures.does c.read.ensures.does (omega (arith, device, shown))
-
-pub returns-clause-none : goal.returns-clause-none
-returns-clause-none g c = λ is. let shown = c.detection.ensures in seen_none c.laws_hold.ensures c.args.port _ _ _ _ (record { on = c.requires.on; there = c.requires.there; agreed = c.requires.agreed }) c.write.ensures.does c.read.ensures.does (λ three. absurd (true≢false (sym (eq-eqb _ 3 (omega (arith, three, shown))) ∙ is)))
+pub returns-clause-asks : goal.returns-clause-asks
+returns-clause-asks g c = record {
+  stopped = seen_stopped c.laws_hold.ensures c.args.port _ _ _ _ c.requires.usable c.write.ensures.does c.read.ensures.does;
+  clear = seen_clear c.laws_hold.ensures c.args.port _ _ _ _ c.requires.usable c.write.ensures.does c.read.ensures.does;
+  there = λ is. let device = eqb-true _ _ is in let shown = c.detection.ensures in seen_there c.laws_hold.ensures c.args.port _ _ _ _ c.requires.usable c.write.ensures.does c.read.ensures.does (omega (arith, device, shown));
+  none = λ is. let shown = c.detection.ensures in seen_none c.laws_hold.ensures c.args.port _ _ _ _ c.requires.usable c.write.ensures.does c.read.ensures.does (λ three. absurd (true≢false (sym (eq-eqb _ 3 (omega (arith, three, shown))) ∙ is)));
+}

@@ -1,19 +1,19 @@
 use Rattle.ata_types.specs.declared.limits.TheConstants.{READINGS}
-use Rattle.std.proofs.Common.{◌≡◌, sym, ◌∙◌, arith}
+use Rattle.std.proofs.Common.{◌≡◌, refl, sym, ◌∙◌, arith}
 use Rattle.port_control.proofs.Using.{usable_after}
 use Rattle.port_control.proofs.Ceasing.{stop_may, stop_told, stop_has, falls, falling_on, has_still, fallen, falls_still, told_awaits}
 use Rattle.port_control.proofs.stop.Goals as goal
 use Rattle.port_control.specs.Laws.RegisterSet.{Commanding}
 
 pub write-requires : goal.write-requires
-write-requires g c = stop_may c.laws_hold.ensures _ _ _ _ _ (record { on = c.requires.on; there = c.requires.there; agreed = c.requires.agreed }) c.read.ensures.does c.without_start.ensures.cleared c.without_start.ensures.others
+write-requires g c = stop_may c.laws_hold.ensures _ _ _ _ _ c.requires.usable c.read.ensures.does c.without_start.ensures.cleared c.without_start.ensures.others
 
 pub loop-reading-init : goal.loop-reading-init
 loop-reading-init g c = record {
   known = record {
-    told = stop_told c.laws_hold.ensures _ _ _ _ _ (record { on = c.requires.on; there = c.requires.there; agreed = c.requires.agreed }) c.read.ensures.does c.without_start.ensures.cleared c.without_start.ensures.others _ c.write.ensures.does;
-    usable = usable_after c.laws_hold.ensures Commanding c.args.port _ _ (record { on = c.requires.on; there = c.requires.there; agreed = c.requires.agreed }) (stop_told c.laws_hold.ensures _ _ _ _ _ (record { on = c.requires.on; there = c.requires.there; agreed = c.requires.agreed }) c.read.ensures.does c.without_start.ensures.cleared c.without_start.ensures.others _ c.write.ensures.does).followed;
-    has = stop_has c.laws_hold.ensures _ _ _ _ _ (record { on = c.requires.on; there = c.requires.there; agreed = c.requires.agreed }) c.read.ensures.does c.without_start.ensures.cleared c.without_start.ensures.others _ c.write.ensures.does;
+    told = stop_told c.laws_hold.ensures _ _ _ _ _ c.requires.usable c.read.ensures.does c.without_start.ensures.cleared c.without_start.ensures.others _ c.write.ensures.does;
+    usable = usable_after c.laws_hold.ensures Commanding c.args.port _ _ c.requires.usable (stop_told c.laws_hold.ensures _ _ _ _ _ c.requires.usable c.read.ensures.does c.without_start.ensures.cleared c.without_start.ensures.others _ c.write.ensures.does).followed;
+    has = stop_has c.laws_hold.ensures _ _ _ _ _ c.requires.usable c.read.ensures.does c.without_start.ensures.cleared c.without_start.ensures.others _ c.write.ensures.does;
     low = omega arith;
     high = λ h. absurd (omega (arith, h));
   };
@@ -46,4 +46,4 @@ returns-clause-fails g c =
     let all : c.loop-reading._reading ≡ READINGS = omega arith in
     let low = w.low in
     let high = w.high (omega (arith, all)) in
-    record { told = told_awaits c.laws_hold.ensures 0 15 c.args.port _ all _ _ w.told; stuck = omega (arith, all, low, high) }
+    (refl, record { told = told_awaits c.laws_hold.ensures 0 15 c.args.port _ all _ _ w.told; stuck = omega (arith, all, low, high) })

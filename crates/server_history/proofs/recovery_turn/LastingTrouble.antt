@@ -21,7 +21,9 @@ use Rattle.error_recovery.specs.Evidence.{ShowsTrouble}
 use Rattle.error_recovery.specs.Recovery.{EndsIn, RunsAgain}
 use Rattle.error_recovery.specs.declared.Next.{Next}
 use Rattle.error_recovery.specs.declared.Next.TheVariants as next
-use Rattle.host_boot.specs.Again.{BootsAgain, BootsStopped, EndsReady, IsOfStart}
+use Rattle.host_boot.specs.Again.{BootsAgain, BootsStopped, IsOfStart}
+use Rattle.identify.specs.Wanted.{serial_of}
+use Rattle.port_boot.specs.Outcomes.{EndsReady}
 use Rattle.host_boot.specs.Taken.{found_of, wanted_of}
 use Rattle.host_boot.specs.declared.Booted.{Booted}
 use Rattle.host_boot.specs.declared.Found.{Found}
@@ -115,7 +117,7 @@ module _ (laws : LawsBelow) (port : Port) (low : port.0 < 4) (wanted : Wanted) (
   pub boot_asked_on : IsOn b.asked
   boot_asked_on = laws.of_on port d b.asked on (driven_as (IsOfStart port) (IsOf port) d b.asked (λ access s. (start_part laws port low access s).1) b.asks.driven)
 
-  pub boot_ends : EndsReady wanted port info b.asked mid
+  pub boot_ends : EndsReady (serial_of wanted) port info b.asked mid
   boot_ends = subst (λ (f : Found). BootsStopped wanted port f b.asked mid) found b.boots
 
   abbrev boot_way : GetsReady port b.asked mid

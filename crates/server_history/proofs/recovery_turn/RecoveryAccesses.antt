@@ -29,7 +29,9 @@ use Rattle.driver_history.specs.Trace.{IsDriversOwn, LeavesCommand, ResetsLink}
 use Rattle.error_recovery.specs.Recovery.{IsRecovering}
 use Rattle.error_recovery.specs.declared.Next.{Next}
 use Rattle.error_recovery.specs.declared.Next.TheVariants as next
-use Rattle.host_boot.specs.Again.{BootsAgain, BootsStopped, EndsUnready, IsOfStart}
+use Rattle.host_boot.specs.Again.{BootsAgain, BootsStopped, IsOfStart}
+use Rattle.identify.specs.Wanted.{serial_of}
+use Rattle.port_boot.specs.Outcomes.{EndsUnready}
 use Rattle.host_boot.specs.Taken.{IsSurvey}
 use Rattle.host_boot.specs.declared.Booted.{Booted}
 use Rattle.host_boot.specs.declared.Found.{Found}
@@ -173,7 +175,7 @@ module _ (laws : LawsBelow) (port : Port) (low : port.0 < 4) (wanted : Wanted) (
       lives : (state : Shown) → state ≢ DeadState → Unready state ≡ Unready DeadState → ⊥
       lives state other is = other (let z : Unready state ≡ Unready DeadState = is in cc)
 
-      unready : (state : Shown) → EndsUnready wanted port state b.asked new → AfterList port trouble (next.Restart token) (Unready state) old new
+      unready : (state : Shown) → EndsUnready (serial_of wanted) port state b.asked new → AfterList port trouble (next.Restart token) (Unready state) old new
       unready shown.Dead x = ⊎_elim
           (λ (told : IsBoot (Sticks port) port b.asked new). boot_list token old b.asked new b.asks (λ uses. uses) told.followed (Unready DeadState) told.followed.driven (λ _. told.tells) (λ _. x.ended.1) (λ lives. absurd (lives refl)))
           (λ (told : IsToldTo (Sticks port) (IsOfBoot port) (λ uses. AllFree uses port.0) (λ uses. put uses port.0 0 (Own Identify)) b.asked new).

@@ -20,7 +20,8 @@ use Rattle.block_machine.specs.Events.{ShowsDisk}
 use Rattle.driver_history.specs.Evidence.{Gains, ShowsChange}
 use Rattle.driver_history.specs.Histories.{IsFreshOrUnshown}
 use Rattle.driver_history.specs.Trace.{ResetsLink}
-use Rattle.host_boot.specs.Again.{BootsStopped, EndsUnready}
+use Rattle.host_boot.specs.Again.{BootsStopped}
+use Rattle.port_boot.specs.Outcomes.{EndsUnready}
 use Rattle.host_boot.specs.declared.Found.{Found}
 use Rattle.host_boot.specs.declared.Found.TheVariants.{Ready, Unready, Unserved}
 use Rattle.identify.specs.Wanted.{serial_of}
@@ -142,7 +143,7 @@ module _ (wanted : Wanted) (port : Port) (old new : Device) where
   late_clear : EndsLate port old new → LeavesClear
   late_clear e = record { clear = e.clear; undue = λ none. e.undue }
 
-  unready_clear : (state : Shown) → EndsUnready wanted port state old new → ShowsDisk state → LeavesClear
+  unready_clear : (state : Shown) → EndsUnready (serial_of wanted) port state old new → ShowsDisk state → LeavesClear
   unready_clear Absent x shows = absurd shows
   unready_clear Dead x shows = absurd shows
   unready_clear ReadyState x shows = absurd x.ended

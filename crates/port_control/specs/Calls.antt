@@ -1,0 +1,109 @@
+-- When the calls of this crate may be made of a port, and what they do (AHCI 1.3.1, 3.3, 6.2.2 and 10).
+use Rattle.std.specs.Prelude.{ℕ, Bool, true, false, ◌≡◌, ◌≢◌, ◌≤◌, ◌%◌, length}
+use Rattle.ata_types.specs.declared.Port.{Port}
+use Rattle.ata_types.specs.declared.limits.TheConstants.{READINGS}
+use Rattle.ata_types.specs.declared.memory.TheConstants.{DRIVER_BYTES}
+use Rattle.adapter.specs.Device.{Device}
+use Rattle.adapter.specs.Rules.{IsOn, HasPort}
+use Rattle.agreement.specs.Driven.{AgreesWith, AnyUse}
+use Rattle.agreement.specs.Driver.{AllFree}
+use Rattle.agreement.specs.Errors.{NoneComes, ChangesByDisks}
+use Rattle.agreement.specs.Facts.{IsQuiet, IsRecorded}
+use Rattle.agreement.specs.Links.{PlugsNone}
+use Rattle.agreement.specs.Recovering.{IsLinked, RunsLinked}
+use Rattle.agreement.specs.Started.{IsUp, IsComingUp, IsStarted}
+use Rattle.port_control.specs.Ports.{FindsSignature, HasClearErrors, IsFound, IsRunning, IsStopped, Looks, ReceivesFises, SameBeside, SameButStart, SawDevice, SawIdle, Shows, ShowsSignature, WasReset}
+use Rattle.port_control.specs.declared.PortFault.{PortFault}
+use Rattle.port_control.specs.declared.PortFault.TheVariants.{NoDevice, EngineStuck, NotAta}
+
+-- ---- to receive FISes
+
+-- A port may be set to receive FISes: it is stopped, and memory has room for the driver's areas (AHCI 1.3.1, 10.1.2 and
+-- 10.3.2).
+pub record MayBeginReceiving (port : Port) (d : Device) : Type 0 where
+  pub on : IsOn d
+  pub there : HasPort d port.0
+  pub agreed : AgreesWith AnyUse d
+  pub stopped : IsStopped (d.port port.0)
+  pub room : DRIVER_BYTES ≤ d.size
+
+-- Whether it receives FISes then or not: it is stopped still, and what else the driver knows of it is as it was.
+pub record StaysStopped (port : Port) (old new : Device) : Type 0 where
+  pub stopped : IsStopped (new.port port.0)
+  pub same : SameBeside (old.port port.0) (new.port port.0)
+
+-- ---- errors, and devices that go and come
+
+-- A port may forget its errors: it is stopped and receives FISes, and no COMRESET is under way (AHCI 1.3.1, 6.2.2).
+pub record MayForget (port : Port) (d : Device) : Type 0 where
+  pub on : IsOn d
+  pub there : HasPort d port.0
+  pub agreed : AgreesWith AnyUse d
+  pub receives : ReceivesFises port.0 (d.port port.0)
+  pub undue : (d.port port.0).link_due ≡ false
+  pub det : (d.port port.0).sctl_det ≡ 0
+
+-- Whether a device shows in a port was asked, and PxSERR cleared before: one is there with a link; or none was seen,
+-- as after 64 readings that found none. A stopped port is stopped still (AHCI 1.3.1, 3.3.10 and 3.3.12).
+pub record AsksForDevice (port : Port) (found : Bool) (old new : Device) : Type 0 where
+  pub stopped : IsStopped (old.port port.0) → IsStopped (new.port port.0)
+  pub clear : (old.port port.0).link_due ≡ false → HasClearErrors port.0 old new
+  pub there : found ≡ true → (new.port port.0).ssts_det ≡ 3
+  pub none : found ≡ false → (old.port port.0).notes.link_count ≡ READINGS → Shows NoDevice (new.port port.0).notes
+
+-- ---- COMRESET
+
+-- A port's link may be reset: it is stopped, and receives FISes (AHCI 1.3.1, 10.4.2).
+pub record MayResetLink (port : Port) (d : Device) : Type 0 where
+  pub on : IsOn d
+  pub there : HasPort d port.0
+  pub agreed : AgreesWith AnyUse d
+  pub receives : ReceivesFises port.0 (d.port port.0)
+
+-- Whatever was found then: it receives FISes still; and where no disk came meanwhile, its link is coming up, or is up.
+pub record ResetsLink (port : Port) (old new : Device) : Type 0 where
+  pub receives : ReceivesFises port.0 (new.port port.0)
+  pub coming : NoneComes port.0 old new → IsComingUp (new.port port.0)
+
+-- COMRESET was sent, and an ATA disk was found that is idle, as the readings since showed (AHCI 1.3.1, 10.1.2 and
+-- 10.4.2).
+pub record FindsDisk (port : Port) (old new : Device) : Type 0 where
+  pub reset : WasReset port (FindsSignature port 0x101) old new
+  pub ready : let notes = (new.port port.0).notes in SawDevice notes × SawIdle notes × (notes.last_sig ≡ 0x101)
+  pub found : IsFound port.0 old new
+  pub signature : ShowsSignature (new.port port.0)
+
+-- COMRESET was sent, and the readings since showed this fault in place of such a disk.
+pub record FindsFault (port : Port) (told : PortFault) (old new : Device) : Type 0 where
+  pub reset : WasReset port (Looks port told) old new
+  pub fault : Shows told (new.port port.0).notes × (told ≢ EngineStuck)
+  pub found : told ≢ NoDevice → IsFound port.0 old new
+  pub signature : (signature : ℕ) → told ≡ NotAta signature → ShowsSignature (new.port port.0)
+
+-- ---- to work on the command list
+
+-- A port may be started: it is stopped and receives FISes, none of its slots is used, and the last readings showed a
+-- device with a link, neither busy nor asking for a transfer (AHCI 1.3.1, 10.3.1).
+pub record MayBeStarted (port : Port) (d : Device) : Type 0 where
+  pub on : IsOn d
+  pub there : HasPort d port.0
+  pub agreed : AgreesWith (λ uses. AllFree uses port.0) d
+  pub receives : ReceivesFises port.0 (d.port port.0)
+  pub linked : (d.port port.0).notes.last_ssts % 16 ≡ 3
+  pub idle : SawIdle (d.port port.0).notes
+
+-- It was started: it runs, ST was set last of all, and what was read before is as it was. Its link is up as it was
+-- before, where no disk went or came; no cause is told that wasn't; and what had no error has none, but for disks that
+-- went or came (AHCI 1.3.1, 10.3.1).
+pub record Starts (port : Port) (old new : Device) : Type 0 where
+  pub runs : IsRunning port.0 (new.port port.0)
+  pub same : SameButStart (old.port port.0) (new.port port.0)
+  pub set : (new.port port.0).notes.st_set_at ≡ length new.tape
+  pub marked : (old.port port.0).notes.sctl_written_at ≤ length old.tape
+      → (new.port port.0).notes.sctl_written_at ≤ length new.tape
+  pub well : IsUp (old.port port.0) → PlugsNone port.0 old new → IsStarted (new.port port.0)
+  pub linked : IsLinked (old.port port.0) → PlugsNone port.0 old new → RunsLinked (new.port port.0)
+  pub recorded : IsQuiet (old.port port.0) → IsRecorded new.tape (new.port port.0) port.0
+  pub calm : (place : ℕ) → (old.port port.0).is place ≡ false → (new.port port.0).is place ≡ false
+  pub undue : (old.port port.0).link_due ≡ false → (new.port port.0).link_due ≡ false
+  pub changes : (old.port port.0).link_due ≡ false → ChangesByDisks port.0 old new
