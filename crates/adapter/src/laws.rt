@@ -22,8 +22,7 @@ ghost use Rattle.adapter.specs.Pending.{LeavesEnabled, LeavesPending, SetsCause,
 ghost use Rattle.adapter.specs.Rules.{HasPort, IsOn, IsFree, Stays};
 ghost use Rattle.adapter.specs.Says.{Says, cut};
 ghost use Rattle.adapter.specs.Seen.{PutAt, SeenAt};
-ghost use Rattle.adapter.specs.Steps.{Can, Step, Steps, after, done_entry};
-ghost use Rattle.adapter.specs.declared.command.Operation.{Operation};
+ghost use Rattle.adapter.specs.Steps.{Can, Step, Steps, after};
 ghost use Rattle.adapter.specs.declared.tape.Entry.{Entry};
 
 /// The device may do nothing, and what it does goes on.

@@ -1,4 +1,5 @@
-// What the device did, as its tape tells it. Entries are named as the steps that leave them.
+// What the device did, as its tape tells it. Entries are named as the steps that leave them. Wide fields stand first:
+// an entry has 24 bytes so.
 use crate::command::{Direction, Operation};
 use ata_types::{Port, Slot};
 use std::snapshot::Snapshot;
@@ -6,12 +7,12 @@ use std::snapshot::Snapshot;
 /// 512 bytes that a command moved between disk and memory.
 #[derive(Drop)]
 pub struct Move {
-    pub port: Port,
-    pub slot: Slot,
-    pub operation: Operation,
     /// 0 where the command names no sectors.
     pub sector: u64,
     pub address: u32,
+    pub port: Port,
+    pub slot: Slot,
+    pub operation: Operation,
     pub direction: Direction,
     /// For contracts alone: nothing is kept of them when the program runs.
     pub bytes: Snapshot<[u8; 512]>,
@@ -20,10 +21,10 @@ pub struct Move {
 /// Sectors that a trim has made zero.
 #[derive(Clone, Copy, Debug, PartialEq, Eq)]
 pub struct Clear {
-    pub port: Port,
-    pub slot: Slot,
     pub first: u64,
     pub count: u32,
+    pub port: Port,
+    pub slot: Slot,
 }
 
 /// A command that ended without error.

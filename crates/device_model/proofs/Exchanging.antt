@@ -1,15 +1,16 @@
 -- What a disk and the memory exchange, where it stands in memory.
-use Rattle.std.proofs.Common.{ℕ, ◌≡◌, ◌<◌, ◌≤◌, ◌+◌, Bool, true, false, List, [], ◌∷◌, ◌++◌, length, take, drop, sym}
-use Rattle.std.proofs.Common.{◌∙◌, ap, subst, arith, length-take, length-drop}
+use Rattle.std.proofs.Common.{ℕ, ◌≡◌, ◌<◌, ◌≤◌, ◌+◌, ◌-◌, ◌*◌, Bool, true, false, Some, List, [], ◌∷◌, ◌++◌, length, take, drop, sym}
+use Rattle.std.proofs.Common.{◌∙◌, ap, subst, arith, get_or-set_same, length-take, length-drop, slice_index}
 use Rattle.std.specs.Prelude.{if◌then◌else◌, slice_index_or, slice_set}
 use Rattle.std.specs.Global.{Vec}
 use Rattle.std.specs.Vec.{with_items}
 use Rattle.std.proofs.Math.Seq.{drop-append_seam, take-append_seam}
 use Rattle.std.proofs.lemmas.List.{drop-drop, take-append-drop, with_items_is}
-use Rattle.adapter.specs.Commands.{direction_of, reads_memory}
+use Rattle.adapter.specs.Commands.{direction_of, is_ranged, reads_memory}
 use Rattle.adapter.specs.Device.{Device}
 use Rattle.adapter.specs.Memory.{patched}
-use Rattle.adapter.specs.Steps.{after, with_move}
+use Rattle.adapter.specs.Says.{pieces}
+use Rattle.adapter.specs.Steps.{IsWorking, after, next_sector, with_move}
 use Rattle.adapter.specs.Steps.Step.{Move}
 use Rattle.adapter.specs.declared.command.Direction.{Direction}
 use Rattle.adapter.specs.declared.command.Operation.{Operation}
@@ -19,7 +20,7 @@ use Rattle.device_model.specs.Exchanged.{IsExchanged, piece_of}
 use Rattle.device_model.specs.Fetched.{bytes_of}
 use Rattle.device_model.specs.Finishing.{HasRoom}
 use Rattle.device_model.specs.Slots.{HoldsAt, IsNext}
-use Rattle.device_model.specs.View.{blank, media_after, operation_of, port_of, taken_of}
+use Rattle.device_model.specs.View.{blank, held_in, media_after, operation_of, port_of, taken_of}
 use Rattle.device_model.specs.Whole.{Outside, device_of, outside_after}
 use Rattle.device_model.specs.declared.hardware.Hardware.{Hardware}
 use Rattle.device_model.specs.declared.port.PortModel.{PortModel}
@@ -27,6 +28,7 @@ use Rattle.device_model.specs.declared.port.TakenCommand.{TakenCommand}
 use Rattle.device_model.specs.declared.steps.NextMove.{NextMove}
 use Rattle.device_model.proofs.Absurd.{fun_ext}
 use Rattle.device_model.proofs.Bytes.{bytes_at-list, put_length, put_reads}
+use Rattle.device_model.proofs.SlotLemmas.{slot_taken}
 use Rattle.device_model.proofs.Stepping.{moved_by, port_moves}
 
 -- a list with these bytes in the place of so many
@@ -172,7 +174,91 @@ next_over {old} {h} {next} {t} port slot is at = record {
   sector_is = at.sector_is;
   address_is = at.address_is;
   inside = let size = is.size in let inside = at.inside in omega (arith, size, inside);
+  behind = record {
+    places = at.behind.places;
+    room = at.behind.room;
+    inside = let size = is.size in let inside = at.behind.inside in omega (arith, size, inside);
+    ranged = at.behind.ranged;
+  };
 }
+
+-- it is the next one still, where the tape has grown
+pub next_grown : {old h : Hardware} {next : NextMove} {t : TakenCommand} → (port slot : ℕ) → h ≡ record old { tape = h.tape } →
+    IsNext old port slot next t → IsNext h port slot next t
+next_grown {old} {h} {next} {t} port slot is at =
+    let size : length h.memory.items ≡ length old.memory.items = ap (λ (x : Hardware). length x.memory.items) is in
+    record {
+      holds = subst (λ (x : Hardware). HoldsAt (slice_index_or x.ports port blank) slot t) (sym is) at.holds;
+      left = at.left;
+      room = at.room;
+      transfer_is = at.transfer_is;
+      sector_is = at.sector_is;
+      address_is = at.address_is;
+      inside = let inside = at.inside in omega (arith, size, inside);
+      behind = record {
+        places = at.behind.places;
+        room = at.behind.room;
+        inside = let inside = at.behind.inside in omega (arith, size, inside);
+        ranged = at.behind.ranged;
+      };
+    }
+
+-- the sector that a command names next, once one more piece is moved
+one_further : (t : TakenCommand) (sector : ℕ) → is_ranged (operation_of t.transfer) ≡ true → sector ≡ next_sector (taken_of t) →
+    sector + 1 ≡ next_sector (taken_of (record t { moved = t.moved + 1 }))
+one_further t sector ranged is =
+    let was : next_sector (taken_of t) ≡ t.first + t.moved = ap (λ (b : Bool). if b then t.first + t.moved else 0) ranged in
+    let now : next_sector (taken_of (record t { moved = t.moved + 1 })) ≡ t.first + (t.moved + 1) =
+    ap (λ (b : Bool). if b then t.first + (t.moved + 1) else 0) ranged in
+    omega (arith, is, was, now)
+
+-- once the next piece of a command is noted, the one behind it is next
+pub next_after : (old : Hardware) (p port slot : ℕ) (next : NextMove) (t : TakenCommand) (new : PortModel) (tape : Vec Entry) (starved : Bool) →
+    IsNext old port slot next t → 1 ≤ next.behind → p ≡ port → p < length old.ports →
+    new ≡ record (slice_index_or old.ports p blank) { taken = new.taken } →
+    held_in new.taken slot ≡ Some (record t { moved = t.moved + 1 }) →
+    IsNext (record old { ports = slice_set old.ports p new; tape = tape; starved = starved }) port slot
+    (record next { sector = next.sector + 1; address = next.address + 512; behind = next.behind - 1 })
+    (record t { moved = t.moved + 1 })
+next_after old p port slot next t new tape starved at some e small same held =
+    let u : TakenCommand = record t { moved = t.moved + 1 } in
+    let there : slice_index_or (slice_set old.ports p new) port blank ≡ new =
+    ap (λ k. slice_index_or (slice_set old.ports p new) k blank) (sym e) ∙ get_or-set_same old.ports p new blank small in
+    let inside = at.behind.inside in
+    let one = at.behind.places 1 some in
+    record {
+      holds = subst (λ (x : PortModel). HoldsAt x slot u) (sym there)
+          (record {
+            held = held;
+            works = λ m.
+                let was = (at.holds.works m).working in
+                let P : PortModel → Type 0 = λ x. IsWorking (port_of x m) (operation_of t.transfer) in
+                let here : PortModel = slice_index_or old.ports port blank in
+                let is : new ≡ record here { taken = new.taken } =
+                same ∙ ap (λ k. record (slice_index_or old.ports k blank) { taken = new.taken }) e in
+                record {
+                  taken = slot_taken (held_in new.taken) u slot held;
+                  working = subst P (sym is)
+                      (record { running = was.running; present = was.present; fresh = was.fresh; admitted = was.admitted; whole = was.whole });
+                };
+          });
+      left = one.0;
+      room = let room = at.behind.room in omega (arith, room, some);
+      transfer_is = at.transfer_is;
+      sector_is = one_further t next.sector (at.behind.ranged some) at.sector_is;
+      address_is = sym one.1;
+      inside = omega (arith, inside, some);
+      behind = record {
+        places = λ k few.
+            let on = at.behind.places (k + 1) (omega (arith, few, some)) in
+            let place : t.moved + 1 + k ≡ t.moved + (k + 1) = omega arith in
+            let far : next.address + 512 * (k + 1) ≡ next.address + 512 + 512 * k = omega arith in
+            (let lt = on.0 in omega (arith, lt), ap (λ j. slice_index (pieces t.prds) j) place ∙ (on.1 ∙ far));
+        room = let room = at.behind.room in omega (arith, room, some);
+        inside = omega (arith, inside, some);
+        ranged = λ _. at.behind.ranged some;
+      };
+    }
 
 -- the tape has the memory that it had
 pub room_over : {old h : Hardware} {next : NextMove} → (n : ℕ) → IsExchanged old h next → HasRoom old n → HasRoom h n

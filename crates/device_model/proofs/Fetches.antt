@@ -94,6 +94,10 @@ before_more xs i number left e small is past most b =
       bound = omega (arith, b.bound, most, length-append b.front front, cut_length e.address (e.bytes / 512));
     }
 
+-- and in front of a later one
+pub before_on : (xs : List Prd) (i number left k : ℕ) → IsBefore xs i number left → IsBefore xs i (number + k) (left + k)
+before_on xs i number left k b = record { front = b.front; split = b.split; sum = omega (arith, b.sum); bound = b.bound }
+
 -- one of the pieces of this one
 pub before_here : (xs : List Prd) (i number left : ℕ) (e : Prd) → i < length xs → e ≡ slice_index_or xs i no_prd → left < e.bytes / 512 →
     IsBefore xs i number left → (number < length (pieces xs)) × (e.address + 512 * left ≡ slice_index (pieces xs) number)

@@ -1,5 +1,6 @@
 -- What a port may do with its slots.
-use Rattle.std.specs.Prelude.{ℕ, true, ◌≡◌, ◌+◌, ◌^◌, ◌<◌, ◌≤◌, Some, length, slice_index, slice_index_or}
+use Rattle.std.specs.Prelude.{ℕ, true, ◌≡◌, ◌+◌, ◌*◌, ◌^◌, ◌<◌, ◌≤◌, Some, length, slice_index, slice_index_or}
+use Rattle.adapter.specs.Commands.{is_ranged}
 use Rattle.adapter.specs.Device.{PortState}
 use Rattle.adapter.specs.Says.{pieces}
 use Rattle.adapter.specs.Steps.{IsFetchable, IsWorking, IsAlone, WorksOn, admits, next_sector}
@@ -51,6 +52,15 @@ pub record IsNextRun (h : Hardware) (port slot most : ℕ) (run : Run) (t : Take
   pub count_is : run.count ≡ span most (taken_of t)
   pub fits : t.cleared + run.count < 2 ^ 32
 
+-- So many pieces of this command follow its next one in their region, each with a place in a memory of this size: none,
+-- unless it names sectors.
+pub record AreBehind (size : ℕ) (next : NextMove) (t : TakenCommand) : Type 0 where
+  pub places : (k : ℕ) → k ≤ next.behind → (t.moved + k < length (pieces t.prds))
+      × (slice_index (pieces t.prds) (t.moved + k) ≡ next.address + 512 * k)
+  pub room : t.moved + next.behind + 1 < 2 ^ 32
+  pub inside : next.address + 512 * next.behind + 512 ≤ size
+  pub ranged : 1 ≤ next.behind → is_ranged (operation_of t.transfer) ≡ true
+
 -- the next piece of this command goes to or from this address, and is this sector, if it is one
 pub record IsNext (h : Hardware) (port slot : ℕ) (next : NextMove) (t : TakenCommand) : Type 0 where
   pub holds : HoldsAt (slice_index_or h.ports port blank) slot t
@@ -60,3 +70,4 @@ pub record IsNext (h : Hardware) (port slot : ℕ) (next : NextMove) (t : TakenC
   pub sector_is : next.sector ≡ next_sector (taken_of t)
   pub address_is : next.address ≡ slice_index (pieces t.prds) t.moved
   pub inside : next.address + 512 ≤ length h.memory.items
+  pub behind : AreBehind (length h.memory.items) next t

@@ -326,6 +326,39 @@ pub fn count_pieces(prds: &[Prd]) -> u32
     count
 }
 
+/// Where a piece goes to or comes from.
+#[derive(Clone, Copy, Debug)]
+pub struct PiecePlace {
+    pub address: u64,
+    /// How many pieces stand behind it in its region.
+    pub behind: u32,
+}
+
+/// The place of a piece, if PRDs have so many.
+pub fn place_at(prds: &[Prd], number: u32) -> Option<PiecePlace>
+    requires { length prds.now ≤ MOST_REQUEST_FRAMES }
+    ensures found { IfSome result (λ place. (number < length (pieces prds.now))
+        × (place.address ≡ slice_index (pieces prds.now) number)) }
+    ensures behind { IfSome result (λ place. (k : ℕ) → k ≤ place.behind → (number + k < length (pieces prds.now))
+        × (slice_index (pieces prds.now) (number + k) ≡ place.address + 512 * k)) }
+    ensures room { IfSome result (λ place. number + place.behind + 1 < 2 ^ 32) }
+    ensures low { IfSome result (λ place. place.address < 2 ^ 33) }
+    ensures none { result ≡ None → length (pieces prds.now) ≤ number }
+{
+    let mut left = number;
+    for prd in prds {
+        let here = prd.bytes / 512;
+        if left < here {
+            return Some(PiecePlace {
+                address: u64::from(prd.address) + 512 * u64::from(left),
+                behind: here - left - 1,
+            });
+        }
+        left -= here;
+    }
+    None
+}
+
 /// The address of a piece, if PRDs have so many.
 pub fn piece_at(prds: &[Prd], number: u32) -> Option<u64>
     requires { length prds.now ≤ MOST_REQUEST_FRAMES }
@@ -335,15 +368,8 @@ pub fn piece_at(prds: &[Prd], number: u32) -> Option<u64>
     ensures low { IfSome result (λ address. address < 2 ^ 33) }
     ensures none { result ≡ None → length (pieces prds.now) ≤ number }
 {
-    let mut left = number;
-    for prd in prds {
-        let here = prd.bytes / 512;
-        if left < here {
-            return Some(u64::from(prd.address) + 512 * u64::from(left));
-        }
-        left -= here;
-    }
-    None
+    let place = place_at(prds, number)?;
+    Some(place.address)
 }
 
 /// Reads the command that a slot says by these bytes of its header and its FIS, and by its PRDs; `false` says that it

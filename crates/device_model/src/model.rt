@@ -20,6 +20,8 @@ ghost use Rattle.device_model.specs.Does.{AnswersStep, Completes, GoesOnSo, HasC
 ghost use Rattle.device_model.specs.Tells.{disks_told};
 ghost use Rattle.device_model.specs.Queue.{BeginsAccess, DoesRead, DoesThen};
 ghost use Rattle.device_model.specs.Modelled.{IsNewBay, IsNewMedia, IsNewModel, all_given_tell, all_tell, cap_of, device_at, given_tell, media_of, tells};
+ghost use Rattle.device_model.specs.Slots.{IsNext};
+ghost use Rattle.device_model.specs.declared.port.TakenCommand.{TakenCommand};
 ghost use Rattle.device_model.specs.Settled.{SendsPages, IsSettled, LeadsOwn, LeavesOne, NoneIsLeft};
 ghost use Rattle.device_model.specs.Trims.{span, written_ahead};
 ghost use Rattle.device_model.specs.Whole.{HasDisks, HasRegister};
@@ -30,7 +32,7 @@ use crate::config::{ModelConfig, NoMemory};
 use crate::disks::{Disks, PortDisks, Which};
 use crate::hardware::Hardware;
 use crate::port::{PortModel, Transfer};
-use crate::steps::{Begun, FoundPage};
+use crate::steps::{Begun, FoundPage, NextMove};
 use adapter::{Accesses, Adapter, DeviceStep, DiskNumber, DiskPage, Entry, FatalError, Stepped};
 use ata_types::{FEWEST_FRAMES, FRAME_BYTES, MOST_FRAMES, PORTS, Port, Slot};
 use hba_regs::Reg;
@@ -356,11 +358,12 @@ impl<S: SectorStore> Model<S> {
 
     /// Moves the next piece of a slot's command, or fails it, if that is a sector on which the store fails, or one past
     /// the disk. Where a sector is written, what it holds is kept before, if the disks have a cache. The memory is
-    /// taken to end at 4 GiB. It is entered for each sector, so it stands in its callers' code, with what it calls for
-    /// each.
+    /// taken to end at 4 GiB. The move may be known; the one after it is told then. It is entered for each sector, so
+    /// it stands in its callers' code, with what it calls for each.
     #[inline(always)]
-    fn move_piece(&mut self, port: Port, slot: Slot) -> Outcome
-        requires { slot.0 < 32 }
+    fn move_piece(&mut self, port: Port, slot: Slot, known: &mut Option<NextMove>) -> Outcome
+        requires small { slot.0 < 32 }
+        requires known { IfSome known.old (λ n. (t : TakenCommand) × IsNext self.old.hardware port.0 slot.0 n t) }
         ensures answers { AnswersStep S.size S.told S.failures (DeviceStep.Move port slot) (answer_of result) self.old
             self.new }
         ensures whole { result ≡ Outcome.Done → Completes S.size S.told S.failures (DeviceStep.Move port slot) self.old
@@ -376,6 +379,8 @@ impl<S: SectorStore> Model<S> {
             → sends_page t.meaning.operation ≡ true →
             result ≡ Outcome.Left → HasMove (device_at S.size S.told self.old) port.0 slot.0 t → next_place t < 2 ^ 32
             → HasRoom self.old.hardware 1 → ⊥ }
+        ensures known { result ≡ Outcome.Done
+            → IfSome known.new (λ n. (t : TakenCommand) × IsNext self.new.hardware port.0 slot.0 n t) }
     {
         let place = usize::from(port.0);
         if place >= PORTS || !has_disks(self.bays.as_slice(), place) {
@@ -383,7 +388,7 @@ impl<S: SectorStore> Model<S> {
         }
         // A sector that was written can't be taken back, so the memory of its entry is found first.
         let room = self.hardware.reserve(1);
-        let Some(next) = self.hardware.next_move(port.0, slot.0) else {
+        let Some(next) = self.hardware.next_move(port.0, slot.0, *known) else {
             return Outcome::Left;
         };
         if !room {
@@ -405,7 +410,7 @@ impl<S: SectorStore> Model<S> {
             let _failed = self.fail(port, slot, STORE_FAILED, false);
             return Outcome::Failed;
         }
-        self.hardware.note_move(port.0, slot.0, next);
+        *known = self.hardware.note_move(port.0, slot.0, next);
         Outcome::Done
     }
 
@@ -415,7 +420,7 @@ impl<S: SectorStore> Model<S> {
         requires { slot.0 < 32 }
         ensures { AnswersStep S.size S.told S.failures (DeviceStep.Move port slot) result self.old self.new }
     {
-        self.move_piece(port, slot).is_told()
+        self.move_piece(port, slot, &mut None).is_told()
     }
 
     /// Clears the next sectors of a slot's trim, so many at the most: those that follow one another. It fails on the
@@ -494,8 +499,9 @@ impl<S: SectorStore> Model<S> {
             return false;
         };
         let mut did = was_taken;
+        let mut known = None;
         for _piece in 0..rest.left {
-            match self.move_piece(port, slot) {
+            match self.move_piece(port, slot, &mut known) {
                 Outcome::Left => return did,
                 Outcome::Failed => return true,
                 Outcome::Done => did = true,

@@ -46,9 +46,12 @@ pub struct Readings {
 }
 
 /// The commands that the model takes: sectors that go between disk and memory, the pages of IDENTIFY DEVICE and READ
-/// LOG EXT, the block of a trim, and FLUSH CACHE EXT, which moves nothing.
+/// LOG EXT, the block of a trim, and FLUSH CACHE EXT, which moves nothing. They stand in the order of `Operation`, so
+/// that the one is told from the other at once.
 #[derive(Clone, Copy, Debug)]
 pub enum Transfer {
+    /// IDENTIFY DEVICE.
+    Identify,
     /// READ DMA EXT.
     Read,
     /// WRITE DMA EXT.
@@ -57,8 +60,6 @@ pub enum Transfer {
     ReadQueued,
     /// WRITE FPDMA QUEUED.
     WriteQueued,
-    /// IDENTIFY DEVICE.
-    Identify,
     /// FLUSH CACHE EXT.
     Flush,
     /// DATA SET MANAGEMENT with TRIM.

@@ -58,9 +58,12 @@ impl PortModel {
         requires slot { slot < 32 }
         requires held { (t : TakenCommand) × (held_in self.old.taken slot ≡ Some t) × (t.transfer ≡ transfer)
             × (t.moved + 1 < 2 ^ 32) }
-        ensures { (m : Media) (t : TakenCommand) → held_in self.old.taken slot ≡ Some t →
+        ensures moved { (m : Media) (t : TakenCommand) → held_in self.old.taken slot ≡ Some t →
             port_of self.new (media_after m (taken_of t) bytes.now) ≡ with_move (port_of self.old m) slot (taken_of t)
             bytes.now }
+        ensures held { (t : TakenCommand) → held_in self.old.taken slot ≡ Some t → (transfer ≡ Transfer.Trim → ⊥) →
+            held_in self.new.taken slot ≡ Some (record t { moved = t.moved + 1 }) }
+        ensures rest { self.new ≡ record self.old { taken = self.new.taken } }
     {
         if transfer.is_trim() {
             self.taken.add_block(slot, bytes);

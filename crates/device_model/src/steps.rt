@@ -1,5 +1,5 @@
 // Steps that the hardware does when it is told.
-ghost use Rattle.std.specs.Prelude.{◌≡◌, ◌↔◌, IsTrue, ◌<◌, ◌≤◌, ◌+◌, ◌^◌, ◌++◌, ◌∷◌, [], true, false, ℕ, List, None, Some, IfSome, IsSomeAnd, if◌then◌else◌, length, nat_eq, slice_index, slice_index_or};
+ghost use Rattle.std.specs.Prelude.{◌≡◌, ◌↔◌, IsTrue, ◌<◌, ◌≤◌, ◌+◌, ◌-◌, ◌*◌, ◌^◌, ◌++◌, ◌∷◌, [], true, false, ℕ, List, None, Some, IfSome, IsSomeAnd, if◌then◌else◌, length, nat_eq, slice_index, slice_index_or};
 ghost use Rattle.std.specs.Vec.{vec_len, vec_capacity};
 ghost use Rattle.adapter.specs.Commands.{Meaning, is_queued, is_ranged, reads_memory};
 ghost use Rattle.adapter.specs.Device.{Disk, Taken};
@@ -22,7 +22,8 @@ ghost use Rattle.device_model.specs.declared.port.TakenCommand.{TakenCommand};
 
 use crate::cache::Cache;
 use crate::fetch::{
-    count_pieces, may_say_page, piece_at, read_command, read_into, read_page, says_command,
+    PiecePlace, count_pieces, may_say_page, place_at, read_command, read_into, read_page,
+    says_command,
 };
 use crate::hardware::Hardware;
 use crate::port::{TakenCommand, Transfer};
@@ -41,6 +42,9 @@ pub struct NextMove {
     pub transfer: Transfer,
     pub sector: u64,
     pub address: u32,
+    /// How many pieces behind it can be moved without a look for their places: those of its region, where the command
+    /// names sectors.
+    pub behind: u32,
 }
 
 /// What is left of a command, but for its end: so many moves, and then so many clears.
@@ -75,6 +79,42 @@ impl NextMove {
         ensures { IsTrue result ↔ (is_ranged (operation_of self.transfer) ≡ true → self.sector < sectors) }
     {
         !self.transfer.is_ranged() || self.sector < sectors
+    }
+
+    /// The move of the piece behind it, if that needs no look.
+    fn after(self) -> Option<NextMove>
+        ensures { IfSome result (λ n. (1 ≤ self.behind) × (n ≡ record {
+          transfer = self.transfer;
+          sector = self.sector + 1;
+          address = self.address + 512;
+          behind = self.behind - 1;
+        })) }
+    {
+        let behind = self.behind.checked_sub(1)?;
+        let sector = self.sector.checked_add(1)?;
+        let address = self.address.checked_add(512)?;
+        Some(NextMove {
+            transfer: self.transfer,
+            sector,
+            address,
+            behind,
+        })
+    }
+}
+
+/// How many pieces behind one can be moved without a look for their places: all of its region, where such a command
+/// names sectors, and each has its place in a memory of this size; and else none.
+fn behind(transfer: Transfer, place: PiecePlace, size: usize) -> u32
+    requires { place.address < 2 ^ 33 }
+    ensures few { result ≤ place.behind }
+    ensures inside { place.address + 512 ≤ size → place.address + 512 * result + 512 ≤ size }
+    ensures ranged { 1 ≤ result → is_ranged (operation_of transfer) ≡ true }
+{
+    let end = place.address + 512 * u64::from(place.behind) + 512;
+    if transfer.is_ranged() && end <= size as u64 {
+        place.behind
+    } else {
+        0
     }
 }
 
@@ -344,8 +384,28 @@ impl Hardware {
         None
     }
 
-    /// The next move of a slot's command, if one is left and its place is in the memory.
-    pub fn next_move(&self, port: u8, slot: u8) -> Option<NextMove>
+    /// The next move of a slot's command, if one is left and its place is in the memory. It is looked for where it
+    /// isn't known.
+    #[inline(always)]
+    pub fn next_move(&self, port: u8, slot: u8, known: Option<NextMove>) -> Option<NextMove>
+        requires port { port < 4 }
+        requires slot { slot < 32 }
+        requires known { IfSome known (λ n. (t : TakenCommand) × IsNext self.now port slot n t) }
+        ensures found { IfSome result (λ n. (t : TakenCommand) × IsNext self.now port slot n t) }
+        ensures none { result ≡ None → (t : TakenCommand) → HoldsAt (slice_index_or self.now.ports port blank) slot t
+            → t.moved < length (pieces t.prds) →
+            slice_index (pieces t.prds) t.moved < 2 ^ 32 → slice_index (pieces t.prds) t.moved + 512
+            ≤ length self.now.memory.items → ⊥ }
+    {
+        match known {
+            Some(next) => Some(next),
+            None => self.find_move(port, slot),
+        }
+    }
+
+    /// Looks for the next move of a slot's command. It is entered once for each region.
+    #[inline(never)]
+    fn find_move(&self, port: u8, slot: u8) -> Option<NextMove>
         requires port { port < 4 }
         requires slot { slot < 32 }
         ensures found { IfSome result (λ n. (t : TakenCommand) × IsNext self.now port slot n t) }
@@ -355,8 +415,8 @@ impl Hardware {
             ≤ length self.now.memory.items → ⊥ }
     {
         let command = working_on(&self.ports, usize::from(port), slot)?;
-        let address = piece_at(command.prds.as_slice(), command.moved)?;
-        let address = u32::try_from(address).ok()?;
+        let place = place_at(command.prds.as_slice(), command.moved)?;
+        let address = u32::try_from(place.address).ok()?;
         if address as usize + 512 > self.memory.len() {
             return None;
         }
@@ -364,13 +424,14 @@ impl Hardware {
             transfer: command.transfer,
             sector: sector_of(command),
             address,
+            behind: behind(command.transfer, place, self.memory.len()),
         })
     }
 
     /// Notes that the next piece of a command was moved, which the disk and the memory have exchanged: on the tape, and
-    /// of the command.
+    /// of the command. It gives the move after it, if that needs no look.
     #[inline(always)]
-    pub fn note_move(&mut self, port: u8, slot: u8, next: NextMove)
+    pub fn note_move(&mut self, port: u8, slot: u8, next: NextMove) -> Option<NextMove>
         requires port { port < 4 }
         requires slot { slot < 32 }
         requires next { (t : TakenCommand) × IsNext self.old port slot next t }
@@ -381,6 +442,7 @@ impl Hardware {
             ≡ after (MoveStep port slot (taken_of t) (piece_of self.old next)) (device_of old o) }
         ensures left { (n : ℕ) → HasRoom self.old (n + 1) → HasRoom self.new n }
         ensures starved { self.new.starved ≡ self.old.starved }
+        ensures after { IfSome result (λ n. (t : TakenCommand) × IsNext self.new port slot n t) }
     {
         let entry = Entry::Move(Move {
             port: Port(port),
@@ -394,6 +456,7 @@ impl Hardware {
         let _recorded = record(&mut self.tape, &mut self.starved, entry);
         let model = &mut self.ports[usize::from(port)];
         model.advance(slot, next.transfer, piece_in(&self.memory, next));
+        next.after()
     }
 
     /// What the slot's command is, where nothing is left of it to move or to clear.
@@ -687,6 +750,7 @@ impl Hardware {
         ensures enough { HasRoom self.old entries → result ≡ true }
         ensures lacks { result ≡ false → HasRoom self.new entries → ⊥ }
         ensures starved { self.new.starved ≡ self.old.starved }
+        ensures rest { self.new ≡ record self.old { tape = self.new.tape } }
     {
         self.tape.reserve(entries).is_ok()
     }

@@ -1,15 +1,16 @@
 -- Scripts line by line.
-use Rattle.std.proofs.Common.{◌≡◌, ◌<◌, ◌≤◌, ◌+◌, ◌∙◌, ℕ, zero, suc, Bool, true, false, cond, ltb, List, [], ◌∷◌, ◌++◌, length, arith, ap, ap₂, subst, sym, refl, take, drop, get_or, map, Option, Some, None}
-use Rattle.std.specs.Prelude.{MatchOption}
+use Rattle.std.proofs.Common.{◌≡◌, ◌<◌, ◌≤◌, ◌+◌, ◌∙◌, ℕ, suc, Bool, true, false, cond, ltb, List, [], ◌∷◌, ◌++◌, length, arith, append_assoc, length-append, ap, subst, sym, refl, take, drop, get_or, map, Option, Some, None}
+use Rattle.std.specs.Borrow.{Bor}
+use Rattle.std.specs.Prelude.{IfSome, MatchOption}
 use Rattle.std.specs.Bool.{◌==◌}
 use Rattle.std.specs.List.{position, position_or_len}
 use borrow.Author.Tests.{ltb-true, ltb-false}
 use Rattle.std.proofs.lemmas.List.Splits.{slice_split_first, slice_split_none}
 use Rattle.std.proofs.lemmas.List.Sums.{fails_before_first}
-use Rattle.script.specs.Script.{Asks, AskInTurn, done, nothing, one, IsBad, lines_of}
+use Rattle.script.specs.Script.{Asks, AskInTurn, IsFirstLine, done, nothing, one, IsBad, lines_after, lines_of}
 use Rattle.std.specs.Iterator.{Yields}
 use Rattle.std.proofs.lemmas.Iterator.{YieldsList}
-use Rattle.std.proofs.lemmas.Iterator.Consumers.{YieldsList-turn, YieldsList-end, YieldsList-so_far}
+use Rattle.std.proofs.lemmas.Iterator.Consumers.{YieldsList-turn, YieldsList-end}
 use Rattle.script.specs.declared.line.Line.{Line}
 
 -- what one text asks, as a list
@@ -48,27 +49,10 @@ pub not_bad : (text : List ℕ) (asked : Option Line) → Asks text asked → Is
 not_bad text None asks bad = bad.0 asks
 not_bad text (Some line) asks bad = bad.1 line asks.0 asks.1
 
--- a list, cut at one of its elements
-pub cut_at : (texts : List (List ℕ)) (k : ℕ) (d : List ℕ) → k < length texts
-    → (after : List (List ℕ)) × (texts ≡ take k texts ++ get_or texts k d ∷ after)
-cut_at [] k d l = absurd (omega arith)
-cut_at (t ∷ texts) zero d l = (texts, refl)
-cut_at (t ∷ texts) (suc k) d l =
-    let more = cut_at texts k d (omega arith) in
-    (more.0, ap (λ ts. t ∷ ts) more.1)
-
 -- where a `for` ends, and where it stands, with what it has yielded first
 pub end_of : {S A B : Type 0} {steps : S → Option A → S → Type 0} {v : A → B} {s : S} {all : List B} (xs : List A) (t : S)
     → Yields steps s xs t → (r : Option A) (u : S) → r ≡ None → steps t r u → YieldsList steps v s all → map v xs ≡ all
 end_of xs t y r u e k road = (YieldsList-end road xs t y r u e k).0
-
-pub turn_of : {S A : Type 0} {steps : S → Option A → S → Type 0} {v : A → List ℕ} {s : S} {all : List (List ℕ)} (xs : List A) (t : S)
-    → Yields steps s xs t → (r : Option A) (u : S) (x : A) → r ≡ Some x → steps t r u → YieldsList steps v s all
-    → (after : List (List ℕ)) × (all ≡ map v xs ++ v x ∷ after)
-turn_of {v = v} {all = all} xs t y r u x e k road =
-    let at = YieldsList-turn road xs t y r u x e k in
-    let cut = cut_at all (length xs) (v x) at.0 in
-    (cut.0, cut.1 ∙ ap₂ (λ before here. before ++ here ∷ cut.0) (sym (YieldsList-so_far road xs t y)) (sym at.1))
 
 pub at_turn : {S A : Type 0} {steps : S → Option A → S → Type 0} {v : A → List ℕ} {s : S} {all : List (List ℕ)} (xs : List A) (t : S)
     → Yields steps s xs t → (r : Option A) (u : S) (x : A) → r ≡ Some x → steps t r u → YieldsList steps v s all
@@ -91,3 +75,35 @@ line_feed_at text r is = subst (λ (o : Option ℕ). MatchOption o (lines_of tex
     by_test false e =
         let past : length text ≤ position_or_len (λ b. b == 10) text = ltb-false _ _ (sym e) in
         slice_split_none (λ b. b == 10) text (λ k d l. fails_before_first (λ b. b == 10) text k d (omega arith))
+
+-- how many bytes are left, and one more if any line is
+abbrev pub bytes_left : Option (Bor (List ℕ)) → ℕ
+bytes_left None = 0
+bytes_left (Some text) = suc (length text.now)
+
+-- so many lines of a text were looked at, and this is left of it
+pub record LookedAt (text : List ℕ) (number : ℕ) (rest : Option (Bor (List ℕ))) : Type 0 where
+  pub before : List (List ℕ)
+  pub lines : List Line
+  pub good : AskInTurn before lines
+  pub cut : lines_of text ≡ before ++ lines_after rest
+  pub counted : number ≡ length before
+  pub few : number + bytes_left rest ≤ length text + 1
+
+pub fewer_left : (after : Option (Bor (List ℕ))) (n : ℕ) → IfSome after (λ a. length a.now < n) → bytes_left after ≤ n
+fewer_left None n less = omega arith
+fewer_left (Some a) n less = omega (arith, less)
+
+-- one line more
+pub looked_further : (text : List ℕ) (number : ℕ) (left : Bor (List ℕ)) (line : List ℕ) (after : Option (Bor (List ℕ))) (asked : Option Line) →
+    LookedAt text number (Some left) → IsFirstLine left.now line after → IfSome after (λ a. length a.now < length left.now) →
+    Asks line asked → LookedAt text (number + 1) after
+looked_further text number left line after asked is first less asks =
+    record {
+      before = is.before ++ line ∷ [];
+      lines = is.lines ++ asked_lines asked;
+      good = ask_more is.before (line ∷ []) is.lines (asked_lines asked) is.good (ask_one line asked asks);
+      cut = is.cut ∙ (ap (λ (ts : List (List ℕ)). is.before ++ ts) first ∙ sym (append_assoc is.before (line ∷ []) (lines_after after)));
+      counted = let so_far = is.counted in omega (arith, so_far, length-append is.before (line ∷ []));
+      few = let few = is.few in let rest = fewer_left after (length left.now) less in omega (arith, few, rest);
+    }

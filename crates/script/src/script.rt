@@ -50,12 +50,15 @@ pub fn check_script(text: &[u8]) -> Result<(), BadLine>
 {
     let mut number = 0;
     let mut asked = Line::Service;
-    for line in text.split(|byte| *byte == b'\n') {
+    let mut rest = Some(text);
+    while let Some(left) = rest {
+        let (line, after) = first_line(left);
         number += 1;
         match read_asked(line, &mut asked) {
             Ok(_some) => {}
             Err(_misspelled) => return Err(BadLine(number)),
         }
+        rest = after;
     }
     Ok(())
 }

@@ -1,5 +1,5 @@
 -- Words of a page that is written word by word.
-use Rattle.std.proofs.Common.{ℕ, ◌≡◌, ◌≢◌, ◌<◌, ◌+◌, ◌*◌, ◌/◌, ◌%◌, List, Option, length, replicate, sum, slice_index, ◌∙◌, ap, subst, arith, get_or-set_same, get_or-set_other}
+use Rattle.std.proofs.Common.{ℕ, ◌≡◌, ◌≢◌, ◌<◌, ◌≤◌, inl, inr, refl, ◌+◌, ◌*◌, ◌/◌, ◌%◌, List, Option, length, replicate, sum, slice_index, ◌∙◌, ap, subst, arith, get_or-set_same, get_or-set_other}
 use Rattle.std.proofs.lemmas.List.{get_or-replicate, length-set}
 use Rattle.std.proofs.lemmas.List.Sums.{sum_by-set}
 use Rattle.std.specs.Prelude.{slice_set}
@@ -32,6 +32,25 @@ word_stays page n w k less =
 
 pub last_stays : (page : List ℕ) (n w : ℕ) → n < 255 → slice_index (with_word page n w) 511 ≡ slice_index page 511
 last_stays page n w less = byte_stays page n w 511 (λ e. absurd (omega (arith, e, less))) (λ e. absurd (omega (arith, e, less)))
+
+-- and so are those of the words past it
+pub zeros_stay : (page : List ℕ) (n w k : ℕ) → 2 * n + 2 ≤ k → slice_index (with_word page n w) k ≡ slice_index page k
+zeros_stay page n w k past = byte_stays page n w k (λ e. absurd (omega (arith, e, past))) (λ e. absurd (omega (arith, e, past)))
+
+-- a word past all of which something is told is zero
+pub unfilled : (serial : List ℕ) (sectors : ℕ) (a : Abilities) (number : ℕ) → 170 ≤ number → IsWord serial sectors a number 0
+unfilled serial sectors a number past =
+    record {
+      serial_is = λ _ less. absurd (omega (arith, less, past));
+      support_is = λ e. absurd (omega (arith, e, past));
+      depth_is = λ e. absurd (omega (arith, e, past));
+      queuing_is = λ e. absurd (omega (arith, e, past));
+      sets_are = λ e. absurd (omega (arith, e, past));
+      sectors_are = λ _ less. absurd (omega (arith, less, past));
+      function_is = λ either. absurd (elim either [ inl e ↦ omega (arith, e, past) | inr e ↦ omega (arith, e, past) ]);
+      size_is = λ e. absurd (omega (arith, e, past));
+      others_are = λ _ _ _ _ _ _ _ _ _. refl;
+    }
 
 pub size_stays : (page : List ℕ) (n w : ℕ) → length (with_word page n w) ≡ length page
 size_stays page n w = length-set (slice_set page (2 * n) (w % 256)) (2 * n + 1) (w / 256) ∙ length-set page (2 * n) (w % 256)

@@ -63,6 +63,9 @@ impl Trim {
     }
 }
 
+/// How many words there are up to the last one that isn't zero on every page, but for the very last.
+const FILLED_WORDS: usize = 170;
+
 /// A character of a text that is filled with spaces.
 fn character_at(text: &[u8], place: usize) -> u8
     ensures { result ≡ character text.now place }
@@ -118,7 +121,7 @@ pub fn identify_page(serial: &[u8], sectors: u64, abilities: Abilities) -> [u8; 
     ensures bytes { IsSector result }
 {
     let mut page = [0; 512];
-    for number in 0..255 {
+    for number in 0..FILLED_WORDS {
         let word = word_at(number, serial, sectors, abilities);
         page[2 * number] = (word % 256) as u8;
         page[2 * number + 1] = (word / 256) as u8;

@@ -1,7 +1,8 @@
-use Rattle.std.proofs.Common.{◌≡◌, List, length, map}
-use Rattle.script.specs.Script.{AskInTurn}
-use Rattle.script.specs.declared.line.Line.{Line}
+use Rattle.script.proofs.ScriptLemmas.{LookedAt, bytes_left}
 use Rattle.script.proofs.script.check_script.Given as goal
 
-abbrev pub invariant-loop-line : goal.invariant-loop-line
-invariant-loop-line l = ((lines : List Line) × AskInTurn (map (λ text. text.now) l.yielded) lines) × (l.number ≡ length l.yielded)
+abbrev pub invariant-loop-rest : goal.invariant-loop-rest
+invariant-loop-rest l = LookedAt l.text l.number l.rest
+
+abbrev pub decreases-loop-rest : goal.decreases-loop-rest
+decreases-loop-rest l = bytes_left l.rest

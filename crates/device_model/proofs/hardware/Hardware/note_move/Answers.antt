@@ -1,13 +1,21 @@
-use Rattle.std.proofs.Common.{rules, ℕ, List, [], ◌∷◌, ◌++◌, ◌∙◌, ◌≡◌, ◌<◌, Some, sym, ap, subst, length, arith}
-use Rattle.std.specs.Prelude.{slice_index_or}
+use Rattle.std.proofs.Common.{rules, ℕ, ◌+◌, List, [], ◌∷◌, ◌++◌, ◌∙◌, ◌≡◌, ◌<◌, Some, sym, ap, subst, length, arith}
+use Rattle.std.specs.Prelude.{slice_index_or, slice_set}
 use Rattle.std.specs.Vec.{vec_len, vec_capacity}
+use Rattle.std.proofs.lemmas.Option.{IfSome_then}
+use Rattle.adapter.specs.Commands.{is_ranged}
 use Rattle.adapter.specs.Memory.{bytes_at}
 use Rattle.adapter.specs.declared.tape.Entry.TheVariants as entry
 use Rattle.device_model.specs.Exchanged.{piece_of}
 use Rattle.device_model.specs.Fetched.{bytes_of}
-use Rattle.device_model.specs.View.{blank, held_in}
+use Rattle.device_model.specs.Slots.{IsNext}
+use Rattle.device_model.specs.View.{blank, held_in, operation_of}
 use Rattle.device_model.specs.declared.hardware.Hardware.{Hardware}
-use Rattle.device_model.proofs.Exchanging.{port_moves_over}
+use Rattle.device_model.specs.declared.port.TakenCommand.{TakenCommand}
+use Rattle.device_model.specs.declared.port.Transfer.{Transfer}
+use Rattle.device_model.specs.declared.port.Transfer.TheVariants.{Trim}
+use Rattle.device_model.specs.declared.steps.NextMove.{NextMove}
+use Rattle.device_model.proofs.Absurd.{true-false}
+use Rattle.device_model.proofs.Exchanging.{next_after, port_moves_over}
 use Rattle.device_model.proofs.SlotLemmas.{at_port}
 use Rattle.device_model.proofs.Stepping.{moved_by}
 use Rattle.device_model.proofs.hardware.Hardware.note_move.Goals as goal
@@ -34,7 +42,30 @@ returns-clause-moved c = λ old o t is next.
     c.args.next.sector c.args.next.address c.direction.result l) ∷ [])
     (c.of.ensures ∙ first) in
     let moved = (rw (at_port h.ports c.from.result c.index-self-from.result small) at
-    (c.advance.ensures (o.media c.from.result) t)) here in
+    (c.advance.ensures.moved (o.media c.from.result) t)) here in
     port_moves_over old h o c.from.result c.args.port c.args.slot c.args.next _ t c.record-recorded.new.tape
     c.operation.result c.direction.result is
     c.from.ensures small next (rw again at moved) c.operation.ensures c.direction.ensures noted
+
+pub returns-clause-after : goal.returns-clause-after
+returns-clause-after c =
+    let h = c.args.self.now in
+    let t : TakenCommand = c.requires.next.0 in
+    let is = c.requires.next.1 in
+    let u : TakenCommand = record t { moved = t.moved + 1 } in
+    let last : Hardware = record h {
+      ports = slice_set h.ports c.from.result c.advance.new.self;
+      tape = c.record-recorded.new.tape;
+      starved = c.record-recorded.new.starved;
+    } in
+    let small : c.from.result < length h.ports = search rules in
+    let here = rw (← c.from.ensures) at is.holds.held in
+    IfSome_then c.after.result c.after.ensures
+    (λ n one.
+    let ranged = is.behind.ranged one.0 in
+    let no_trim : c.args.next.transfer ≡ Trim → ⊥ = λ (e : c.args.next.transfer ≡ Trim).
+    true-false ranged (ap (λ (k : Transfer). is_ranged (operation_of k)) (sym is.transfer_is ∙ e)) in
+    let next = next_after h c.from.result c.args.port c.args.slot c.args.next t _ c.record-recorded.new.tape c.record-recorded.new.starved is one.0 c.from.ensures small
+    (rw (at_port h.ports c.from.result c.index-self-from.result small) at c.advance.ensures.rest)
+    ((rw (at_port h.ports c.from.result c.index-self-from.result small) at (c.advance.ensures.held t)) here no_trim) in
+    (u, subst (λ (x : NextMove). IsNext last c.args.port c.args.slot x u) (sym one.1) next))

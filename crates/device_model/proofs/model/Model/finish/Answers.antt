@@ -103,6 +103,7 @@ loop-piece-init g c =
           subst (RoomAhead g.S.SectorStore.size g.S.SectorStore.told mid c.args.port.0 c.args.slot.0) all
           (λ t taken. room_there mid c.args.port.0 _ (record a { cache = c.begin.new.self.cache }) (seated_here m mid c.args.port.0 a (record a { cache = c.begin.new.self.cache }) (was g c) (begun_items g c))
           (c.in-Some-begin.ensures.ahead o t taken));
+      next = tt;
     }
 
 pub loop-piece-preserved : goal.loop-piece-preserved
@@ -133,6 +134,7 @@ loop-piece-preserved g c =
           let next : c.in-Some-begin.field-0.rest.left - c.loop-piece._piece ≡ suc (c.in-Some-begin.field-0.rest.left - (c.loop-piece._piece + 1)) = omega (arith, c.loop-piece-test.true) in
           moved_room g.S.SectorStore.size g.S.SectorStore.told c.args.port.0 c.args.slot.0 c.loop-piece.self c.move_piece.new.self (c.in-Some-begin.field-0.rest.left - (c.loop-piece._piece + 1)) moved
           (subst (RoomAhead g.S.SectorStore.size g.S.SectorStore.told c.loop-piece.self c.args.port.0 c.args.slot.0) next c.loop-piece.invariant.ahead) (c.move_piece.ensures.old_room c.in-Done.is);
+      next = c.move_piece.ensures.known c.in-Done.is;
     }
 
 -- a move was left: no move that is possible is, where it is served

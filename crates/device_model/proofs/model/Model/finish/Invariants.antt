@@ -1,4 +1,4 @@
-use Rattle.std.proofs.Common.{◌≡◌, ◌+◌, ◌-◌, true, false}
+use Rattle.std.proofs.Common.{◌≡◌, ◌+◌, ◌-◌, true, false, IfSome}
 use Rattle.adapter.specs.Asked.{GoesOn}
 use Rattle.adapter.specs.declared.access.DeviceStep.TheVariants as asked
 use Rattle.device_model.specs.Disks.{disk_of}
@@ -6,6 +6,8 @@ use Rattle.device_model.specs.Does.{AsksStore, NoneFails}
 use Rattle.device_model.specs.Finishing.{HasRoom, IsGoing}
 use Rattle.device_model.specs.Modelled.{device_at}
 use Rattle.device_model.specs.Sent.{SendsEnd}
+use Rattle.device_model.specs.Slots.{IsNext}
+use Rattle.device_model.specs.declared.port.TakenCommand.{TakenCommand}
 use Rattle.device_model.specs.declared.disks.Which.{Which}
 use Rattle.device_model.proofs.Doing.{Meanwhile}
 use Rattle.device_model.proofs.Growing.{RoomAhead}
@@ -26,6 +28,7 @@ invariant-loop-piece g l = record {
   untouched : l.did ≡ false → (which : Which) → disk_of l.self l.port.0 which ≡ disk_of l.fn.self l.port.0 which;
   fine : NoneFails g.S.SectorStore.failures l.fn.self l.self;
   meanwhile : Meanwhile g.S.SectorStore.size l.port.0 l.fn.self l.self;
+  next : IfSome l.known (λ n. (t : TakenCommand) × IsNext l.self.hardware l.port.0 l.slot.0 n t);
 }
 
 abbrev pub invariant-loop-run : goal.invariant-loop-run

@@ -1,4 +1,5 @@
 use Rattle.std.proofs.lemmas.Bool.{cases_lt}
+use Rattle.std.proofs.lemmas.Option.{IfSome_then}
 use Rattle.std.specs.Prelude.{IfSome, option_map, slice_set}
 use Rattle.std.specs.Vec.{with_item}
 use Rattle.std.proofs.Common.{Bool, Some, Option, refl, ◌++◌, ℕ, true, false, ◌≡◌, ◌<◌, ◌≤◌, ◌∙◌, ◌+◌, ◌^◌, ◌∷◌, [], length, sym, ap, subst, arith, inl, inr}
@@ -28,7 +29,7 @@ use Rattle.device_model.specs.declared.model.Model.{Model}
 use Rattle.device_model.specs.declared.port.TakenCommand.{TakenCommand}
 use Rattle.device_model.proofs.TwoDisks.{found_bay, has_disks, outside_kept, outside_moved, seat_is, seated_here, seated_others, seated_same, store_fine, store_keeps, store_says, store_whichs}
 use Rattle.device_model.proofs.Doing.{IsFailed, is_failed}
-use Rattle.device_model.proofs.Exchanging.{next_over, room_over, starved_over}
+use Rattle.device_model.proofs.Exchanging.{next_grown, next_over, room_over, starved_over}
 use Rattle.device_model.proofs.Faults.{did_fail, fails_to_move}
 use Rattle.device_model.proofs.Finishing.{move_fits, next_has_move}
 use Rattle.device_model.proofs.Growing.{grown_lasts, grown_left, room_here, room_there}
@@ -84,7 +85,7 @@ returns-then-not-room-clause-answers g c =
       disks = λ _. refl;
       why = λ _ _. (lacks, refl);
       starved_on = λ _. refl;
-      starved_since = λ _. inr ((c.requires, taken_of c.in-Some.ensures.found.0, fits), lacks);
+      starved_since = λ _. inr ((c.requires.small, taken_of c.in-Some.ensures.found.0, fits), lacks);
     }
 
 -- ---- the bay of the port, as the piece is moved
@@ -190,7 +191,7 @@ returns-clause-answers g c =
     let noted = c.note_move.ensures.moved c.reserve-room.new.self o found.0 c.exchange.ensures.memory found.1 in
     let entry : Entry = entry.Move (move_of c.args.port.0 c.args.slot.0 (taken_of found.0) bytes) in
     let disks = has_disks g.S.SectorStore.size g.S.SectorStore.told m c.args.port.0 a (was g c) in (
-      (c.requires, taken_of c.in-Some.ensures.found.0, fits g c),
+      (c.requires.small, taken_of c.in-Some.ensures.found.0, fits g c),
       record {
         came = inl (whole g c);
         held = refl;
@@ -207,7 +208,7 @@ returns-clause-answers g c =
             seated_same m (moved_model g c) c.args.port.0 a b (was g c) (items g c) (option_map (λ (x : Bay g.row.S.Denot). disk_in_bay x w))
             (ap (λ (x : Bay g.row.S.Denot). Some (disk_in_bay x w))
             ((exchanged g c).same
-            (next_unranged c.reserve-room.new.self o _ c.args.port c.args.slot c.in-Some.next c.in-Some.ensures.found.0 disks c.requires
+            (next_unranged c.reserve-room.new.self o _ c.args.port c.args.slot c.in-Some.next c.in-Some.ensures.found.0 disks c.requires.small
             (c.reserve-room.ensures.same o) c.in-Some.ensures.found.1 none))) c.args.port.0;
         keeps = store_keeps m (moved_model g c) c.args.port.0 a b (was g c) (items g c)
             (exchanged g c).rest g.S.SectorStore.size (exchanged g c).sized (cached g c) refl refl;
@@ -258,7 +259,7 @@ past g c =
     let small = c.if-place-ge-PORTS.false in
     let at = c.from-place.ensures in
     is_failed g.S.SectorStore.size g.S.SectorStore.told g.S.SectorStore.failures c.args.port c.args.slot 0x10 (taken_of found.0) c.fail-failed.result
-    (past_model g c) c.fail-failed.new.self c.fail-failed.ensures (omega (arith, small, at)) c.requires
+    (past_model g c) c.fail-failed.new.self c.fail-failed.ensures (omega (arith, small, at)) c.requires.small
     (record { taken = works.taken; running = works.working.running; is_byte = omega arith; kept = refl }) (c.reserve-room.ensures.room c.if-not-room.false)
 
 -- it names one
@@ -310,7 +311,7 @@ returns-then-not-is_on-clause-answers g c =
     let m = c.args.self.now in
     let a = c.in-Some-index_mut.bay in
     let found = c.in-Some.ensures.found in (
-      (c.requires, taken_of found.0, past_fits g c),
+      (c.requires.small, taken_of found.0, past_fits g c),
       did_fail g.S.SectorStore.size g.S.SectorStore.told g.S.SectorStore.failures c.args.port c.args.slot 0x10 (taken_of found.0) m
           (past_model g c) c.fail-failed.new.self (past g c) (asked.Move c.args.port c.args.slot) refl (past_failed g c) refl refl refl
           (store_says m (past_model g c) c.args.port.0 a a (was_past g c) (past_items g c) refl c.args.port.0)
@@ -318,7 +319,7 @@ returns-then-not-is_on-clause-answers g c =
           (seated_others m (past_model g c) c.args.port.0 a a (was_past g c) (past_items g c))
           (gains_none g.S.SectorStore.size m _ (ap (λ (d : Device). d.tape) (past_same g c)))
           (store_keeps m (past_model g c) c.args.port.0 a a (was_past g c) (past_items g c) refl g.S.SectorStore.size refl refl refl refl) c.reserve-room.ensures.starved
-          (c.requires, taken_of found.0, past_fits g c, (past_ranged g c).1),
+          (c.requires.small, taken_of found.0, past_fits g c, (past_ranged g c).1),
     )
 
 -- ---- the store failed
@@ -374,7 +375,7 @@ store g c =
     let small = c.if-place-ge-PORTS.false in
     let at = c.from-place.ensures in
     is_failed g.S.SectorStore.size g.S.SectorStore.told g.S.SectorStore.failures c.args.port c.args.slot 0x40 (taken_of found.0) c.fail-failed-then-not-exchange.result
-    mid c.fail-failed-then-not-exchange.new.self c.fail-failed-then-not-exchange.ensures (omega (arith, small, at)) c.requires
+    mid c.fail-failed-then-not-exchange.new.self c.fail-failed-then-not-exchange.ensures (omega (arith, small, at)) c.requires.small
     (record { taken = works.taken; running = works.working.running; is_byte = omega arith; kept = refl })
     (room_over 1 c.exchange.ensures.memory (c.reserve-room.ensures.room c.if-not-room.false))
 
@@ -436,7 +437,7 @@ returns-then-not-exchange-clause-answers g c =
     let next = c.in-Some.ensures.found in
     let ranged = ap (λ (k : Transfer). is_ranged (operation_of k)) (sym next.1.transfer_is)
     ∙ (exchanged_so g c).ranged c.if-not-exchange.true in (
-      (c.requires, taken_of next.0, store_fits g c),
+      (c.requires.small, taken_of next.0, store_fits g c),
       did_fail g.S.SectorStore.size g.S.SectorStore.told g.S.SectorStore.failures c.args.port c.args.slot 0x40 (taken_of next.0) m
           (store_model g c) c.fail-failed-then-not-exchange.new.self (store g c) (asked.Move c.args.port c.args.slot) refl (store_failed g c) refl refl refl
           (store_says m (store_model g c) c.args.port.0 a b (was_store g c) (store_items g c)
@@ -448,7 +449,7 @@ returns-then-not-exchange-clause-answers g c =
           (store_keeps m (store_model g c) c.args.port.0 a b (was_store g c) (store_items g c)
           (exchanged_so g c).rest g.S.SectorStore.size (exchanged_so g c).sized (cached_so g c) refl refl)
           (starved_over c.exchange.ensures.memory ∙ c.reserve-room.ensures.starved)
-          (c.requires, taken_of next.0, store_fits g c, ranged),
+          (c.requires.small, taken_of next.0, store_fits g c, ranged),
     )
 
 -- ---- memory that is left
@@ -511,7 +512,7 @@ returns-then-not-reserve-clause-answers g c =
     grown_left g.S.SectorStore.size g.S.SectorStore.told g.S.SectorStore.failures m _ c.args.port.0 a c.reserve.new.self.cache was
     (ap (λ k. slice_set m.bays.items k (Some c.reserve.new.self)) c.from-place.ensures ∙ ap (λ (x : Bay g.row.S.Denot). slice_set m.bays.items c.args.port.0 (Some x)) c.reserve.ensures.rest)
     c.reserve.ensures.same (asked.Move c.args.port c.args.slot) refl (c.reserve-room.ensures.same o) refl refl refl (λ _ _. (lacks, refl)) (λ _. refl)
-    (λ _. inr ((c.requires, taken_of r, fits), lacks))
+    (λ _. inr ((c.requires.small, taken_of r, fits), lacks))
 
 -- a page changes no sector
 pub returns-then-not-reserve-clause-page : goal.returns-then-not-reserve-clause-page
@@ -527,3 +528,10 @@ returns-then-not-reserve-clause-page g c = λ t taken sends _ _ _ _.
     ap (λ (x : Taken). written_ahead x.meaning.operation 1) (sym one) ∙ page_unwritten t.meaning.operation 1 sends in
     let changes : written_ahead (operation_of found.0.transfer) 1 ≡ c.written.result = ap (λ (k : Transfer). written_ahead (operation_of k) 1) (sym found.1.transfer_is) ∙ sym c.written.ensures in
     c.reserve.ensures.lacked c.if-not-reserve.true (subst (HasOldRoom a.cache) (sym none ∙ changes) (no_room a.cache))
+
+-- ---- the move that was known
+
+pub next_move-requires-clause-known : goal.next_move-requires-clause-known
+next_move-requires-clause-known g c =
+    IfSome_then c.args.known.now c.requires.known
+    (λ n is. (is.0, next_grown c.args.port.0 c.args.slot.0 c.reserve-room.ensures.rest is.1))

@@ -8,6 +8,7 @@ use Rattle.device_model.specs.View.{held_in, media_after, operation_of, port_of,
 use Rattle.device_model.specs.declared.port.TakenCommand.{TakenCommand}
 use Rattle.device_model.specs.declared.port.Transfer.{Transfer}
 use Rattle.device_model.specs.declared.port.Transfer.TheVariants.{Trim}
+use Rattle.device_model.proofs.Places.{changed_same}
 use Rattle.device_model.proofs.SlotLemmas.{slots_changed}
 use Rattle.device_model.proofs.Transfers.{no_block}
 use Rattle.device_model.proofs.port.PortModel.advance.Goals as goal
@@ -17,8 +18,8 @@ same_kind : (o : Option TakenCommand) (u t : TakenCommand) (k : Transfer) → o 
 same_kind o u t k there kind here = ap (λ (x : TakenCommand). x.transfer) (some_one (sym here ∙ there)) ∙ kind
 
 -- a trim keeps its block
-pub returns-then-is_trim : goal.returns-then-is_trim
-returns-then-is_trim c = λ m t held.
+pub returns-then-is_trim-clause-moved : goal.returns-then-is_trim-clause-moved
+returns-then-is_trim-clause-moved c = λ m t held.
     let was : ℕ → Option TakenCommand = held_in c.args.self.now.taken in
     let slot : ℕ = c.args.slot in
     let bytes : List ℕ = c.args.bytes.now in
@@ -32,8 +33,8 @@ returns-then-is_trim c = λ m t held.
     ∙ ap (λ (b : List ℕ). changed (slots_of was) slot (Some (record (taken_of t) { moved = t.moved + 1; block = b }))) (sym kept)))
 
 -- no other command has one
-pub returns-else-is_trim : goal.returns-else-is_trim
-returns-else-is_trim c = λ m t held.
+pub returns-else-is_trim-clause-moved : goal.returns-else-is_trim-clause-moved
+returns-else-is_trim-clause-moved c = λ m t held.
     let was : ℕ → Option TakenCommand = held_in c.args.self.now.taken in
     let slot : ℕ = c.args.slot in
     let bytes : List ℕ = c.args.bytes.now in
@@ -44,3 +45,11 @@ returns-else-is_trim c = λ m t held.
     ∙ (slots_changed was slot (Some (record t { moved = t.moved + 1 }))
     ∙ ap (λ (b : List ℕ). changed (slots_of was) slot (Some (record (taken_of t) { moved = t.moved + 1; block = b })))
     (sym (no_block t.transfer bytes (brought t.block) other))))
+
+pub returns-then-is_trim-clause-held : goal.returns-then-is_trim-clause-held
+returns-then-is_trim-clause-held c = λ t held no_trim. absurd (no_trim (c.is_trim.ensures.0 c.if-is_trim.true))
+
+pub returns-else-is_trim-clause-held : goal.returns-else-is_trim-clause-held
+returns-else-is_trim-clause-held c = λ t held _.
+    ap (λ (f : ℕ → Option TakenCommand). f c.args.slot) (c.add_moved.ensures t held)
+    ∙ changed_same (held_in c.args.self.now.taken) c.args.slot (Some (record t { moved = t.moved + 1 }))
