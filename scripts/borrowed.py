@@ -1,6 +1,6 @@
 #!/usr/bin/env python3
 """Counts the imports of another crate's proofs, crate by crate: what a crate knows of another otherwise than by its
-contracts and laws. The last line tells those of the crates above `agreement`, which are to become none. With a crate's
+contracts and laws. The last line tells those of the crates above `refinement`, which are to become none. With a crate's
 name, lists its own.
 """
 import collections
@@ -34,9 +34,9 @@ def main():
             print(f"borrowed: {name} {count} of {of}, {module}")
     each = sorted(((len(it), name) for name, it in found.items() if it), reverse=True)
     print("borrowed: imports of another crate's proofs: " + ", ".join(f"{name} {count}" for count, name in each))
-    above = {it.name for it in crates if any(below.name == "agreement" for below in it.below())}
+    above = {it.name for it in crates if any(below.name == "refinement" for below in it.below())}
     high = sum(count for count, name in each if name in above)
-    print(f"borrowed: {high} of them in crates above agreement, {sum(it[0] for it in each)} in all")
+    print(f"borrowed: {high} of them in crates above refinement, {sum(it[0] for it in each)} in all")
 
 
 main()

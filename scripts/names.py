@@ -1,7 +1,9 @@
 #!/usr/bin/env python3
 """Checks that what the documents name is there: each definition of docs/DEFINITIONS.md in its file, each path, and each
-name in backticks somewhere in the crates or scripts. The last line is 'N passed, M failed', of documents.
+name in backticks somewhere in the crates or scripts; and that no name is defined in two crates. The last line is
+'N passed, M failed', of documents, and of all definitions together.
 """
+import collections
 import glob
 import os
 import re
@@ -74,6 +76,17 @@ def lacking_names(document, known):
             yield f"{document}: nothing is named {word}" if missing else None
 
 
+def doubled():
+    """Of each name that specs of two crates define what is wrong with it. (In `Laws.antt` each crate of the driver has
+    its own kinds of accesses, by the same words.)"""
+    crates = collections.defaultdict(set)
+    for path in glob.glob("crates/*/specs/*.antt", root_dir=ROOT):
+        if not path.endswith(("/Laws.antt", "/Lib.antt")):
+            for name in re.findall(r"^(?:(?:pub|abbrev|unfoldable|record|data) )+([\w'-]+)", read(path), re.M):
+                crates[name].add(path.split("/")[1])
+    yield from (f"{', '.join(sorted(its))} define {name}" for name, its in sorted(crates.items()) if len(its) > 1)
+
+
 def main():
     known, passed = words(), 0
     for document in DOCUMENTS:
@@ -83,8 +96,12 @@ def main():
         for line in filter(None, told):
             print(f"names: {line}")
         passed += bool(told) and not any(told)
-    print(f"names: {passed} passed, {len(DOCUMENTS) - passed} failed")
-    return 0 if passed == len(DOCUMENTS) else 1
+    twice = [*doubled()]
+    for line in twice:
+        print(f"names: {line}")
+    passed += not twice
+    print(f"names: {passed} passed, {len(DOCUMENTS) + 1 - passed} failed")
+    return 0 if passed == len(DOCUMENTS) + 1 else 1
 
 
 if __name__ == "__main__":

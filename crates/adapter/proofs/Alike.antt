@@ -2,7 +2,7 @@
 use Rattle.std.proofs.Common.{ℕ, ◌≡◌, ◌+◌, Option, refl, sym, ◌∙◌, ap, subst}
 use Rattle.hba_regs.specs.declared.reg.Reg.{Reg}
 use Rattle.hba_regs.specs.declared.reg.Reg.TheVariants.{Cap, Ghc, Is, Pi, Vs, Cap2, Bohc, Px}
-use Rattle.adapter.specs.Device.{Taken, Bases, PortState, Device}
+use Rattle.adapter.specs.Device.{FetchedCommand, Bases, DevicePort, Device}
 use Rattle.adapter.specs.Kept.{KeepsPort}
 use Rattle.adapter.specs.Steps.{with_port}
 use Rattle.adapter.specs.Access.{Reads, note, noted}
@@ -24,7 +24,7 @@ pub record IsAlike (old new : Device) : Type 0 where
   pub port : (q : ℕ) → SameEngine (old.port q) (new.port q)
 
 -- a port's engine is the same, and so are the other ports
-pub port_alike : (d : Device) (port : ℕ) (new : PortState) → SameEngine (d.port port) new → IsAlike d (with_port d port new)
+pub port_alike : (d : Device) (port : ℕ) (new : DevicePort) → SameEngine (d.port port) new → IsAlike d (with_port d port new)
 port_alike d port new same = record {
   telling = refl;
   size = refl;
@@ -64,7 +64,7 @@ module _ (Tables Kept : ℕ → Type 0) where
               let P : (ℕ → ℕ) → Type 0 = λ memory. IsGuardedSlot Tables Kept memory (new.port q).bases.clb slot in
               let Q : Bases → Type 0 = λ b. IsGuardedSlot Tables Kept old.memory b.clb slot in
               subst P (sym a.memory) (subst Q (sym k.bases) ((g.port q).slot slot (in_use_before (old.port q) (new.port q) k slot used)));
-          taken = λ slot t is. (g.port q).taken slot t (sym (ap (λ (f : ℕ → Option Taken). f slot) ((a.port q).7)) ∙ is);
+          taken = λ slot t is. (g.port q).taken slot t (sym (ap (λ (f : ℕ → Option FetchedCommand). f slot) ((a.port q).7)) ∙ is);
           received = λ set.
               let P : Bases → Type 0 = λ b. Spares Kept b.fb (b.fb + 256) in
               subst P (sym k.bases) ((g.port q).received (sym ((a.port q).2) ∙ set));

@@ -4,14 +4,14 @@ use Rattle.hba_regs.specs.declared.reg.Reg.TheVariants.{Px}
 use Rattle.hba_regs.specs.declared.reg.PortReg.{PortReg}
 use Rattle.hba_regs.specs.declared.reg.PortReg.TheVariants.{Clb, Clbu, Fb, Fbu, Is, Ie, Cmd, Tfd, Sig, Ssts, Sctl, Serr, Sact, Ci}
 use Rattle.ata_types.specs.declared.Port.{Port}
-use Rattle.adapter.specs.Device.{Notes, PortState, Device}
+use Rattle.adapter.specs.Device.{Notes, DevicePort, Device}
 use Rattle.adapter.specs.Kept.{Keeps, KeepsOn, KeepsPort, KeepsControls}
 use Rattle.adapter.specs.Rules.{IsOn}
 pub use Rattle.adapter.specs.Seen.{KeepsAll, SeenAt, PutAt}
 use Rattle.adapter.specs.Steps.{Steps, with_port}
 use Rattle.adapter.specs.Access.{PortShows, note, Reads, Writes, Access, Does, DoesAll, IsDriven}
 use Rattle.adapter.proofs.Changed.{changed_same, changed_other, changed_each}
-use Rattle.adapter.proofs.KeptLemmas.{steps_keep, same_engine, still, same_controls, calm, KeepsPort-refl, KeepsPort-trans, KeepsControls-refl, KeepsControls-trans}
+use Rattle.adapter.proofs.KeptLemmas.{law_steps_keep, same_engine, still, same_controls, calm, KeepsPort-refl, KeepsPort-trans, KeepsControls-refl, KeepsControls-trans}
 
 -- ---- lists of accesses
 
@@ -34,12 +34,12 @@ pub on_after : {old new : Device} → IsOn old → KeepsOn old new → IsOn new
 on_after on keeps = record { ae = keeps.ae ∙ on.ae; no_reset = keeps.no_reset }
 
 pub on_stays : {old new : Device} → IsOn old → Steps old new → IsOn new
-on_stays on steps = let k = steps_keep steps in on_after on (k.on on.no_reset)
+on_stays on steps = let k = law_steps_keep steps in on_after on (k.on on.no_reset)
 
 -- ---- a register of a port is read
 
 -- no register shows what stands beside the state
-shows_noted : (r : PortReg) (v : ℕ) (p : PortState) (n : Notes) → PortShows r v p → PortShows r v (record p { notes = n })
+shows_noted : (r : PortReg) (v : ℕ) (p : DevicePort) (n : Notes) → PortShows r v p → PortShows r v (record p { notes = n })
 shows_noted Clb v p n h = h
 shows_noted Clbu v p n h = h
 shows_noted Fb v p n h = h
@@ -70,13 +70,13 @@ KeepsAll-trans a b = record {
 }
 
 pub steps_keep_all : {old new : Device} → old.hr ≡ false → Steps old new → KeepsAll old new
-steps_keep_all h steps = let k = steps_keep steps in record { size = k.size; cap = k.cap; pi = k.pi; on = k.on h; port = k.port }
+steps_keep_all h steps = let k = law_steps_keep steps in record { size = k.size; cap = k.cap; pi = k.pi; on = k.on h; port = k.port }
 
 module _ (port : Port) (r : PortReg) (v : ℕ) (old new : Device) (call : Reads (Px port r) v old new) (h : old.hr ≡ false) where
   kept : Keeps old call.mid
-  kept = steps_keep call.steps
+  kept = law_steps_keep call.steps
 
-  there : PortState
+  there : DevicePort
   there = record (call.mid.port port.0) { notes = note r v (call.mid.port port.0) }
 
   is_there : new.port port.0 ≡ there
@@ -109,20 +109,20 @@ module _ (port : Port) (r : PortReg) (v : ℕ) (old new : Device) (call : Reads 
   seen_shows : PortShows r v (new.port port.0)
   unfolding there
   seen_shows =
-      let P : PortState → Type 0 = λ p. PortShows r v p in
+      let P : DevicePort → Type 0 = λ p. PortShows r v p in
       subst P (sym is_there) (shows_noted r v (call.mid.port port.0) (note r v (call.mid.port port.0)) call.shows)
 
   seen_notes : (new.port port.0).notes ≡ note r v (record (new.port port.0) { notes = (old.port port.0).notes })
   unfolding there
   seen_notes =
-      let P : PortState → Type 0 = λ p. p.notes ≡ note r v (record p { notes = (old.port port.0).notes }) in
+      let P : DevicePort → Type 0 = λ p. p.notes ≡ note r v (record p { notes = (old.port port.0).notes }) in
       let Q : Notes → Type 0 = λ n. note r v (call.mid.port port.0) ≡ note r v (record (call.mid.port port.0) { notes = n }) in
       subst P (sym is_there) (subst Q (kept.notes port.0) refl)
 
   seen_others : (q : ℕ) → q ≢ port.0 → (new.port q).notes ≡ (old.port q).notes
   unfolding there
   seen_others q ne =
-      ap (λ (d : Device). (d.port q).notes) call.effect ∙ (ap (λ (p : PortState). p.notes) (changed_other call.mid.port port.0 there q ne) ∙ kept.notes q)
+      ap (λ (d : Device). (d.port q).notes) call.effect ∙ (ap (λ (p : DevicePort). p.notes) (changed_other call.mid.port port.0 there q ne) ∙ kept.notes q)
 
   pub seen : SeenAt port.0 r v old new
   seen = record { keeps = seen_keeps; shows = seen_shows; notes = seen_notes; others = seen_others }
@@ -131,7 +131,7 @@ module _ (port : Port) (r : PortReg) (v : ℕ) (old new : Device) (call : Reads 
 
 pub put : (port : Port) (r : PortReg) (v : ℕ) (old new : Device) → Writes (Px port r) v old new → old.hr ≡ false → PutAt port.0 r v old new
 put port r v old new call h =
-    let k : Keeps old call.mid = steps_keep call.steps in
+    let k : Keeps old call.mid = law_steps_keep call.steps in
     let on : KeepsOn old call.mid = k.on h in
     record {
       mid = call.mid;

@@ -5,13 +5,13 @@ use Rattle.std.proofs.lemmas.Bool.Decides.{leb_tells}
 use Rattle.std.proofs.lemmas.List.{length-replicate}
 use Rattle.std.proofs.lemmas.List.Elements.{All-replicate}
 use Rattle.adapter.specs.Memory.{patched, bytes_at, changed}
-use Rattle.adapter.specs.Device.{Disk, IsSector, IsDisk, IsTold, PortState, Device}
-use Rattle.adapter.specs.FirstRead.{header_bytes, fis_bytes, prd_bytes, first_memory, sector_of, first_disk, no_disk, quiet_port, reading_port, first_read}
+use Rattle.adapter.specs.Device.{Disk, IsSector, IsDisk, TellsItsSectors, DevicePort, Device}
+use Rattle.adapter.specs.FirstRead.{header_bytes, fis_bytes, prd_bytes, first_memory, first_read_sector, first_disk, no_disk, quiet_port, reading_port, first_read}
 use Rattle.adapter.specs.Idle.{IsIdlePort, IsSane}
 use Rattle.adapter.specs.OneCommand.{HasOneCommand, SaysCommand, Standing, standing, is_from, is_of_pieces, is_read_alone, is_written, is_unwritten, IsElsewhere}
-use Rattle.adapter.specs.ReadDone.{read_of, IsRead}
-use Rattle.adapter.specs.Rules.{IsFree, Stays}
-use Rattle.adapter.specs.Says.{Says, IsWhole, cut}
+use Rattle.adapter.specs.ReadDone.{read_of, IsReadDone}
+use Rattle.adapter.specs.Rules.{IsFree, IsStable}
+use Rattle.adapter.specs.Decoding.{DecodesTo, IsWholePieces, piece_addresses}
 use Rattle.adapter.specs.declared.command.Prd.{Prd}
 use Rattle.adapter.proofs.Absurd.{true-false, some-none, some_one}
 use Rattle.adapter.proofs.Changed.{changed_other, changed_each}
@@ -39,11 +39,11 @@ abbrev prd : Prd
 prd = record { address = 0x64000; bytes = 4096 }
 
 -- the one PRD is of whole pieces
-all_one : All IsWhole (prd ∷ [])
+all_one : All IsWholePieces (prd ∷ [])
 all_one zero d small = refl
 all_one (suc k) d small = absurd (omega arith)
 
-pub first_says : Says first_memory 0 0 (read_of 100 8) (cut 0x64000 8)
+pub first_says : DecodesTo first_memory 0 0 (read_of 100 8) (piece_addresses 0x64000 8)
 unfolding first_memory patched bytes_at
 first_says = record {
   table = 0x1000;
@@ -96,8 +96,8 @@ and_right : (a b : Bool) → a && b ≡ true → b ≡ true
 and_right true b h = h
 and_right false b h = true-false h refl
 
-sector_is : (k : ℕ) → k < 256 → IsSector (sector_of k)
-unfolding sector_of
+sector_is : (k : ℕ) → k < 256 → IsSector (first_read_sector k)
+unfolding first_read_sector
 sector_is k small = (length-replicate 512 k, All-replicate (λ b. b < 256) 512 k small)
 
 told_sectors : (disk : Disk) (told : ℕ → List ℕ) → disk.sectors ≡ Some told → ((k : ℕ) → k < disk.size → IsSector (told k)) → IsDisk disk
@@ -133,8 +133,8 @@ first_small =
 pub first_sane : IsSane first_read
 first_sane = record {
   bytes = first_small;
-  disk = changed_each (λ _. quiet_port) 0 reading_port (λ q p. IsDisk p.disk) (told_sectors first_disk sector_of refl (λ k small. sector_is k small)) (λ q. told_sectors no_disk (λ k. []) refl (λ k small. absurd (omega arith)));
-  told = λ _. changed_each (λ _. quiet_port) 0 reading_port (λ q p. IsTold p.disk) (sector_of, refl) (λ q. (λ k. [], refl));
+  disk = changed_each (λ _. quiet_port) 0 reading_port (λ q p. IsDisk p.disk) (told_sectors first_disk first_read_sector refl (λ k small. sector_is k small)) (λ q. told_sectors no_disk (λ k. []) refl (λ k small. absurd (omega arith)));
+  told = λ _. changed_each (λ _. quiet_port) 0 reading_port (λ q p. TellsItsSectors p.disk) (first_read_sector, refl) (λ q. (λ k. [], refl));
 }
 
 -- ---- tests of bytes
@@ -148,7 +148,7 @@ from_no first n at (inl before) = rw (lt-leb first at before) refl
 from_no first n at (inr past) = rw (le-leb first at (omega (arith, past)), le-ltb at (first + n) past) refl
 
 -- a byte outside a run of pieces is in none
-pieces_no : (first n at : ℕ) → (at < first) ⊎ (first + 512 * n ≤ at) → is_of_pieces (cut first n) at ≡ false
+pieces_no : (first n at : ℕ) → (at < first) ⊎ (first + 512 * n ≤ at) → is_of_pieces (piece_addresses first n) at ≡ false
 pieces_no first zero at outside = refl
 pieces_no first (suc n) at (inl before) = rw (from_no first 512 at (inl before), pieces_no (first + 512) n at (inl (omega (arith, before)))) refl
 pieces_no first (suc n) at (inr past) = rw (from_no first 512 at (inr (omega (arith, past))), pieces_no (first + 512) n at (inr (omega (arith, past)))) refl
@@ -157,11 +157,11 @@ pieces_no first (suc n) at (inr past) = rw (from_no first 512 at (inr (omega (ar
 
 command : SaysCommand first_read 0 0
 unfolding changed
-command = record { meaning = read_of 100 8; places = cut 0x64000 8; says = first_says }
+command = record { meaning = read_of 100 8; places = piece_addresses 0x64000 8; says = first_says }
 
 -- where it stands
 abbrev stands : Standing
-stands = record { header = 0; table = 0x1000; entries = 1; places = cut 0x64000 8; received = 0x400 }
+stands = record { header = 0; table = 0x1000; entries = 1; places = piece_addresses 0x64000 8; received = 0x400 }
 
 stands_is : standing first_read 0 0 command ≡ stands
 unfolding changed command first_says
@@ -177,7 +177,7 @@ one_of false false c h = inr (inr h)
 
 unwritten : (at : ℕ) → (at < 4) ⊎ (8 ≤ at) → (at < 0x400) ⊎ (0x500 ≤ at) → (at < 0x64000) ⊎ (0x65000 ≤ at) → is_written stands at ≡ false
 unwritten at count area frame =
-    none_of (is_from 4 4 at) (is_of_pieces (cut 0x64000 8) at) (is_from 0x400 256 at) (from_no 4 4 at count) (pieces_no 0x64000 8 at frame) (from_no 0x400 256 at area)
+    none_of (is_from 4 4 at) (is_of_pieces (piece_addresses 0x64000 8) at) (is_from 0x400 256 at) (from_no 4 4 at count) (pieces_no 0x64000 8 at frame) (from_no 0x400 256 at area)
 
 stands_apart : (at : ℕ) → is_read_alone stands at ≡ true → is_unwritten stands at ≡ true
 stands_apart at h =
@@ -201,7 +201,7 @@ first_command = record {
   taken = λ t is. some-none is refl;
   apart = let P : Standing → Type 0 = λ s. (at : ℕ) → is_read_alone s at ≡ true → is_unwritten s at ≡ true in subst P (sym stands_is) stands_apart;
   other_slots = λ k ne. record { ci = changed_other (λ _. false) 0 true k ne; taken = refl };
-  other_ports = λ q ne. let P : PortState → Type 0 = λ p. IsIdlePort p in subst P (sym (changed_other (λ _. quiet_port) 0 reading_port q ne)) quiet;
+  other_ports = λ q ne. let P : DevicePort → Type 0 = λ p. IsIdlePort p in subst P (sym (changed_other (λ _. quiet_port) 0 reading_port q ne)) quiet;
 }
   where
     quiet : IsIdlePort quiet_port
@@ -220,7 +220,7 @@ elsewhere = record {
     or_no : (a b : Bool) → a ≡ false → b ≡ false → a || b ≡ false
     or_no a b x y = rw (x, y) refl
 
-pub first_free : Stays (IsFree 0x65000 4096) first_read
+pub first_free : IsStable (IsFree 0x65000 4096) first_read
 unfolding first_command
 first_free =
     let P : Standing → Type 0 = λ s. IsElsewhere s 0x65000 4096 first_read in
@@ -228,10 +228,10 @@ first_free =
 
 -- ---- and it can be done
 
-pub first_done : (new : Device) × IsRead first_read new 0 0 100 8 (cut 0x64000 8) sector_of
+pub first_done : (new : Device) × IsReadDone first_read new 0 0 100 8 (piece_addresses 0x64000 8) first_read_sector
 unfolding changed
 first_done =
-    read_done first_read 0 0 100 8 (cut 0x64000 8) sector_of
+    read_done first_read 0 0 100 8 (piece_addresses 0x64000 8) first_read_sector
     (record {
       fetch = record {
         fetchable = record { st = refl; issued = refl; free = refl };

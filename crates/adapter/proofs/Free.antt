@@ -3,15 +3,15 @@ use Rattle.std.proofs.Common.{ℕ, ◌≡◌, ◌<◌, ◌≤◌, ◌+◌, List,
 use Rattle.adapter.specs.Device.{Bases, Device}
 use Rattle.adapter.specs.Kept.{Keeps, KeepsPort}
 use Rattle.adapter.specs.Steps.{Steps}
-use Rattle.adapter.specs.Rules.{Uses, IsFree, Stays, InPlaces}
+use Rattle.adapter.specs.Rules.{DeviceOwns, IsFree, IsStable, InPlaces}
 use Rattle.adapter.specs.Guarded.{IsGuardedSlot, IsGuarded, IsApart}
 use Rattle.adapter.proofs.Guards.{steps_guard, in_use_before}
-use Rattle.adapter.proofs.KeptLemmas.{steps_keep}
+use Rattle.adapter.proofs.KeptLemmas.{law_steps_keep}
 use Rattle.adapter.proofs.SaysLemmas.{says_table, says_prds, says_places}
 
 module _ (Tables Kept : ℕ → Type 0) (at n : ℕ) where
   unused_byte : (d : Device) → IsGuarded Tables Kept d → IsApart Tables Kept at n d →
-      (port slot a : ℕ) → at ≤ a → a < at + n → Uses d (d.port port) slot a → ⊥
+      (port slot a : ℕ) → at ≤ a → a < at + n → DeviceOwns d (d.port port) slot a → ⊥
   unused_byte d g apart port slot a low high (inl (used, inl header)) = apart.no_header port slot a used low high header.0 header.1
   unused_byte d g apart port slot a low high (inl (used, inr (m, places, s, inl table))) =
       let h : IsGuardedSlot Tables Kept d.memory (d.port port).bases.clb slot = (g.port port).slot slot used in
@@ -34,7 +34,7 @@ module _ (Tables Kept : ℕ → Type 0) (at n : ℕ) where
 
   apart_stays : (old mid : Device) → IsApart Tables Kept at n old → Steps old mid → IsApart Tables Kept at n mid
   apart_stays old mid apart steps =
-      let k : Keeps old mid = steps_keep steps in
+      let k : Keeps old mid = law_steps_keep steps in
       record {
         inside = rw k.size apart.inside;
         kept = apart.kept;
@@ -46,6 +46,6 @@ module _ (Tables Kept : ℕ → Type 0) (at n : ℕ) where
       }
 
   -- what `load` and `store` ask
-  pub apart_free_stays : (d : Device) → IsGuarded Tables Kept d → IsApart Tables Kept at n d → Stays (IsFree at n) d
+  pub apart_free_stays : (d : Device) → IsGuarded Tables Kept d → IsApart Tables Kept at n d → IsStable (IsFree at n) d
   apart_free_stays d g apart mid steps =
       apart_free mid (steps_guard Tables Kept d mid g steps).0 (apart_stays d mid apart steps)

@@ -4,24 +4,24 @@ use Rattle.std.specs.Prelude.{if◌then◌else◌, is_some, nat_le, replicate}
 use Rattle.std.proofs.lemmas.List.Elements.{All-replicate}
 use Rattle.ata_types.specs.declared.memory.TheConstants.{HEADER_BYTES, RECEIVED_BYTES}
 use Rattle.adapter.specs.Memory.{patched}
-use Rattle.adapter.specs.Device.{Taken, PortState, Device}
+use Rattle.adapter.specs.Device.{FetchedCommand, DevicePort, Device}
 use Rattle.adapter.specs.Steps.{MayScribble, Steps}
-use Rattle.adapter.specs.Steps.Step.{Fetch, FetchFault, Move, Clear, Done, Fault, Fatal, Unplug, Plug, Scribble}
+use Rattle.adapter.specs.Steps.DeviceTransition.{Fetch, FetchFault, Move, Clear, Done, Fault, Fatal, Unplug, Plug, Scribble}
 use Rattle.adapter.specs.declared.command.Operation.{Operation}
 use Rattle.adapter.specs.declared.command.Operation.TheVariants.{Identify}
 use Rattle.adapter.specs.declared.access.DeviceStep.{DeviceStep}
 use Rattle.adapter.specs.declared.access.DeviceStep.TheVariants as asked
 use Rattle.adapter.proofs.Runs.{Steps-refl, Steps-one, Steps-trans}
 use Rattle.adapter.proofs.Scribbling.{area_filled, one_filled, scribbled_is_one}
-use Rattle.adapter.specs.Asked.{DoesClear, DoesOne, DoesSome, Fails, FailsAfter, FailsOf, GoesOn, MayPost, Asked, DoneOf, DoesScribble, IsScribbled, busy, fatal_bit, filled}
+use Rattle.adapter.specs.Asked.{DoesClear, DoesOne, DoesSome, Fails, FailsAfter, FailsOf, SlotGoesOn, MayPost, Asked, DoneOf, DoesScribble, IsScribbled, busy, fatal_bit, memory_filled}
 
 module _ (Posts : (port flag : ℕ) → Operation → Device → Device → Type 0) where
-  pub goes_one : (port slot : ℕ) (old new : Device) → DoesOne Posts port slot old new → GoesOn Posts port slot old new
+  pub goes_one : (port slot : ℕ) (old new : Device) → DoesOne Posts port slot old new → SlotGoesOn Posts port slot old new
   goes_one port slot old new one = (0, (old, refl, one))
 
   -- a step that happened or not, after some or none
-  pub goes_next : (port slot : ℕ) (old mid new : Device) (did : Bool) → (did ≡ true → GoesOn Posts port slot old mid) → (did ≡ false → mid ≡ old) →
-      DoesOne Posts port slot mid new → GoesOn Posts port slot old new
+  pub goes_next : (port slot : ℕ) (old mid new : Device) (did : Bool) → (did ≡ true → SlotGoesOn Posts port slot old mid) → (did ≡ false → mid ≡ old) →
+      DoesOne Posts port slot mid new → SlotGoesOn Posts port slot old new
   goes_next port slot old mid new true before same one = let b = before refl in (suc b.0, (mid, b.1, one))
   goes_next port slot old mid new false before same one =
       let P : Device → Type 0 = λ d. DoesOne Posts port slot d new in
@@ -63,7 +63,7 @@ fails_steps Part steps port slot old new f = Steps-trans (before f.before) (faul
     before (inl same) = let P : Device → Type 0 = λ d. Steps old d in subst P (sym same) (Steps-refl old)
     before (inr some) = steps old f.mid some
 
-goes_steps : (port slot : ℕ) (old new : Device) → GoesOn MayPost port slot old new → Steps old new
+goes_steps : (port slot : ℕ) (old new : Device) → SlotGoesOn MayPost port slot old new → Steps old new
 goes_steps port slot old new did = some_steps (suc did.0) port slot old new did.1
 
 -- a place that the device may fill, or that isn't in the memory
@@ -76,9 +76,9 @@ bytes_of : (count byte : ℕ) → byte < 256 → All (λ b. b < 256) (replicate 
 bytes_of count byte small = All-replicate (λ b. b < 256) count byte small
 
 -- PRDBC of a slot, after others
-count_steps : (slot port byte : ℕ) (d : Device) (before : ℕ → ℕ) → (d.port port).fre ≡ true → byte < 256 → (held : Option Taken) → (d.port port).taken slot ≡ held →
+count_steps : (slot port byte : ℕ) (d : Device) (before : ℕ → ℕ) → (d.port port).fre ≡ true → byte < 256 → (held : Option FetchedCommand) → (d.port port).taken slot ≡ held →
     {from : Device} → Steps from (record d { memory = before }) →
-    Steps from (record d { memory = if is_some held then filled d.size ((d.port port).bases.clb + HEADER_BYTES * slot + 4) 4 byte before else before })
+    Steps from (record d { memory = if is_some held then memory_filled d.size ((d.port port).bases.clb + HEADER_BYTES * slot + 4) 4 byte before else before })
 count_steps slot port byte d before fre small None e so_far = so_far
 count_steps slot port byte d before fre small (Some t) e so_far =
     let at : ℕ = (d.port port).bases.clb + HEADER_BYTES * slot + 4 in
@@ -90,15 +90,15 @@ scribbles : (slots port byte : ℕ) (d : Device) → (d.port port).fre ≡ true 
     (memory : ℕ → ℕ) × IsScribbled slots d.size byte (d.port port) d.memory memory × Steps d (record d { memory = memory })
 scribbles zero port byte d fre small =
     let at : ℕ = (d.port port).bases.fb in (
-      filled d.size at RECEIVED_BYTES byte d.memory,
+      memory_filled d.size at RECEIVED_BYTES byte d.memory,
       area_filled d.size byte (d.port port) d.memory,
       fill_steps port 0 at RECEIVED_BYTES byte d (nat_le (at + RECEIVED_BYTES) d.size)
           (record { fre = fre; place = inl (omega arith, omega arith); are_bytes = bytes_of RECEIVED_BYTES byte small }),
     )
 scribbles (suc slot) port byte d fre small =
-    let p : PortState = d.port port in
+    let p : DevicePort = d.port port in
     let before = scribbles slot port byte d fre small in
-    let memory : ℕ → ℕ = if is_some (p.taken slot) then filled d.size (p.bases.clb + HEADER_BYTES * slot + 4) 4 byte before.0 else before.0 in
+    let memory : ℕ → ℕ = if is_some (p.taken slot) then memory_filled d.size (p.bases.clb + HEADER_BYTES * slot + 4) 4 byte before.0 else before.0 in
     let next : slot + 1 ≡ suc slot = omega arith in
     let P : ℕ → Type 0 = λ n. IsScribbled n d.size byte p d.memory memory in
     (memory, subst P next (one_filled d.size byte p slot d.memory before.0 memory before.1 refl), count_steps slot port byte d before.0 fre small (p.taken slot) refl before.2)
@@ -135,7 +135,7 @@ failed_steps (asked.Fetch p slot) old new f =
     (post_steps p.0 30 Identify f.mid new (f.posts Identify))
 failed_steps (asked.Move p slot) old new f = fault_steps p.0 slot.0 f.0 0 old new f.1
 failed_steps (asked.Clear p slot most) old new f = fails_steps (DoesClear p.0 slot.0 most) (clear_steps p.0 slot.0 most) p.0 slot.0 old new f
-failed_steps (asked.Finish p slot) old new f = fails_steps (GoesOn MayPost p.0 slot.0) (goes_steps p.0 slot.0) p.0 slot.0 old new f
+failed_steps (asked.Finish p slot) old new f = fails_steps (SlotGoesOn MayPost p.0 slot.0) (goes_steps p.0 slot.0) p.0 slot.0 old new f
 failed_steps (asked.Done p slot) old new f = absurd f
 failed_steps (asked.Fault p slot error) old new f = absurd f
 failed_steps (asked.FaultBusy p slot error) old new f = absurd f

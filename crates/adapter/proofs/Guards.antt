@@ -2,11 +2,11 @@
 use Rattle.std.proofs.Common.{ℕ, ◌≡◌, ◌+◌, Bool, true, false, List, [], ◌∷◌, length, Option, None, Some, refl, sym, ◌∙◌, subst, arith, inl, inr, if◌then◌else◌}
 use Rattle.adapter.specs.Memory.{patched, changed}
 use Rattle.adapter.specs.Commands.{Meaning, reads_memory}
-use Rattle.adapter.specs.Device.{Taken, Bases, PortState, Device}
+use Rattle.adapter.specs.Device.{FetchedCommand, Bases, DevicePort, Device}
 use Rattle.adapter.specs.Kept.{Keeps, KeepsPort}
 use Rattle.adapter.specs.Rules.{InUse}
-use Rattle.adapter.specs.Steps.{Step, Can, after, Leads, Steps, MayFetch, MayScribble, next_place}
-use Rattle.adapter.specs.Steps.Step.{Fetch, FetchFault, Move, Clear, Done, Fault, Fatal, Fall, FrFall, LinkUp, Unplug, Plug, ResetEnds, Scribble}
+use Rattle.adapter.specs.Steps.{DeviceTransition, Can, device_after, StepLeads, Steps, MayFetch, MayScribble, next_place}
+use Rattle.adapter.specs.Steps.DeviceTransition.{Fetch, FetchFault, Move, Clear, Done, Fault, Fatal, Fall, FrFall, LinkUp, Unplug, Plug, ResetEnds, Scribble}
 use Rattle.adapter.specs.Guarded.{Spares, Avoids, IsGuardedSlot, IsGuardedPort, IsGuarded}
 use Rattle.adapter.proofs.Absurd.{some-none, some_one, set_before}
 use Rattle.adapter.proofs.Changed.{changed_each}
@@ -28,7 +28,7 @@ module _ (Tables Kept : ℕ → Type 0) where
         | inr count ↦ λ a low high kept. ((g.port port).slot slot (inr (count.0, count.1))).count a (omega (arith, count.2)) (omega (arith, count.2, count.3)) kept
       ]
 
-  pub step_bytes : (step : Step) (d : Device) → Can step d → IsGuarded Tables Kept d → (a : ℕ) → Kept a → (after step d).memory a ≡ d.memory a
+  pub step_bytes : (step : DeviceTransition) (d : Device) → Can step d → IsGuarded Tables Kept d → (a : ℕ) → Kept a → (device_after step d).memory a ≡ d.memory a
   step_bytes (Move port slot t bytes) d can g a kept =
       by (reads_memory t.meaning.operation)
     where
@@ -60,8 +60,8 @@ module _ (Tables Kept : ℕ → Type 0) where
   }
 
 -- a slot that is in use was in use
-module _ (old new : PortState) (k : KeepsPort old new) (slot : ℕ) where
-  taken_before : (ci : Bool) (o : Option Taken) → old.ci slot ≡ ci → old.taken slot ≡ o → (t : Taken) → new.taken slot ≡ Some t → InUse old slot
+module _ (old new : DevicePort) (k : KeepsPort old new) (slot : ℕ) where
+  taken_before : (ci : Bool) (o : Option FetchedCommand) → old.ci slot ≡ ci → old.taken slot ≡ o → (t : FetchedCommand) → new.taken slot ≡ Some t → InUse old slot
   taken_before true o set is t now = inl set
   taken_before false (Some u) unset is t now = inr (u, is)
   taken_before false None unset is t now = some-none now (k.free slot unset is)
@@ -71,29 +71,29 @@ module _ (old new : PortState) (k : KeepsPort old new) (slot : ℕ) where
   in_use_before (inr (t, is)) = taken_before (old.ci slot) (old.taken slot) refl refl t is
 
 -- a slot is filled with a command, or emptied
-module _ (P : ℕ → Taken → Type 0) (old : ℕ → Option Taken) (slot : ℕ) (g : (k : ℕ) (t : Taken) → old k ≡ Some t → P k t) where
-  pub filled : (new : Taken) → P slot new → (k : ℕ) (t : Taken) → changed old slot (Some new) k ≡ Some t → P k t
+module _ (P : ℕ → FetchedCommand → Type 0) (old : ℕ → Option FetchedCommand) (slot : ℕ) (g : (k : ℕ) (t : FetchedCommand) → old k ≡ Some t → P k t) where
+  pub filled : (new : FetchedCommand) → P slot new → (k : ℕ) (t : FetchedCommand) → changed old slot (Some new) k ≡ Some t → P k t
   filled new here =
-      changed_each old slot (Some new) (λ k o. (t : Taken) → o ≡ Some t → P k t)
-      (λ t e. let Q : Taken → Type 0 = λ u. P slot u in subst Q (some_one e) here) g
+      changed_each old slot (Some new) (λ k o. (t : FetchedCommand) → o ≡ Some t → P k t)
+      (λ t e. let Q : FetchedCommand → Type 0 = λ u. P slot u in subst Q (some_one e) here) g
 
-  pub emptied : (k : ℕ) (t : Taken) → changed old slot None k ≡ Some t → P k t
+  pub emptied : (k : ℕ) (t : FetchedCommand) → changed old slot None k ≡ Some t → P k t
   emptied =
-      changed_each old slot None (λ k o. (t : Taken) → o ≡ Some t → P k t) (λ t e. some-none e refl) g
+      changed_each old slot None (λ k o. (t : FetchedCommand) → o ≡ Some t → P k t) (λ t e. some-none e refl) g
 
 module _ (Tables Kept : ℕ → Type 0) (d : Device) (g : IsGuarded Tables Kept d) where
   -- the pieces of what a port has taken avoid the kept bytes
-  abbrev TakenAvoid : PortState → Type 0
-  TakenAvoid p = (slot : ℕ) (t : Taken) → p.taken slot ≡ Some t → Avoids Kept t.places
+  abbrev TakenAvoid : DevicePort → Type 0
+  TakenAvoid p = (slot : ℕ) (t : FetchedCommand) → p.taken slot ≡ Some t → Avoids Kept t.places
 
   now : (port : ℕ) → TakenAvoid (d.port port)
   now port = (g.port port).taken
 
   -- one port is another now
-  at_port : (port : ℕ) (new : PortState) → TakenAvoid new → (q : ℕ) → TakenAvoid (changed d.port port new q)
+  at_port : (port : ℕ) (new : DevicePort) → TakenAvoid new → (q : ℕ) → TakenAvoid (changed d.port port new q)
   at_port port new here = changed_each d.port port new (λ q p. TakenAvoid p) here now
 
-  abbrev at_slot : ℕ → Taken → Type 0
+  abbrev at_slot : ℕ → FetchedCommand → Type 0
   at_slot slot t = Avoids Kept t.places
 
   fetch_avoids : (port slot : ℕ) (m : Meaning) (places : List ℕ) → MayFetch d port slot m places → Avoids Kept places
@@ -102,7 +102,7 @@ module _ (Tables Kept : ℕ → Type 0) (d : Device) (g : IsGuarded Tables Kept 
       let P : List ℕ → Type 0 = λ l. Avoids Kept l in
       subst P (says_places d.memory (d.port port).bases.clb slot h.meaning m h.places places h.says can.says) h.places_avoid
 
-  step_taken : (step : Step) → Can step d → (q : ℕ) → TakenAvoid ((after step d).port q)
+  step_taken : (step : DeviceTransition) → Can step d → (q : ℕ) → TakenAvoid ((device_after step d).port q)
   step_taken (Fetch port slot m places) can = at_port port _ (filled at_slot (d.port port).taken slot (now port) _ (fetch_avoids port slot m places can))
   step_taken (FetchFault port slot queued kept_bits) can = at_port port _ (now port)
   step_taken (Move port slot t bytes) can = at_port port _ (filled at_slot (d.port port).taken slot (now port) _ (now port slot t can.works.taken))
@@ -118,35 +118,35 @@ module _ (Tables Kept : ℕ → Type 0) (d : Device) (g : IsGuarded Tables Kept 
   step_taken ResetEnds can = λ q slot t e. some-none e refl
   step_taken (Scribble port slot at bytes) can = now
 
-  pub step_guards : (step : Step) → Can step d → IsGuarded Tables Kept (after step d)
+  pub step_guards : (step : DeviceTransition) → Can step d → IsGuarded Tables Kept (device_after step d)
   step_guards step can =
-      let all : Keeps d (after step d) = step_keeps step d can in
-      let same : (a : ℕ) → Tables a → (after step d).memory a ≡ d.memory a = λ a table. step_bytes Tables Kept step d can g a (g.within a table) in
+      let all : Keeps d (device_after step d) = step_keeps step d can in
+      let same : (a : ℕ) → Tables a → (device_after step d).memory a ≡ d.memory a = λ a table. step_bytes Tables Kept step d can g a (g.within a table) in
       record {
         within = g.within;
         port = λ q.
-            let k : KeepsPort (d.port q) ((after step d).port q) = all.port q in
+            let k : KeepsPort (d.port q) ((device_after step d).port q) = all.port q in
             let p : IsGuardedPort Tables Kept d.memory (d.port q) = g.port q in
             record {
               slot = λ slot used.
-                  let P : Bases → Type 0 = λ b. IsGuardedSlot Tables Kept (after step d).memory b.clb slot in
+                  let P : Bases → Type 0 = λ b. IsGuardedSlot Tables Kept (device_after step d).memory b.clb slot in
                   subst P (sym k.bases)
-                  (held_same Tables Kept d.memory (after step d).memory (d.port q).bases.clb slot same
-                  (p.slot slot (in_use_before (d.port q) ((after step d).port q) k slot used)));
+                  (held_same Tables Kept d.memory (device_after step d).memory (d.port q).bases.clb slot same
+                  (p.slot slot (in_use_before (d.port q) ((device_after step d).port q) k slot used)));
               taken = step_taken step can q;
               received = λ set.
                   let P : Bases → Type 0 = λ b. Spares Kept b.fb (b.fb + 256) in
-                  subst P (sym k.bases) (p.received (set_before (d.port q).fre ((after step d).port q).fre k.fre set));
+                  subst P (sym k.bases) (p.received (set_before (d.port q).fre ((device_after step d).port q).fre k.fre set));
             };
       }
 
-leads_guard : (Tables Kept : ℕ → Type 0) (steps : List Step) (old new : Device) → IsGuarded Tables Kept old → Leads steps old new →
+leads_guard : (Tables Kept : ℕ → Type 0) (steps : List DeviceTransition) (old new : Device) → IsGuarded Tables Kept old → StepLeads steps old new →
     IsGuarded Tables Kept new × ((a : ℕ) → Kept a → new.memory a ≡ old.memory a)
 leads_guard Tables Kept [] old new g e =
     let P : Device → Type 0 = λ d. IsGuarded Tables Kept d × ((a : ℕ) → Kept a → d.memory a ≡ old.memory a) in
     subst P (sym e) (g, λ a kept. refl)
 leads_guard Tables Kept (step ∷ steps) old new g (can, lead) =
-    let rest = leads_guard Tables Kept steps (after step old) new (step_guards Tables Kept old g step can) lead in
+    let rest = leads_guard Tables Kept steps (device_after step old) new (step_guards Tables Kept old g step can) lead in
     (rest.0, λ a kept. rest.1 a kept ∙ step_bytes Tables Kept step old can g a kept)
 
 -- whatever the device does: kept bytes stay, and every command in use stands on them still

@@ -4,10 +4,10 @@ use Rattle.adapter.proofs.Absurd.{true-false, some-none}
 use Rattle.adapter.proofs.Changed.{changed_each}
 use Rattle.adapter.specs.Memory.{changed}
 use Rattle.adapter.specs.Commands.{is_queued}
-use Rattle.adapter.specs.Device.{Taken, PortState, Device}
+use Rattle.adapter.specs.Device.{FetchedCommand, DevicePort, Device}
 use Rattle.adapter.specs.Kept.{Keeps, KeepsOn, KeepsPort, KeepsControls}
-use Rattle.adapter.specs.Steps.{Step, Can, after, Leads, Steps, with_port}
-use Rattle.adapter.specs.Steps.Step.{Fetch, FetchFault, Move, Clear, Done, Fault, Fatal, Fall, FrFall, LinkUp, Unplug, Plug, ResetEnds, Scribble}
+use Rattle.adapter.specs.Steps.{DeviceTransition, Can, device_after, StepLeads, Steps, with_port}
+use Rattle.adapter.specs.Steps.DeviceTransition.{Fetch, FetchFault, Move, Clear, Done, Fault, Fatal, Fall, FrFall, LinkUp, Unplug, Plug, ResetEnds, Scribble}
 use Rattle.adapter.specs.declared.tape.Entry.{Entry}
 
 -- ---- sets of bits that only fall, or only rise
@@ -33,17 +33,17 @@ or_keeps false b h = true-false h refl
 -- ---- a port
 
 -- what the command engine of a port is, and its addresses, are the same
-abbrev pub SameEngine : PortState → PortState → Type 0
+abbrev pub SameEngine : DevicePort → DevicePort → Type 0
 SameEngine old new =
     (new.bases ≡ old.bases) × (new.st ≡ old.st) × (new.fre ≡ old.fre)
     × (new.cr ≡ old.cr) × (new.fr ≡ old.fr) × (new.ci ≡ old.ci) × (new.sact ≡ old.sact) × (new.taken ≡ old.taken)
 
-pub same_engine : (p : PortState) → SameEngine p p
+pub same_engine : (p : DevicePort) → SameEngine p p
 same_engine p = (refl, refl, refl, refl, refl, refl, refl, refl)
 
-pub still : (old new : PortState) → SameEngine old new → KeepsPort old new
+pub still : (old new : DevicePort) → SameEngine old new → KeepsPort old new
 still old new (bases, st, fre, cr, fr, ci, sact, taken) =
-    let at : (slot : ℕ) → new.taken slot ≡ old.taken slot = λ slot. ap (λ (f : ℕ → Option Taken). f slot) taken in
+    let at : (slot : ℕ) → new.taken slot ≡ old.taken slot = λ slot. ap (λ (f : ℕ → Option FetchedCommand). f slot) taken in
     record {
       bases = bases;
       st = λ h. st ∙ h;
@@ -57,19 +57,19 @@ still old new (bases, st, fre, cr, fr, ci, sact, taken) =
       free = λ slot unset none. at slot ∙ none;
     }
 
-pub KeepsPort-refl : (p : PortState) → KeepsPort p p
+pub KeepsPort-refl : (p : DevicePort) → KeepsPort p p
 KeepsPort-refl p = still p p (same_engine p)
 
 -- what the driver's controls are, and the flags, are the same, and CR is
-abbrev pub SameControls : PortState → PortState → Type 0
+abbrev pub SameControls : DevicePort → DevicePort → Type 0
 SameControls old new =
     (new.st ≡ old.st) × (new.fre ≡ old.fre) × (new.sctl_det ≡ old.sctl_det) × (new.ie ≡ old.ie) × (new.is ≡ old.is)
     × (new.ips ≡ old.ips) × (new.serr_n ≡ old.serr_n) × (new.serr_x ≡ old.serr_x) × (new.cr ≡ old.cr)
 
-pub same_controls : (p : PortState) → SameControls p p
+pub same_controls : (p : DevicePort) → SameControls p p
 same_controls p = (refl, refl, refl, refl, refl, refl, refl, refl, refl)
 
-pub calm : (old new : PortState) → SameControls old new → KeepsControls old new
+pub calm : (old new : DevicePort) → SameControls old new → KeepsControls old new
 calm old new (st, fre, det, ie, is, ips, n, x, cr) = record {
   st = st;
   fre = fre;
@@ -82,11 +82,11 @@ calm old new (st, fre, det, ie, is, ips, n, x, cr) = record {
   runs = λ _ ran. cr ∙ ran;
 }
 
-pub KeepsControls-refl : (p : PortState) → KeepsControls p p
+pub KeepsControls-refl : (p : DevicePort) → KeepsControls p p
 KeepsControls-refl p = calm p p (same_controls p)
 
 -- a flag rises
-flagged : (p : PortState) (place : ℕ) (new : PortState) → SameControls (record p { is = changed p.is place true }) new → KeepsControls p new
+flagged : (p : DevicePort) (place : ℕ) (new : DevicePort) → SameControls (record p { is = changed p.is place true }) new → KeepsControls p new
 flagged p place new (st, fre, det, ie, is, ips, n, x, cr) = record {
   st = st;
   fre = fre;
@@ -100,13 +100,13 @@ flagged p place new (st, fre, det, ie, is, ips, n, x, cr) = record {
 }
 
 -- a slot that was in use holds something else now
-slot_keeps : (p : PortState) (slot : ℕ) (new : Option Taken) → (p.ci slot ≡ false → p.taken slot ≡ None → new ≡ None)
+slot_keeps : (p : DevicePort) (slot : ℕ) (new : Option FetchedCommand) → (p.ci slot ≡ false → p.taken slot ≡ None → new ≡ None)
     → (k : ℕ) → p.ci k ≡ false → p.taken k ≡ None → changed p.taken slot new k ≡ None
 slot_keeps p slot new used =
     changed_each p.taken slot new (λ k o. p.ci k ≡ false → p.taken k ≡ None → o ≡ None) used (λ k unset none. none)
 
 -- the command of a slot of a working port goes on
-worked : (p : PortState) (slot : ℕ) (t u : Taken) (new : PortState) → p.cr ≡ true → p.taken slot ≡ Some t
+worked : (p : DevicePort) (slot : ℕ) (t u : FetchedCommand) (new : DevicePort) → p.cr ≡ true → p.taken slot ≡ Some t
     → SameEngine (record p { taken = changed p.taken slot (Some u) }) new → KeepsPort p new
 worked p slot t u new running is (bases, st, fre, cr, fr, ci, sact, taken) = record {
   bases = bases;
@@ -118,12 +118,12 @@ worked p slot t u new running is (bases, st, fre, cr, fr, ci, sact, taken) = rec
   sact = λ k h. ap (λ (f : ℕ → Bool). f k) sact ∙ h;
   idle = λ quiet. true-false running quiet;
   fallen = λ ran quiet. true-false ran (sym cr ∙ quiet);
-  free = λ k unset none. ap (λ (f : ℕ → Option Taken). f k) taken ∙ slot_keeps p slot (Some u) (λ _ n. some-none is n) k unset none;
+  free = λ k unset none. ap (λ (f : ℕ → Option FetchedCommand). f k) taken ∙ slot_keeps p slot (Some u) (λ _ n. some-none is n) k unset none;
 }
 
 -- ---- one step, at its port
 
-module _ (d : Device) (port : ℕ) (new : PortState) (keeps : KeepsPort (d.port port) new) (controls : KeepsControls (d.port port) new) (same : new.notes ≡ (d.port port).notes) where
+module _ (d : Device) (port : ℕ) (new : DevicePort) (keeps : KeepsPort (d.port port) new) (controls : KeepsControls (d.port port) new) (same : new.notes ≡ (d.port port).notes) where
   ports : (q : ℕ) → KeepsPort (d.port q) (changed d.port port new q)
   ports = changed_each d.port port new (λ q p. KeepsPort (d.port q) p) keeps (λ q. KeepsPort-refl (d.port q))
 
@@ -174,9 +174,9 @@ Keeps-refl d = record {
   on = λ h. record { no_reset = h; ae = refl; ie = refl; controls = λ q. KeepsControls-refl (d.port q) };
 }
 
-pub step_keeps : (step : Step) (d : Device) → Can step d → Keeps d (after step d)
+pub step_keeps : (step : DeviceTransition) (d : Device) → Can step d → Keeps d (device_after step d)
 step_keeps (Fetch port slot meaning places) d can =
-    let p : PortState = d.port port in
+    let p : DevicePort = d.port port in
     keeps_quiet d port _
     (record {
       bases = refl;
@@ -199,7 +199,7 @@ step_keeps (Move port slot t bytes) d can =
 step_keeps (Clear port slot t first count) d can =
     keeps_recorded d port _ (worked (d.port port) slot t _ _ can.works.working.running can.works.taken (same_engine (record (d.port port) { taken = changed (d.port port).taken slot (Some _) }))) (calm _ _ (same_controls (d.port port))) refl d.memory _
 step_keeps (Done port slot flag t) d can =
-    let p : PortState = d.port port in
+    let p : DevicePort = d.port port in
     keeps_recorded d port _
     (record {
       bases = refl;
@@ -339,7 +339,7 @@ step_keeps (Scribble port slot at bytes) d can = record {
 
 -- ---- lists of steps
 
-module _ {old mid new : PortState} (a : KeepsPort old mid) (b : KeepsPort mid new) where
+module _ {old mid new : DevicePort} (a : KeepsPort old mid) (b : KeepsPort mid new) where
   -- CR fell in the first part or in the second
   fell_between : (cr : Bool) → mid.cr ≡ cr → old.cr ≡ true → new.cr ≡ false → (slot : ℕ) → new.taken slot ≡ None
   fell_between true is ran quiet = b.fallen is quiet
@@ -359,7 +359,7 @@ module _ {old mid new : PortState} (a : KeepsPort old mid) (b : KeepsPort mid ne
     free = λ slot unset none. b.free slot (a.ci slot unset) (a.free slot unset none);
   }
 
-pub KeepsControls-trans : {old mid new : PortState} → KeepsControls old mid → KeepsControls mid new → KeepsControls old new
+pub KeepsControls-trans : {old mid new : DevicePort} → KeepsControls old mid → KeepsControls mid new → KeepsControls old new
 KeepsControls-trans a b = record {
   st = b.st ∙ a.st;
   fre = b.fre ∙ a.fre;
@@ -393,10 +393,10 @@ Keeps-trans {old} {mid} {new} a b = record {
   on = λ h. let first : KeepsOn old mid = a.on h in KeepsOn-trans first (b.on first.no_reset);
 }
 
-leads_keeps : (steps : List Step) (old new : Device) → Leads steps old new → Keeps old new
+leads_keeps : (steps : List DeviceTransition) (old new : Device) → StepLeads steps old new → Keeps old new
 leads_keeps [] old new e = let P : Device → Type 0 = λ d. Keeps old d in subst P (sym e) (Keeps-refl old)
-leads_keeps (step ∷ steps) old new (can, rest) = Keeps-trans (step_keeps step old can) (leads_keeps steps (after step old) new rest)
+leads_keeps (step ∷ steps) old new (can, rest) = Keeps-trans (step_keeps step old can) (leads_keeps steps (device_after step old) new rest)
 
 -- whatever the device does, it keeps this
-pub steps_keep : {old new : Device} → Steps old new → Keeps old new
-steps_keep {old} {new} s = leads_keeps s.steps old new s.lead
+pub law_steps_keep : {old new : Device} → Steps old new → Keeps old new
+law_steps_keep {old} {new} s = leads_keeps s.steps old new s.lead

@@ -2,11 +2,11 @@
 use Rattle.ata_types.specs.declared.memory.TheConstants.{PRD_BYTES, TABLE_HEAD}
 use Rattle.std.proofs.Common.{ℕ, zero, suc, ◌≡◌, ◌<◌, ◌≤◌, ◌+◌, ◌*◌, ◌||◌, not, Bool, true, false, List, [], ◌∷◌, length, slice_index, refl, sym, ◌∙◌, ap, subst, arith, inl, inr}
 use Rattle.std.proofs.lemmas.Bool.{cases_eq, cases_lt, le-leb, lt-ltb}
-use Rattle.adapter.specs.Device.{PortState, Device}
+use Rattle.adapter.specs.Device.{DevicePort, Device}
 use Rattle.adapter.specs.Idle.{IsIdle, IsIdlePort}
-use Rattle.adapter.specs.Rules.{InUse, InPlaces, IsFree, Stays}
+use Rattle.adapter.specs.Rules.{InUse, InPlaces, IsFree, IsStable}
 use Rattle.adapter.specs.Guarded.{Passing, Spares, Avoids, IsGuardedSlot, IsGuardedPort, IsGuarded}
-use Rattle.adapter.specs.OneCommand.{Standing, is_from, is_of_pieces, is_read_alone, is_written, is_unwritten, IsFreeSlot, standing, HasOneCommand, HasNoCommand, IsElsewhere}
+use Rattle.adapter.specs.OneCommand.{Standing, is_from, is_of_pieces, is_read_alone, is_written, is_unwritten, IsFreeSlot, standing, HasOneCommand, NoneHasCommand, IsElsewhere}
 use Rattle.adapter.proofs.Absurd.{true-false, some-none}
 use Rattle.adapter.proofs.Free.{apart_free_stays}
 
@@ -64,11 +64,11 @@ written_not s at w u = true-false u (ap not w)
 
 -- ---- ports with no command
 
-free_unused : {A : Type 0} (p : PortState) (slot : ℕ) → IsFreeSlot p slot → InUse p slot → A
+free_unused : {A : Type 0} (p : DevicePort) (slot : ℕ) → IsFreeSlot p slot → InUse p slot → A
 free_unused p slot f (inl set) = true-false set f.ci
 free_unused p slot f (inr (t, is)) = some-none is f.taken
 
-port_unused : (Tables Kept : ℕ → Type 0) (memory : ℕ → ℕ) (p : PortState) → ((slot : ℕ) → IsFreeSlot p slot) →
+port_unused : (Tables Kept : ℕ → Type 0) (memory : ℕ → ℕ) (p : DevicePort) → ((slot : ℕ) → IsFreeSlot p slot) →
     (p.fre ≡ true → Spares Kept p.bases.fb (p.bases.fb + 256)) → IsGuardedPort Tables Kept memory p
 port_unused Tables Kept memory p free area = record {
   slot = λ slot used. free_unused p slot (free slot) used;
@@ -76,11 +76,11 @@ port_unused Tables Kept memory p free area = record {
   received = area;
 }
 
-port_idle : (Tables Kept : ℕ → Type 0) (memory : ℕ → ℕ) (p : PortState) → IsIdlePort p → IsGuardedPort Tables Kept memory p
+port_idle : (Tables Kept : ℕ → Type 0) (memory : ℕ → ℕ) (p : DevicePort) → IsIdlePort p → IsGuardedPort Tables Kept memory p
 port_idle Tables Kept memory p i =
     port_unused Tables Kept memory p (λ slot. record { ci = i.ci slot; taken = i.taken slot }) (λ fre. true-false fre i.fre)
 
-pub unused_guarded : (kept : ℕ → Bool) (d : Device) → HasNoCommand d →
+pub unused_guarded : (kept : ℕ → Bool) (d : Device) → NoneHasCommand d →
     ((port : ℕ) → (d.port port).fre ≡ true → Spares (Passing kept) (d.port port).bases.fb ((d.port port).bases.fb + 256)) →
     IsGuarded (Passing (λ _. false)) (Passing kept) d
 unused_guarded kept d none area = record {
@@ -94,7 +94,7 @@ idle_guarded kept d i = record {
   port = λ q. port_idle (Passing (λ _. false)) (Passing kept) d.memory (d.port q) (i.port q);
 }
 
-pub idle_free : (at n : ℕ) (d : Device) → IsIdle d → at + n ≤ d.size → Stays (IsFree at n) d
+pub idle_free : (at n : ℕ) (d : Device) → IsIdle d → at + n ≤ d.size → IsStable (IsFree at n) d
 idle_free at n d i inside =
     apart_free_stays (Passing (λ _. false)) (Passing (λ _. true)) at n d (idle_guarded (λ _. true) d i)
     (record {
@@ -178,7 +178,7 @@ module _ (d : Device) (port slot : ℕ) (c : HasOneCommand d port slot) where
             ]
       ]
 
-  pub elsewhere_free : (at n : ℕ) → IsElsewhere (standing d port slot c.command) at n d → Stays (IsFree at n) d
+  pub elsewhere_free : (at n : ℕ) → IsElsewhere (standing d port slot c.command) at n d → IsStable (IsFree at n) d
   elsewhere_free at n e =
       apart_free_stays Tables Kept at n d command_is_guarded
       (record {

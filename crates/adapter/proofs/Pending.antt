@@ -15,16 +15,16 @@ use Rattle.hba_regs.specs.declared.reg.PortReg.{PortReg}
 use Rattle.hba_regs.specs.declared.reg.PortReg.TheVariants.{Clb, Clbu, Fb, Fbu, Is, Ie, Cmd, Tfd, Sig, Ssts, Sctl, Serr, Sact, Ci}
 use Rattle.adapter.specs.Access.{Access, ShowsPending, Does, DoesAll, Reads, Writes, causes, is_cause, is_pending, named_causes, noted, port_written, raises, raises_interrupt, shown_interrupt, unacknowledged, with_st, written}
 use Rattle.adapter.specs.Access.Access.{Reading, Writing, Loading, Storing}
-use Rattle.adapter.specs.Device.{PortState, Device}
+use Rattle.adapter.specs.Device.{DevicePort, Device}
 use Rattle.adapter.specs.Kept.{KeepsControls}
 use Rattle.adapter.specs.Memory.{changed}
-use Rattle.adapter.specs.Pending.{LeavesEnabled, LeavesPending, SetsCause, TellsAll, interrupts}
+use Rattle.adapter.specs.Pending.{LeavesIe, KeepsIsBit, SetsCause, EnablesAllCauses, interrupts}
 use Rattle.adapter.specs.Rules.{HasPort}
-use Rattle.adapter.specs.Steps.{Step, Can, after, clear_entry, done_entry, fault_entry, Leads, move_of, restarted, Steps}
-use Rattle.adapter.specs.Steps.Step.{Fetch, FetchFault, Move, Clear, Done, Fault, Fatal, Fall, FrFall, LinkUp, Unplug, Plug, ResetEnds, Scribble}
+use Rattle.adapter.specs.Steps.{DeviceTransition, Can, device_after, clear_entry, done_entry, fault_entry, StepLeads, move_of, restarted, Steps}
+use Rattle.adapter.specs.Steps.DeviceTransition.{Fetch, FetchFault, Move, Clear, Done, Fault, Fatal, Fall, FrFall, LinkUp, Unplug, Plug, ResetEnds, Scribble}
 use Rattle.adapter.proofs.Absurd.{some-none, true-false}
 use Rattle.adapter.proofs.Changed.{changed_same, changed_each}
-use Rattle.adapter.proofs.KeptLemmas.{step_keeps, steps_keep}
+use Rattle.adapter.proofs.KeptLemmas.{step_keeps, law_steps_keep}
 use Rattle.adapter.specs.declared.tape.Entry.{Entry}
 use Rattle.adapter.specs.declared.tape.Entry.TheVariants as entry
 
@@ -102,20 +102,20 @@ any_more : (f g : ℕ → Bool) → ((k : ℕ) → f k ≡ true → g k ≡ true
 any_more f g more [] h = h
 any_more f g more (k ∷ ks) h = ⊎_elim (λ x. or_left (g k) (list_any g ks) (more k x)) (λ x. or_right (g k) (list_any g ks) (any_more f g more ks x)) (or_cases (f k) (list_any f ks) h)
 
-pub shown_pends : (p : PortState) (place : ℕ) → is_cause place ≡ true → shown_interrupt p place ≡ true → bit p.ie place ≡ true → is_pending p ≡ true
+pub shown_pends : (p : DevicePort) (place : ℕ) → is_cause place ≡ true → shown_interrupt p place ≡ true → bit p.ie place ≡ true → is_pending p ≡ true
 shown_pends p place is shown enabled = or_right p.ips (raises_interrupt p) (named_raises (raises p) place is (and_from _ _ shown enabled))
 
 -- ---- what was pending stays so, where no cause falls
 
 -- what raises an interrupt has not fallen
-record Rises (old new : PortState) : Type 0 where
+record Rises (old new : DevicePort) : Type 0 where
   ips : old.ips ≡ true → new.ips ≡ true
   ie : new.ie ≡ old.ie
   is : (place : ℕ) → old.is place ≡ true → new.is place ≡ true
   serr_n : old.serr_n ≡ true → new.serr_n ≡ true
   serr_x : old.serr_x ≡ true → new.serr_x ≡ true
 
-module _ (old new : PortState) (r : Rises old new) where
+module _ (old new : DevicePort) (r : Rises old new) where
   shown_on : (place : ℕ) → shown_interrupt old place ≡ true → shown_interrupt new place ≡ true
   shown_on place = by (nat_eq place 6) (nat_eq place 22)
     where
@@ -132,23 +132,23 @@ module _ (old new : PortState) (r : Rises old new) where
   pending_on : is_pending old ≡ true → is_pending new ≡ true
   pending_on h = ⊎_elim (λ x. or_left new.ips (raises_interrupt new) (r.ips x)) (λ x. or_right new.ips (raises_interrupt new) (any_more (raises old) (raises new) raises_on causes x)) (or_cases old.ips (raises_interrupt old) h)
 
-controls_rise : (old new : PortState) → KeepsControls old new → Rises old new
+controls_rise : (old new : DevicePort) → KeepsControls old new → Rises old new
 controls_rise old new k = record { ips = λ h. k.ips ∙ h; ie = k.ie; is = k.is; serr_n = k.serr_n; serr_x = k.serr_x }
 
 pub steps_pend : (port : ℕ) (old new : Device) → Steps old new → old.hr ≡ false → is_pending (old.port port) ≡ true → is_pending (new.port port) ≡ true
-steps_pend port old new s off = pending_on (old.port port) (new.port port) (controls_rise (old.port port) (new.port port) (((steps_keep s).on off).controls port))
+steps_pend port old new s off = pending_on (old.port port) (new.port port) (controls_rise (old.port port) (new.port port) (((law_steps_keep s).on off).controls port))
 
 -- ---- a step that raises a cause
 
-module _ (d : Device) (its : ℕ) (new : PortState) where
+module _ (d : Device) (its : ℕ) (new : DevicePort) where
   -- at the port where it is raised
   here : (port place : ℕ) → port ≡ its → is_cause place ≡ true → shown_interrupt new place ≡ true → new.ie ≡ (d.port its).ie → bit (d.port port).ie place ≡ true → is_pending (changed d.port its new port) ≡ true
   here port place at is shown same enabled =
       let P : ℕ → Type 0 = λ q. bit (d.port q).ie place ≡ true → is_pending (changed d.port its new q) ≡ true in
-      subst P (sym at) (λ e. subst (λ (p : PortState). is_pending p ≡ true) (sym (changed_same d.port its new)) (shown_pends new place is shown (ap (λ (n : ℕ). bit n place) same ∙ e))) enabled
+      subst P (sym at) (λ e. subst (λ (p : DevicePort). is_pending p ≡ true) (sym (changed_same d.port its new)) (shown_pends new place is shown (ap (λ (n : ℕ). bit n place) same ∙ e))) enabled
 
 -- a flag of PxIS that was raised is shown
-flag_shown : (p : PortState) (flag : ℕ) → nat_eq flag 6 ≡ false → nat_eq flag 22 ≡ false → (is : ℕ → Bool) → p.is ≡ changed is flag true → shown_interrupt p flag ≡ true
+flag_shown : (p : DevicePort) (flag : ℕ) → nat_eq flag 6 ≡ false → nat_eq flag 22 ≡ false → (is : ℕ → Bool) → p.is ≡ changed is flag true → shown_interrupt p flag ≡ true
 flag_shown p flag x n is same = by (nat_eq flag 6) (nat_eq flag 22) x n
   where
     by : (a b : Bool) → a ≡ false → b ≡ false → (if a then p.serr_x else (if b then p.serr_n else p.is flag)) ≡ true
@@ -180,7 +180,7 @@ fault_flag = record { cause = refl; no_x = refl; no_n = refl }
 its_cause : (place k : ℕ) → place ≡ k → is_cause k ≡ true → is_cause place ≡ true
 its_cause place k is = subst (λ (n : ℕ). is_cause n ≡ true) (sym is)
 
-module _ (d : Device) (its : ℕ) (new : PortState) where
+module _ (d : Device) (its : ℕ) (new : DevicePort) where
   flag_raised : (port place flag : ℕ) → port ≡ its → place ≡ flag → IsFlag flag → new.is ≡ changed (d.port its).is flag true → new.ie ≡ (d.port its).ie → bit (d.port port).ie place ≡ true → is_pending (changed d.port its new port) ≡ true
   flag_raised port place flag at is flags raised same enabled =
       let f : IsFlag place = flag_of place flag is flags in
@@ -193,7 +193,7 @@ module _ (d : Device) (its : ℕ) (new : PortState) where
   n_raised : (port place : ℕ) → port ≡ its → place ≡ 22 → new.serr_n ≡ true → new.ie ≡ (d.port its).ie → bit (d.port port).ie place ≡ true → is_pending (changed d.port its new port) ≡ true
   n_raised port place at is n same = here d its new port place at (its_cause place 22 is refl) (subst (λ (k : ℕ). shown_interrupt new k ≡ true) (sym is) n) same
 
-pub raised_pends : (step : Step) (port place : ℕ) (d : Device) → Can step d → SetsCause step port place → bit (d.port port).ie place ≡ true → is_pending ((after step d).port port) ≡ true
+pub raised_pends : (step : DeviceTransition) (port place : ℕ) (d : Device) → Can step d → SetsCause step port place → bit (d.port port).ie place ≡ true → is_pending ((device_after step d).port port) ≡ true
 raised_pends (FetchFault its slot queued kept_bits) port place d can (at, is) = flag_raised d its _ port place 30 at is fault_flag refl refl
 raised_pends (Done its slot flag t) port place d can (at, is) = flag_raised d its _ port place flag at is (done_flag flag can.shown) refl refl
 raised_pends (Fault its slot error kept_bits t) port place d can (at, is) = flag_raised d its _ port place 30 at is fault_flag refl refl
@@ -212,7 +212,7 @@ raised_pends ResetEnds port place d can none = absurd none
 raised_pends (Scribble p slot at bytes) port place d can none = absurd none
 
 -- what a step raises is one of the causes that are named
-pub raised_named : (step : Step) (port place : ℕ) (d : Device) → Can step d → SetsCause step port place → is_cause place ≡ true
+pub raised_named : (step : DeviceTransition) (port place : ℕ) (d : Device) → Can step d → SetsCause step port place → is_cause place ≡ true
 raised_named (FetchFault its slot queued kept_bits) port place d can (at, is) = (flag_of place 30 is fault_flag).cause
 raised_named (Done its slot flag t) port place d can (at, is) = (flag_of place flag is (done_flag flag can.shown)).cause
 raised_named (Fault its slot error kept_bits t) port place d can (at, is) = (flag_of place 30 is fault_flag).cause
@@ -236,7 +236,7 @@ raised_named (Scribble p slot at bytes) port place d can none = absurd none
 record Leaves (port : ℕ) (access : Access) (d new : Device) : Type 0 where
   off : d.hr ≡ false → new.hr ≡ false
   tape : new.tape ≡ d.tape
-  ie : LeavesEnabled port access → (new.port port).ie ≡ (d.port port).ie
+  ie : LeavesIe port access → (new.port port).ie ≡ (d.port port).ie
   pends : is_pending (d.port port) ≡ true → is_pending (new.port port) ≡ true
 
 leaves_all : (port : ℕ) (access : Access) (d : Device) → Leaves port access d d
@@ -258,7 +258,7 @@ noted_leaves port (Px its r) v d = record {
 }
 
 -- ST, and what else a write of a register of the port changes beside what raises an interrupt
-st_pends : (st : Bool) (tape : ℕ) (p : PortState) → is_pending p ≡ true → is_pending (with_st st tape p) ≡ true
+st_pends : (st : Bool) (tape : ℕ) (p : DevicePort) → is_pending p ≡ true → is_pending (with_st st tape p) ≡ true
 st_pends true tape p h = by p.st
   where
     by : (st : Bool) → is_pending (if st then p else record p { st = true; cr = true; broken = false; halt = restarted p.halt; notes = record p.notes { st_set_at = tape } }) ≡ true
@@ -266,7 +266,7 @@ st_pends true tape p h = by p.st
     by false = h
 st_pends false tape p h = h
 
-port_pends : (r : PortReg) (v tape : ℕ) (p : PortState) → is_pending p ≡ true → is_pending (port_written r v tape p) ≡ true
+port_pends : (r : PortReg) (v tape : ℕ) (p : DevicePort) → is_pending p ≡ true → is_pending (port_written r v tape p) ≡ true
 port_pends Clb v tape p h = h
 port_pends Clbu v tape p h = h
 port_pends Fb v tape p h = h
@@ -283,7 +283,7 @@ port_pends Sig v tape p h = h
 port_pends Ssts v tape p h = h
 
 -- PxIE, of a port on which another register is written
-st_enables : (st : Bool) (tape : ℕ) (p : PortState) → (with_st st tape p).ie ≡ p.ie
+st_enables : (st : Bool) (tape : ℕ) (p : DevicePort) → (with_st st tape p).ie ≡ p.ie
 st_enables true tape p = by p.st
   where
     by : (st : Bool) → (if st then p else record p { st = true; cr = true; broken = false; halt = restarted p.halt; notes = record p.notes { st_set_at = tape } }).ie ≡ p.ie
@@ -291,7 +291,7 @@ st_enables true tape p = by p.st
     by false = refl
 st_enables false tape p = refl
 
-port_enables : (its : Port) (port : ℕ) (r : PortReg) (v tape : ℕ) (p : PortState) → port ≡ its.0 → LeavesEnabled port (Writing (Px its r) v) → (port_written r v tape p).ie ≡ p.ie
+port_enables : (its : Port) (port : ℕ) (r : PortReg) (v tape : ℕ) (p : DevicePort) → port ≡ its.0 → LeavesIe port (Writing (Px its r) v) → (port_written r v tape p).ie ≡ p.ie
 port_enables its port Ie v tape p at spares = absurd (spares (sym at))
 port_enables its port Clb v tape p at spares = refl
 port_enables its port Clbu v tape p at spares = refl
@@ -311,7 +311,7 @@ or_false : (a b : Bool) → a ≡ false → b ≡ false → (a || b) ≡ false
 or_false false b x y = y
 or_false true b x y = true-false refl x
 
-written_leaves : (port : ℕ) (r : Reg) (v : ℕ) (d : Device) → LeavesPending port (Writing r v) → Leaves port (Writing r v) d (written r v d)
+written_leaves : (port : ℕ) (r : Reg) (v : ℕ) (d : Device) → KeepsIsBit port (Writing r v) → Leaves port (Writing r v) d (written r v d)
 written_leaves port Ghc v d none = record { off = λ h. or_false d.hr (bit v 0) h none; tape = refl; ie = λ spares. refl; pends = λ h. h }
 written_leaves port adapter.Is v d none = record { off = λ h. h; tape = refl; ie = λ spares. same (bit v port); pends = by (bit v port) none }
   where
@@ -339,18 +339,18 @@ written_leaves port Bohc v d none = leaves_all port _ d
 -- A fact that steps of the device and effects of accesses keep goes on.
 module _ (port : ℕ) (P : Device → Type 0) (May : Access → Type 0)
     (on : (old new : Device) → Steps old new → P old → P new) (over : (access : Access) (d new : Device) → May access → Leaves port access d new → P d → P new) where
-  access_goes : (access : Access) (old new : Device) → May access → LeavesPending port access → Does access old new → P old → P new
+  access_goes : (access : Access) (old new : Device) → May access → KeepsIsBit port access → Does access old new → P old → P new
   access_goes (Reading r v) old new may none x h = subst P (sym x.effect) (over (Reading r v) x.mid (noted r v x.mid) may (noted_leaves port r v x.mid) (on old x.mid x.steps h))
   access_goes (Writing r v) old new may none x h = subst P (sym x.effect) (over (Writing r v) x.mid (written r v x.mid) may (written_leaves port r v x.mid none) (on old x.mid x.steps h))
   access_goes (Loading at bytes) old new may none x h = on old new x.steps h
   access_goes (Storing at bytes) old new may none x h =
       subst P (sym x.effect) (over (Storing at bytes) x.mid _ may (record { off = λ h. h; tape = refl; ie = λ spares. refl; pends = λ h. h }) (on old x.mid x.steps h))
 
-  all_go : (accesses : List Access) (old new : Device) → DoesAll accesses old new → All May accesses → All (LeavesPending port) accesses → P old → P new
+  all_go : (accesses : List Access) (old new : Device) → DoesAll accesses old new → All May accesses → All (KeepsIsBit port) accesses → P old → P new
   all_go [] old new e may none h = subst P (sym e) h
   all_go (access ∷ accesses) old new (mid, does, rest) may none h =
-      all_go accesses mid new rest (All-tail May access accesses may) (All-tail (LeavesPending port) access accesses none)
-      (access_goes access old mid (All-head May access accesses may) (All-head (LeavesPending port) access accesses none) does h)
+      all_go accesses mid new rest (All-tail May access accesses may) (All-tail (KeepsIsBit port) access accesses none)
+      (access_goes access old mid (All-head May access accesses may) (All-head (KeepsIsBit port) access accesses none) does h)
 
 -- what is pending on the port, with no reset
 record Pends (port : ℕ) (d : Device) : Type 0 where
@@ -361,10 +361,10 @@ any_access : (accesses : List Access) → All (λ (access : Access). Unit {0}) a
 any_access [] = All-nil (λ (access : Access). Unit {0})
 any_access (access ∷ accesses) = All-cons (λ (access : Access). Unit {0}) access accesses tt (any_access accesses)
 
-pub accesses_pend : (port : ℕ) (accesses : List Access) (old new : Device) → DoesAll accesses old new → All (LeavesPending port) accesses → old.hr ≡ false → is_pending (old.port port) ≡ true → is_pending (new.port port) ≡ true
+pub accesses_pend : (port : ℕ) (accesses : List Access) (old new : Device) → DoesAll accesses old new → All (KeepsIsBit port) accesses → old.hr ≡ false → is_pending (old.port port) ≡ true → is_pending (new.port port) ≡ true
 accesses_pend port accesses old new does none off h =
     (all_go port (Pends port) (λ access. Unit {0})
-    (λ old new s p. record { off = ((steps_keep s).on p.off).no_reset; pends = steps_pend port old new s p.off p.pends })
+    (λ old new s p. record { off = ((law_steps_keep s).on p.off).no_reset; pends = steps_pend port old new s p.off p.pends })
     (λ access d new may l p. record { off = l.off p.off; pends = l.pends p.pends })
     accesses old new does (any_access accesses) none (record { off = off; pends = h })).pends
 
@@ -381,49 +381,49 @@ module _ (port : ℕ) (told : Entry) (its : interrupts told ≡ Some port) (begu
   -- since the tape was so, what it tells of left the port's interrupt pending
   record Waits (d : Device) : Type 0 where
     off : d.hr ≡ false
-    tells : TellsAll (d.port port)
+    tells : EnablesAllCauses (d.port port)
     gained : List Entry
     tape : d.tape ≡ begun ++ gained
     pends : Contains gained told → is_pending (d.port port) ≡ true
 
-  enables_on : (p q : PortState) → q.ie ≡ p.ie → TellsAll p → TellsAll q
+  enables_on : (p q : DevicePort) → q.ie ≡ p.ie → EnablesAllCauses p → EnablesAllCauses q
   enables_on p q same all place is = ap (λ (n : ℕ). bit n place) same ∙ all place is
 
-  module _ (step : Step) (d : Device) (can : Can step d) (w : Waits d) where
-    controls : KeepsControls (d.port port) ((after step d).port port)
+  module _ (step : DeviceTransition) (d : Device) (can : Can step d) (w : Waits d) where
+    controls : KeepsControls (d.port port) ((device_after step d).port port)
     controls = ((step_keeps step d can).on w.off).controls port
 
-    goes_on : is_pending (d.port port) ≡ true → is_pending ((after step d).port port) ≡ true
-    goes_on = pending_on (d.port port) ((after step d).port port) (controls_rise (d.port port) ((after step d).port port) controls)
+    goes_on : is_pending (d.port port) ≡ true → is_pending ((device_after step d).port port) ≡ true
+    goes_on = pending_on (d.port port) ((device_after step d).port port) (controls_rise (d.port port) ((device_after step d).port port) controls)
 
-    quiet : (after step d).tape ≡ d.tape → Waits (after step d)
+    quiet : (device_after step d).tape ≡ d.tape → Waits (device_after step d)
     quiet same = record {
       off = ((step_keeps step d can).on w.off).no_reset;
-      tells = enables_on (d.port port) ((after step d).port port) controls.ie w.tells;
+      tells = enables_on (d.port port) ((device_after step d).port port) controls.ie w.tells;
       gained = w.gained;
       tape = same ∙ w.tape;
       pends = λ has. goes_on (w.pends has);
     }
 
-    recorded : (e : Entry) → (after step d).tape ≡ d.tape ++ e ∷ [] → (interrupts e ≡ Some port → is_pending ((after step d).port port) ≡ true) → Waits (after step d)
+    recorded : (e : Entry) → (device_after step d).tape ≡ d.tape ++ e ∷ [] → (interrupts e ≡ Some port → is_pending ((device_after step d).port port) ≡ true) → Waits (device_after step d)
     recorded e same raised = record {
       off = ((step_keeps step d can).on w.off).no_reset;
-      tells = enables_on (d.port port) ((after step d).port port) controls.ie w.tells;
+      tells = enables_on (d.port port) ((device_after step d).port port) controls.ie w.tells;
       gained = w.gained ++ e ∷ [];
       tape = same ∙ (ap (λ (t : List Entry). t ++ e ∷ []) w.tape ∙ append_assoc begun w.gained (e ∷ []));
       pends = λ has. ⊎_elim (λ x. goes_on (w.pends x)) (λ is. raised (ap (λ (x : Entry). interrupts x) is ∙ its)) (Contains-push_cases w.gained e told has);
     }
 
     -- one that raises a cause, where the entry is of the port
-    raising : (e : Entry) (q place : ℕ) → (after step d).tape ≡ d.tape ++ e ∷ [] → interrupts e ≡ Some q → (port ≡ q → SetsCause step port place) → Waits (after step d)
+    raising : (e : Entry) (q place : ℕ) → (device_after step d).tape ≡ d.tape ++ e ∷ [] → interrupts e ≡ Some q → (port ≡ q → SetsCause step port place) → Waits (device_after step d)
     raising e q place same of_q raises = recorded e same (λ is.
         let r = raises (port_is q port (sym of_q ∙ is)) in
         raised_pends step port place d can r (w.tells place (raised_named step port place d can r)))
 
-    other : (e : Entry) → interrupts e ≡ None → (after step d).tape ≡ d.tape ++ e ∷ [] → Waits (after step d)
+    other : (e : Entry) → interrupts e ≡ None → (device_after step d).tape ≡ d.tape ++ e ∷ [] → Waits (device_after step d)
     other e none same = recorded e same (λ is. some-none is none)
 
-  step_waits : (step : Step) (d : Device) → Can step d → Waits d → Waits (after step d)
+  step_waits : (step : DeviceTransition) (d : Device) → Can step d → Waits d → Waits (device_after step d)
   step_waits (Fetch p s meaning places) d can w = quiet (Fetch p s meaning places) d can w refl
   step_waits (FetchFault p s queued kept_bits) d can w = raising (FetchFault p s queued kept_bits) d can w (fault_entry p s 4 kept_bits) p 30 refl refl (λ at. (at, refl))
   step_waits (Move p s t bytes) d can w = other (Move p s t bytes) d can w (entry.Move (move_of p s t bytes)) refl refl
@@ -439,11 +439,11 @@ module _ (port : ℕ) (told : Entry) (its : interrupts told ≡ Some port) (begu
   step_waits ResetEnds d can w = true-false can w.off
   step_waits (Scribble p s at bytes) d can w = quiet (Scribble p s at bytes) d can w refl
 
-  leads_wait : (steps : List Step) (old new : Device) → Leads steps old new → Waits old → Waits new
+  leads_wait : (steps : List DeviceTransition) (old new : Device) → StepLeads steps old new → Waits old → Waits new
   leads_wait [] old new e w = subst Waits (sym e) w
-  leads_wait (step ∷ steps) old new (can, rest) w = leads_wait steps (after step old) new rest (step_waits step old can w)
+  leads_wait (step ∷ steps) old new (can, rest) w = leads_wait steps (device_after step old) new rest (step_waits step old can w)
 
-  effect_waits : (access : Access) (d new : Device) → LeavesEnabled port access → Leaves port access d new → Waits d → Waits new
+  effect_waits : (access : Access) (d new : Device) → LeavesIe port access → Leaves port access d new → Waits d → Waits new
   effect_waits access d new spares l w = record {
     off = l.off w.off;
     tells = enables_on (d.port port) (new.port port) (l.ie spares) w.tells;
@@ -452,10 +452,10 @@ module _ (port : ℕ) (told : Entry) (its : interrupts told ≡ Some port) (begu
     pends = λ has. l.pends (w.pends has);
   }
 
-pub told_pend : (port : ℕ) (told : Entry) (accesses : List Access) (gained : List Entry) (old new : Device) → interrupts told ≡ Some port → DoesAll accesses old new → All (LeavesPending port) accesses → All (LeavesEnabled port) accesses
-    → old.hr ≡ false → TellsAll (old.port port) → new.tape ≡ old.tape ++ gained → Contains gained told → is_pending (new.port port) ≡ true
+pub told_pend : (port : ℕ) (told : Entry) (accesses : List Access) (gained : List Entry) (old new : Device) → interrupts told ≡ Some port → DoesAll accesses old new → All (KeepsIsBit port) accesses → All (LeavesIe port) accesses
+    → old.hr ≡ false → EnablesAllCauses (old.port port) → new.tape ≡ old.tape ++ gained → Contains gained told → is_pending (new.port port) ≡ true
 told_pend port told accesses gained old new its does none spares off tells tape has =
-    let w : Waits port told its old.tape new = all_go port (Waits port told its old.tape) (LeavesEnabled port)
+    let w : Waits port told its old.tape new = all_go port (Waits port told its old.tape) (LeavesIe port)
     (λ a b s. leads_wait port told its old.tape s.steps a b s.lead) (effect_waits port told its old.tape) accesses old new does spares none
     (record { off = off; tells = tells; gained = []; tape = sym (append-nil old.tape); pends = λ (x : Contains [] told). absurd (let small = x.1 in omega (arith, small)) }) in
     w.pends (subst (λ (g : List Entry). Contains g told) (append_cancel_left old.tape gained w.gained (sym tape ∙ w.tape)) has)

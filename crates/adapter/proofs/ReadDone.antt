@@ -1,13 +1,13 @@
 -- A read that may be fetched can be done: one piece after another.
 use Rattle.std.proofs.Common.{ℕ, zero, suc, true, ◌≡◌, ◌+◌, ◌<◌, ◌≤◌, List, [], ◌∷◌, ◌++◌, length, slice_index, Option, None, Some, IfSome, Bool, false, refl, sym, ◌∙◌, ap, subst, arith, inl, inr, append_assoc, append-nil}
 use Rattle.std.proofs.lemmas.Bool.{cases_eq}
-use Rattle.adapter.specs.Asked.{DoesSome, Ends, PostsNone}
+use Rattle.adapter.specs.Asked.{DoesSome, EndsAndPosts, PostsNone}
 use Rattle.adapter.specs.Memory.{patched, bytes_at, changed}
-use Rattle.adapter.specs.Device.{Disk, IsSector, Taken, Halt, PortState, Device}
+use Rattle.adapter.specs.Device.{Disk, IsSector, FetchedCommand, Halt, DevicePort, Device}
 use Rattle.adapter.specs.OneCommand.{IsFreeSlot}
-use Rattle.adapter.specs.ReadDone.{read_of, MayBeRead, moves, IsRead}
-use Rattle.adapter.specs.Steps.{after, Steps, WorksOn, IsWorking, admits, begun, MayMove, MayBeDone, with_fetch, with_move, with_done, done_entry, move_of}
-use Rattle.adapter.specs.Steps.Step.{Fetch, Move, Done}
+use Rattle.adapter.specs.ReadDone.{read_of, MayBeRead, moves, IsReadDone}
+use Rattle.adapter.specs.Steps.{device_after, Steps, WorksOn, IsWorking, admits, begun, MayMove, MayBeDone, with_fetch, with_move, with_done, done_entry, move_of}
+use Rattle.adapter.specs.Steps.DeviceTransition.{Fetch, Move, Done}
 use Rattle.adapter.specs.declared.command.Operation.{Operation}
 use Rattle.adapter.specs.declared.command.Operation.TheVariants.{Read, Trim}
 use Rattle.adapter.specs.declared.tape.Entry.{Entry}
@@ -17,7 +17,7 @@ use Rattle.adapter.proofs.MemoryLemmas.{bytes_same, patched_apart, patched_bytes
 use Rattle.adapter.proofs.Runs.{Steps-one, Steps-trans}
 
 -- a port that works goes on to, with other slots and registers
-pub still_working : (p new : PortState) (o : Operation) → o ≡ Read → IsWorking p o → new.cr ≡ p.cr → new.present ≡ p.present → new.fresh ≡ p.fresh → new.halt ≡ p.halt → new.broken ≡ p.broken → IsWorking new Read
+pub still_working : (p new : DevicePort) (o : Operation) → o ≡ Read → IsWorking p o → new.cr ≡ p.cr → new.present ≡ p.present → new.fresh ≡ p.fresh → new.halt ≡ p.halt → new.broken ≡ p.broken → IsWorking new Read
 still_working p new o read w cr present fresh halt broken = record {
   running = cr ∙ w.running;
   present = present ∙ w.present;
@@ -28,7 +28,7 @@ still_working p new o read w cr present fresh halt broken = record {
 
 module _ (old : Device) (port slot first count : ℕ) (places : List ℕ) (told : ℕ → List ℕ) (may : MayBeRead old port slot first count places told) where
   -- the command when so many of its pieces were moved
-  abbrev command : ℕ → Taken
+  abbrev command : ℕ → FetchedCommand
   command n = record (begun (read_of first count) places) { moved = n }
 
   -- so many pieces were moved
@@ -45,22 +45,22 @@ module _ (old : Device) (port slot first count : ℕ) (places : List ℕ) (told 
   many : length places ≡ count
   many = may.fetch.says.as_many
 
-  none_moved : IsMoved 0 (after (Fetch port slot (read_of first count) places) old)
+  none_moved : IsMoved 0 (device_after (Fetch port slot (read_of first count) places) old)
   none_moved =
-      let d : Device = after (Fetch port slot (read_of first count) places) old in
-      let new : PortState = with_fetch (old.port port) slot (read_of first count) places in
+      let d : Device = device_after (Fetch port slot (read_of first count) places) old in
+      let new : DevicePort = with_fetch (old.port port) slot (read_of first count) places in
       let here : d.port port ≡ new = changed_same old.port port new in
-      let P : PortState → Type 0 = λ p. WorksOn p slot (command 0) Read in
+      let P : DevicePort → Type 0 = λ p. WorksOn p slot (command 0) Read in
       record {
         steps = Steps-one (Fetch port slot (read_of first count) places) old d may.fetch refl;
         goes = (old, refl, inl (record { meaning = read_of first count; places = places; can = may.fetch; effect = refl }));
-        is = ap (λ (p : PortState). p.is) here;
+        is = ap (λ (p : DevicePort). p.is) here;
         works = subst P (sym here)
             (record {
               taken = changed_same (old.port port).taken slot (Some (command 0));
               working = still_working (old.port port) new Read refl may.fetch.working refl refl refl refl refl;
             });
-        disk = ap (λ (p : PortState). p.disk) here;
+        disk = ap (λ (p : DevicePort). p.disk) here;
         size = refl;
         tape = sym (append-nil old.tape);
         bytes = λ k small. absurd (omega arith);
@@ -88,7 +88,7 @@ module _ (old : Device) (port slot first count : ℕ) (places : List ℕ) (told 
     }
 
     next : Device
-    next = after (Move port slot (command n) sector) d
+    next = device_after (Move port slot (command n) sector) d
 
     moved_bytes : (k : ℕ) → k < suc n → bytes_at next.memory (slice_index places k) 512 ≡ told (first + k)
     unfolding next sector
@@ -112,51 +112,51 @@ module _ (old : Device) (port slot first count : ℕ) (places : List ℕ) (told 
     one_more : IsMoved (suc n) next
     unfolding next sector
     one_more =
-        let new : PortState = with_move (d.port port) slot (command n) (told (first + n)) in
+        let new : DevicePort = with_move (d.port port) slot (command n) (told (first + n)) in
         let here : next.port port ≡ new = changed_same d.port port new in
-        let P : PortState → Type 0 = λ p. WorksOn p slot (command (suc n)) Read in
+        let P : DevicePort → Type 0 = λ p. WorksOn p slot (command (suc n)) Read in
         let number : n + 1 ≡ suc n = omega arith in
         record {
           steps = Steps-trans m.steps (Steps-one (Move port slot (command n) (told (first + n))) d next may_move refl);
           goes = (d, m.goes, inr (inl (record { t = command n; bytes = told (first + n); can = may_move; effect = refl })));
-          is = ap (λ (p : PortState). p.is) here ∙ m.is;
+          is = ap (λ (p : DevicePort). p.is) here ∙ m.is;
           works = subst P (sym here)
               (record {
                 taken = changed_same (d.port port).taken slot (Some (command (n + 1))) ∙ ap (λ (j : ℕ). Some (command j)) number;
                 working = still_working (d.port port) new Read refl m.works.working refl refl refl refl refl;
               });
-          disk = ap (λ (p : PortState). p.disk) here ∙ m.disk;
+          disk = ap (λ (p : DevicePort). p.disk) here ∙ m.disk;
           size = m.size;
           tape = ap (λ (entries : List Entry). entries ++ entry.Move (move_of port slot (command n) (told (first + n))) ∷ []) m.tape ∙ append_assoc old.tape (moves port slot first places told n) _;
           bytes = moved_bytes;
         }
 
   all_moved : (n : ℕ) → n ≤ count → (d : Device) × IsMoved n d
-  all_moved zero few = (after (Fetch port slot (read_of first count) places) old, none_moved)
+  all_moved zero few = (device_after (Fetch port slot (read_of first count) places) old, none_moved)
   all_moved (suc n) few =
       let before = all_moved n (omega arith) in (next n few before.0 before.1, one_more n few before.0 before.1)
 
-  pub read_done : (new : Device) × IsRead old new port slot first count places told
+  pub read_done : (new : Device) × IsReadDone old new port slot first count places told
   read_done =
       let before = all_moved count (omega arith) in
       let d : Device = before.0 in
       let m : IsMoved count d = before.1 in
-      let end : Device = after (Done port slot 0 (command count)) d in
-      let new : PortState = with_done (d.port port) slot 0 Read in
+      let end : Device = device_after (Done port slot 0 (command count)) d in
+      let new : DevicePort = with_done (d.port port) slot 0 Read in
       let here : end.port port ≡ new = changed_same d.port port new in
       let can : MayBeDone d port slot 0 (command count) = record {
         works = m.works;
         finished = record { moved = sym many; cleared = λ trim. absurd (let f : Read ≡ Trim = trim in cc) };
         shown = inl refl;
       } in
-      let ended : Ends PostsNone port slot d end =
+      let ended : EndsAndPosts PostsNone port slot d end =
       record { mid = end; done = record { flag = 0; t = command count; can = can; effect = refl }; posts = refl } in
-      let P : PortState → Type 0 = λ p. IsFreeSlot p slot in (
+      let P : DevicePort → Type 0 = λ p. IsFreeSlot p slot in (
         end,
         record {
           steps = Steps-trans m.steps (Steps-one (Done port slot 0 (command count)) d end can refl);
           goes = (suc count, (d, m.goes, inr (inr (inl ended))));
-          shown = ap (λ (p : PortState). p.is) here ∙ ap (λ (f : ℕ → Bool). changed f 0 true) m.is;
+          shown = ap (λ (p : DevicePort). p.is) here ∙ ap (λ (f : ℕ → Bool). changed f 0 true) m.is;
           free = subst P (sym here)
               (record { ci = changed_same (d.port port).ci slot false; taken = changed_same (d.port port).taken slot None });
           tape = ap (λ (entries : List Entry). entries ++ done_entry port slot Read ∷ []) m.tape ∙ append_assoc old.tape (moves port slot first places told count) _;

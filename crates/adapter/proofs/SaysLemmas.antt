@@ -4,8 +4,8 @@ use Rattle.std.proofs.Common.{ℕ, zero, suc, ◌≡◌, ◌<◌, ◌≤◌, ◌
 use Rattle.byteorder.specs.Endian.{little_from}
 use Rattle.adapter.specs.Memory.{bytes_at}
 use Rattle.adapter.specs.Commands.{Meaning, command_of, is_ranged, reads_memory, pieces_moved}
-use Rattle.adapter.specs.Spelling.{SpellsCommand, SpellsHeader, SpellsPrd}
-use Rattle.adapter.specs.Says.{Says, HasPrds, pieces, cut}
+use Rattle.adapter.specs.Encoding.{EncodesCommand, EncodesHeader, EncodesPrd}
+use Rattle.adapter.specs.Decoding.{DecodesTo, HasPrds, pieces, piece_addresses}
 use Rattle.adapter.specs.declared.command.Operation.{Operation}
 use Rattle.adapter.specs.declared.command.Operation.TheVariants.{Identify, Read, Write, ReadQueued, WriteQueued, Flush, Trim, ReadLog}
 use Rattle.adapter.specs.declared.command.Prd.{Prd}
@@ -33,7 +33,7 @@ module _ (old new : ℕ → ℕ) where
   byte_same at n i small same = bytes_index new at n i small ∙ same ∙ sym (bytes_index old at n i small)
 
   pub header_same : (at : ℕ) (writes : Bool) (entries table : ℕ) → Agree old new at (at + 4) → Agree old new (at + 8) (at + 32) →
-      SpellsHeader (bytes_at old at 32) writes entries table → SpellsHeader (bytes_at new at 32) writes entries table
+      EncodesHeader (bytes_at old at 32) writes entries table → EncodesHeader (bytes_at new at 32) writes entries table
   header_same at writes entries table head rest s = record {
     size = bytes_length new at 32;
     first = little_from_agrees 4 0 0 (bytes_at new at 32) (bytes_at old at 32) (λ m lt. byte_same at 32 (0 + m) (omega arith) (head (at + (0 + m)) (omega arith) (omega arith))) ∙ s.first;
@@ -46,15 +46,15 @@ module _ (old new : ℕ → ℕ) where
   prds_same from to at [] same low high s = s
   prds_same from to at (e ∷ es) same low high s =
       let here : bytes_at new at 16 ≡ bytes_at old at 16 = bytes_same old new at 16 (λ a from_at to_at. same a (omega arith) (omega arith)) in
-      let P : List ℕ → Type 0 = λ bytes. SpellsPrd bytes e in
+      let P : List ℕ → Type 0 = λ bytes. EncodesPrd bytes e in
       (subst P (sym here) s.0, prds_same from to (at + 16) es same (omega arith) (omega arith) s.1)
 
-  unfoldable pub says_same : (list slot : ℕ) (m : Meaning) (places : List ℕ) (s : Says old list slot m places) →
+  unfoldable pub says_same : (list slot : ℕ) (m : Meaning) (places : List ℕ) (s : DecodesTo old list slot m places) →
       Agree old new (list + 32 * slot) (list + 32 * slot + 4) → Agree old new (list + 32 * slot + 8) (list + 32 * slot + 32) →
-      Agree old new s.table (s.table + TABLE_HEAD + PRD_BYTES * length s.prds) → Says new list slot m places
+      Agree old new s.table (s.table + TABLE_HEAD + PRD_BYTES * length s.prds) → DecodesTo new list slot m places
   says_same list slot m places s head rest body =
       let fis : bytes_at new s.table 20 ≡ bytes_at old s.table 20 = bytes_same old new s.table 20 (λ a low high. body a low (omega arith)) in
-      let P : List ℕ → Type 0 = λ bytes. SpellsCommand bytes (command_of m.operation slot m.first m.count) in
+      let P : List ℕ → Type 0 = λ bytes. EncodesCommand bytes (command_of m.operation slot m.first m.count) in
       record {
         table = s.table;
         prds = s.prds;
@@ -70,18 +70,18 @@ module _ (old new : ℕ → ℕ) where
 
 -- ---- pieces cut from a region
 
-pub cut_length : (at n : ℕ) → length (cut at n) ≡ n
+pub cut_length : (at n : ℕ) → length (piece_addresses at n) ≡ n
 cut_length at zero = refl
 cut_length at (suc n) = let rest = cut_length (at + 512) n in omega (arith, rest)
 
-pub cut_index : (at n i : ℕ) → i < n → slice_index (cut at n) i ≡ at + 512 * i
+pub cut_index : (at n i : ℕ) → i < n → slice_index (piece_addresses at n) i ≡ at + 512 * i
 cut_index at zero i small = absurd (omega arith)
 cut_index at (suc n) zero small = omega arith
 cut_index at (suc n) (suc i) small = cut_index (at + 512) n i (omega arith) ∙ omega arith
 
 -- ---- one meaning
 
-prd_one : (bytes : List ℕ) (a b : Prd) → SpellsPrd bytes a → SpellsPrd bytes b → a ≡ b
+prd_one : (bytes : List ℕ) (a b : Prd) → EncodesPrd bytes a → EncodesPrd bytes b → a ≡ b
 prd_one bytes a b x y =
     let e : a.address ≡ b.address = sym x.address ∙ y.address in
     let f : a.bytes ≡ b.bytes = sym x.count ∙ y.count in
@@ -142,7 +142,7 @@ pieces_ranged Trim count h = true-false h refl
 pieces_ranged ReadLog count h = true-false h refl
 
 -- two readings of a slot are one
-module _ (memory : ℕ → ℕ) (list slot : ℕ) (m n : Meaning) (xs ys : List ℕ) (a : Says memory list slot m xs) (b : Says memory list slot n ys) where
+module _ (memory : ℕ → ℕ) (list slot : ℕ) (m n : Meaning) (xs ys : List ℕ) (a : DecodesTo memory list slot m xs) (b : DecodesTo memory list slot n ys) where
   pub says_table : a.table ≡ b.table
   says_table = sym a.header.points ∙ b.header.points
 
@@ -156,9 +156,9 @@ module _ (memory : ℕ → ℕ) (list slot : ℕ) (m n : Meaning) (xs ys : List 
   pub says_places : xs ≡ ys
   says_places = a.in_order ∙ (ap pieces says_prds ∙ sym b.in_order)
 
-  fis_there : SpellsCommand (bytes_at memory b.table 20) (command_of m.operation slot m.first m.count)
+  fis_there : EncodesCommand (bytes_at memory b.table 20) (command_of m.operation slot m.first m.count)
   fis_there =
-      let P : ℕ → Type 0 = λ t. SpellsCommand (bytes_at memory t 20) (command_of m.operation slot m.first m.count) in
+      let P : ℕ → Type 0 = λ t. EncodesCommand (bytes_at memory t 20) (command_of m.operation slot m.first m.count) in
       subst P says_table a.fis
 
   pub says_operation : m.operation ≡ n.operation

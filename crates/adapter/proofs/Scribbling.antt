@@ -5,8 +5,8 @@ use Rattle.std.proofs.lemmas.Bool.{cases_lt, false≢true}
 use Rattle.std.proofs.lemmas.Bool.Decides.{leb_tells}
 use Rattle.std.proofs.lemmas.List.{length-replicate, get_or-replicate}
 use Rattle.ata_types.specs.declared.memory.TheConstants.{HEADER_BYTES, RECEIVED_BYTES}
-use Rattle.adapter.specs.Asked.{IsOneOf, IsScribblePlace, IsScribbled, filled}
-use Rattle.adapter.specs.Device.{PortState}
+use Rattle.adapter.specs.Asked.{IsOneOf, IsScribblePlace, IsScribbled, memory_filled}
+use Rattle.adapter.specs.Device.{DevicePort}
 use Rattle.adapter.specs.Memory.{patched}
 use Rattle.adapter.proofs.MemoryLemmas.{patched_before, patched_past}
 
@@ -24,7 +24,7 @@ patched_within memory at count byte place from inside =
 abbrev Told : (size at count byte place was is : ℕ) → Type 0
 Told size at count byte place was is = (IsOneOf size at count place × (is ≡ byte)) ⊎ ((IsOneOf size at count place → ⊥) × (is ≡ was))
 
-fill_told : (size at count byte place : ℕ) (memory : ℕ → ℕ) → Told size at count byte place (memory place) (filled size at count byte memory place)
+fill_told : (size at count byte place : ℕ) (memory : ℕ → ℕ) → Told size at count byte place (memory place) (memory_filled size at count byte memory place)
 fill_told size at count byte place memory =
     elim (leb_tells (at + count) size) [
       | inl there ↦
@@ -43,13 +43,13 @@ fill_told size at count byte place memory =
 
 -- ---- the places of a scribble
 
-module _ (size byte : ℕ) (p : PortState) where
+module _ (size byte : ℕ) (p : DevicePort) where
   -- PRDBC of the slot
   abbrev count_at : ℕ → ℕ
   count_at slot = p.bases.clb + HEADER_BYTES * slot + 4
 
   -- of no slot: the received FIS area
-  pub area_filled : (old : ℕ → ℕ) → IsScribbled 0 size byte p old (filled size p.bases.fb RECEIVED_BYTES byte old)
+  pub area_filled : (old : ℕ → ℕ) → IsScribbled 0 size byte p old (memory_filled size p.bases.fb RECEIVED_BYTES byte old)
   area_filled old = record {
     filled = λ place it.
         elim (fill_told size p.bases.fb RECEIVED_BYTES byte place old) [
@@ -76,10 +76,10 @@ module _ (size byte : ℕ) (p : PortState) where
 
   -- PRDBC of one slot more is filled, if its command is taken
   pub one_filled : (slot : ℕ) (old before new : ℕ → ℕ) → IsScribbled slot size byte p old before
-      → new ≡ (if is_some (p.taken slot) then filled size (count_at slot) 4 byte before else before) → IsScribbled (slot + 1) size byte p old new
+      → new ≡ (if is_some (p.taken slot) then memory_filled size (count_at slot) 4 byte before else before) → IsScribbled (slot + 1) size byte p old new
   one_filled slot old before new so_far one = by (is_some (p.taken slot)) refl one
     where
-      by : (b : Bool) → is_some (p.taken slot) ≡ b → new ≡ (if b then filled size (count_at slot) 4 byte before else before) → IsScribbled (slot + 1) size byte p old new
+      by : (b : Bool) → is_some (p.taken slot) ≡ b → new ≡ (if b then memory_filled size (count_at slot) 4 byte before else before) → IsScribbled (slot + 1) size byte p old new
       by false free is = record {
         filled = λ place it. (λ i. is i place) ∙ ⊎_elim (so_far.filled place) (λ w. absurd (false≢true (sym free ∙ w.0))) (earlier slot place it);
         others = λ place none. (λ i. is i place) ∙ so_far.others place (λ it. none (later slot place it));

@@ -10,7 +10,7 @@ use Rattle.hba_regs.specs.declared.reg.Reg.TheVariants as adapter
 use Rattle.hba_regs.specs.declared.reg.PortReg.{PortReg}
 use Rattle.hba_regs.specs.declared.reg.PortReg.TheVariants.{Clb, Clbu, Fb, Fbu, Is, Ie, Cmd, Tfd, Sig, Ssts, Sctl, Serr, Sact, Ci}
 use Rattle.adapter.specs.Memory.{patched, bytes_at}
-use Rattle.adapter.specs.Device.{Notes, PortState, Device}
+use Rattle.adapter.specs.Device.{Notes, DevicePort, Device}
 use Rattle.adapter.specs.Steps.{Steps, with_port, restarted}
 
 -- ---- what a reading shows (AHCI 1.3.1, 3.1 and 3.3). Bits and registers that are not named here may have any value.
@@ -23,24 +23,24 @@ is_cause place = nat_eq place 0 || nat_eq place 1 || nat_eq place 3 || nat_eq pl
     place && nat_le place 30
 
 -- PxIS: PCS shows X and PRCS shows N
-abbrev pub shown_interrupt : PortState → ℕ → Bool
+abbrev pub shown_interrupt : DevicePort → ℕ → Bool
 shown_interrupt p place =
     if nat_eq place 6 then p.serr_x else (if nat_eq place 22 then p.serr_n else p.is place)
 
 -- PxIS shows the cause, and PxIE enables it (AHCI 1.3.1, 3.3.5 and 3.3.6)
-abbrev pub raises : PortState → ℕ → Bool
+abbrev pub raises : DevicePort → ℕ → Bool
 raises p place = shown_interrupt p place && bit p.ie place
 
 -- The port interrupts: it raises one of the causes that are named.
 abbrev pub causes : List ℕ
 causes = 0 ∷ 1 ∷ 3 ∷ 6 ∷ 22 ∷ 27 ∷ 28 ∷ 29 ∷ 30 ∷ []
 
-abbrev pub raises_interrupt : PortState → Bool
+abbrev pub raises_interrupt : DevicePort → Bool
 raises_interrupt p = list_any (raises p) causes
 
 -- The port's bit of IS is set by the level of the port's interrupt, and stays until it is cleared (AHCI 1.3.1, 3.1.3
 -- and 10.7).
-abbrev pub is_pending : PortState → Bool
+abbrev pub is_pending : DevicePort → Bool
 is_pending p = p.ips || raises_interrupt p
 
 -- the causes that are named, as bits of PxIE; and whether it enables others
@@ -52,10 +52,10 @@ enables_others ie = not (nat_eq (bit_and ie named_causes) ie)
 
 -- The bit of IS is one where the port's interrupt is pending. Where it isn't, it is zero, unless a cause that isn't
 -- named may have set it.
-abbrev pub ShowsPending : Bool → PortState → Type 0
+abbrev pub ShowsPending : Bool → DevicePort → Type 0
 ShowsPending shown p = (is_pending p ≡ true) ⊎ (p.other_causes ≡ false) → shown ≡ is_pending p
 
-abbrev pub PortShows : PortReg → ℕ → PortState → Type 0
+abbrev pub PortShows : PortReg → ℕ → DevicePort → Type 0
 PortShows Clb v p = p.bases.clb_set ≡ true → v ≡ p.bases.clb
 PortShows Clbu v p = p.bases.clbu_set ≡ true → v ≡ 0
 PortShows Fb v p = p.bases.fb_set ≡ true → v ≡ p.bases.fb
@@ -92,10 +92,10 @@ abbrev pub link_counted : ℕ → ℕ → ℕ
 link_counted det n = if nat_eq det 3 then READINGS else min READINGS (n + 1)
 
 -- the counts of SSTS, TFD and CI move only while SCTL.DET is 0
-abbrev pub while_no_comreset : PortState → ℕ → ℕ → ℕ
+abbrev pub while_no_comreset : DevicePort → ℕ → ℕ → ℕ
 while_no_comreset p new old = if nat_eq p.sctl_det 0 then new else old
 
-abbrev pub note : PortReg → ℕ → PortState → Notes
+abbrev pub note : PortReg → ℕ → DevicePort → Notes
 note Cmd v p =
     record p.notes {
       last_cmd = v;
@@ -132,7 +132,7 @@ noted _ v d = d
 -- ---- what a write does
 
 -- PxCMD.ST: going to one sets CR, going to zero clears CI and SACT
-abbrev pub with_st : Bool → ℕ → PortState → PortState
+abbrev pub with_st : Bool → ℕ → DevicePort → DevicePort
 with_st st tape p =
     if st
     then (if p.st then p
@@ -150,11 +150,11 @@ with_st st tape p =
     }
 
 -- PxCMD.FRE: going to one sets FR
-abbrev pub with_fre : Bool → PortState → PortState
+abbrev pub with_fre : Bool → DevicePort → DevicePort
 with_fre fre p = record p { fre = fre; fr = fre || p.fr }
 
 -- PxSCTL.DET: 1 sends COMRESET, and 0 after 1 lets the link come up
-abbrev pub with_det : ℕ → ℕ → PortState → PortState
+abbrev pub with_det : ℕ → ℕ → DevicePort → DevicePort
 with_det det tape p =
     record p {
       sctl_det = det;
@@ -164,7 +164,7 @@ with_det det tape p =
       notes = record p.notes { sctl_written_at = tape; link_count = 0; busy_count = 0; command_count = 0 };
     }
 
-abbrev pub port_written : PortReg → ℕ → ℕ → PortState → PortState
+abbrev pub port_written : PortReg → ℕ → ℕ → DevicePort → DevicePort
 port_written Clb v tape p = record p { bases = record p.bases { clb = v; clb_set = true } }
 port_written Clbu v tape p = record p { bases = record p.bases { clbu_set = true } }
 port_written Fb v tape p = record p { bases = record p.bases { fb = v; fb_set = true } }
@@ -191,7 +191,7 @@ port_written Sact v tape p = record p { sact = λ slot. p.sact slot || bit v slo
 port_written _ v tape p = p
 
 -- The port's bit of IS was written: it falls, unless a cause sets it anew.
-abbrev pub unacknowledged : PortState → PortState
+abbrev pub unacknowledged : DevicePort → DevicePort
 unacknowledged p =
     record p { ips = false; other_causes = enables_others p.ie; notes = record p.notes { acknowledged = false } }
 

@@ -3,10 +3,10 @@
 use Rattle.std.specs.Prelude.{ℕ, Bool, zero, suc, ◌≡◌, ◌+◌, ◌<◌, ◌≤◌, ◌*◌, ◌⊎◌, true, List, length, All, if◌then◌else◌, is_some, nat_le, replicate}
 use Rattle.ata_types.specs.declared.memory.TheConstants.{HEADER_BYTES, RECEIVED_BYTES}
 use Rattle.adapter.specs.Commands.{Meaning}
-use Rattle.adapter.specs.Device.{Disk, Taken, PortState, Device}
+use Rattle.adapter.specs.Device.{Disk, FetchedCommand, DevicePort, Device}
 use Rattle.adapter.specs.Memory.{patched}
-use Rattle.adapter.specs.Steps.{Can, after}
-use Rattle.adapter.specs.Steps.Step.{Fetch, FetchFault, Move, Clear, Done, Fault, Fatal, Unplug, Plug}
+use Rattle.adapter.specs.Steps.{Can, device_after}
+use Rattle.adapter.specs.Steps.DeviceTransition.{Fetch, FetchFault, Move, Clear, Done, Fault, Fatal, Unplug, Plug}
 use Rattle.adapter.specs.declared.command.Operation.{Operation}
 use Rattle.adapter.specs.declared.access.DeviceStep.{DeviceStep}
 use Rattle.adapter.specs.declared.access.DeviceStep.TheVariants as asked
@@ -18,31 +18,31 @@ pub record DoesFetch (port slot : ℕ) (old new : Device) : Type 0 where
   pub meaning : Meaning
   pub places : List ℕ
   pub can : Can (Fetch port slot meaning places) old
-  pub effect : new ≡ after (Fetch port slot meaning places) old
+  pub effect : new ≡ device_after (Fetch port slot meaning places) old
 
 -- the next piece of the slot's command was moved
 pub record DoesMove (port slot : ℕ) (old new : Device) : Type 0 where
-  pub t : Taken
+  pub t : FetchedCommand
   pub bytes : List ℕ
   pub can : Can (Move port slot t bytes) old
-  pub effect : new ≡ after (Move port slot t bytes) old
+  pub effect : new ≡ device_after (Move port slot t bytes) old
 
 -- so many sectors at the most of the slot's trim were cleared, and one at least: the next ones of its block
 pub record DoesClear (port slot most : ℕ) (old new : Device) : Type 0 where
-  pub t : Taken
+  pub t : FetchedCommand
   pub first : ℕ
   pub count : ℕ
   pub some : 1 ≤ count
   pub few : count ≤ most
   pub can : Can (Clear port slot t first count) old
-  pub effect : new ≡ after (Clear port slot t first count) old
+  pub effect : new ≡ device_after (Clear port slot t first count) old
 
 -- the slot's command ended
 pub record DoesDone (port slot : ℕ) (old new : Device) : Type 0 where
   pub flag : ℕ
-  pub t : Taken
+  pub t : FetchedCommand
   pub can : Can (Done port slot flag t) old
-  pub effect : new ≡ after (Done port slot flag t) old
+  pub effect : new ≡ device_after (Done port slot flag t) old
 
 -- These bytes were put into the port's received FIS area, at this address, while the port receives FISes (AHCI 1.3.1,
 -- 3.3.7 and 4.2.1).
@@ -63,7 +63,7 @@ abbrev pub PostsNone : (port flag : ℕ) → Operation → Device → Device →
 PostsNone port flag operation old new = new ≡ old
 
 -- the slot's command ended, and then this was posted
-pub record Ends (Posts : (port flag : ℕ) → Operation → Device → Device → Type 0) (port slot : ℕ)
+pub record EndsAndPosts (Posts : (port flag : ℕ) → Operation → Device → Device → Type 0) (port slot : ℕ)
     (old new : Device) : Type 0 where
   pub mid : Device
   pub done : DoesDone port slot old mid
@@ -72,7 +72,7 @@ pub record Ends (Posts : (port flag : ℕ) → Operation → Device → Device �
 -- a step of this slot's command
 abbrev pub DoesOne : ((port flag : ℕ) → Operation → Device → Device → Type 0) → ℕ → ℕ → Device → Device → Type 0
 DoesOne Posts port slot old new =
-    DoesFetch port slot old new ⊎ DoesMove port slot old new ⊎ Ends Posts port slot old new
+    DoesFetch port slot old new ⊎ DoesMove port slot old new ⊎ EndsAndPosts Posts port slot old new
     ⊎ ((most : ℕ) × DoesClear port slot most old new)
 
 -- so many steps of the slot's command, one after another, and nothing else
@@ -82,14 +82,14 @@ DoesSome Posts (suc n) port slot old new = (mid : Device) × DoesSome Posts n po
     × DoesOne Posts port slot mid new
 
 -- the slot's command went on by one step or more
-abbrev pub GoesOn : ((port flag : ℕ) → Operation → Device → Device → Type 0) → ℕ → ℕ → Device → Device → Type 0
-GoesOn Posts port slot old new = (n : ℕ) × DoesSome Posts (suc n) port slot old new
+abbrev pub SlotGoesOn : ((port flag : ℕ) → Operation → Device → Device → Type 0) → ℕ → ℕ → Device → Device → Type 0
+SlotGoesOn Posts port slot old new = (n : ℕ) × DoesSome Posts (suc n) port slot old new
 
 -- the slot's command failed with this error; BSY and DRQ are left set as these bits say (ACS-3, 6.2 and 6.3)
 pub record DoesFault (port slot error kept_bits : ℕ) (old new : Device) : Type 0 where
-  pub t : Taken
+  pub t : FetchedCommand
   pub can : Can (Fault port slot error kept_bits t) old
-  pub effect : new ≡ after (Fault port slot error kept_bits t) old
+  pub effect : new ≡ device_after (Fault port slot error kept_bits t) old
 
 -- BSY of PxTFD (AHCI 1.3.1, 3.3.8)
 abbrev pub busy : ℕ
@@ -99,7 +99,7 @@ busy = 0x80
 pub record DoesFetchFault (port slot : ℕ) (old new : Device) : Type 0 where
   pub queued : Bool
   pub can : Can (FetchFault port slot queued 0) old
-  pub effect : new ≡ after (FetchFault port slot queued 0) old
+  pub effect : new ≡ device_after (FetchFault port slot queued 0) old
 
 -- The slot's command failed, and then this was posted, with TFES of PxIS (AHCI 1.3.1, 3.3.5).
 pub record Fails (Posts : (port flag : ℕ) → Operation → Device → Device → Type 0) (port slot error kept_bits : ℕ)
@@ -132,11 +132,11 @@ fatal_bit HostBus = 29
 -- the port met this fatal error
 pub record DoesFatal (port : ℕ) (error : FatalError) (old new : Device) : Type 0 where
   pub can : Can (Fatal port (fatal_bit error)) old
-  pub effect : new ≡ after (Fatal port (fatal_bit error)) old
+  pub effect : new ≡ device_after (Fatal port (fatal_bit error)) old
 
 -- these bytes of memory are filled with one; nothing is, where not all of them lie in the memory
-abbrev pub filled : (size at count byte : ℕ) → (ℕ → ℕ) → ℕ → ℕ
-filled size at count byte memory =
+abbrev pub memory_filled : (size at count byte : ℕ) → (ℕ → ℕ) → ℕ → ℕ
+memory_filled size at count byte memory =
     if nat_le (at + count) size then patched memory at (replicate count byte) else memory
 
 -- the place is one of these bytes, which all lie in the memory
@@ -145,13 +145,13 @@ IsOneOf size at count place = (at + count ≤ size) × (at ≤ place) × (place 
 
 -- a place of the port's received FIS area, or of PRDBC of a slot whose command is taken, of the first slots, so many
 -- (AHCI 1.3.1, 4.2.1 and 4.2.2)
-abbrev pub IsScribblePlace : (slots size : ℕ) → PortState → ℕ → Type 0
+abbrev pub IsScribblePlace : (slots size : ℕ) → DevicePort → ℕ → Type 0
 IsScribblePlace slots size p place = IsOneOf size p.bases.fb RECEIVED_BYTES place
     ⊎ ((slot : ℕ) × (slot < slots) × (is_some (p.taken slot) ≡ true)
     × IsOneOf size (p.bases.clb + HEADER_BYTES * slot + 4) 4 place)
 
 -- each of these places has this byte, and each other one has what it had
-pub record IsScribbled (slots size byte : ℕ) (p : PortState) (old new : ℕ → ℕ) : Type 0 where
+pub record IsScribbled (slots size byte : ℕ) (p : DevicePort) (old new : ℕ → ℕ) : Type 0 where
   pub filled : (place : ℕ) → IsScribblePlace slots size p place → new place ≡ byte
   pub others : (place : ℕ) → (IsScribblePlace slots size p place → ⊥) → new place ≡ old place
 
@@ -167,14 +167,14 @@ pub record DoesScribble (port byte : ℕ) (old new : Device) : Type 0 where
 -- the disk was taken out
 pub record DoesUnplug (port : ℕ) (old new : Device) : Type 0 where
   pub can : Can (Unplug port) old
-  pub effect : new ≡ after (Unplug port) old
+  pub effect : new ≡ device_after (Unplug port) old
 
 -- the disk with this number was put in; its name is its number
 pub record DoesPlug (port number : ℕ) (old new : Device) : Type 0 where
   pub disk : Disk
   pub name : disk.name ≡ number
   pub can : Can (Plug port disk) old
-  pub effect : new ≡ after (Plug port disk) old
+  pub effect : new ≡ device_after (Plug port disk) old
 
 -- What was asked of the device, and nothing else, where this is posted as commands end or fail. What its disks will say
 -- of themselves, and on which ports it does nothing by itself, is no part of its state.
@@ -182,8 +182,8 @@ abbrev pub DoneOf : ((port flag : ℕ) → Operation → Device → Device → T
 DoneOf Posts (asked.Fetch p s) old new = DoesFetch p.0 s.0 old new
 DoneOf Posts (asked.Move p s) old new = DoesMove p.0 s.0 old new
 DoneOf Posts (asked.Clear p s most) old new = DoesClear p.0 s.0 most old new
-DoneOf Posts (asked.Done p s) old new = Ends Posts p.0 s.0 old new
-DoneOf Posts (asked.Finish p s) old new = GoesOn Posts p.0 s.0 old new
+DoneOf Posts (asked.Done p s) old new = EndsAndPosts Posts p.0 s.0 old new
+DoneOf Posts (asked.Finish p s) old new = SlotGoesOn Posts p.0 s.0 old new
 DoneOf Posts (asked.Fault p s error) old new = Fails Posts p.0 s.0 error 0 old new
 DoneOf Posts (asked.FaultBusy p s error) old new = Fails Posts p.0 s.0 error busy old new
 DoneOf Posts (asked.Fatal p error) old new = DoesFatal p.0 error old new
@@ -202,7 +202,7 @@ abbrev pub FailsOf : ((port flag : ℕ) → Operation → Device → Device → 
 FailsOf Posts (asked.Fetch p s) old new = FailsToMean Posts p.0 s.0 old new
 FailsOf Posts (asked.Move p s) old new = (error : ℕ) × Fails Posts p.0 s.0 error 0 old new
 FailsOf Posts (asked.Clear p s most) old new = FailsAfter Posts (DoesClear p.0 s.0 most) p.0 s.0 old new
-FailsOf Posts (asked.Finish p s) old new = FailsAfter Posts (GoesOn Posts p.0 s.0) p.0 s.0 old new
+FailsOf Posts (asked.Finish p s) old new = FailsAfter Posts (SlotGoesOn Posts p.0 s.0) p.0 s.0 old new
 FailsOf Posts step old new = ⊥
 
 -- the one or the other

@@ -12,8 +12,8 @@ pub record Disk : Type 0 where
   pub sectors : Option (ℕ → List ℕ)
 
 -- the disk tells its sectors
-abbrev pub IsTold : Disk → Type 0
-IsTold disk = (told : ℕ → List ℕ) × (disk.sectors ≡ Some told)
+abbrev pub TellsItsSectors : Disk → Type 0
+TellsItsSectors disk = (told : ℕ → List ℕ) × (disk.sectors ≡ Some told)
 
 -- the bytes of a sector
 abbrev pub IsSector : List ℕ → Type 0
@@ -25,7 +25,7 @@ IsDisk disk = (told : ℕ → List ℕ) → disk.sectors ≡ Some told → (k : 
 
 -- A command that the device has taken: what it means, the addresses of its pieces, how many were moved, the block that
 -- a trim has brought, and how many of the block's sectors were cleared.
-pub record Taken : Type 0 where
+pub record FetchedCommand : Type 0 where
   pub meaning : Meaning
   pub places : List ℕ
   pub moved : ℕ
@@ -72,7 +72,7 @@ pub record Lasting : Type 0 where
   pub since : ℕ
 
 -- A port (AHCI 1.3.1, 3.3 and 5.3).
-pub record PortState : Type 0 where
+pub record DevicePort : Type 0 where
   -- as the driver writes them
   pub bases : Bases
   pub st : Bool
@@ -108,7 +108,7 @@ pub record PortState : Type 0 where
   pub halt : Halt
   -- a fatal error stopped it
   pub broken : Bool
-  pub taken : ℕ → Option Taken
+  pub taken : ℕ → Option FetchedCommand
   pub notes : Notes
 
 -- The adapter: its memory, by address; CAP and PI; GHC.HR, AE and IE; its ports; and the tape of what the device did,
@@ -122,5 +122,5 @@ pub record Device : Type 0 where
   pub hr : Bool
   pub ae : Bool
   pub ie : Bool
-  pub port : ℕ → PortState
+  pub port : ℕ → DevicePort
   pub tape : List Entry

@@ -2,7 +2,7 @@
 use Rattle.std.specs.Prelude.{ℕ, ◌*◌, true, false, List, [], ◌∷◌, None, Some, replicate}
 use Rattle.ata_types.specs.declared.memory.TheConstants.{FRAME_BYTES}
 use Rattle.adapter.specs.Memory.{patched, changed}
-use Rattle.adapter.specs.Device.{Disk, Notes, PortState, Device}
+use Rattle.adapter.specs.Device.{Disk, Notes, DevicePort, Device}
 use Rattle.adapter.specs.Device.Halt.{NotHalted}
 
 -- the header of slot 0, but for its zeros at the end: no W, one PRD, and the table's address
@@ -22,11 +22,11 @@ unfoldable pub first_memory : ℕ → ℕ
 first_memory = patched (patched (patched (λ _. 0) 0 header_bytes) 0x1000 fis_bytes) 0x1080 prd_bytes
 
 -- sector k holds the byte k
-unfoldable pub sector_of : ℕ → List ℕ
-sector_of k = replicate 512 k
+unfoldable pub first_read_sector : ℕ → List ℕ
+first_read_sector k = replicate 512 k
 
 abbrev pub first_disk : Disk
-first_disk = record { name = 0; size = 256; sectors = Some sector_of }
+first_disk = record { name = 0; size = 256; sectors = Some first_read_sector }
 
 abbrev pub no_disk : Disk
 no_disk = record { name = 0; size = 0; sectors = Some (λ k. []) }
@@ -51,7 +51,7 @@ no_notes =
     }
 
 -- a port with no device, as after a reset
-abbrev pub quiet_port : PortState
+abbrev pub quiet_port : DevicePort
 quiet_port =
     record {
       bases = record { clb = 0; fb = 0; clb_set = false; clbu_set = false; fb_set = false; fbu_set = false };
@@ -84,7 +84,7 @@ quiet_port =
     }
 
 -- a port that runs, with a disk, its command list at 0 and its received FIS area at 400h; slot 0 is issued
-abbrev pub reading_port : PortState
+abbrev pub reading_port : DevicePort
 reading_port =
     record quiet_port {
       bases = record { clb = 0; fb = 0x400; clb_set = true; clbu_set = true; fb_set = true; fbu_set = true };

@@ -2,8 +2,8 @@
 use Rattle.std.specs.Prelude.{ℕ, Bool, true, ◌≡◌, ◌+◌, ◌*◌, ◌<◌, ◌≤◌, length, List, Some}
 use Rattle.ata_types.specs.declared.memory.TheConstants.{HEADER_BYTES, PRD_BYTES, RECEIVED_BYTES, TABLE_HEAD}
 use Rattle.adapter.specs.Commands.{Meaning}
-use Rattle.adapter.specs.Device.{Taken, PortState, Device}
-use Rattle.adapter.specs.Says.{Says}
+use Rattle.adapter.specs.Device.{FetchedCommand, DevicePort, Device}
+use Rattle.adapter.specs.Decoding.{DecodesTo}
 use Rattle.adapter.specs.Rules.{InPlaces, InUse}
 
 -- the bytes from one address up to another are in the set
@@ -23,7 +23,7 @@ Avoids Set places = (at : ℕ) → Set at → InPlaces places at → ⊥
 pub record IsGuardedSlot (Tables Kept : ℕ → Type 0) (memory : ℕ → ℕ) (list slot : ℕ) : Type 0 where
   pub meaning : Meaning
   pub places : List ℕ
-  pub says : Says memory list slot meaning places
+  pub says : DecodesTo memory list slot meaning places
   pub head : Holds Tables (list + HEADER_BYTES * slot) (list + HEADER_BYTES * slot + 4)
   pub rest : Holds Tables (list + HEADER_BYTES * slot + 8) (list + HEADER_BYTES * slot + HEADER_BYTES)
   pub table : Holds Tables says.table (says.table + TABLE_HEAD + PRD_BYTES * length says.prds)
@@ -31,9 +31,9 @@ pub record IsGuardedSlot (Tables Kept : ℕ → Type 0) (memory : ℕ → ℕ) (
   pub places_avoid : Avoids Kept places
 
 -- Each slot in use is guarded, no piece of a taken command is kept, nor is a byte of the received FIS area.
-pub record IsGuardedPort (Tables Kept : ℕ → Type 0) (memory : ℕ → ℕ) (p : PortState) : Type 0 where
+pub record IsGuardedPort (Tables Kept : ℕ → Type 0) (memory : ℕ → ℕ) (p : DevicePort) : Type 0 where
   pub slot : (slot : ℕ) → InUse p slot → IsGuardedSlot Tables Kept memory p.bases.clb slot
-  pub taken : (slot : ℕ) (t : Taken) → p.taken slot ≡ Some t → Avoids Kept t.places
+  pub taken : (slot : ℕ) (t : FetchedCommand) → p.taken slot ≡ Some t → Avoids Kept t.places
   pub received : p.fre ≡ true → Spares Kept p.bases.fb (p.bases.fb + RECEIVED_BYTES)
 
 -- Two sets of bytes: tables, and what is kept, the tables among them. It asks of slots in use alone, and of their

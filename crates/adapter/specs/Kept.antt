@@ -1,11 +1,11 @@
 -- What no step of the device changes.
 use Rattle.std.specs.Prelude.{ℕ, true, false, ◌≡◌, ◌++◌, List, None}
-use Rattle.adapter.specs.Device.{PortState, Device}
+use Rattle.adapter.specs.Device.{DevicePort, Device}
 use Rattle.adapter.specs.declared.tape.Entry.{Entry}
 
 -- The addresses are the driver's. Bits of CI, SACT, ST, CR, FRE and FR only fall; nothing is taken while CR
 -- is 0, nothing is left taken once it has fallen, and a free slot stays free.
-pub record KeepsPort (old new : PortState) : Type 0 where
+pub record KeepsPort (old new : DevicePort) : Type 0 where
   pub bases : new.bases ≡ old.bases
   pub st : old.st ≡ false → new.st ≡ false
   pub fre : old.fre ≡ false → new.fre ≡ false
@@ -19,7 +19,7 @@ pub record KeepsPort (old new : PortState) : Type 0 where
 
 -- While no reset is pending: ST, FRE, SCTL.DET and PxIE are the driver's, flags only rise, what IS has latched stays,
 -- and a running port runs on.
-pub record KeepsControls (old new : PortState) : Type 0 where
+pub record KeepsControls (old new : DevicePort) : Type 0 where
   pub st : new.st ≡ old.st
   pub fre : new.fre ≡ old.fre
   pub sctl_det : new.sctl_det ≡ old.sctl_det

@@ -1,7 +1,7 @@
 pub mod Memory
 pub mod Commands
-pub mod Spelling
-pub mod Says
+pub mod Encoding
+pub mod Decoding
 pub mod Trim
 pub mod Device
 pub mod Steps

@@ -2,10 +2,10 @@
 use Rattle.std.specs.Prelude.{ℕ, Bool, false, true, ◌≡◌, ◌≢◌, ◌+◌, ◌*◌, ◌<◌, ◌≤◌, ◌&&◌, ◌||◌, not, List, [], ◌∷◌, length, None, Some, nat_le, nat_lt}
 use Rattle.ata_types.specs.declared.memory.TheConstants.{HEADER_BYTES, PRD_BYTES, RECEIVED_BYTES, TABLE_HEAD}
 use Rattle.adapter.specs.Commands.{Meaning}
-use Rattle.adapter.specs.Device.{Taken, PortState, Device}
+use Rattle.adapter.specs.Device.{FetchedCommand, DevicePort, Device}
 use Rattle.adapter.specs.Idle.{IsIdlePort}
 use Rattle.adapter.specs.Rules.{InUse}
-use Rattle.adapter.specs.Says.{Says}
+use Rattle.adapter.specs.Decoding.{DecodesTo}
 
 -- Where a command stands in memory: its header, its table of so many PRDs, its pieces, and its port's received FIS
 -- area.
@@ -39,7 +39,7 @@ abbrev pub is_unwritten : Standing → ℕ → Bool
 is_unwritten s at = not (is_written s at)
 
 -- a slot with no command, neither issued nor taken
-pub record IsFreeSlot (p : PortState) (slot : ℕ) : Type 0 where
+pub record IsFreeSlot (p : DevicePort) (slot : ℕ) : Type 0 where
   pub ci : p.ci slot ≡ false
   pub taken : p.taken slot ≡ None
 
@@ -47,7 +47,7 @@ pub record IsFreeSlot (p : PortState) (slot : ℕ) : Type 0 where
 pub record SaysCommand (d : Device) (port slot : ℕ) : Type 0 where
   pub meaning : Meaning
   pub places : List ℕ
-  pub says : Says d.memory (d.port port).bases.clb slot meaning places
+  pub says : DecodesTo d.memory (d.port port).bases.clb slot meaning places
 
 abbrev pub standing : (d : Device) (port slot : ℕ) → SaysCommand d port slot → Standing
 standing d port slot c =
@@ -65,7 +65,7 @@ standing d port slot c =
 pub record HasOneCommand (d : Device) (port slot : ℕ) : Type 0 where
   pub used : InUse (d.port port) slot
   pub command : SaysCommand d port slot
-  pub taken : (t : Taken) → (d.port port).taken slot ≡ Some t → t.places ≡ command.places
+  pub taken : (t : FetchedCommand) → (d.port port).taken slot ≡ Some t → t.places ≡ command.places
   pub apart : (at : ℕ) → is_read_alone (standing d port slot command) at ≡ true
       → is_unwritten (standing d port slot command) at ≡ true
   pub other_slots : (k : ℕ) → k ≢ slot → IsFreeSlot (d.port port) k
@@ -77,5 +77,5 @@ pub record IsElsewhere (s : Standing) (at n : ℕ) (d : Device) : Type 0 where
   pub elsewhere : (a : ℕ) → at ≤ a → a < at + n → is_read_alone s a || is_written s a ≡ false
 
 -- no slot of any port has a command
-abbrev pub HasNoCommand : Device → Type 0
-HasNoCommand d = (port slot : ℕ) → IsFreeSlot (d.port port) slot
+abbrev pub NoneHasCommand : Device → Type 0
+NoneHasCommand d = (port slot : ℕ) → IsFreeSlot (d.port port) slot

@@ -6,17 +6,17 @@ use Rattle.hba_regs.specs.declared.reg.Reg.TheVariants as adapter
 use Rattle.hba_regs.specs.declared.reg.PortReg.TheVariants.{Is, Ie}
 use Rattle.adapter.specs.Access.{Access, is_cause, named_causes, written}
 use Rattle.adapter.specs.Access.Access.{Writing}
-use Rattle.adapter.specs.Device.{Device, PortState, Taken}
+use Rattle.adapter.specs.Device.{Device, DevicePort, FetchedCommand}
 use Rattle.adapter.specs.FirstRead.{first_read, reading_port}
-use Rattle.adapter.specs.Steps.{Step, after, begun, with_port}
+use Rattle.adapter.specs.Steps.{DeviceTransition, device_after, begun, with_port}
 use Rattle.adapter.specs.Memory.{changed}
-use Rattle.adapter.specs.Steps.Step.{FetchFault, Done, Fault, Fatal, LinkUp, Unplug, Plug}
+use Rattle.adapter.specs.Steps.DeviceTransition.{FetchFault, Done, Fault, Fatal, LinkUp, Unplug, Plug}
 use Rattle.adapter.specs.declared.command.Operation.TheVariants.{Flush}
 use Rattle.adapter.specs.declared.tape.Entry.{Entry}
 use Rattle.adapter.specs.declared.tape.Entry.TheVariants as entry
 
 -- the step makes PxIS of the port show this cause
-abbrev pub SetsCause : Step → (port place : ℕ) → Type 0
+abbrev pub SetsCause : DeviceTransition → (port place : ℕ) → Type 0
 SetsCause (FetchFault its slot queued kept_bits) port place = (port ≡ its) × (place ≡ 30)
 SetsCause (Done its slot flag t) port place = (port ≡ its) × (place ≡ flag)
 SetsCause (Fault its slot error kept_bits t) port place = (port ≡ its) × (place ≡ 30)
@@ -27,19 +27,19 @@ SetsCause (Plug its disk) port place = (port ≡ its) × ((place ≡ 6) ⊎ (pla
 SetsCause _ port place = ⊥
 
 -- the access neither clears the port's bit of IS nor asks for a reset of the adapter
-abbrev pub LeavesPending : ℕ → Access → Type 0
-LeavesPending port (Writing adapter.Is v) = bit v port ≡ false
-LeavesPending port (Writing Ghc v) = bit v 0 ≡ false
-LeavesPending port access = Unit {0}
+abbrev pub KeepsIsBit : ℕ → Access → Type 0
+KeepsIsBit port (Writing adapter.Is v) = bit v port ≡ false
+KeepsIsBit port (Writing Ghc v) = bit v 0 ≡ false
+KeepsIsBit port access = Unit {0}
 
 -- the access doesn't write PxIE of the port
-abbrev pub LeavesEnabled : ℕ → Access → Type 0
-LeavesEnabled port (Writing (Px its Ie) v) = its.0 ≢ port
-LeavesEnabled port access = Unit {0}
+abbrev pub LeavesIe : ℕ → Access → Type 0
+LeavesIe port (Writing (Px its Ie) v) = its.0 ≢ port
+LeavesIe port access = Unit {0}
 
 -- PxIE enables each cause that is named
-abbrev pub TellsAll : PortState → Type 0
-TellsAll p = (place : ℕ) → is_cause place ≡ true → bit p.ie place ≡ true
+abbrev pub EnablesAllCauses : DevicePort → Type 0
+EnablesAllCauses p = (place : ℕ) → is_cause place ≡ true → bit p.ie place ≡ true
 
 -- the port that interrupts for what the entry tells of: a command that ended or failed, a fatal error, a disk that went
 -- or came
@@ -53,7 +53,7 @@ interrupts _ = None
 
 -- An adapter whose port 0 tells of all the causes that are named, where its flush is taken; then where the flush has
 -- ended; and where its cause was cleared then.
-abbrev pub flush_taken : Taken
+abbrev pub flush_taken : FetchedCommand
 flush_taken = begun (record { operation = Flush; first = 0; count = 0 }) []
 
 abbrev pub flushing : Device
@@ -62,7 +62,7 @@ flushing =
     (record reading_port { ie = named_causes; taken = changed reading_port.taken 0 (Some flush_taken) })
 
 abbrev pub flushed : Device
-flushed = after (Done 0 0 0 flush_taken) flushing
+flushed = device_after (Done 0 0 0 flush_taken) flushing
 
 abbrev pub cleared : Device
 cleared = written (Px (record { 0 = 0 }) Is) 1 flushed

@@ -1,12 +1,12 @@
 -- A READ DMA EXT, from its fetch to its end.
 use Rattle.std.specs.Prelude.{ℕ, zero, suc, true, ◌≡◌, ◌+◌, ◌<◌, ◌≤◌, ◌⊎◌, List, [], ◌∷◌, ◌++◌, Some, slice_index}
-use Rattle.adapter.specs.Asked.{GoesOn, PostsNone}
+use Rattle.adapter.specs.Asked.{SlotGoesOn, PostsNone}
 use Rattle.adapter.specs.Memory.{bytes_at, changed}
 use Rattle.adapter.specs.Commands.{Meaning}
 use Rattle.adapter.specs.Device.{IsDisk, Device}
 use Rattle.adapter.specs.OneCommand.{IsFreeSlot}
 use Rattle.adapter.specs.Steps.{Can, Steps, done_entry, noted_bytes}
-use Rattle.adapter.specs.Steps.Step.{Fetch}
+use Rattle.adapter.specs.Steps.DeviceTransition.{Fetch}
 use Rattle.adapter.specs.declared.command.Operation.TheVariants.{Read}
 use Rattle.adapter.specs.declared.command.Direction.TheVariants.{ToMemory}
 use Rattle.adapter.specs.declared.tape.Entry.{Entry}
@@ -44,9 +44,10 @@ moves port slot first places told (suc n) =
 
 -- The device has done the read and nothing else, by steps of the slot's command alone: each sector stands in its piece,
 -- the slot is free, PxIS shows DHRS beside what it showed, and the tape tells the moves and the end.
-pub record IsRead (old new : Device) (port slot first count : ℕ) (places : List ℕ) (told : ℕ → List ℕ) : Type 0 where
+pub record IsReadDone (old new : Device) (port slot first count : ℕ) (places : List ℕ)
+    (told : ℕ → List ℕ) : Type 0 where
   pub steps : Steps old new
-  pub goes : GoesOn PostsNone port slot old new
+  pub goes : SlotGoesOn PostsNone port slot old new
   pub shown : (new.port port).is ≡ changed (old.port port).is 0 true
   pub free : IsFreeSlot (new.port port) slot
   pub tape : new.tape ≡ old.tape ++ (moves port slot first places told count ++ done_entry port slot Read ∷ [])

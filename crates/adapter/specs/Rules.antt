@@ -8,13 +8,13 @@ use Rattle.hba_regs.specs.declared.reg.Reg.TheVariants as adapter
 use Rattle.hba_regs.specs.declared.reg.PortReg.{PortReg}
 use Rattle.hba_regs.specs.declared.reg.PortReg.TheVariants.{Clb, Clbu, Fb, Fbu, Is, Ie, Cmd, Sctl, Serr, Sact, Ci}
 use Rattle.adapter.specs.Commands.{Meaning, is_queued}
-use Rattle.adapter.specs.Device.{Taken, PortState, Device}
-use Rattle.adapter.specs.Says.{Says}
+use Rattle.adapter.specs.Device.{FetchedCommand, DevicePort, Device}
+use Rattle.adapter.specs.Decoding.{DecodesTo}
 use Rattle.adapter.specs.Steps.{Steps}
 
 -- whatever the device does first
-abbrev pub Stays : (Device → Type 0) → Device → Type 0
-Stays P d = (mid : Device) → Steps d mid → P mid
+abbrev pub IsStable : (Device → Type 0) → Device → Type 0
+IsStable P d = (mid : Device) → Steps d mid → P mid
 
 -- the adapter was switched on, and no reset of it is pending
 pub record IsOn (d : Device) : Type 0 where
@@ -33,14 +33,14 @@ MayRead _ d = IsOn d
 -- ---- writes
 
 -- Command list and received FIS area are programmed, with no upper addresses.
-pub record IsProgrammed (p : PortState) : Type 0 where
+pub record IsProgrammed (p : DevicePort) : Type 0 where
   pub clb : p.bases.clb_set ≡ true
   pub clbu : p.bases.clbu_set ≡ true
   pub fb : p.bases.fb_set ≡ true
   pub fbu : p.bases.fbu_set ≡ true
 
 -- ST may be set
-pub record MayStart (p : PortState) : Type 0 where
+pub record MayStart (p : DevicePort) : Type 0 where
   pub fallen : p.cr ≡ false
   pub receives : p.fre ≡ true
   pub programmed : IsProgrammed p
@@ -48,18 +48,18 @@ pub record MayStart (p : PortState) : Type 0 where
   pub not_busy : bit p.notes.last_tfd 7 || bit p.notes.last_tfd 3 ≡ false
 
 -- FRE may be set
-pub record MayReceive (p : PortState) : Type 0 where
+pub record MayReceive (p : DevicePort) : Type 0 where
   pub fallen : p.fr ≡ false
   pub fb : p.bases.fb_set ≡ true
   pub fbu : p.bases.fbu_set ≡ true
 
 -- FRE may be cleared
-pub record MayStopReceiving (p : PortState) : Type 0 where
+pub record MayStopReceiving (p : DevicePort) : Type 0 where
   pub stopped : p.st ≡ false
   pub fallen : p.cr ≡ false
 
 -- ST and FRE change where they may; the other bits are written as they were last read.
-pub record MayCommand (p : PortState) (v : ℕ) : Type 0 where
+pub record MayCommand (p : DevicePort) (v : ℕ) : Type 0 where
   pub start : bit v 0 ≡ true → (p.st ≡ true) ⊎ MayStart p
   pub receive : bit v 4 ≡ true → (p.fre ≡ true) ⊎ MayReceive p
   pub stop_receiving : bit v 4 ≡ false → (p.fre ≡ false) ⊎ (MayStopReceiving p × (bit v 0 ≡ false))
@@ -69,16 +69,16 @@ pub record MayCommand (p : PortState) (v : ℕ) : Type 0 where
 -- command, its SACT bit is set already. How many queued commands are out isn't held against the depth that a disk
 -- tells: to keep to that is the driver's. Nor is a plain command forbidden beside queued ones: `IsAlone` keeps it from
 -- being taken.
-pub record MayIssue (d : Device) (p : PortState) (v : ℕ) : Type 0 where
+pub record MayIssue (d : Device) (p : DevicePort) (v : ℕ) : Type 0 where
   pub running : p.st ≡ true
   pub usable : (slot : ℕ) → bit v slot ≡ true → slot ≤ d.cap / 256 % 32
   pub free : (slot : ℕ) → bit v slot ≡ true → (p.ci slot ≡ false) × (p.taken slot ≡ None)
   pub says : (slot : ℕ) → bit v slot ≡ true → (meaning : Meaning) × (places : List ℕ)
-      × Says d.memory p.bases.clb slot meaning places
+      × DecodesTo d.memory p.bases.clb slot meaning places
   pub queued : (slot : ℕ) (meaning : Meaning) (places : List ℕ) → bit v slot ≡ true →
-      Says d.memory p.bases.clb slot meaning places → is_queued meaning.operation ≡ true → p.sact slot ≡ true
+      DecodesTo d.memory p.bases.clb slot meaning places → is_queued meaning.operation ≡ true → p.sact slot ≡ true
 
-abbrev pub MayWritePort : PortReg → ℕ → Device → PortState → Type 0
+abbrev pub MayWritePort : PortReg → ℕ → Device → DevicePort → Type 0
 MayWritePort Cmd v d p = MayCommand p v
 MayWritePort Sctl v d p = (p.st ≡ false) × ((v % 16 ≡ 0) ⊎ (v % 16 ≡ 1))
 MayWritePort Clb v d p = (p.cr ≡ false) × (p.st ≡ false) × (v % LIST_BYTES ≡ 0) × (v + LIST_BYTES ≤ d.size)
@@ -114,26 +114,26 @@ pub record InPlaces (places : List ℕ) (at : ℕ) : Type 0 where
   pub to : at < slice_index places number + 512
 
 -- the slot has a command that is issued or taken
-abbrev pub InUse : PortState → ℕ → Type 0
-InUse p slot = (p.ci slot ≡ true) ⊎ ((t : Taken) × (p.taken slot ≡ Some t))
+abbrev pub InUse : DevicePort → ℕ → Type 0
+InUse p slot = (p.ci slot ≡ true) ⊎ ((t : FetchedCommand) × (p.taken slot ≡ Some t))
 
 -- the byte belongs to what the slot's bytes say: its command table, or a piece
-abbrev pub InCommand : Device → PortState → ℕ → ℕ → Type 0
+abbrev pub InCommand : Device → DevicePort → ℕ → ℕ → Type 0
 InCommand d p slot at =
-    (meaning : Meaning) × (places : List ℕ) × (s : Says d.memory p.bases.clb slot meaning places)
+    (meaning : Meaning) × (places : List ℕ) × (s : DecodesTo d.memory p.bases.clb slot meaning places)
     × (((s.table ≤ at) × (at < s.table + TABLE_HEAD + PRD_BYTES * length s.prds)) ⊎ InPlaces places at)
 
 -- The device may use the byte: it is of the header, the table or the places of a command in use, of the places of a
 -- taken one, or of the received FIS area.
-abbrev pub Uses : Device → PortState → ℕ → ℕ → Type 0
-Uses d p slot at =
+abbrev pub DeviceOwns : Device → DevicePort → ℕ → ℕ → Type 0
+DeviceOwns d p slot at =
     (InUse p slot
     × (((p.bases.clb + HEADER_BYTES * slot ≤ at) × (at < p.bases.clb + HEADER_BYTES * slot + HEADER_BYTES))
     ⊎ InCommand d p slot at))
-    ⊎ ((t : Taken) × (p.taken slot ≡ Some t) × InPlaces t.places at)
+    ⊎ ((t : FetchedCommand) × (p.taken slot ≡ Some t) × InPlaces t.places at)
     ⊎ ((p.fre ≡ true) × (p.bases.fb ≤ at) × (at < p.bases.fb + RECEIVED_BYTES))
 
 -- these bytes are inside the memory, and the device may use none of them
 pub record IsFree (at n : ℕ) (d : Device) : Type 0 where
   pub inside : at + n ≤ d.size
-  pub unused : (port slot byte : ℕ) → at ≤ byte → byte < at + n → Uses d (d.port port) slot byte → ⊥
+  pub unused : (port slot byte : ℕ) → at ≤ byte → byte < at + n → DeviceOwns d (d.port port) slot byte → ⊥

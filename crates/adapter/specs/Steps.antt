@@ -5,9 +5,9 @@ use Rattle.std.specs.declared.snapshot.Snapshot.{Snapshot}
 use Rattle.ata_types.specs.declared.memory.TheConstants.{HEADER_BYTES, RECEIVED_BYTES}
 use Rattle.adapter.specs.Memory.{patched, bytes_at, changed}
 use Rattle.adapter.specs.Commands.{Meaning, is_queued, is_ranged, reads_memory, direction_of}
-use Rattle.adapter.specs.Device.{Disk, IsTold, IsDisk, IsSector, Taken, Halt, Lasting, PortState, Device}
+use Rattle.adapter.specs.Device.{Disk, TellsItsSectors, IsDisk, IsSector, FetchedCommand, Halt, Lasting, DevicePort, Device}
 use Rattle.adapter.specs.Device.Halt.{NotHalted, HaltedPlain, HaltedQueued, LogOnly}
-use Rattle.adapter.specs.Says.{Says}
+use Rattle.adapter.specs.Decoding.{DecodesTo}
 use Rattle.adapter.specs.Trim.{trim_sectors, consecutive}
 use Rattle.adapter.specs.declared.command.Operation.{Operation}
 use Rattle.adapter.specs.declared.command.Operation.TheVariants.{Identify, Read, Write, ReadQueued, WriteQueued, Trim, Flush, ReadLog}
@@ -15,25 +15,25 @@ use Rattle.adapter.specs.declared.tape.Move as tape_move
 use Rattle.adapter.specs.declared.tape.Entry.{Entry}
 use Rattle.adapter.specs.declared.tape.Entry.TheVariants as entry
 
-pub data Step : Type 0 where
+pub data DeviceTransition : Type 0 where
   -- an issued command is taken; its bytes mean no command; a piece is moved; sectors of a trim are cleared
-  Fetch : (port slot : ℕ) (meaning : Meaning) (places : List ℕ) → Step
-  FetchFault : (port slot : ℕ) (queued : Bool) (kept_bits : ℕ) → Step
-  Move : (port slot : ℕ) (t : Taken) (bytes : List ℕ) → Step
-  Clear : (port slot : ℕ) (t : Taken) (first count : ℕ) → Step
+  Fetch : (port slot : ℕ) (meaning : Meaning) (places : List ℕ) → DeviceTransition
+  FetchFault : (port slot : ℕ) (queued : Bool) (kept_bits : ℕ) → DeviceTransition
+  Move : (port slot : ℕ) (t : FetchedCommand) (bytes : List ℕ) → DeviceTransition
+  Clear : (port slot : ℕ) (t : FetchedCommand) (first count : ℕ) → DeviceTransition
   -- a taken command ends without error, or fails; the port meets a fatal error (27 IFS, 29 HBFS)
-  Done : (port slot flag : ℕ) (t : Taken) → Step
-  Fault : (port slot error kept_bits : ℕ) (t : Taken) → Step
-  Fatal : (port place : ℕ) → Step
+  Done : (port slot flag : ℕ) (t : FetchedCommand) → DeviceTransition
+  Fault : (port slot error kept_bits : ℕ) (t : FetchedCommand) → DeviceTransition
+  Fatal : (port place : ℕ) → DeviceTransition
   -- CR falls; FR falls; the link comes up
-  Fall : (port : ℕ) → Step
-  FrFall : (port : ℕ) → Step
-  LinkUp : (port sig : ℕ) (n : Bool) → Step
-  Unplug : (port : ℕ) → Step
-  Plug : (port : ℕ) (disk : Disk) → Step
-  ResetEnds : Step
+  Fall : (port : ℕ) → DeviceTransition
+  FrFall : (port : ℕ) → DeviceTransition
+  LinkUp : (port sig : ℕ) (n : Bool) → DeviceTransition
+  Unplug : (port : ℕ) → DeviceTransition
+  Plug : (port : ℕ) (disk : Disk) → DeviceTransition
+  ResetEnds : DeviceTransition
   -- any bytes in the received FIS area or in the PRDBC of a taken slot
-  Scribble : (port slot at : ℕ) (bytes : List ℕ) → Step
+  Scribble : (port slot at : ℕ) (bytes : List ℕ) → DeviceTransition
 
 -- ---- halts: which commands a port takes and works on, what a fault makes of it, and what setting ST makes of it
 
@@ -55,7 +55,7 @@ restarted _ = NotHalted
 -- ---- conditions that several steps have
 
 -- the port works on commands of this kind
-pub record IsWorking (p : PortState) (operation : Operation) : Type 0 where
+pub record IsWorking (p : DevicePort) (operation : Operation) : Type 0 where
   pub running : p.cr ≡ true
   pub present : p.present ≡ true
   pub fresh : p.fresh ≡ true
@@ -63,20 +63,21 @@ pub record IsWorking (p : PortState) (operation : Operation) : Type 0 where
   pub whole : p.broken ≡ false
 
 -- the port works on this command, which it has taken in this slot
-pub record WorksOn (p : PortState) (slot : ℕ) (t : Taken) (operation : Operation) : Type 0 where
+pub record WorksOn (p : DevicePort) (slot : ℕ) (t : FetchedCommand) (operation : Operation) : Type 0 where
   pub taken : p.taken slot ≡ Some t
   pub working : IsWorking p operation
 
 -- the slot's command is issued, and not taken yet
-pub record IsFetchable (p : PortState) (slot : ℕ) : Type 0 where
+pub record IsFetchable (p : DevicePort) (slot : ℕ) : Type 0 where
   pub st : p.st ≡ true
   pub issued : p.ci slot ≡ true
   pub free : p.taken slot ≡ None
 
 -- a plain command is taken alone, a queued one beside queued ones
-abbrev pub IsAlone : PortState → Operation → Type 0
+abbrev pub IsAlone : DevicePort → Operation → Type 0
 IsAlone p operation =
-    (slot : ℕ) (t : Taken) → p.taken slot ≡ Some t → is_queued operation && is_queued t.meaning.operation ≡ true
+    (slot : ℕ) (t : FetchedCommand) → p.taken slot ≡ Some t → is_queued operation
+    && is_queued t.meaning.operation ≡ true
 
 -- BSY and DRQ may be left set, and no other bit
 abbrev pub AreKeptBits : ℕ → Type 0
@@ -88,19 +89,20 @@ pub record MayFetch (d : Device) (port slot : ℕ) (meaning : Meaning) (places :
   pub fetchable : IsFetchable (d.port port) slot
   pub working : IsWorking (d.port port) meaning.operation
   pub alone : IsAlone (d.port port) meaning.operation
-  pub says : Says d.memory (d.port port).bases.clb slot meaning places
+  pub says : DecodesTo d.memory (d.port port).bases.clb slot meaning places
 
 pub record MayFetchFault (d : Device) (port slot kept_bits : ℕ) : Type 0 where
   pub fetchable : IsFetchable (d.port port) slot
   pub working : IsWorking (d.port port) Identify
-  pub says_nothing : (meaning : Meaning) (places : List ℕ) → Says d.memory (d.port port).bases.clb slot meaning places
+  pub says_nothing : (meaning : Meaning) (places : List ℕ)
+      → DecodesTo d.memory (d.port port).bases.clb slot meaning places
       → ⊥
   pub kept : AreKeptBits kept_bits
 
-abbrev pub begun : Meaning → List ℕ → Taken
+abbrev pub begun : Meaning → List ℕ → FetchedCommand
 begun meaning places = record { meaning = meaning; places = places; moved = 0; block = []; cleared = 0 }
 
-abbrev pub with_fetch : PortState → ℕ → Meaning → List ℕ → PortState
+abbrev pub with_fetch : DevicePort → ℕ → Meaning → List ℕ → DevicePort
 with_fetch p slot meaning places =
     record p {
       taken = changed p.taken slot (Some (begun meaning places));
@@ -109,22 +111,22 @@ with_fetch p slot meaning places =
     }
 
 -- status 41h (with BSY and DRQ left set or not), an error, TFES; the port is halted
-abbrev pub with_fault : PortState → Bool → ℕ → ℕ → PortState
+abbrev pub with_fault : DevicePort → Bool → ℕ → ℕ → DevicePort
 with_fault p queued error kept_bits =
     record p { tfd = 0x41 + kept_bits + 256 * error; is = changed p.is 30 true; halt = halted p.halt queued }
 
 -- ---- Move
 
 -- the address of the next piece, and the sector that it is (0 where the command names none)
-abbrev pub next_place : Taken → ℕ
+abbrev pub next_place : FetchedCommand → ℕ
 next_place t = slice_index t.places t.moved
 
-abbrev pub next_sector : Taken → ℕ
+abbrev pub next_sector : FetchedCommand → ℕ
 next_sector t = if is_ranged t.meaning.operation then t.meaning.first + t.moved else 0
 
 -- The bytes that a move may bring: the disk's, where it tells them; memory's, for a command that reads memory; or any
 -- page, for IDENTIFY DEVICE and READ LOG EXT.
-abbrev pub Brings : Disk → (ℕ → ℕ) → Taken → Operation → List ℕ → Type 0
+abbrev pub Brings : Disk → (ℕ → ℕ) → FetchedCommand → Operation → List ℕ → Type 0
 Brings disk memory t Read bytes = (next_sector t < disk.size)
     × IfSome disk.sectors (λ told. bytes ≡ told (next_sector t))
 Brings disk memory t ReadQueued bytes = (next_sector t < disk.size)
@@ -135,7 +137,7 @@ Brings disk memory t Trim bytes = bytes ≡ bytes_at memory (next_place t) 512
 Brings disk memory t _ bytes = Unit {0}
 
 -- A sector moves in one step: which of its bytes come first isn't modelled.
-pub record MayMove (d : Device) (port slot : ℕ) (t : Taken) (bytes : List ℕ) : Type 0 where
+pub record MayMove (d : Device) (port slot : ℕ) (t : FetchedCommand) (bytes : List ℕ) : Type 0 where
   pub works : WorksOn (d.port port) slot t t.meaning.operation
   pub left : t.moved < length t.places
   pub sector : IsSector bytes
@@ -155,7 +157,7 @@ abbrev pub block_after : Operation → List ℕ → List ℕ → List ℕ
 block_after Trim bytes old = bytes
 block_after _ bytes old = old
 
-abbrev pub with_move : PortState → ℕ → Taken → List ℕ → PortState
+abbrev pub with_move : DevicePort → ℕ → FetchedCommand → List ℕ → DevicePort
 with_move p slot t bytes =
     record p {
       taken = changed p.taken slot
@@ -163,14 +165,15 @@ with_move p slot t bytes =
       disk = disk_after t.meaning.operation p.disk (next_sector t) bytes;
     }
 
-abbrev pub memory_after : (ℕ → ℕ) → Taken → List ℕ → ℕ → ℕ
-memory_after memory t bytes = if reads_memory t.meaning.operation then memory else patched memory (next_place t) bytes
+abbrev pub device_memory_after : (ℕ → ℕ) → FetchedCommand → List ℕ → ℕ → ℕ
+device_memory_after memory t bytes = if reads_memory t.meaning.operation then memory
+    else patched memory (next_place t) bytes
 
 -- ---- Clear
 
 -- The next sectors of the block, from `first` on, become zero, with a sector left to clear; none of them is past the
 -- disk.
-pub record MayClear (d : Device) (port slot : ℕ) (t : Taken) (first count : ℕ) : Type 0 where
+pub record MayClear (d : Device) (port slot : ℕ) (t : FetchedCommand) (first count : ℕ) : Type 0 where
   pub works : WorksOn (d.port port) slot t Trim
   pub trim : t.meaning.operation ≡ Trim
   pub moved : t.moved ≡ length t.places
@@ -185,7 +188,7 @@ disk_cleared disk first count =
           disk.sectors;
     }
 
-abbrev pub with_clear : PortState → ℕ → Taken → ℕ → ℕ → PortState
+abbrev pub with_clear : DevicePort → ℕ → FetchedCommand → ℕ → ℕ → DevicePort
 with_clear p slot t first count =
     record p {
       taken = changed p.taken slot (Some (record t { cleared = t.cleared + count }));
@@ -195,11 +198,11 @@ with_clear p slot t first count =
 -- ---- Done
 
 -- nothing is left to move or to clear
-pub record IsFinished (t : Taken) : Type 0 where
+pub record IsFinished (t : FetchedCommand) : Type 0 where
   pub moved : t.moved ≡ length t.places
   pub cleared : t.meaning.operation ≡ Trim → t.cleared ≡ length (trim_sectors t.block)
 
-pub record MayBeDone (d : Device) (port slot flag : ℕ) (t : Taken) : Type 0 where
+pub record MayBeDone (d : Device) (port slot flag : ℕ) (t : FetchedCommand) : Type 0 where
   pub works : WorksOn (d.port port) slot t t.meaning.operation
   pub finished : IsFinished t
   -- DHRS, PSS or SDBS
@@ -210,10 +213,10 @@ abbrev pub lasting_after : Operation → Lasting → Disk → ℕ → Lasting
 lasting_after Flush lasting disk here = record { sectors = disk.sectors; since = here }
 lasting_after _ lasting disk here = lasting
 
-abbrev pub with_flush : PortState → Operation → ℕ → PortState
+abbrev pub with_flush : DevicePort → Operation → ℕ → DevicePort
 with_flush p operation here = record p { lasting = lasting_after operation p.lasting p.disk here }
 
-abbrev pub with_done : PortState → ℕ → ℕ → Operation → PortState
+abbrev pub with_done : DevicePort → ℕ → ℕ → Operation → DevicePort
 with_done p slot flag operation =
     record p {
       taken = changed p.taken slot None;
@@ -226,7 +229,7 @@ with_done p slot flag operation =
 
 -- ---- Fault
 
-pub record MayFault (p : PortState) (slot error kept_bits : ℕ) (t : Taken) : Type 0 where
+pub record MayFault (p : DevicePort) (slot error kept_bits : ℕ) (t : FetchedCommand) : Type 0 where
   pub taken : p.taken slot ≡ Some t
   pub running : p.cr ≡ true
   pub is_byte : error < 256
@@ -234,7 +237,7 @@ pub record MayFault (p : PortState) (slot error kept_bits : ℕ) (t : Taken) : T
 
 -- ---- LinkUp
 
-pub record MayLinkUp (p : PortState) (sig : ℕ) : Type 0 where
+pub record MayLinkUp (p : DevicePort) (sig : ℕ) : Type 0 where
   pub present : p.present ≡ true
   pub det : p.sctl_det ≡ 0
   pub due : p.link_due ≡ true
@@ -242,7 +245,7 @@ pub record MayLinkUp (p : PortState) (sig : ℕ) : Type 0 where
 
 -- DET 3, and the disk's first FIS: its signature; BSY and DRQ clear. No step shows DET 1: the driver takes each value
 -- but 3 as no link.
-abbrev pub with_link : PortState → ℕ → Bool → PortState
+abbrev pub with_link : DevicePort → ℕ → Bool → DevicePort
 with_link p sig n =
     record p {
       ssts_det = 3;
@@ -259,7 +262,7 @@ with_link p sig n =
 -- ---- ResetEnds
 
 -- CLB, CLBU, FB and FBU stay, and so do the disk and a halt
-abbrev pub with_reset : PortState → PortState
+abbrev pub with_reset : DevicePort → DevicePort
 with_reset p =
     record p {
       st = false;
@@ -287,10 +290,11 @@ with_reset p =
 -- ---- Scribble
 
 -- a place where the device may write what it wants: the received FIS area, or the number in PRDBC of a taken slot
-pub record MayScribble (p : PortState) (slot at : ℕ) (bytes : List ℕ) : Type 0 where
+pub record MayScribble (p : DevicePort) (slot at : ℕ) (bytes : List ℕ) : Type 0 where
   pub fre : p.fre ≡ true
   pub place : ((p.bases.fb ≤ at) × (at + length bytes ≤ p.bases.fb + RECEIVED_BYTES))
-      ⊎ ((t : Taken) × (p.taken slot ≡ Some t) × (at ≡ p.bases.clb + HEADER_BYTES * slot + 4) × (length bytes ≡ 4))
+      ⊎ ((t : FetchedCommand) × (p.taken slot ≡ Some t) × (at ≡ p.bases.clb + HEADER_BYTES * slot + 4)
+      × (length bytes ≡ 4))
   pub are_bytes : All (λ byte. byte < 256) bytes
 
 -- ---- Plug
@@ -325,7 +329,7 @@ lasting_plugged lasting last disk here =
 
 -- ---- all steps: when each is possible
 
-abbrev pub Can : Step → Device → Type 0
+abbrev pub Can : DeviceTransition → Device → Type 0
 Can (Fetch port slot meaning places) d = MayFetch d port slot meaning places
 Can (FetchFault port slot queued kept_bits) d = MayFetchFault d port slot kept_bits
 Can (Move port slot t bytes) d = MayMove d port slot t bytes
@@ -337,25 +341,25 @@ Can (Fall port) d = ((d.port port).st ≡ false) × ((d.port port).cr ≡ true)
 Can (FrFall port) d = ((d.port port).fre ≡ false) × ((d.port port).cr ≡ false) × ((d.port port).fr ≡ true)
 Can (LinkUp port sig n) d = MayLinkUp (d.port port) sig
 Can (Unplug port) d = (d.port port).present ≡ true
-Can (Plug port disk) d = ((d.port port).present ≡ false) × IsDisk disk × (d.telling ≡ true → IsTold disk)
+Can (Plug port disk) d = ((d.port port).present ≡ false) × IsDisk disk × (d.telling ≡ true → TellsItsSectors disk)
     × (disk.name ≡ (d.port port).disk.name → IsThatDisk d port disk)
 Can ResetEnds d = d.hr ≡ true
 Can (Scribble port slot at bytes) d = MayScribble (d.port port) slot at bytes
 
 -- ---- all steps: what each changes
 
-abbrev pub with_port : Device → ℕ → PortState → Device
+abbrev pub with_port : Device → ℕ → DevicePort → Device
 with_port d port new = record d { port = changed d.port port new }
 
 -- a port changed, and an entry stands on the tape
-abbrev pub recorded : Device → ℕ → PortState → Entry → Device
+abbrev pub recorded : Device → ℕ → DevicePort → Entry → Device
 recorded d port new entry = record d { port = changed d.port port new; tape = d.tape ++ entry ∷ [] }
 
 -- a move's bytes as its entry has them, for contracts alone
 abbrev pub noted_bytes : List ℕ → Snapshot (List ℕ)
 noted_bytes bytes = record { marker = record {}; value = bytes }
 
-abbrev pub move_of : ℕ → ℕ → Taken → List ℕ → tape_move.Move
+abbrev pub move_of : ℕ → ℕ → FetchedCommand → List ℕ → tape_move.Move
 move_of port slot t bytes = record {
   port = record { 0 = port };
   slot = record { 0 = slot };
@@ -384,33 +388,33 @@ fault_entry port slot error kept_bits =
       error = error;
     })
 
-abbrev pub after : Step → Device → Device
-after (Fetch port slot meaning places) d = with_port d port (with_fetch (d.port port) slot meaning places)
-after (FetchFault port slot queued kept_bits) d =
+abbrev pub device_after : DeviceTransition → Device → Device
+device_after (Fetch port slot meaning places) d = with_port d port (with_fetch (d.port port) slot meaning places)
+device_after (FetchFault port slot queued kept_bits) d =
     recorded d port (with_fault (d.port port) queued 4 kept_bits) (fault_entry port slot 4 kept_bits)
-after (Move port slot t bytes) d =
+device_after (Move port slot t bytes) d =
     record (recorded d port (with_move (d.port port) slot t bytes) (entry.Move (move_of port slot t bytes))) {
-      memory = memory_after d.memory t bytes;
+      memory = device_memory_after d.memory t bytes;
     }
-after (Clear port slot t first count) d =
+device_after (Clear port slot t first count) d =
     recorded d port (with_clear (d.port port) slot t first count) (clear_entry port slot first count)
-after (Done port slot flag t) d =
+device_after (Done port slot flag t) d =
     recorded d port
     (with_flush (with_done (d.port port) slot flag t.meaning.operation) t.meaning.operation (length d.tape))
     (done_entry port slot t.meaning.operation)
-after (Fault port slot error kept_bits t) d =
+device_after (Fault port slot error kept_bits t) d =
     recorded d port (with_fault (d.port port) (is_queued t.meaning.operation) error kept_bits)
     (fault_entry port slot error kept_bits)
-after (Fatal port place) d =
+device_after (Fatal port place) d =
     recorded d port (record (d.port port) { is = changed (d.port port).is place true; broken = true })
     (entry.Fatal (record { 0 = port }))
-after (Fall port) d = with_port d port (record (d.port port) { cr = false; taken = λ _. None })
-after (FrFall port) d = with_port d port (record (d.port port) { fr = false })
-after (LinkUp port sig n) d = with_port d port (with_link (d.port port) sig n)
-after (Unplug port) d =
+device_after (Fall port) d = with_port d port (record (d.port port) { cr = false; taken = λ _. None })
+device_after (FrFall port) d = with_port d port (record (d.port port) { fr = false })
+device_after (LinkUp port sig n) d = with_port d port (with_link (d.port port) sig n)
+device_after (Unplug port) d =
     recorded d port (record (d.port port) { ssts_det = 0; present = false; fresh = false; serr_n = true })
     (entry.Unplug (record { 0 = port }))
-after (Plug port disk) d =
+device_after (Plug port disk) d =
     recorded d port
     (record (d.port port) {
       disk = disk;
@@ -423,16 +427,16 @@ after (Plug port disk) d =
       serr_x = true;
     })
     (entry.Plug (record { 0 = port }) disk.name)
-after ResetEnds d = record d { hr = false; ae = false; ie = false; port = λ port. with_reset (d.port port) }
-after (Scribble port slot at bytes) d = record d { memory = patched d.memory at bytes }
+device_after ResetEnds d = record d { hr = false; ae = false; ie = false; port = λ port. with_reset (d.port port) }
+device_after (Scribble port slot at bytes) d = record d { memory = patched d.memory at bytes }
 
 -- ---- lists of steps
 
-abbrev pub Leads : List Step → Device → Device → Type 0
-Leads [] old new = new ≡ old
-Leads (step ∷ steps) old new = Can step old × Leads steps (after step old) new
+abbrev pub StepLeads : List DeviceTransition → Device → Device → Type 0
+StepLeads [] old new = new ≡ old
+StepLeads (step ∷ steps) old new = Can step old × StepLeads steps (device_after step old) new
 
 -- the device may go from the one state to the other by itself
 pub record Steps (old new : Device) : Type 0 where
-  pub steps : List Step
-  pub lead : Leads steps old new
+  pub steps : List DeviceTransition
+  pub lead : StepLeads steps old new

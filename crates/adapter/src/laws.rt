@@ -9,82 +9,82 @@ ghost use Rattle.hba_regs.specs.declared.reg.Reg.TheVariants as adapter;
 ghost use Rattle.hba_regs.specs.Bits.{bit};
 ghost use Rattle.adapter.specs.declared.access.DeviceStep.{DeviceStep};
 ghost use Rattle.adapter.specs.Access.{Access, ShowsPending, Does, DoesAll, IsDriven, Reads, Writes, is_cause, is_pending, named_causes, raises_interrupt, shown_interrupt, written};
-ghost use Rattle.adapter.specs.Asked.{Asked, IsScribbled, filled};
+ghost use Rattle.adapter.specs.Asked.{Asked, IsScribbled, memory_filled};
 ghost use Rattle.adapter.specs.Commands.{Meaning};
-ghost use Rattle.adapter.specs.Device.{Device, PortState};
-ghost use Rattle.adapter.specs.FirstRead.{first_read, sector_of};
+ghost use Rattle.adapter.specs.Device.{Device, DevicePort};
+ghost use Rattle.adapter.specs.FirstRead.{first_read, first_read_sector};
 ghost use Rattle.adapter.specs.Guarded.{Passing, Spares, IsGuarded, IsApart};
 ghost use Rattle.adapter.specs.Idle.{IsIdle, IsSane};
 ghost use Rattle.adapter.specs.Kept.{Keeps, KeepsControls};
-ghost use Rattle.adapter.specs.OneCommand.{HasNoCommand, HasOneCommand, IsElsewhere, is_read_alone, is_unwritten, standing};
-ghost use Rattle.adapter.specs.ReadDone.{IsRead, MayBeRead, read_of};
-ghost use Rattle.adapter.specs.Pending.{LeavesEnabled, LeavesPending, SetsCause, TellsAll, interrupts, cleared, flushed, flushing, flush_taken};
-ghost use Rattle.adapter.specs.Rules.{HasPort, IsOn, IsFree, Stays};
-ghost use Rattle.adapter.specs.Says.{Says, cut};
+ghost use Rattle.adapter.specs.OneCommand.{NoneHasCommand, HasOneCommand, IsElsewhere, is_read_alone, is_unwritten, standing};
+ghost use Rattle.adapter.specs.ReadDone.{IsReadDone, MayBeRead, read_of};
+ghost use Rattle.adapter.specs.Pending.{LeavesIe, KeepsIsBit, SetsCause, EnablesAllCauses, interrupts, cleared, flushed, flushing, flush_taken};
+ghost use Rattle.adapter.specs.Rules.{HasPort, IsOn, IsFree, IsStable};
+ghost use Rattle.adapter.specs.Decoding.{DecodesTo, piece_addresses};
 ghost use Rattle.adapter.specs.Seen.{PutAt, SeenAt};
-ghost use Rattle.adapter.specs.Steps.{Can, Step, Steps, after};
+ghost use Rattle.adapter.specs.Steps.{Can, DeviceTransition, Steps, device_after};
 ghost use Rattle.adapter.specs.declared.tape.Entry.{Entry};
 
 /// The device may do nothing, and what it does goes on.
-pub fn steps_compose()
+pub fn law_steps_compose()
     ensures none { (d : Device) → Steps d d }
     ensures more { (old mid new : Device) → Steps old mid → Steps mid new → Steps old new }
 {}
 
 /// What a device was told to do is some of its steps.
-pub fn what_is_asked_is_steps()
+pub fn law_what_is_asked_is_steps()
     ensures { (s : DeviceStep) (old new : Device) → Asked s old new → Steps old new }
 {}
 
 /// A scribble fills the received FIS area, and then PRDBC of one slot after another whose command is taken.
-pub fn a_scribble_goes_on()
-    ensures area { (size byte : ℕ) (p : PortState) (old : ℕ → ℕ)
-        → IsScribbled 0 size byte p old (filled size p.bases.fb RECEIVED_BYTES byte old) }
-    ensures count { (slot size byte : ℕ) (p : PortState) (old before new : ℕ → ℕ)
+pub fn law_a_scribble_goes_on()
+    ensures area { (size byte : ℕ) (p : DevicePort) (old : ℕ → ℕ)
+        → IsScribbled 0 size byte p old (memory_filled size p.bases.fb RECEIVED_BYTES byte old) }
+    ensures count { (slot size byte : ℕ) (p : DevicePort) (old before new : ℕ → ℕ)
         → IsScribbled slot size byte p old before
-        → new ≡ (if is_some (p.taken slot) then filled size (p.bases.clb + HEADER_BYTES * slot + 4) 4 byte before
+        → new ≡ (if is_some (p.taken slot) then memory_filled size (p.bases.clb + HEADER_BYTES * slot + 4) 4 byte before
         else before)
         → IsScribbled (slot + 1) size byte p old new }
 {}
 
 /// What no step of the device changes, no list of steps changes.
-pub fn steps_keep()
+pub fn law_steps_keep()
     ensures { (old new : Device) → Steps old new → Keeps old new }
 {}
 
 /// By itself the device doesn't switch an adapter on that isn't: as its reset ends, AE falls.
-pub fn steps_switch_nothing_on()
+pub fn law_steps_switch_nothing_on()
     ensures { (old new : Device) → Steps old new → IsOn new → IsOn old }
 {}
 
 /// The bytes of a slot say one command at most, with one list of places.
-pub fn saying_is_one()
-    ensures { (memory : ℕ → ℕ) (list slot : ℕ) (m n : Meaning) (xs ys : List ℕ) → Says memory list slot m xs
-        → Says memory list slot n ys → (m ≡ n) × (xs ≡ ys) }
+pub fn law_saying_is_one()
+    ensures { (memory : ℕ → ℕ) (list slot : ℕ) (m n : Meaning) (xs ys : List ℕ) → DecodesTo memory list slot m xs
+        → DecodesTo memory list slot n ys → (m ≡ n) × (xs ≡ ys) }
 {}
 
 /// Bytes that no command in use may write stay as they are, and the commands in use go on to stand on them.
-pub fn kept_bytes_stay()
+pub fn law_kept_bytes_stay()
     ensures { (tables kept : ℕ → Bool) (old new : Device) → IsGuarded (Passing tables) (Passing kept) old
         → Steps old new → IsGuarded (Passing tables) (Passing kept) new
         × ((at : ℕ) → Passing kept at → new.memory at ≡ old.memory at) }
 {}
 
 /// Kept bytes that belong to no table and no header in use may be loaded and stored, whatever the device does first.
-pub fn apart_bytes_are_free()
+pub fn law_apart_bytes_are_free()
     ensures { (tables kept : ℕ → Bool) (at n : ℕ) (d : Device) → IsGuarded (Passing tables) (Passing kept) d
-        → IsApart (Passing tables) (Passing kept) at n d → Stays (IsFree at n) d }
+        → IsApart (Passing tables) (Passing kept) at n d → IsStable (IsFree at n) d }
 {}
 
 /// A reading of any register leaves kept bytes and guards as the device's steps do.
-pub fn kept_bytes_stay_over_readings()
+pub fn law_kept_bytes_stay_over_readings()
     ensures { (tables kept : ℕ → Bool) (old new : Device) (r : Reg) (v : ℕ) → Reads r v old new
         → IsGuarded (Passing tables) (Passing kept) old
         → IsGuarded (Passing tables) (Passing kept) new × ((at : ℕ) → Passing kept at → new.memory at ≡ old.memory at) }
 {}
 
 /// Accesses go on one after another, and so do lists of them.
-pub fn accesses_compose()
+pub fn law_accesses_compose()
     ensures none { (d : Device) → IsDriven d d }
     ensures one { (access : Access) (old new : Device) → Does access old new → IsDriven old new }
     ensures more { (old mid new : Device) → IsDriven old mid → IsDriven mid new → IsDriven old new }
@@ -94,40 +94,40 @@ pub fn accesses_compose()
 
 /// While no reset is pending, a reading of a port's register leaves the adapter as steps of the device do, and the port
 /// shows the value and has it noted. A write is steps of the device, and then the port alone has what was written.
-pub fn port_registers_are_accessed()
+pub fn law_port_registers_are_accessed()
     ensures seen { (port : Port) (r : PortReg) (v : ℕ) (old new : Device) → Reads (Px port r) v old new → old.hr ≡ false
         → SeenAt port.0 r v old new }
     ensures put { (port : Port) (r : PortReg) (v : ℕ) (old new : Device) → Writes (Px port r) v old new → old.hr ≡ false
         → PutAt port.0 r v old new }
 {}
 
-/// What each of two stretches keeps of a port's controls, both keep; and so does nothing.
-pub fn controls_are_kept()
-    ensures none { (p : PortState) → KeepsControls p p }
-    ensures more { (old mid new : PortState) → KeepsControls old mid → KeepsControls mid new → KeepsControls old new }
+/// What each of two fragments keeps of a port's controls, both keep; and so does nothing.
+pub fn law_controls_are_kept()
+    ensures none { (p : DevicePort) → KeepsControls p p }
+    ensures more { (old mid new : DevicePort) → KeepsControls old mid → KeepsControls mid new → KeepsControls old new }
 {}
 
 /// The port's interrupt is pending where PxIS shows a cause that PxIE enables; and so it is after each step of the
 /// device that raises such a cause: an end of a command, a fault, a fatal error, a disk that comes or goes (AHCI 1.3.1,
 /// 3.1.3 and 3.3.5). What steps raise is one of the causes that are named.
-pub fn an_enabled_cause_is_pending()
+pub fn law_an_enabled_cause_is_pending()
     ensures named { (place : ℕ) → is_cause place ≡ true → bit named_causes place ≡ true }
     ensures exactly { (place : ℕ) → place < 32 → bit named_causes place ≡ is_cause place }
-    ensures raises { (step : Step) (port place : ℕ) (d : Device) → Can step d → SetsCause step port place
+    ensures raises { (step : DeviceTransition) (port place : ℕ) (d : Device) → Can step d → SetsCause step port place
         → is_cause place ≡ true }
-    ensures shown { (p : PortState) (place : ℕ) → is_cause place ≡ true → shown_interrupt p place ≡ true
+    ensures shown { (p : DevicePort) (place : ℕ) → is_cause place ≡ true → shown_interrupt p place ≡ true
         → bit p.ie place ≡ true → is_pending p ≡ true }
-    ensures raised { (step : Step) (port place : ℕ) (d : Device) → Can step d → SetsCause step port place
-        → bit (d.port port).ie place ≡ true → is_pending ((after step d).port port) ≡ true }
+    ensures raised { (step : DeviceTransition) (port place : ℕ) (d : Device) → Can step d → SetsCause step port place
+        → bit (d.port port).ie place ≡ true → is_pending ((device_after step d).port port) ≡ true }
 {}
 
 /// What is pending stays so, whatever the device and the driver do, until the port's bit of IS is written or the
 /// adapter is reset: until then each reading of IS shows the bit. Once it is written, only what PxIS shows is pending.
-pub fn a_pending_interrupt_stays()
+pub fn law_a_pending_interrupt_stays()
     ensures steps { (port : ℕ) (old new : Device) → Steps old new → old.hr ≡ false
         → is_pending (old.port port) ≡ true → is_pending (new.port port) ≡ true }
     ensures accesses { (port : ℕ) (accesses : List Access) (old new : Device) → DoesAll accesses old new
-        → All (LeavesPending port) accesses → old.hr ≡ false
+        → All (KeepsIsBit port) accesses → old.hr ≡ false
         → is_pending (old.port port) ≡ true → is_pending (new.port port) ≡ true }
     ensures shown { (port v : ℕ) (old new : Device) → Reads adapter.Is v old new → HasPort new port
         → ShowsPending (bit v port) (new.port port) }
@@ -138,10 +138,10 @@ pub fn a_pending_interrupt_stays()
 /// Where PxIE enables each named cause, what the tape tells of leaves the port's interrupt pending: a command that
 /// ended or failed, a fatal error, a disk that went or came. So it is at the end of any accesses that write neither
 /// PxIE nor the port's bit of IS, and reset nothing (AHCI 1.3.1, 5.5.3).
-pub fn what_the_tape_tells_is_pending()
+pub fn law_what_the_tape_tells_is_pending()
     ensures { (port : ℕ) (e : Entry) (accesses : List Access) (gained : List Entry)
-        (old new : Device) → interrupts e ≡ Some port → DoesAll accesses old new → All (LeavesPending port) accesses
-        → All (LeavesEnabled port) accesses → old.hr ≡ false → TellsAll (old.port port)
+        (old new : Device) → interrupts e ≡ Some port → DoesAll accesses old new → All (KeepsIsBit port) accesses
+        → All (LeavesIe port) accesses → old.hr ≡ false → EnablesAllCauses (old.port port)
         → new.tape ≡ old.tape ++ gained → Contains gained e
         → is_pending (new.port port) ≡ true }
 {}
@@ -149,10 +149,10 @@ pub fn what_the_tape_tells_is_pending()
 /// There is an interrupt that comes and goes, so that the laws above speak of something: a flush may end on a port
 /// that tells of all causes; then its bit of IS stays while PxIS shows the cause, though it is written, and also once
 /// PxIS was cleared; then a write of the bit clears it.
-pub fn an_interrupt_comes_and_goes()
+pub fn law_an_interrupt_comes_and_goes()
     ensures none { is_pending (flushing.port 0) ≡ false }
-    ensures tells { (flushing.hr ≡ false) × TellsAll (flushing.port 0) }
-    ensures ends { Can (Step.Done 0 0 0 flush_taken) flushing }
+    ensures tells { (flushing.hr ≡ false) × EnablesAllCauses (flushing.port 0) }
+    ensures ends { Can (DeviceTransition.Done 0 0 0 flush_taken) flushing }
     ensures comes { is_pending (flushed.port 0) ≡ true }
     ensures again { is_pending ((written adapter.Is 1 flushed).port 0) ≡ true }
     ensures stays { is_pending (cleared.port 0) ≡ true }
@@ -161,8 +161,8 @@ pub fn an_interrupt_comes_and_goes()
 
 /// Where no slot has a command, any bytes that are not of a received FIS area in use are guarded, and no table is
 /// needed.
-pub fn an_adapter_without_commands_is_guarded()
-    ensures { (kept : ℕ → Bool) (d : Device) → HasNoCommand d
+pub fn law_an_adapter_without_commands_is_guarded()
+    ensures { (kept : ℕ → Bool) (d : Device) → NoneHasCommand d
         → ((port : ℕ) → (d.port port).fre ≡ true
         → Spares (Passing kept) (d.port port).bases.fb ((d.port port).bases.fb + RECEIVED_BYTES))
         → IsGuarded (Passing (λ _. false)) (Passing kept) d }
@@ -170,37 +170,37 @@ pub fn an_adapter_without_commands_is_guarded()
 
 /// An idle adapter is guarded, whatever bytes are kept; so its driver may load and store any bytes of the memory,
 /// whatever the device does first.
-pub fn an_idle_adapter_is_guarded()
+pub fn law_an_idle_adapter_is_guarded()
     ensures guarded { (kept : ℕ → Bool) (d : Device) → IsIdle d → IsGuarded (Passing (λ _. false)) (Passing kept) d }
-    ensures free { (at n : ℕ) (d : Device) → IsIdle d → at + n ≤ d.size → Stays (IsFree at n) d }
+    ensures free { (at n : ℕ) (d : Device) → IsIdle d → at + n ≤ d.size → IsStable (IsFree at n) d }
 {}
 
 /// An adapter with one command is guarded: what the device only reads for it are the tables, and what it doesn't write
 /// is kept. So the driver may load and store all other bytes of the memory, whatever the device does first.
-pub fn an_adapter_with_a_command_is_guarded()
+pub fn law_an_adapter_with_a_command_is_guarded()
     ensures guarded { (port slot : ℕ) (d : Device) (c : HasOneCommand d port slot)
         → IsGuarded (Passing (is_read_alone (standing d port slot c.command)))
         (Passing (is_unwritten (standing d port slot c.command))) d }
     ensures free { (port slot at n : ℕ) (d : Device) (c : HasOneCommand d port slot)
-        → IsElsewhere (standing d port slot c.command) at n d → Stays (IsFree at n) d }
+        → IsElsewhere (standing d port slot c.command) at n d → IsStable (IsFree at n) d }
 {}
 
 /// A read that may be fetched can be done, on a disk that tells its sectors: some steps of its slot's command lead to
 /// where each sector stands in its piece, and the slot is free.
-pub fn a_read_can_be_done()
+pub fn law_a_read_can_be_done()
     ensures { (port slot first count : ℕ) (places : List ℕ) (told : ℕ → List ℕ) (old : Device)
         → MayBeRead old port slot first count places told → (new : Device)
-        × IsRead old new port slot first count places told }
+        × IsReadDone old new port slot first count places told }
 {}
 
 /// There is an adapter with a command, so that the laws above speak of something: eight sectors from 100 on are to be
 /// read into frame 100. It is switched on; its memory and disks are sane; the bytes of the slot say the read; frame 101
 /// is free, whatever the device does; and the read can be done.
-pub fn a_first_read_exists()
+pub fn law_a_first_read_exists()
     ensures on { IsOn first_read }
     ensures sane { IsSane first_read }
     ensures command { HasOneCommand first_read 0 0 }
-    ensures says { Says first_read.memory 0 0 (read_of 100 8) (cut 0x64000 8) }
-    ensures free { Stays (IsFree 0x65000 FRAME_BYTES) first_read }
-    ensures done { (new : Device) × IsRead first_read new 0 0 100 8 (cut 0x64000 8) sector_of }
+    ensures says { DecodesTo first_read.memory 0 0 (read_of 100 8) (piece_addresses 0x64000 8) }
+    ensures free { IsStable (IsFree 0x65000 FRAME_BYTES) first_read }
+    ensures done { (new : Device) × IsReadDone first_read new 0 0 100 8 (piece_addresses 0x64000 8) first_read_sector }
 {}

@@ -2,8 +2,8 @@
 //!
 //! Before each of the trait's four calls the device may do any list of steps; then the call has its
 //! one effect. `specs` has the state (`Device`), the steps, what a reading shows and a write does,
-//! what the bytes of a slot say (`Says`), and the rules for drivers, which have to hold whatever
-//! the device does first (`Stays`). Nothing else is known of the hardware: a bit that no definition
+//! what the bytes of a slot say (`DecodesTo`), and the rules for drivers, which have to hold whatever
+//! the device does first (`IsStable`). Nothing else is known of the hardware: a bit that no definition
 //! names reads as anything. The main law is that bytes which no command in use may write stay as
 //! they are. `Stepped` adds a device that does the steps it is told, for scripts and tests;
 //! `Accesses` counts, for who writes an adapter.

@@ -4,7 +4,7 @@ use Rattle.std.specs.Prelude.{option_map}
 use Rattle.std.proofs.lemmas.Option.{same_Some}
 use Rattle.adapter.specs.Device.{Device, IsSector}
 use Rattle.adapter.specs.Steps.{Can, WereHeld}
-use Rattle.adapter.specs.Steps.Step.{Plug}
+use Rattle.adapter.specs.Steps.DeviceTransition.{Plug}
 
 pub may_be_lost : (d : Device) (port : ℕ) (last lasting told : ℕ → List ℕ) → (d.port port).present ≡ false
     → (d.port port).disk.sectors ≡ Some last → (d.port port).lasting.sectors ≡ Some lasting → ((k : ℕ) → (told k ≡ last k) ⊎ (told k ≡ lasting k))

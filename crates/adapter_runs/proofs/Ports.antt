@@ -9,24 +9,24 @@ use Rattle.std.specs.Int.{bit_at}
 use Rattle.hba_regs.specs.Bits.{bit}
 use Rattle.hba_regs.specs.declared.reg.Reg.TheVariants.{Ghc, Px}
 use Rattle.adapter.specs.Access.Access.{Reading, Writing}
-use Rattle.adapter.specs.Steps.Step.{Fall, LinkUp, Unplug}
-use Rattle.adapter_runs.specs.Runs.Event.{Made, Came}
+use Rattle.adapter.specs.Steps.DeviceTransition.{Fall, LinkUp, Unplug}
+use Rattle.adapter_runs.specs.Runs.AccessOrStep.{Made, Came}
 use Rattle.adapter.specs.Commands.{Meaning, is_queued}
-use Rattle.adapter.specs.Device.{Disk, IsDisk, IsSector, IsTold, PortState, Device}
-use Rattle.adapter.specs.FirstRead.{first_disk, no_disk, quiet_port, sector_of}
+use Rattle.adapter.specs.Device.{Disk, IsDisk, IsSector, TellsItsSectors, DevicePort, Device}
+use Rattle.adapter.specs.FirstRead.{first_disk, no_disk, quiet_port, first_read_sector}
 use Rattle.adapter.specs.Guarded.{IsGuardedSlot, IsGuardedPort, Passing}
 use Rattle.adapter.specs.Idle.{IsIdle, IsIdlePort, IsSane}
 use Rattle.adapter.specs.Memory.{changed}
 use Rattle.adapter.specs.Rules.{IsProgrammed, MayCommand, MayIssue}
-use Rattle.adapter.specs.Says.{Says}
-use Rattle.adapter_runs.specs.Runs.{Event, IsAsReset, IsReached, IsSafe, MayAllCome, run, after_event}
+use Rattle.adapter.specs.Decoding.{DecodesTo}
+use Rattle.adapter_runs.specs.Runs.{AccessOrStep, IsAsReset, IsReachableByRun, IsSafe, MayAllCome, run, after_event}
 use Rattle.adapter_runs.proofs.Scene.{memory, memory_bytes}
 use Rattle.adapter_runs.proofs.Sets.{Range, is_in, covers, spares, spares_all, covered, spared, avoided, both, true-false}
 
 -- ---- the adapter
 
 -- a port with a disk, as after a reset
-abbrev pub disk_port : PortState
+abbrev pub disk_port : DevicePort
 disk_port = record quiet_port { disk = first_disk; plugged = first_disk ∷ []; present = true }
 
 -- Ports 0 and 1 have a disk; the memory has the commands.
@@ -44,7 +44,7 @@ first = record {
   tape = [];
 }
 
-pub at_each : (P : PortState → Type 0) → P disk_port → P quiet_port → (q : ℕ) → P (first.port q)
+pub at_each : (P : DevicePort → Type 0) → P disk_port → P quiet_port → (q : ℕ) → P (first.port q)
 unfolding changed
 at_each P with_disk without q =
     elim (eqb_tells q 1) [
@@ -62,15 +62,15 @@ first_idle = record {
 
 -- ---- runs go on
 
-run_append : (xs ys : List Event) (d : Device) → run ys (run xs d) ≡ run (xs ++ ys) d
+run_append : (xs ys : List AccessOrStep) (d : Device) → run ys (run xs d) ≡ run (xs ++ ys) d
 run_append [] ys d = refl
 run_append (x ∷ xs) ys d = run_append xs ys (after_event x d)
 
-may_append : (xs ys : List Event) (d : Device) → MayAllCome xs d → MayAllCome ys (run xs d) → MayAllCome (xs ++ ys) d
+may_append : (xs ys : List AccessOrStep) (d : Device) → MayAllCome xs d → MayAllCome ys (run xs d) → MayAllCome (xs ++ ys) d
 may_append [] ys d h more = more
 may_append (x ∷ xs) ys d h more = (h.0, may_append xs ys (after_event x d) h.1 more)
 
-pub reached_more : {d : Device} → IsReached d → (events : List Event) → MayAllCome events d → IsReached (run events d)
+pub reached_more : {d : Device} → IsReachableByRun d → (events : List AccessOrStep) → MayAllCome events d → IsReachableByRun (run events d)
 reached_more {d} r events may = record {
   first = r.first;
   idle = r.idle;
@@ -83,7 +83,7 @@ reached_more {d} r events may = record {
 }
 
 -- an event of this port, or one that leaves all ports
-unfoldable pub is_of : ℕ → Event → Bool
+unfoldable pub is_of : ℕ → AccessOrStep → Bool
 is_of p (Made (Reading (Px port r) v)) = nat_eq port.0 p
 is_of p (Made (Writing (Px port r) v)) = nat_eq port.0 p
 is_of p (Made (Writing Ghc v)) = true
@@ -92,18 +92,18 @@ is_of p (Came (Fall q)) = nat_eq q p
 is_of p (Came (Unplug q)) = nat_eq q p
 is_of p _ = false
 
-unfoldable pub are_of : ℕ → List Event → Bool
+unfoldable pub are_of : ℕ → List AccessOrStep → Bool
 are_of p [] = true
 are_of p (event ∷ events) = is_of p event && are_of p events
 
-changed_elsewhere : (f : ℕ → PortState) (place p q : ℕ) (new : PortState) → nat_eq place p ≡ true → q ≢ p → changed f place new q ≡ f q
+changed_elsewhere : (f : ℕ → DevicePort) (place p q : ℕ) (new : DevicePort) → nat_eq place p ≡ true → q ≢ p → changed f place new q ≡ f q
 unfolding changed
 changed_elsewhere f place p q new here other =
     let same : place ≡ p = eqb-true place p here in
     let ne : q ≢ place = (λ e. other (e ∙ same)) in
     rw (ne_eqb q place ne) refl
 
-event_elsewhere : (p : ℕ) (event : Event) (d : Device) → is_of p event ≡ true → (q : ℕ) → q ≢ p → (after_event event d).port q ≡ d.port q
+event_elsewhere : (p : ℕ) (event : AccessOrStep) (d : Device) → is_of p event ≡ true → (q : ℕ) → q ≢ p → (after_event event d).port q ≡ d.port q
 unfolding is_of
 event_elsewhere p (Made (Reading (Px port r) v)) d h q other = changed_elsewhere d.port port.0 p q _ h other
 event_elsewhere p (Made (Writing (Px port r) v)) d h q other = changed_elsewhere d.port port.0 p q _ h other
@@ -114,7 +114,7 @@ event_elsewhere p (Came (Unplug port)) d h q other = changed_elsewhere d.port po
 event_elsewhere p _ d h q other = absurd (true-false h refl)
 
 -- the events of one port leave the others
-pub run_elsewhere : (p : ℕ) (events : List Event) (d : Device) → are_of p events ≡ true → (q : ℕ) → q ≢ p → (run events d).port q ≡ d.port q
+pub run_elsewhere : (p : ℕ) (events : List AccessOrStep) (d : Device) → are_of p events ≡ true → (q : ℕ) → q ≢ p → (run events d).port q ≡ d.port q
 unfolding are_of
 run_elsewhere p [] d h q other = refl
 run_elsewhere p (event ∷ events) d h q other =
@@ -153,7 +153,7 @@ one_bit : (n k : ℕ) → bit (2 ^ n) k ≡ true → k ≡ n
 one_bit n k set = elim (eqb_tells k n) [ inl same ↦ same.1 | inr other ↦ absurd (true-false set (no_bit n k other.1)) ]
 
 -- PxCMD: FRE is set; ST is set beside it
-pub may_receive : (p : PortState) → p.fr ≡ false → p.bases.fb_set ≡ true → p.bases.fbu_set ≡ true → same_others 0x10 p.notes.last_cmd 32 ≡ true → MayCommand p 0x10
+pub may_receive : (p : DevicePort) → p.fr ≡ false → p.bases.fb_set ≡ true → p.bases.fbu_set ≡ true → same_others 0x10 p.notes.last_cmd 32 ≡ true → MayCommand p 0x10
 may_receive p fallen fb fbu same = record {
   start = λ h. absurd (true-false h refl);
   receive = λ _. inr (record { fallen = fallen; fb = fb; fbu = fbu });
@@ -161,7 +161,7 @@ may_receive p fallen fb fbu same = record {
   others = others_are 0x10 p.notes.last_cmd same;
 }
 
-pub may_start : (p : PortState) → p.cr ≡ false → p.fre ≡ true → IsProgrammed p → p.notes.last_ssts % 16 ≡ 3
+pub may_start : (p : DevicePort) → p.cr ≡ false → p.fre ≡ true → IsProgrammed p → p.notes.last_ssts % 16 ≡ 3
     → bit p.notes.last_tfd 7 || bit p.notes.last_tfd 3 ≡ false → same_others 0x11 p.notes.last_cmd 32 ≡ true → MayCommand p 0x11
 may_start p fallen receives programmed link not_busy same = record {
   start = λ _. inr (record { fallen = fallen; receives = receives; programmed = programmed; link = link; not_busy = not_busy });
@@ -171,23 +171,23 @@ may_start p fallen receives programmed link not_busy same = record {
 }
 
 -- one slot is issued, by its own bit
-pub issue_allowed : (d : Device) (p : PortState) (k : ℕ) → p.st ≡ true → k ≤ d.cap / 256 % 32 → p.ci k ≡ false → p.taken k ≡ None
-    → (m : Meaning) (places : List ℕ) → Says d.memory p.bases.clb k m places
-    → ((n : Meaning) (more : List ℕ) → Says d.memory p.bases.clb k n more → is_queued n.operation ≡ true → p.sact k ≡ true)
+pub issue_allowed : (d : Device) (p : DevicePort) (k : ℕ) → p.st ≡ true → k ≤ d.cap / 256 % 32 → p.ci k ≡ false → p.taken k ≡ None
+    → (m : Meaning) (places : List ℕ) → DecodesTo d.memory p.bases.clb k m places
+    → ((n : Meaning) (more : List ℕ) → DecodesTo d.memory p.bases.clb k n more → is_queued n.operation ≡ true → p.sact k ≡ true)
     → MayIssue d p (2 ^ k)
 issue_allowed d p k running usable free none m places says armed = record {
   running = running;
   usable = λ slot set. rw (one_bit k slot set) usable;
   free = λ slot set. (ap p.ci (one_bit k slot set) ∙ free, ap p.taken (one_bit k slot set) ∙ none);
-  says = λ slot set. (m, places, (let P : ℕ → Type 0 = λ s. Says d.memory p.bases.clb s m places in subst P (sym (one_bit k slot set)) says));
-  queued = λ slot n more set said. (let P : ℕ → Type 0 = λ s. Says d.memory p.bases.clb s n more → is_queued n.operation ≡ true → p.sact s ≡ true in
+  says = λ slot set. (m, places, (let P : ℕ → Type 0 = λ s. DecodesTo d.memory p.bases.clb s m places in subst P (sym (one_bit k slot set)) says));
+  queued = λ slot n more set said. (let P : ℕ → Type 0 = λ s. DecodesTo d.memory p.bases.clb s n more → is_queued n.operation ≡ true → p.sact s ≡ true in
       subst P (sym (one_bit k slot set)) (armed n more) said);
 }
 
 -- ---- sectors and bytes
 
-pub told_bytes : (k : ℕ) → k < 256 → IsSector (sector_of k)
-unfolding sector_of
+pub told_bytes : (k : ℕ) → k < 256 → IsSector (first_read_sector k)
+unfolding first_read_sector
 told_bytes k small = (length-replicate 512 k, All-replicate (λ b. b < 256) 512 k small)
 
 is_disk : (disk : Disk) (told : ℕ → List ℕ) → disk.sectors ≡ Some told → ((k : ℕ) → k < disk.size → IsSector (told k)) → IsDisk disk
@@ -197,7 +197,7 @@ is_disk disk told is each = λ other other_is k small.
     subst P (let e : told ≡ other = (cc) in e) (each k small)
 
 pub disk_is : IsDisk first_disk
-disk_is = is_disk first_disk sector_of refl (λ k small. told_bytes k small)
+disk_is = is_disk first_disk first_read_sector refl (λ k small. told_bytes k small)
 
 none_is : IsDisk no_disk
 none_is = is_disk no_disk (λ k. []) refl (λ k small. absurd (omega (arith, small)))
@@ -206,7 +206,7 @@ pub first_sane : IsSane first
 first_sane = record {
   bytes = memory_bytes;
   disk = at_each (λ p. IsDisk p.disk) disk_is none_is;
-  told = λ _. at_each (λ p. IsTold p.disk) (sector_of, refl) (λ k. [], refl);
+  told = λ _. at_each (λ p. TellsItsSectors p.disk) (first_read_sector, refl) (λ k. [], refl);
 }
 
 first_reset : (q : ℕ) → IsAsReset (first.port q)
@@ -214,12 +214,12 @@ first_reset = at_each IsAsReset
     (record { bases = refl; control = refl; link = refl; due = refl; fresh = refl; halt = refl; broken = refl; notes = refl })
     (record { bases = refl; control = refl; link = refl; due = refl; fresh = refl; halt = refl; broken = refl; notes = refl })
 
-pub first_reached : IsReached first
+pub first_reached : IsReachableByRun first
 first_reached = record { first = first; idle = first_idle; off = refl; reset = first_reset; sane = first_sane; events = []; may = tt; is = refl }
 
 -- ---- what is safe
 
-pub slot_guarded : (rs : List Range) (mem : ℕ → ℕ) (list slot : ℕ) (m : Meaning) (places : List ℕ) (s : Says mem list slot m places) (table : ℕ)
+pub slot_guarded : (rs : List Range) (mem : ℕ → ℕ) (list slot : ℕ) (m : Meaning) (places : List ℕ) (s : DecodesTo mem list slot m places) (table : ℕ)
     → (s.table ≡ table) × (length s.prds ≡ 1)
     → covers rs (list + 32 * slot) (list + 32 * slot + 4) ≡ true → covers rs (list + 32 * slot + 8) (list + 32 * slot + 32) ≡ true
     → covers rs table (table + 144) ≡ true → spares rs (list + 32 * slot + 4) (list + 32 * slot + 8) ≡ true → spares_all rs places ≡ true
@@ -236,7 +236,7 @@ slot_guarded rs mem list slot m places s table is head rest whole count apart = 
 }
 
 -- a port that nothing was issued on
-pub unused_port : (rs : List Range) (mem : ℕ → ℕ) (p : PortState) → ((k : ℕ) → p.ci k ≡ false) → ((k : ℕ) → p.taken k ≡ None)
+pub unused_port : (rs : List Range) (mem : ℕ → ℕ) (p : DevicePort) → ((k : ℕ) → p.ci k ≡ false) → ((k : ℕ) → p.taken k ≡ None)
     → (p.fre ≡ true → spares rs p.bases.fb (p.bases.fb + 256) ≡ true) → IsGuardedPort (Passing (is_in rs)) (Passing (is_in rs)) mem p
 unused_port rs mem p clear none area = record {
   slot = λ k used. absurd (elim used [ inl issued ↦ true-false issued (clear k) | inr t ↦ (let e : None ≡ Some t.0 = sym (none k) ∙ t.1 in (cc)) ]);
@@ -245,7 +245,7 @@ unused_port rs mem p clear none area = record {
 }
 
 -- one with commands that are issued and not taken
-pub issued_port : (rs : List Range) (mem : ℕ → ℕ) (p : PortState)
+pub issued_port : (rs : List Range) (mem : ℕ → ℕ) (p : DevicePort)
     → ((k : ℕ) → p.ci k ≡ true → IsGuardedSlot (Passing (is_in rs)) (Passing (is_in rs)) mem p.bases.clb k) → ((k : ℕ) → p.taken k ≡ None)
     → (p.fre ≡ true → spares rs p.bases.fb (p.bases.fb + 256) ≡ true) → IsGuardedPort (Passing (is_in rs)) (Passing (is_in rs)) mem p
 issued_port rs mem p issued none area = record {
@@ -273,7 +273,7 @@ unused_safe d clear none elsewhere = record {
     port = λ q. elim (eqb_tells q 0) [
       | inl here ↦ (let P : ℕ → Type 0 = λ n. IsGuardedPort (Passing (is_in [])) (Passing (is_in [])) d.memory (d.port n) in
           subst P (sym here.1) (unused_port [] d.memory (d.port 0) clear none (λ on. refl)))
-      | inr away ↦ (let P : PortState → Type 0 = λ p. IsGuardedPort (Passing (is_in [])) (Passing (is_in [])) d.memory p in
+      | inr away ↦ (let P : DevicePort → Type 0 = λ p. IsGuardedPort (Passing (is_in [])) (Passing (is_in [])) d.memory p in
           subst P (sym (elsewhere q away.1)) (untouched [] d.memory q))
     ];
   };

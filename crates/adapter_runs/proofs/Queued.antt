@@ -6,29 +6,29 @@ use Rattle.hba_regs.specs.declared.reg.Reg.TheVariants.{Px}
 use Rattle.hba_regs.specs.declared.reg.PortReg.TheVariants.{Ci, Sact}
 use Rattle.adapter.specs.Access.Access.{Writing}
 use Rattle.adapter.specs.Commands.{is_queued}
-use Rattle.adapter.specs.Device.{Taken, PortState, Device}
-use Rattle.adapter.specs.FirstRead.{sector_of}
+use Rattle.adapter.specs.Device.{FetchedCommand, DevicePort, Device}
+use Rattle.adapter.specs.FirstRead.{first_read_sector}
 use Rattle.adapter.specs.Guarded.{IsGuarded, IsGuardedPort, IsGuardedSlot, Passing}
 use Rattle.adapter.specs.Memory.{changed}
-use Rattle.adapter.specs.Steps.{Steps, Can, begun, after}
-use Rattle.adapter.specs.Steps.Step.{Fetch, Move, Done, Fault}
+use Rattle.adapter.specs.Steps.{Steps, Can, begun, device_after}
+use Rattle.adapter.specs.Steps.DeviceTransition.{Fetch, Move, Done, Fault}
 use Rattle.adapter.specs.declared.command.Operation.TheVariants.{ReadQueued, Trim}
-use Rattle.adapter_runs.specs.Runs.{Event, IsReached, run}
-use Rattle.adapter_runs.specs.Runs.Event.{Made, Came}
+use Rattle.adapter_runs.specs.Runs.{AccessOrStep, IsReachableByRun, run}
+use Rattle.adapter_runs.specs.Runs.AccessOrStep.{Made, Came}
 use Rattle.adapter_runs.proofs.Ports.{reached_more, issue_allowed, slot_guarded, issued_port, told_bytes, are_of, is_of, run_elsewhere, first, no_bit, untouched}
 use Rattle.adapter_runs.proofs.Scene.{memory, queued_read, first_says, first_table, second_says, second_table}
 use Rattle.adapter_runs.proofs.Sets.{Range, is_in, covers, spares, spares_all, true-false}
 use Rattle.adapter_runs.proofs.Started.{at_port, started, started_reached, started_elsewhere}
 
 -- the slot's bits of PxSACT and PxCI are set
-abbrev pub queue : ℕ → ℕ → List Event
+abbrev pub queue : ℕ → ℕ → List AccessOrStep
 queue p bits = Made (Writing (Px (at_port p) Sact) bits) ∷ Made (Writing (Px (at_port p) Ci) bits) ∷ []
 
 -- the read in slot 0 is issued, whatever the received FIS area is
 abbrev pub issued_at : ℕ → Device
 issued_at area = run (queue 0 1) (started area)
 
-pub issued_at_reached : (area : ℕ) → area % 256 ≡ 0 → area + 256 ≤ 4096 * 256 → IsReached (issued_at area)
+pub issued_at_reached : (area : ℕ) → area % 256 ≡ 0 → area + 256 ≤ 4096 * 256 → IsReachableByRun (issued_at area)
 unfolding changed
 issued_at_reached area aligned inside = reached_more (started_reached area aligned inside) (queue 0 1) (
   (record { ae = refl; no_reset = refl }, (omega arith, refl), refl),
@@ -41,13 +41,13 @@ issued_at_reached area aligned inside = reached_more (started_reached area align
 abbrev pub one_issued : Device
 one_issued = issued_at 0x400
 
-pub one_issued_reached : IsReached one_issued
+pub one_issued_reached : IsReachableByRun one_issued
 one_issued_reached = issued_at_reached 0x400 refl (omega arith)
 
 abbrev pub issued : Device
 issued = run (queue 0 2) one_issued
 
-pub issued_reached : IsReached issued
+pub issued_reached : IsReachableByRun issued
 unfolding changed
 issued_reached = reached_more one_issued_reached (queue 0 2) (
   (record { ae = refl; no_reset = refl }, (omega arith, refl), refl),
@@ -104,7 +104,7 @@ issued_safe = record {
   within = λ at h. h;
   port = λ q. elim (eqb_tells q 0) [
     | inl here ↦ (let P : ℕ → Type 0 = λ n. IsGuardedPort (Passing (is_in kept)) (Passing (is_in kept)) memory (issued.port n) in subst P (sym here.1) issued_here)
-    | inr other ↦ (let P : PortState → Type 0 = λ p. IsGuardedPort (Passing (is_in kept)) (Passing (is_in kept)) memory p in
+    | inr other ↦ (let P : DevicePort → Type 0 = λ p. IsGuardedPort (Passing (is_in kept)) (Passing (is_in kept)) memory p in
         subst P (sym (issued_elsewhere q other.1)) (untouched kept memory q))
   ];
 }
@@ -117,31 +117,31 @@ no_steps = record { steps = []; lead = refl }
 
 -- ---- the commands are taken, and the second ends first
 
-abbrev pub one : Taken
+abbrev pub one : FetchedCommand
 one = begun queued_read (0x28000 ∷ [])
 
-abbrev pub other : Taken
+abbrev pub other : FetchedCommand
 other = begun queued_read (0x29000 ∷ [])
 
-abbrev pub other_moved : Taken
+abbrev pub other_moved : FetchedCommand
 other_moved = record other { moved = 1 }
 
-abbrev fetches : List Event
+abbrev fetches : List AccessOrStep
 fetches = Came (Fetch 0 0 queued_read (0x28000 ∷ [])) ∷ Came (Fetch 0 1 queued_read (0x29000 ∷ [])) ∷ []
 
 abbrev pub taken : Device
 taken = run fetches issued
 
-only_one : (k : ℕ) (t : Taken) → changed (λ _. None) 0 (Some one) k ≡ Some t → is_queued t.meaning.operation ≡ true
+only_one : (k : ℕ) (t : FetchedCommand) → changed (λ _. None) 0 (Some one) k ≡ Some t → is_queued t.meaning.operation ≡ true
 unfolding changed
 only_one k t is =
     elim (eqb_tells k 0) [
       | inl here ↦
-          let there : Some one ≡ Some t = sym (ap (λ (n : ℕ). changed {A = Option Taken} (λ _. None) 0 (Some one) n) here.1) ∙ is in
+          let there : Some one ≡ Some t = sym (ap (λ (n : ℕ). changed {A = Option FetchedCommand} (λ _. None) 0 (Some one) n) here.1) ∙ is in
           let same : one ≡ t = (cc) in
-          ap (λ (u : Taken). is_queued u.meaning.operation) (sym same)
+          ap (λ (u : FetchedCommand). is_queued u.meaning.operation) (sym same)
       | inr away ↦
-          let none : changed {A = Option Taken} (λ _. None) 0 (Some one) k ≡ None = rw (ne_eqb k 0 away.1) refl in
+          let none : changed {A = Option FetchedCommand} (λ _. None) 0 (Some one) k ≡ None = rw (ne_eqb k 0 away.1) refl in
           absurd (let e : None ≡ Some t = sym none ∙ is in (cc))
     ]
 
@@ -155,7 +155,7 @@ may_fetch = record {
 }
 
 abbrev first_taken : Device
-first_taken = after (Fetch 0 0 queued_read (0x28000 ∷ [])) issued
+first_taken = device_after (Fetch 0 0 queued_read (0x28000 ∷ [])) issued
 
 pub may_fetch_other : Can (Fetch 0 1 queued_read (0x29000 ∷ [])) first_taken
 unfolding changed
@@ -166,13 +166,13 @@ may_fetch_other = record {
   says = second_says;
 }
 
-pub taken_reached : IsReached taken
+pub taken_reached : IsReachableByRun taken
 taken_reached = reached_more issued_reached fetches (may_fetch, (may_fetch_other, tt))
 
 pub taken_steps : Steps issued taken
 taken_steps = record { steps = Fetch 0 0 queued_read (0x28000 ∷ []) ∷ Fetch 0 1 queued_read (0x29000 ∷ []) ∷ []; lead = (may_fetch, (may_fetch_other, refl)) }
 
-pub may_move : Can (Move 0 1 other (sector_of 100)) taken
+pub may_move : Can (Move 0 1 other (first_read_sector 100)) taken
 unfolding changed
 may_move = record {
   works = record { taken = refl; working = record { running = refl; present = refl; fresh = refl; admitted = refl; whole = refl } };
@@ -182,14 +182,14 @@ may_move = record {
 }
 
 abbrev pub moved : Device
-moved = after (Move 0 1 other (sector_of 100)) taken
+moved = device_after (Move 0 1 other (first_read_sector 100)) taken
 
-pub moved_reached : IsReached moved
-moved_reached = reached_more taken_reached (Came (Move 0 1 other (sector_of 100)) ∷ []) (may_move, tt)
+pub moved_reached : IsReachableByRun moved
+moved_reached = reached_more taken_reached (Came (Move 0 1 other (first_read_sector 100)) ∷ []) (may_move, tt)
 
 pub moved_steps : Steps issued moved
 moved_steps = record {
-  steps = Fetch 0 0 queued_read (0x28000 ∷ []) ∷ Fetch 0 1 queued_read (0x29000 ∷ []) ∷ Move 0 1 other (sector_of 100) ∷ [];
+  steps = Fetch 0 0 queued_read (0x28000 ∷ []) ∷ Fetch 0 1 queued_read (0x29000 ∷ []) ∷ Move 0 1 other (first_read_sector 100) ∷ [];
   lead = (may_fetch, (may_fetch_other, (may_move, refl)));
 }
 
@@ -208,9 +208,9 @@ unfolding changed
 may_fail = record { taken = refl; running = refl; is_byte = omega arith; kept = refl }
 
 abbrev pub failed : Device
-failed = after (Fault 0 0 0x40 0 one) taken
+failed = device_after (Fault 0 0 0x40 0 one) taken
 
-pub failed_reached : IsReached failed
+pub failed_reached : IsReachableByRun failed
 failed_reached = reached_more taken_reached (Came (Fault 0 0 0x40 0 one) ∷ []) (may_fail, tt)
 
 pub failed_steps : Steps issued failed

@@ -4,11 +4,11 @@ use Rattle.std.proofs.lemmas.Bool.Decides.{eqb_tells}
 use Rattle.hba_regs.specs.Bits.{bit}
 use Rattle.hba_regs.specs.declared.reg.Reg.TheVariants.{Ghc}
 use Rattle.adapter.specs.Access.Access.{Writing}
-use Rattle.adapter.specs.Device.{PortState, Device}
+use Rattle.adapter.specs.Device.{DevicePort, Device}
 use Rattle.adapter.specs.Guarded.{IsGuarded, IsGuardedPort, IsGuardedSlot, Passing}
 use Rattle.adapter.specs.Memory.{changed}
-use Rattle.adapter_runs.specs.Runs.{Event, IsReached, run}
-use Rattle.adapter_runs.specs.Runs.Event.{Made}
+use Rattle.adapter_runs.specs.Runs.{AccessOrStep, IsReachableByRun, run}
+use Rattle.adapter_runs.specs.Runs.AccessOrStep.{Made}
 use Rattle.adapter_runs.proofs.Ports.{are_of, is_of, first, issue_allowed, issued_port, no_bit, may_receive, may_start, reached_more, run_elsewhere, same_others, slot_guarded, untouched}
 use Rattle.adapter_runs.proofs.Queued.{one_issued, one_issued_reached, queue}
 use Rattle.adapter_runs.proofs.Scene.{memory, queued_read, first_says, first_table, other_port_says, other_port_table}
@@ -18,7 +18,7 @@ use Rattle.adapter_runs.proofs.Started.{prepare, start, started, started_elsewhe
 abbrev prepared : Device
 prepared = run (prepare 1 0x800 0x500) one_issued
 
-prepared_reached : IsReached prepared
+prepared_reached : IsReachableByRun prepared
 unfolding changed same_others
 prepared_reached = reached_more one_issued_reached (prepare 1 0x800 0x500) (
   (record { ae = refl; no_reset = refl }, (omega arith, refl), (refl, refl, refl, omega arith)),
@@ -46,7 +46,7 @@ prepared_reached = reached_more one_issued_reached (prepare 1 0x800 0x500) (
 abbrev both_started : Device
 both_started = run (start 1) prepared
 
-both_started_reached : IsReached both_started
+both_started_reached : IsReachableByRun both_started
 unfolding changed same_others
 both_started_reached = reached_more prepared_reached (start 1) (
   record { present = refl; det = refl; due = refl; fits = omega arith },
@@ -69,7 +69,7 @@ both_started_reached = reached_more prepared_reached (start 1) (
 abbrev both_issued : Device
 both_issued = run (queue 1 1) both_started
 
-both_issued_reached : IsReached both_issued
+both_issued_reached : IsReachableByRun both_issued
 unfolding changed
 both_issued_reached = reached_more both_started_reached (queue 1 1) (
   (record { ae = refl; no_reset = refl }, (omega arith, refl), refl),
@@ -79,13 +79,13 @@ both_issued_reached = reached_more both_started_reached (queue 1 1) (
   ),
 )
 
-abbrev ask_reset : List Event
+abbrev ask_reset : List AccessOrStep
 ask_reset = Made (Writing Ghc 0x80000001) ∷ []
 
 abbrev pub resetting : Device
 resetting = run ask_reset both_issued
 
-pub resetting_reached : IsReached resetting
+pub resetting_reached : IsReachableByRun resetting
 resetting_reached = reached_more both_issued_reached ask_reset (tt, tt)
 
 -- ---- safe
@@ -96,7 +96,7 @@ kept =
     record { from = 0; to = 4 } ∷ record { from = 8; to = 32 } ∷ record { from = 0x1000; to = 0x1090 } ∷ record { from = 0x800; to = 0x804 }
     ∷ record { from = 0x808; to = 0x820 } ∷ record { from = 0x1c00; to = 0x1c90 } ∷ []
 
-abbrev Safe : ℕ → PortState → Type 0
+abbrev Safe : ℕ → DevicePort → Type 0
 Safe q p = IsGuardedPort (Passing (is_in kept)) (Passing (is_in kept)) memory p
 
 first_guarded : IsGuardedSlot (Passing (is_in kept)) (Passing (is_in kept)) memory 0 0
@@ -140,7 +140,7 @@ resetting_safe = record {
     | inl here ↦ (let P : ℕ → Type 0 = λ n. Safe n (resetting.port n) in subst P (sym here.1) port_zero)
     | inr away ↦ elim (eqb_tells q 1) [
       | inl there ↦ (let P : ℕ → Type 0 = λ n. Safe n (resetting.port n) in subst P (sym there.1) port_one)
-      | inr further ↦ (let P : PortState → Type 0 = λ p. Safe q p in subst P (sym (elsewhere q away.1 further.1)) (untouched kept memory q))
+      | inr further ↦ (let P : DevicePort → Type 0 = λ p. Safe q p in subst P (sym (elsewhere q away.1 further.1)) (untouched kept memory q))
     ]
   ];
 }

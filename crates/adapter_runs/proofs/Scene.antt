@@ -4,8 +4,8 @@ use Rattle.std.proofs.Common.{ℕ, ◌≡◌, ◌<◌, ◌+◌, ◌*◌, ◌^◌
 use Rattle.byteorder.specs.Endian.{little_from}
 use Rattle.adapter.specs.Commands.{Meaning, IsMeaning, command_of, pieces_moved, reads_memory}
 use Rattle.adapter.specs.Memory.{patched, bytes_at}
-use Rattle.adapter.specs.Says.{Says, IsWhole}
-use Rattle.adapter.specs.Spelling.{SpellsCommand, SpellsPrd}
+use Rattle.adapter.specs.Decoding.{DecodesTo, IsWholePieces}
+use Rattle.adapter.specs.Encoding.{EncodesCommand, EncodesPrd}
 use Rattle.adapter.specs.declared.command.Operation.TheVariants.{ReadQueued, Trim}
 use Rattle.adapter.specs.declared.command.Prd.{Prd}
 use Rattle.adapter_runs.proofs.Sets.{true-false, are_bytes, bytes_patched, zero_run, zeros_are}
@@ -55,7 +55,7 @@ a_trim = record { operation = Trim; first = 0; count = 0 }
 abbrev prd : ℕ → Prd
 prd address = record { address = address; bytes = 512 }
 
-all_whole : (address : ℕ) → All IsWhole (prd address ∷ [])
+all_whole : (address : ℕ) → All IsWholePieces (prd address ∷ [])
 all_whole address zero d small = refl
 all_whole address (suc k) d small = absurd (omega arith)
 
@@ -66,11 +66,11 @@ says_by : (list slot table : ℕ) (m : Meaning) (address : ℕ)
     → little_from 8 4 (bytes_at memory (list + 32 * slot) 32) ≡ table
     → table % 128 ≡ 0
     → zero_run (bytes_at memory (list + 32 * slot) 32) 12 20 ≡ true
-    → SpellsCommand (bytes_at memory table 20) (command_of m.operation slot m.first m.count)
+    → EncodesCommand (bytes_at memory table 20) (command_of m.operation slot m.first m.count)
     → IsMeaning m
-    → SpellsPrd (bytes_at memory (table + TABLE_HEAD) 16) (prd address)
+    → EncodesPrd (bytes_at memory (table + TABLE_HEAD) 16) (prd address)
     → 1 ≡ pieces_moved m.operation m.count
-    → Says memory list slot m (address ∷ [])
+    → DecodesTo memory list slot m (address ∷ [])
 says_by list slot table m address size first points aligned zeros fis meaning entry many = record {
   table = table;
   prds = prd address ∷ [];
@@ -84,7 +84,7 @@ says_by list slot table m address size first points aligned zeros fis meaning en
   as_many = many;
 }
 
-pub first_says : Says memory 0 0 queued_read (0x28000 ∷ [])
+pub first_says : DecodesTo memory 0 0 queued_read (0x28000 ∷ [])
 unfolding memory patched bytes_at zero_run
 first_says = says_by 0 0 0x1000 queued_read 0x28000 refl refl refl refl refl
     (record { size = refl; kind = refl; c_bit = refl; code = refl; features = refl; lba = refl; device = refl; count = refl; zeros = zeros_are (bytes_at memory 0x1000 20) 14 6 refl })
@@ -92,7 +92,7 @@ first_says = says_by 0 0 0x1000 queued_read 0x28000 refl refl refl refl refl
     (record { size = refl; allowed = record { even_address = refl; even_bytes = refl; some = omega arith; limit = omega arith }; address = refl; upper = refl; count = refl })
     refl
 
-pub second_says : Says memory 0 1 queued_read (0x29000 ∷ [])
+pub second_says : DecodesTo memory 0 1 queued_read (0x29000 ∷ [])
 unfolding memory patched bytes_at zero_run
 second_says = says_by 0 1 0x1400 queued_read 0x29000 refl refl refl refl refl
     (record { size = refl; kind = refl; c_bit = refl; code = refl; features = refl; lba = refl; device = refl; count = refl; zeros = zeros_are (bytes_at memory 0x1400 20) 14 6 refl })
@@ -100,7 +100,7 @@ second_says = says_by 0 1 0x1400 queued_read 0x29000 refl refl refl refl refl
     (record { size = refl; allowed = record { even_address = refl; even_bytes = refl; some = omega arith; limit = omega arith }; address = refl; upper = refl; count = refl })
     refl
 
-pub trim_says : Says memory 0 2 a_trim (0x9000 ∷ [])
+pub trim_says : DecodesTo memory 0 2 a_trim (0x9000 ∷ [])
 unfolding memory patched bytes_at zero_run
 trim_says = says_by 0 2 0x1800 a_trim 0x9000 refl refl refl refl refl
     (record { size = refl; kind = refl; c_bit = refl; code = refl; features = refl; lba = refl; device = refl; count = refl; zeros = zeros_are (bytes_at memory 0x1800 20) 14 6 refl })
@@ -108,7 +108,7 @@ trim_says = says_by 0 2 0x1800 a_trim 0x9000 refl refl refl refl refl
     (record { size = refl; allowed = record { even_address = refl; even_bytes = refl; some = omega arith; limit = omega arith }; address = refl; upper = refl; count = refl })
     refl
 
-pub other_port_says : Says memory 0x800 0 queued_read (0x2a000 ∷ [])
+pub other_port_says : DecodesTo memory 0x800 0 queued_read (0x2a000 ∷ [])
 unfolding memory patched bytes_at zero_run
 other_port_says = says_by 0x800 0 0x1c00 queued_read 0x2a000 refl refl refl refl refl
     (record { size = refl; kind = refl; c_bit = refl; code = refl; features = refl; lba = refl; device = refl; count = refl; zeros = zeros_are (bytes_at memory 0x1c00 20) 14 6 refl })

@@ -5,25 +5,25 @@ use Rattle.byteorder.specs.Endian.{little_from}
 use Rattle.adapter.specs.Commands.{Meaning, command_of}
 use Rattle.adapter.specs.Device.{Device}
 use Rattle.adapter.specs.Memory.{bytes_at, changed, patched}
-use Rattle.adapter.specs.Says.{Says}
-use Rattle.adapter.specs.Spelling.{SpellsCommand}
+use Rattle.adapter.specs.Decoding.{DecodesTo}
+use Rattle.adapter.specs.Encoding.{EncodesCommand}
 use Rattle.adapter.specs.Steps.{Can}
-use Rattle.adapter.specs.Steps.Step.{FetchFault, Scribble}
-use Rattle.adapter_runs.specs.Runs.{Event, IsReached, run}
-use Rattle.adapter_runs.specs.Runs.Event.{Came}
+use Rattle.adapter.specs.Steps.DeviceTransition.{FetchFault, Scribble}
+use Rattle.adapter_runs.specs.Runs.{AccessOrStep, IsReachableByRun, run}
+use Rattle.adapter_runs.specs.Runs.AccessOrStep.{Came}
 use Rattle.adapter_runs.proofs.Ports.{reached_more}
 use Rattle.adapter_runs.proofs.Queued.{issued_at, issued_at_reached}
 use Rattle.adapter_runs.proofs.Scene.{memory}
 use Rattle.adapter_runs.proofs.Sets.{all_bytes, are_bytes}
 
 -- the first byte of the FIS is written over
-abbrev scribble : List Event
+abbrev scribble : List AccessOrStep
 scribble = Came (Scribble 0 0 0x1000 (0 ∷ [])) ∷ []
 
 abbrev pub senseless : Device
 senseless = run scribble (issued_at 0x1000)
 
-pub senseless_reached : IsReached senseless
+pub senseless_reached : IsReachableByRun senseless
 unfolding changed are_bytes
 senseless_reached = reached_more (issued_at_reached 0x1000 refl (omega arith)) scribble
     (record { fre = refl; place = inl (omega arith, omega arith); are_bytes = all_bytes (0 ∷ []) refl }, tt)
@@ -39,11 +39,11 @@ starts : slice_index (bytes_at scribbled 0x1000 20) 0 ≡ 0
 unfolding memory patched bytes_at
 starts = refl
 
-says_nothing : (m : Meaning) (places : List ℕ) → Says scribbled 0 0 m places → ⊥
+says_nothing : (m : Meaning) (places : List ℕ) → DecodesTo scribbled 0 0 m places → ⊥
 says_nothing m places says =
     let at : says.table ≡ 0x1000 = sym says.header.points ∙ points in
-    let P : ℕ → Type 0 = λ table. SpellsCommand (bytes_at scribbled table 20) (command_of m.operation 0 m.first m.count) in
-    let fis : SpellsCommand (bytes_at scribbled 0x1000 20) (command_of m.operation 0 m.first m.count) = subst P at says.fis in
+    let P : ℕ → Type 0 = λ table. EncodesCommand (bytes_at scribbled table 20) (command_of m.operation 0 m.first m.count) in
+    let fis : EncodesCommand (bytes_at scribbled 0x1000 20) (command_of m.operation 0 m.first m.count) = subst P at says.fis in
     let no : 0x27 ≡ 0 = sym fis.kind ∙ starts in
     omega (arith, no)
 

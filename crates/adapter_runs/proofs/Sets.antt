@@ -5,7 +5,7 @@ use Rattle.std.proofs.lemmas.Bool.Decides.{nat_tests, eqb_tells, leb_tells}
 use Rattle.adapter.specs.Device.{IsSector}
 use Rattle.adapter.specs.Guarded.{Passing, Holds, Spares, Avoids}
 use Rattle.adapter.specs.Memory.{patched}
-use Rattle.adapter.specs.Spelling.{AreZero}
+use Rattle.adapter.specs.Encoding.{AreZero}
 
 -- the bytes from one address up to another
 pub record Range : Type 0 where

@@ -6,26 +6,26 @@ use Rattle.hba_regs.specs.declared.reg.PortReg.TheVariants.{Clb, Clbu, Fb, Fbu, 
 use Rattle.adapter.specs.Access.Access.{Reading, Writing}
 use Rattle.adapter.specs.Device.{Device}
 use Rattle.adapter.specs.Memory.{changed}
-use Rattle.adapter.specs.Steps.Step.{LinkUp}
-use Rattle.adapter_runs.specs.Runs.{Event, IsReached, run}
-use Rattle.adapter_runs.specs.Runs.Event.{Made, Came}
+use Rattle.adapter.specs.Steps.DeviceTransition.{LinkUp}
+use Rattle.adapter_runs.specs.Runs.{AccessOrStep, IsReachableByRun, run}
+use Rattle.adapter_runs.specs.Runs.AccessOrStep.{Made, Came}
 use Rattle.adapter_runs.proofs.Ports.{are_of, is_of, first, first_reached, may_receive, may_start, reached_more, run_elsewhere, same_others}
 
 abbrev pub at_port : ℕ → Port
 at_port p = record { 0 = p }
 
-abbrev pub switch_on : List Event
+abbrev pub switch_on : List AccessOrStep
 switch_on = Made (Writing Ghc 0x80000000) ∷ []
 
 -- until COMRESET has ended
-abbrev pub prepare : ℕ → ℕ → ℕ → List Event
+abbrev pub prepare : ℕ → ℕ → ℕ → List AccessOrStep
 prepare p list area =
     Made (Writing (Px (at_port p) Clb) list) ∷ Made (Writing (Px (at_port p) Clbu) 0) ∷ Made (Writing (Px (at_port p) Fb) area)
     ∷ Made (Writing (Px (at_port p) Fbu) 0) ∷ Made (Writing (Px (at_port p) Cmd) 0x10) ∷ Made (Writing (Px (at_port p) Sctl) 1)
     ∷ Made (Writing (Px (at_port p) Sctl) 0) ∷ []
 
 -- the link comes up, and the port is started
-abbrev pub start : ℕ → List Event
+abbrev pub start : ℕ → List AccessOrStep
 start p =
     Came (LinkUp p 0x101 true) ∷ Made (Reading (Px (at_port p) Ssts) 3) ∷ Made (Reading (Px (at_port p) Tfd) 0x77)
     ∷ Made (Writing (Px (at_port p) Cmd) 0x11) ∷ []
@@ -33,14 +33,14 @@ start p =
 abbrev pub on : Device
 on = run switch_on first
 
-pub on_reached : IsReached on
+pub on_reached : IsReachableByRun on
 on_reached = reached_more first_reached switch_on (tt, tt)
 
 -- where the received FIS area is, is the driver's choice
 abbrev pub prepared : ℕ → Device
 prepared area = run (prepare 0 0 area) on
 
-pub prepared_reached : (area : ℕ) → area % 256 ≡ 0 → area + 256 ≤ 4096 * 256 → IsReached (prepared area)
+pub prepared_reached : (area : ℕ) → area % 256 ≡ 0 → area + 256 ≤ 4096 * 256 → IsReachableByRun (prepared area)
 unfolding changed same_others
 prepared_reached area aligned inside = reached_more on_reached (prepare 0 0 area) (
   (record { ae = refl; no_reset = refl }, (omega arith, refl), (refl, refl, refl, omega arith)),
@@ -68,7 +68,7 @@ prepared_reached area aligned inside = reached_more on_reached (prepare 0 0 area
 abbrev pub started : ℕ → Device
 started area = run (start 0) (prepared area)
 
-pub started_reached : (area : ℕ) → area % 256 ≡ 0 → area + 256 ≤ 4096 * 256 → IsReached (started area)
+pub started_reached : (area : ℕ) → area % 256 ≡ 0 → area + 256 ≤ 4096 * 256 → IsReachableByRun (started area)
 unfolding changed same_others
 started_reached area aligned inside = reached_more (prepared_reached area aligned inside) (start 0) (
   record { present = refl; det = refl; due = refl; fits = omega arith },

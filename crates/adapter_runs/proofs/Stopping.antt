@@ -5,12 +5,12 @@ use Rattle.hba_regs.specs.declared.reg.Reg.TheVariants.{Px}
 use Rattle.hba_regs.specs.declared.reg.PortReg.TheVariants.{Cmd}
 use Rattle.adapter.specs.Access.Access.{Writing}
 use Rattle.adapter.specs.Device.{Device}
-use Rattle.adapter.specs.FirstRead.{first_disk, sector_of}
+use Rattle.adapter.specs.FirstRead.{first_disk, first_read_sector}
 use Rattle.adapter.specs.Memory.{changed}
 use Rattle.adapter.specs.Steps.{Can}
-use Rattle.adapter.specs.Steps.Step.{Fall, Fatal, FrFall, LinkUp, Plug, Scribble, Unplug}
-use Rattle.adapter_runs.specs.Runs.{Event, IsReached, IsSafe, run}
-use Rattle.adapter_runs.specs.Runs.Event.{Made, Came}
+use Rattle.adapter.specs.Steps.DeviceTransition.{Fall, Fatal, FrFall, LinkUp, Plug, Scribble, Unplug}
+use Rattle.adapter_runs.specs.Runs.{AccessOrStep, IsReachableByRun, IsSafe, run}
+use Rattle.adapter_runs.specs.Runs.AccessOrStep.{Made, Came}
 use Rattle.adapter_runs.proofs.Ports.{are_of, is_of, disk_is, first, others_are, reached_more, run_elsewhere, same_others, unused_safe}
 use Rattle.adapter_runs.proofs.Sets.{all_bytes, are_bytes, true-false}
 use Rattle.adapter_runs.proofs.Started.{at_port, prepared, prepared_elsewhere, prepared_reached, started, started_elsewhere, started_reached}
@@ -20,7 +20,7 @@ use Rattle.adapter_runs.proofs.Started.{at_port, prepared, prepared_elsewhere, p
 abbrev pub linking : Device
 linking = prepared 0x400
 
-pub linking_reached : IsReached linking
+pub linking_reached : IsReachableByRun linking
 linking_reached = prepared_reached 0x400 refl (omega arith)
 
 pub linking_safe : IsSafe linking
@@ -36,7 +36,7 @@ may_link = record { present = refl; det = refl; due = refl; fits = omega arith }
 abbrev pub running : Device
 running = started 0x400
 
-pub running_reached : IsReached running
+pub running_reached : IsReachableByRun running
 running_reached = started_reached 0x400 refl (omega arith)
 
 pub running_safe : IsSafe running
@@ -60,7 +60,7 @@ may_unplug = refl
 abbrev pub unplugged : Device
 unplugged = run (Came (Unplug 0) ∷ []) running
 
-pub unplugged_reached : IsReached unplugged
+pub unplugged_reached : IsReachableByRun unplugged
 unplugged_reached = reached_more running_reached (Came (Unplug 0) ∷ []) (may_unplug, tt)
 
 pub unplugged_safe : IsSafe unplugged
@@ -70,17 +70,17 @@ unplugged_safe = unused_safe unplugged (λ k. refl) (λ k. refl)
 
 pub may_plug : Can (Plug 0 first_disk) unplugged
 unfolding changed
-may_plug = (refl, disk_is, λ _. (sector_of, refl), λ _. record { size = refl; holds = λ last told is_last is_told k lt. inl (ap (λ (f : ℕ → List ℕ). f k) (sym (same_Some sector_of told is_told) ∙ same_Some sector_of last is_last)) })
+may_plug = (refl, disk_is, λ _. (first_read_sector, refl), λ _. record { size = refl; holds = λ last told is_last is_told k lt. inl (ap (λ (f : ℕ → List ℕ). f k) (sym (same_Some first_read_sector told is_told) ∙ same_Some first_read_sector last is_last)) })
 
 -- ---- it is stopped
 
-abbrev stop : List Event
+abbrev stop : List AccessOrStep
 stop = Made (Writing (Px (at_port 0) Cmd) 0x10) ∷ []
 
 abbrev pub stopped : Device
 stopped = run stop running
 
-pub stopped_reached : IsReached stopped
+pub stopped_reached : IsReachableByRun stopped
 unfolding changed same_others
 stopped_reached = reached_more running_reached stop (
   (
@@ -108,13 +108,13 @@ pub may_fall : Can (Fall 0) stopped
 unfolding changed
 may_fall = (refl, refl)
 
-abbrev stop_receiving : List Event
+abbrev stop_receiving : List AccessOrStep
 stop_receiving = Came (Fall 0) ∷ Made (Writing (Px (at_port 0) Cmd) 0) ∷ []
 
 abbrev pub silent : Device
 silent = run stop_receiving stopped
 
-pub silent_reached : IsReached silent
+pub silent_reached : IsReachableByRun silent
 unfolding changed same_others
 silent_reached = reached_more stopped_reached stop_receiving (
   may_fall,

@@ -6,20 +6,20 @@ use Rattle.hba_regs.specs.declared.reg.Reg.TheVariants.{Px}
 use Rattle.hba_regs.specs.declared.reg.PortReg.TheVariants.{Ci}
 use Rattle.adapter.specs.Access.Access.{Writing}
 use Rattle.adapter.specs.Commands.{Meaning, is_queued}
-use Rattle.adapter.specs.Device.{Taken, PortState, Device}
+use Rattle.adapter.specs.Device.{FetchedCommand, DevicePort, Device}
 use Rattle.adapter.specs.Guarded.{IsGuarded, IsGuardedPort, IsGuardedSlot, Passing}
 use Rattle.adapter.specs.Memory.{bytes_at, changed, patched}
-use Rattle.adapter.specs.Says.{Says}
-use Rattle.adapter.specs.Steps.{Steps, Can, begun, after}
-use Rattle.adapter.specs.Steps.Step.{Fetch, Move, Clear}
-use Rattle.adapter_runs.specs.Runs.{Event, IsReached, run}
-use Rattle.adapter_runs.specs.Runs.Event.{Made, Came}
+use Rattle.adapter.specs.Decoding.{DecodesTo}
+use Rattle.adapter.specs.Steps.{Steps, Can, begun, device_after}
+use Rattle.adapter.specs.Steps.DeviceTransition.{Fetch, Move, Clear}
+use Rattle.adapter_runs.specs.Runs.{AccessOrStep, IsReachableByRun, run}
+use Rattle.adapter_runs.specs.Runs.AccessOrStep.{Made, Came}
 use Rattle.adapter_runs.proofs.Ports.{are_of, is_of, first, issue_allowed, issued_port, no_bit, reached_more, run_elsewhere, slot_guarded, untouched}
 use Rattle.adapter_runs.proofs.Scene.{memory, a_trim, trim_says, trim_table}
 use Rattle.adapter_runs.proofs.Sets.{Range, is_in, are_bytes, covers, spares, spares_all, is_sector, true-false}
 use Rattle.adapter_runs.proofs.Started.{at_port, started, started_elsewhere, started_reached}
 
-abbrev issue : List Event
+abbrev issue : List AccessOrStep
 issue = Made (Writing (Px (at_port 0) Ci) 4) ∷ []
 
 abbrev pub issued : Device
@@ -27,12 +27,12 @@ issued = run issue (started 0x400)
 
 -- what the slot says is the trim alone, which isn't queued
 abbrev pub OneMeaning : Type 0
-OneMeaning = (m : Meaning) (places : List ℕ) → Says memory 0 2 m places → m ≡ a_trim
+OneMeaning = (m : Meaning) (places : List ℕ) → DecodesTo memory 0 2 m places → m ≡ a_trim
 
-armed : OneMeaning → (m : Meaning) (places : List ℕ) → Says memory 0 2 m places → is_queued m.operation ≡ true → false ≡ true
+armed : OneMeaning → (m : Meaning) (places : List ℕ) → DecodesTo memory 0 2 m places → is_queued m.operation ≡ true → false ≡ true
 armed alone m places says queued = sym (ap (λ (n : Meaning). is_queued n.operation) (alone m places says)) ∙ queued
 
-pub issued_reached : OneMeaning → IsReached issued
+pub issued_reached : OneMeaning → IsReachableByRun issued
 unfolding changed
 issued_reached alone = reached_more (started_reached 0x400 refl (omega arith)) issue
     ((record { ae = refl; no_reset = refl }, (omega arith, refl), issue_allowed _ _ 2 refl (omega arith) refl refl a_trim (0x9000 ∷ []) trim_says (armed alone)), tt)
@@ -43,7 +43,7 @@ issued_reached alone = reached_more (started_reached 0x400 refl (omega arith)) i
 abbrev pub kept : List Range
 kept = record { from = 64; to = 68 } ∷ record { from = 72; to = 96 } ∷ record { from = 0x1800; to = 0x1890 } ∷ []
 
-abbrev Safe : PortState → Type 0
+abbrev Safe : DevicePort → Type 0
 Safe p = IsGuardedPort (Passing (is_in kept)) (Passing (is_in kept)) memory p
 
 trim_guarded : IsGuardedSlot (Passing (is_in kept)) (Passing (is_in kept)) memory 0 2
@@ -70,7 +70,7 @@ issued_safe = record {
   within = λ at h. h;
   port = λ q. elim (eqb_tells q 0) [
     | inl here ↦ (let P : ℕ → Type 0 = λ n. Safe (issued.port n) in subst P (sym here.1) port_zero)
-    | inr away ↦ (let P : PortState → Type 0 = Safe in subst P (sym (elsewhere q away.1)) (untouched kept memory q))
+    | inr away ↦ (let P : DevicePort → Type 0 = Safe in subst P (sym (elsewhere q away.1)) (untouched kept memory q))
   ];
 }
 
@@ -79,10 +79,10 @@ issued_safe = record {
 abbrev block : List ℕ
 block = bytes_at memory 0x9000 512
 
-abbrev taken_trim : Taken
+abbrev taken_trim : FetchedCommand
 taken_trim = begun a_trim (0x9000 ∷ [])
 
-abbrev pub block_moved : Taken
+abbrev pub block_moved : FetchedCommand
 block_moved = record taken_trim { moved = 1; block = block }
 
 may_fetch : Can (Fetch 0 2 a_trim (0x9000 ∷ [])) issued
@@ -95,7 +95,7 @@ may_fetch = record {
 }
 
 abbrev fetched : Device
-fetched = after (Fetch 0 2 a_trim (0x9000 ∷ [])) issued
+fetched = device_after (Fetch 0 2 a_trim (0x9000 ∷ [])) issued
 
 block_size : length block ≡ 512
 unfolding bytes_at
@@ -115,9 +115,9 @@ may_move = record {
 }
 
 abbrev pub moved : Device
-moved = after (Move 0 2 taken_trim block) fetched
+moved = device_after (Move 0 2 taken_trim block) fetched
 
-pub moved_reached : OneMeaning → IsReached moved
+pub moved_reached : OneMeaning → IsReachableByRun moved
 moved_reached alone = reached_more (issued_reached alone) (Came (Fetch 0 2 a_trim (0x9000 ∷ [])) ∷ Came (Move 0 2 taken_trim block) ∷ []) (may_fetch, (may_move, tt))
 
 pub moved_steps : Steps issued moved

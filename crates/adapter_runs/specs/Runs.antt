@@ -3,28 +3,28 @@ use Rattle.std.specs.Prelude.{ℕ, Bool, true, false, ◌++◌, ◌≡◌, List,
 use Rattle.adapter.specs.Access.{Access, Shows, noted, written}
 use Rattle.adapter.specs.Access.Access.{Reading, Writing, Loading, Storing}
 use Rattle.adapter.specs.Commands.{is_queued}
-use Rattle.adapter.specs.Device.{Taken, PortState, Device}
+use Rattle.adapter.specs.Device.{FetchedCommand, DevicePort, Device}
 use Rattle.adapter.specs.Device.Halt.{HaltedQueued, NotHalted}
 use Rattle.adapter.specs.FirstRead.{no_notes, quiet_port}
 use Rattle.adapter.specs.Guarded.{IsGuarded, Passing}
 use Rattle.adapter.specs.Idle.{IsIdle, IsSane}
 use Rattle.adapter.specs.Memory.{patched, bytes_at}
 use Rattle.adapter.specs.Rules.{InUse, IsFree, MayRead, MayWrite}
-use Rattle.adapter.specs.Steps.{Step, Can, after, fault_entry}
+use Rattle.adapter.specs.Steps.{DeviceTransition, Can, device_after, fault_entry}
 use Rattle.adapter.specs.declared.tape.Entry.{Entry}
-use Rattle.adapter.specs.Steps.Step.{Fetch as Fetching, FetchFault as SenselessFetching, Move as Moving, Clear as Clearing, Done as Ending, Fault as Failing, Fatal as FailingFatally, Fall as Falling, FrFall as FallingSilent, LinkUp as Linking, Unplug as Unplugging, Plug as Plugging, ResetEnds as EndingReset, Scribble as Scribbling}
+use Rattle.adapter.specs.Steps.DeviceTransition.{Fetch as Fetching, FetchFault as SenselessFetching, Move as Moving, Clear as Clearing, Done as Ending, Fault as Failing, Fatal as FailingFatally, Fall as Falling, FrFall as FallingSilent, LinkUp as Linking, Unplug as Unplugging, Plug as Plugging, ResetEnds as EndingReset, Scribble as Scribbling}
 
 -- an access of the driver, or a step of the device
-pub data Event : Type 0 where
-  Made : Access → Event
-  Came : Step → Event
+pub data AccessOrStep : Type 0 where
+  Made : Access → AccessOrStep
+  Came : DeviceTransition → AccessOrStep
 
 -- the access keeps to the rules in the state in which it is made, and what it gives is what is there
-abbrev pub IsAllowed : Access → Device → Type 0
-IsAllowed (Reading r v) d = MayRead r d × Shows r v d
-IsAllowed (Writing r v) d = MayWrite r v d
-IsAllowed (Loading at bytes) d = IsFree at (length bytes) d × (bytes ≡ bytes_at d.memory at (length bytes))
-IsAllowed (Storing at bytes) d = IsFree at (length bytes) d
+abbrev pub IsAllowedEvent : Access → Device → Type 0
+IsAllowedEvent (Reading r v) d = MayRead r d × Shows r v d
+IsAllowedEvent (Writing r v) d = MayWrite r v d
+IsAllowedEvent (Loading at bytes) d = IsFree at (length bytes) d × (bytes ≡ bytes_at d.memory at (length bytes))
+IsAllowedEvent (Storing at bytes) d = IsFree at (length bytes) d
 
 abbrev pub after_access : Access → Device → Device
 after_access (Reading r v) d = noted r v d
@@ -32,26 +32,26 @@ after_access (Writing r v) d = written r v d
 after_access (Loading at bytes) d = d
 after_access (Storing at bytes) d = record d { memory = patched d.memory at bytes }
 
-abbrev pub MayCome : Event → Device → Type 0
-MayCome (Made access) d = IsAllowed access d
+abbrev pub MayCome : AccessOrStep → Device → Type 0
+MayCome (Made access) d = IsAllowedEvent access d
 MayCome (Came step) d = Can step d
 
-abbrev pub after_event : Event → Device → Device
+abbrev pub after_event : AccessOrStep → Device → Device
 after_event (Made access) d = after_access access d
-after_event (Came step) d = after step d
+after_event (Came step) d = device_after step d
 
 -- what events, the first of them first, lead to, and that each of them may come where it does
-abbrev pub run : List Event → Device → Device
+abbrev pub run : List AccessOrStep → Device → Device
 run [] d = d
 run (event ∷ events) d = run events (after_event event d)
 
-abbrev pub MayAllCome : List Event → Device → Type 0
+abbrev pub MayAllCome : List AccessOrStep → Device → Type 0
 MayAllCome [] d = Unit {0}
 MayAllCome (event ∷ events) d = MayCome event d × MayAllCome events (after_event event d)
 
 -- A port as a reset of the adapter leaves it, with a disk in it or without: no link is due, nothing halts it, and
 -- nothing was programmed, set or read yet (AHCI 1.3.1, 10.4.3).
-pub record IsAsReset (p : PortState) : Type 0 where
+pub record IsAsReset (p : DevicePort) : Type 0 where
   pub bases : p.bases ≡ quiet_port.bases
   pub control : p.sctl_det ≡ 0
   pub link : p.ssts_det ≡ 0
@@ -62,13 +62,13 @@ pub record IsAsReset (p : PortState) : Type 0 where
   pub notes : p.notes ≡ no_notes
 
 -- An idle adapter that is switched off, handed over to its driver as after a reset, has come to this state.
-pub record IsReached (d : Device) : Type 0 where
+pub record IsReachableByRun (d : Device) : Type 0 where
   pub first : Device
   pub idle : IsIdle first
   pub off : first.ae ≡ false
   pub reset : (port : ℕ) → IsAsReset (first.port port)
   pub sane : IsSane first
-  pub events : List Event
+  pub events : List AccessOrStep
   pub may : MayAllCome events first
   pub is : d ≡ run events first
 
@@ -80,10 +80,10 @@ pub record IsSafe (d : Device) : Type 0 where
 
 -- ---- the kinds of steps
 
-pub data Kind : Type 0 where
-  Fetch FetchFault Move Clear Done Fault Fatal Fall FrFall LinkUp Unplug Plug ResetEnds Scribble : Kind
+pub data TransitionKind : Type 0 where
+  Fetch FetchFault Move Clear Done Fault Fatal Fall FrFall LinkUp Unplug Plug ResetEnds Scribble : TransitionKind
 
-abbrev pub kind_of : Step → Kind
+abbrev pub kind_of : DeviceTransition → TransitionKind
 kind_of (Fetching port slot meaning places) = Fetch
 kind_of (SenselessFetching port slot queued kept_bits) = FetchFault
 kind_of (Moving port slot t bytes) = Move
@@ -100,16 +100,16 @@ kind_of EndingReset = ResetEnds
 kind_of (Scribbling port slot at bytes) = Scribble
 
 -- a step of the kind can come, in a state that an idle adapter comes to
-pub record Comes (kind : Kind) : Type 0 where
+pub record StepComes (kind : TransitionKind) : Type 0 where
   pub device : Device
-  pub reached : IsReached device
-  pub step : Step
+  pub reached : IsReachableByRun device
+  pub step : DeviceTransition
   pub kind_is : kind_of step ≡ kind
   pub can : Can step device
 
 -- the same in a state in which the commands are safe
-pub record ComesSafely (kind : Kind) : Type 0 where
-  pub comes : Comes kind
+pub record ComesSafely (kind : TransitionKind) : Type 0 where
+  pub comes : StepComes kind
   pub safe : IsSafe comes.device
 
 -- ---- what runs come to
@@ -117,22 +117,22 @@ pub record ComesSafely (kind : Kind) : Type 0 where
 -- Two queued commands are taken, in slots 0 and 1, and that in slot 1 may end; that in slot 0 is taken still then.
 pub record SecondEndsFirst : Type 0 where
   pub device : Device
-  pub reached : IsReached device
+  pub reached : IsReachableByRun device
   pub safe : IsSafe device
-  pub one : Taken
-  pub other : Taken
+  pub one : FetchedCommand
+  pub other : FetchedCommand
   pub queued : (is_queued one.meaning.operation ≡ true) × (is_queued other.meaning.operation ≡ true)
   pub taken : (device.port 0).taken 0 ≡ Some one
   pub ends : Can (Ending 0 1 3 other) device
-  pub stays : ((after (Ending 0 1 3 other) device).port 0).taken 0 ≡ Some one
+  pub stays : ((device_after (Ending 0 1 3 other) device).port 0).taken 0 ≡ Some one
 
 -- Two queued commands are taken, in slots 0 and 1, and the first of them has failed.
-pub record HasFailed : Type 0 where
+pub record FirstHasFailed : Type 0 where
   pub device : Device
-  pub reached : IsReached device
+  pub reached : IsReachableByRun device
   pub safe : IsSafe device
-  pub one : Taken
-  pub other : Taken
+  pub one : FetchedCommand
+  pub other : FetchedCommand
   pub queued : (is_queued one.meaning.operation ≡ true) × (is_queued other.meaning.operation ≡ true)
   pub failed : (device.port 0).taken 0 ≡ Some one
   pub beside : (device.port 0).taken 1 ≡ Some other
@@ -143,7 +143,7 @@ pub record HasFailed : Type 0 where
 -- A reset of the adapter is pending, and two ports have commands in use.
 pub record IsBeingReset : Type 0 where
   pub device : Device
-  pub reached : IsReached device
+  pub reached : IsReachableByRun device
   pub safe : IsSafe device
   pub pending : device.hr ≡ true
   pub first_used : InUse (device.port 0) 0

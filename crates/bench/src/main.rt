@@ -15,7 +15,7 @@ use std::{env, io};
 
 /// Why there is no result.
 #[derive(Clone, Copy, Debug, PartialEq, Eq)]
-enum Fault {
+enum BenchError {
     /// The words are neither none nor two.
     Words,
     /// A file can't be read, the configuration or the script is wrong, a call didn't do what it should, or memory or
@@ -23,24 +23,24 @@ enum Fault {
     Failed,
 }
 
-fn run(rt: &(impl Env + AllocGlobal + Files<File = File> + Print)) -> Result<(), Fault> {
+fn run(rt: &(impl Env + AllocGlobal + Files<File = File> + Print)) -> Result<(), BenchError> {
     let words: Vec<String> = match env::args(rt) {
-        Ok(words) => words.collect(rt.alloc()).map_err(|_| Fault::Failed)?,
-        Err(_) => return Err(Fault::Words),
+        Ok(words) => words.collect(rt.alloc()).map_err(|_| BenchError::Failed)?,
+        Err(_) => return Err(BenchError::Words),
     };
     match words.as_slice() {
-        [_] => counts::print(rt.alloc(), &mut io::writer(rt)).ok_or(Fault::Failed),
+        [_] => counts::print(rt.alloc(), &mut io::writer(rt)).ok_or(BenchError::Failed),
         [_, config, script] => memory::play_files(rt, config.as_str(), script.as_str()).ok_or(
-            Fault::Failed,
+            BenchError::Failed,
         ),
-        _ => Err(Fault::Words),
+        _ => Err(BenchError::Words),
     }
 }
 
 fn main(rt: HostRuntime) -> ExitCode {
     match run(&rt) {
         Ok(()) => ExitCode::SUCCESS,
-        Err(Fault::Failed) => ExitCode::FAILURE,
-        Err(Fault::Words) => ExitCode::from(2),
+        Err(BenchError::Failed) => ExitCode::FAILURE,
+        Err(BenchError::Words) => ExitCode::from(2),
     }
 }

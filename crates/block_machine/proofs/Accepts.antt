@@ -11,7 +11,7 @@ use Rattle.ata_types.specs.declared.refusal.Rule.TheVariants.{NoGrant, NoRight, 
 use Rattle.ata_types.specs.declared.grant.GrantRow.{GrantRow}
 use Rattle.ata_types.specs.declared.grant.Rights.{Rights}
 use Rattle.ata_types.specs.Grant.{Allows}
-use Rattle.block_machine.specs.Rules.{IsNamed, IsCount, frames_for}
+use Rattle.block_machine.specs.Rules.{IsNamed, IsAllowedCount, frames_for}
 use Rattle.block_machine.specs.State.{Block, Accepted, Pending, Machine}
 use Rattle.block_machine.specs.Steps.{Step, Accept, Touch, May, IsNew, IsLiving, after_step}
 use Rattle.block_machine.specs.Left.{after, IsLegal, IsStart, IsAccept}
@@ -49,14 +49,14 @@ same_accept (Accept new) a b p q = sym p ∙ q
 same_accept _ a b p q = absurd p
 
 -- one id is one request, in the whole history
-pub one_id_is_one_request : (start : Machine) (h : List Step) (a b : Accepted) → WasAccepted start h a → WasAccepted start h b → a.id ≡ b.id → a ≡ b
-one_id_is_one_request start [] a b p q e = absurd p
-one_id_is_one_request start (step ∷ past) a b (inl p) (inl q) e = same_accept step a b p.0 q.0
-one_id_is_one_request start (step ∷ past) a b (inl p) (inr q) e =
+pub law_one_id_is_one_request : (start : Machine) (h : List Step) (a b : Accepted) → WasAccepted start h a → WasAccepted start h b → a.id ≡ b.id → a ≡ b
+law_one_id_is_one_request start [] a b p q e = absurd p
+law_one_id_is_one_request start (step ∷ past) a b (inl p) (inl q) e = same_accept step a b p.0 q.0
+law_one_id_is_one_request start (step ∷ past) a b (inl p) (inr q) e =
     let low = id_below start past b q in let new = p.1.id in let n : a.id.0 ≡ b.id.0 = ap (λ i. i.0) e in absurd (omega (arith, low, new, n))
-one_id_is_one_request start (step ∷ past) a b (inr p) (inl q) e =
+law_one_id_is_one_request start (step ∷ past) a b (inr p) (inl q) e =
     let low = id_below start past a p in let new = q.1.id in let n : a.id.0 ≡ b.id.0 = ap (λ i. i.0) e in absurd (omega (arith, low, new, n))
-one_id_is_one_request start (step ∷ past) a b (inr p) (inr q) e = one_id_is_one_request start past a b p q e
+law_one_id_is_one_request start (step ∷ past) a b (inr p) (inr q) e = law_one_id_is_one_request start past a b p q e
 
 -- What an accepted request is.
 
@@ -92,8 +92,8 @@ allows_cases rights Trim = true_cases rights.trim
 allows_cases rights Flush = true_cases rights.flush
 
 -- a request that breaks no rule is granted
-pub accepted_is_granted : (m : Machine) (r : Accepted) → IsNew m r → IsGranted m.rows r
-accepted_is_granted m r new = ⊎_elim
+pub law_accepted_is_granted : (m : Machine) (r : Accepted) → IsNew m r → IsGranted m.rows r
+law_accepted_is_granted m r new = ⊎_elim
     (λ (x : (row : GrantRow) × IsNamed m.rows r.asked row). record {
       row = x.0;
       named = x.1;
@@ -115,7 +115,7 @@ frames_fit : (m : Machine) (r : Accepted) → IsNew m r → length r.asked.frame
 frames_fit m r new = ⊎_elim (λ e. e) (λ ne. absurd (new.unbroken FrameCount ne)) (cases_eq (length r.asked.frames.items) (frames_for r.asked.op r.asked.count))
 
 pub flush_empty : (m : Machine) (r : Accepted) → IsNew m r → r.asked.op ≡ Flush → r.asked.count ≡ 0
-flush_empty m r new op = ⊎_elim (λ e. e) (λ ne. absurd (new.unbroken BadCount (subst (λ (o : Op). IsCount o r.asked.count → ⊥) (sym op) ne))) (cases_eq r.asked.count 0)
+flush_empty m r new op = ⊎_elim (λ e. e) (λ ne. absurd (new.unbroken BadCount (subst (λ (o : Op). IsAllowedCount o r.asked.count → ⊥) (sym op) ne))) (cases_eq r.asked.count 0)
 
 framed : (op : Op) (count n i : ℕ) → n ≡ frames_for op count → MovesBytes op → i < count → i / 8 < n
 framed Read count n i e b lt = omega arith
@@ -128,8 +128,8 @@ pub has_frame : (m : Machine) (r : Accepted) → IsNew m r → MovesBytes r.aske
 has_frame m r new moves i lt = framed r.asked.op r.asked.count (length r.asked.frames.items) i (frames_fit m r new) moves lt
 
 -- each touch is confined
-pub touch_is_confined : (start : Machine) (h : List Step) (e : Pending) (i : ℕ) (block : Block) → IsStart start → IsLegal start h → May (after start h) (Touch e i block) → IsConfined start h e.request i
-touch_is_confined start h e i block s legal may =
+pub law_touch_is_confined : (start : Machine) (h : List Step) (e : Pending) (i : ℕ) (block : Block) → IsStart start → IsLegal start h → May (after start h) (Touch e i block) → IsConfined start h e.request i
+law_touch_is_confined start h e i block s legal may =
     let l = runs_lives (after start h) e may.0 in
     let accepted = living_accepted start h s legal e l in
     let new = was_new start h e.request accepted in

@@ -7,9 +7,9 @@ use Rattle.std.specs.Prelude.{nat_lt}
 use Rattle.ata_types.specs.declared.Port.{Port}
 use Rattle.ata_types.specs.declared.request.Op.{Op}
 use Rattle.ata_types.specs.declared.request.Op.TheVariants.{Read, Write, Trim, Flush}
-use Rattle.block_machine.specs.declared.due.Mode.{Mode}
+use Rattle.block_machine.specs.declared.due.QueueMode.{QueueMode}
 use Rattle.block_machine.specs.declared.due.Unanswered.{Unanswered}
-use Rattle.block_machine.specs.Due.{IsInOrder, holds_back, is_plain, is_clear, due_of}
+use Rattle.block_machine.specs.Due.{IsInOrder, waits_for, is_plain, is_clear, due_of}
 use Rattle.block_machine.proofs.Order.{In, Ordered, in_from, from_in, ordered_from}
 use Rattle.block_machine.proofs.Counting.{count_cons, count_none, unheld}
 use Rattle.block_machine.proofs.Keeps.{same_port}
@@ -41,7 +41,7 @@ single (x ∷ []) r short (inl same) = ap (λ (y : Unanswered). y ∷ []) (sym s
 single (x ∷ []) r short (inr h) = absurd h
 single (x ∷ y ∷ ys) r short h = absurd (omega (arith, short))
 
-module _ (mode : Mode) (unqueued : mode.queued ≡ false) (port : Port) (book : List Unanswered) where
+module _ (mode : QueueMode) (unqueued : mode.queued ≡ false) (port : Port) (book : List Unanswered) where
   plain : (op : Op) → is_plain mode op ≡ true
   plain Read = ap not unqueued
   plain Write = ap not unqueued
@@ -54,7 +54,7 @@ module _ (mode : Mode) (unqueued : mode.queued ≡ false) (port : Port) (book : 
       let mine = and_parts (o.port.0 == port.0) _ due in
       let clear = and_parts (is_clear mode book o) _ mine.1 in
       let same : (r.port.0 == o.port.0) ≡ true = eq-eqb r.port.0 o.port.0 (ap (λ (p : Port). p.0) (own ∙ sym (same_port o.port port (eqb-true o.port.0 port.0 mine.0)))) in
-      let held : holds_back mode o r ≡ true = and_from _ _ same (cond-true (is_plain mode o.op) _ _ (plain o.op) ∙ first) in
+      let held : waits_for mode o r ≡ true = and_from _ _ same (cond-true (is_plain mode o.op) _ _ (plain o.op) ∙ first) in
       both_ways _ (unheld mode book o clear.0 r h) held)
 
   pub none_due : (r : Unanswered) → Contains book r → r.port ≡ port → r.issued ≡ true → due_of mode port book ≡ []
@@ -72,7 +72,7 @@ module _ (mode : Mode) (unqueued : mode.queued ≡ false) (port : Port) (book : 
       → ((other : Unanswered) → Contains book other → other.port ≡ port → (other.issued ≡ false) × (r.id.0 ≤ other.id.0)) → due_of mode port book ≡ r ∷ []
   first_due r order h own first = single (due_of mode port book) r (one_due order) (in_filter (due_test mode port book) book r goes (in_from book r h))
     where
-      free : (o : Unanswered) → In o book → holds_back mode r o ≡ false
+      free : (o : Unanswered) → In o book → waits_for mode r o ≡ false
       free o k = false_from_ne_true _ (λ held.
           let mine = and_parts (o.port.0 == r.port.0) _ held in
           let its = first o (from_in o book k) (same_port o.port r.port (eqb-true o.port.0 r.port.0 mine.0) ∙ own) in
@@ -80,7 +80,7 @@ module _ (mode : Mode) (unqueued : mode.queued ≡ false) (port : Port) (book : 
           both_ways _ (le-ltb o.id.0 r.id.0 its.1) (sym (ap (λ (b : Bool). b || nat_lt o.id.0 r.id.0) its.0) ∙ blocks))
 
       clear : is_clear mode book r ≡ true
-      clear = and_from _ _ (not_from_false r.issued (first r h own).0) (not_from_false _ (any_none (holds_back mode r) book free))
+      clear = and_from _ _ (not_from_false r.issued (first r h own).0) (not_from_false _ (any_none (waits_for mode r) book free))
 
       goes : due_test mode port book r ≡ true
       goes = and_from _ _ (eq-eqb r.port.0 port.0 (ap (λ (p : Port). p.0) own)) (and_from _ _ clear (or_left (is_plain mode r.op) _ (plain r.op)))

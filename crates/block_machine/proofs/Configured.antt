@@ -14,7 +14,7 @@ use Rattle.block_machine.specs.Left.{after, IsLegal, IsStart}
 use Rattle.block_machine.specs.Confined.{IsGranted, WasAccepted}
 use Rattle.block_machine.proofs.Members.{filter_in, contains_here, contains_there}
 use Rattle.block_machine.proofs.Counting.{count_cons}
-use Rattle.block_machine.proofs.Accepts.{living_accepted, accepted_is_granted}
+use Rattle.block_machine.proofs.Accepts.{living_accepted, law_accepted_is_granted}
 
 -- each of the rows that the step leaves was there
 row_step : (m : Machine) (step : Step) (row : GrantRow) → Contains (after_step m step).rows row → Contains m.rows row
@@ -42,8 +42,8 @@ pub owners_stay : (m : Machine) (h : List Step) (f : Frame) → (after m h).owne
 owners_stay m [] f = refl
 owners_stay m (step ∷ past) f = owner_step (after m past) step f ∙ owners_stay m past f
 
-pub rows_shrink_and_owners_stay : (start : Machine) (h : List Step) → ((row : GrantRow) → Contains (after start h).rows row → Contains start.rows row) × ((f : Frame) → (after start h).owner f ≡ start.owner f)
-rows_shrink_and_owners_stay start h = (rows_shrink start h, owners_stay start h)
+pub law_rows_shrink_and_owners_stay : (start : Machine) (h : List Step) → ((row : GrantRow) → Contains (after start h).rows row → Contains start.rows row) × ((f : Frame) → (after start h).owner f ≡ start.owner f)
+law_rows_shrink_and_owners_stay start h = (rows_shrink start h, owners_stay start h)
 
 -- a request that more rows grant
 granted_by_more : (few more : List GrantRow) (r : Accepted) → ((row : GrantRow) → Contains few row → Contains more row) → IsGranted few r → IsGranted more r
@@ -52,7 +52,7 @@ granted_by_more few more r shrunk g = record { row = g.row; named = (shrunk g.ro
 -- the rows of the start grant each request that was accepted
 pub was_granted : (start : Machine) (h : List Step) (r : Accepted) → WasAccepted start h r → IsGranted start.rows r
 was_granted start [] r w = absurd w
-was_granted start (step ∷ past) r (inl c) = granted_by_more (after start past).rows start.rows r (rows_shrink start past) (accepted_is_granted (after start past) r c.1)
+was_granted start (step ∷ past) r (inl c) = granted_by_more (after start past).rows start.rows r (rows_shrink start past) (law_accepted_is_granted (after start past) r c.1)
 was_granted start (step ∷ past) r (inr w) = was_granted start past r w
 
 -- the client of an accepted request is one that a row may have

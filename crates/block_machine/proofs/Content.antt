@@ -2,9 +2,9 @@
 use Rattle.std.proofs.Common.{◌≡◌, ℕ, ◌+◌, ◌-◌, ◌<◌, ◌≤◌, Bool, true, false, ◌&&◌, ◌==◌, List, ◌∷◌, suc, inl, inr, ⊎_elim, refl, sym, ap, ◌∙◌, subst, arith, eqb-true, eq-eqb, ne_eqb, le_refl}
 use Rattle.std.proofs.lemmas.Bool.{cases_eq, cases_lt, or_left, and_parts, and_from, cond-true, cond-false, both_ways}
 use Rattle.ata_types.specs.declared.Port.{Port}
-use Rattle.block_machine.specs.State.{Block, Disk, Accepted, Pending, Machine, waiting, sector_of, written_by}
-use Rattle.block_machine.specs.Due.{conflict, is_writer}
-use Rattle.block_machine.specs.Steps.{Step, Accept, Issue, Touch, End, Age, Again, Answer, Revoke, Release, Unplug, Replace, Store, Load, May, after_step, MayMove, put_sector, disks_after}
+use Rattle.block_machine.specs.State.{Block, DiskBytes, Accepted, Pending, Machine, waiting, sector_of, written_by}
+use Rattle.block_machine.specs.Due.{must_keep_order, is_writer}
+use Rattle.block_machine.specs.Steps.{Step, Accept, Issue, Touch, End, Age, Again, Answer, Revoke, Release, Unplug, Replace, Store, Load, May, after_step, MayStillMove, put_sector, disks_after}
 use Rattle.block_machine.specs.Left.{plug_count, bytes_when_plugged, IsTouch, HasTouched, Wrote, IsLast}
 use Rattle.block_machine.proofs.Sound.{Sound}
 use Rattle.block_machine.proofs.Keeps.{same_port}
@@ -30,7 +30,7 @@ content_quiet start h m step port k limit seen untouched number le last =
     (λ w o. (seen w k (plug_count port h) o.touched).below)
     last)
 
-content_replace : (start : Machine) (h : List Step) (m : Machine) (at : Port) (id size : ℕ) (disk : Disk) (port : Port) (k : ℕ) → AllSeen m h
+content_replace : (start : Machine) (h : List Step) (m : Machine) (at : Port) (id size : ℕ) (disk : DiskBytes) (port : Port) (k : ℕ) → AllSeen m h
     → IsLast start port k (plug_count port h) m.next h (m.disks port k)
     → IsLast start port k (plug_count port (Replace at id size disk ∷ h)) m.next (Replace at id size disk ∷ h) ((after_step m (Replace at id size disk)).disks port k)
 content_replace start h m at id size disk port k seen last = ⊎_elim same other (cases_eq at.0 port.0)
@@ -51,7 +51,7 @@ content_replace start h m at id size disk port k seen last = ⊎_elim same other
               let p : plug_count w.port h ≡ plug_count port h = ap (λ (q : Port). plug_count q h) o.here in
               let f : ⊥ = omega (arith, b, p, number) in f)
               o.touched,
-          ap (λ (d : Disk). d k) (now ∙ sym put),
+          ap (λ (d : DiskBytes). d k) (now ∙ sym put),
         )
 
     other : (at.0 ≡ port.0 → ⊥) → IsLast start port k (plug_count port (Replace at id size disk ∷ h)) m.next (Replace at id size disk ∷ h) ((after_step m (Replace at id size disk)).disks port k)
@@ -60,10 +60,10 @@ content_replace start h m at id size disk port k seen last = ⊎_elim same other
         let f' : (port.0 == at.0) ≡ false = ne_eqb port.0 at.0 (λ e. ne (sym e)) in
         let number : plug_count port (Replace at id size disk ∷ h) ≡ plug_count port h = cond-false (at.0 == port.0) (suc (plug_count port h)) (plug_count port h) f in
         let now : (after_step m (Replace at id size disk)).disks port ≡ m.disks port = cond-false (port.0 == at.0) disk (m.disks port) f' in
-        subst (λ (d : Disk). IsLast start port k (plug_count port (Replace at id size disk ∷ h)) m.next (Replace at id size disk ∷ h) (d k)) (sym now)
+        subst (λ (d : DiskBytes). IsLast start port k (plug_count port (Replace at id size disk ∷ h)) m.next (Replace at id size disk ∷ h) (d k)) (sym now)
         (content_quiet start h m (Replace at id size disk) port k m.next seen (λ w t. t) number (le_refl _) last)
 
-content_touch : (start : Machine) (h : List Step) (m : Machine) (e : Pending) (i : ℕ) (block : Block) (port : Port) (k : ℕ) → Sound m → AllSeen m h → MayMove m e → i < e.request.asked.count
+content_touch : (start : Machine) (h : List Step) (m : Machine) (e : Pending) (i : ℕ) (block : Block) (port : Port) (k : ℕ) → Sound m → AllSeen m h → MayStillMove m e → i < e.request.asked.count
     → IsLast start port k (plug_count port h) m.next h (m.disks port k)
     → IsLast start port k (plug_count port h) m.next (Touch e i block ∷ h) (disks_after e.request i m.disks port k)
 content_touch start h m e i block port k s seen r lt last = by_op (is_writer e.request.asked.op) refl
@@ -84,7 +84,7 @@ content_touch start h m e i block port k s seen r lt last = by_op (is_writer e.r
         (λ (t : HasTouched w k (plug_count port h) h). ⊎_elim
         (λ (less : e.request.id.0 < w.id.0).
         let q = seen w k (plug_count port h) t in
-        let con : conflict (waiting e.request) (waiting w) ≡ true = conflict_at e.request w k (here ∙ sym o.here) (or_left _ _ writes) (omega (arith, at)) (omega (arith, at, lt)) q.from q.to in
+        let con : must_keep_order (waiting e.request) (waiting w) ≡ true = conflict_at e.request w k (here ∙ sym o.here) (or_left _ _ writes) (omega (arith, at)) (omega (arith, at, lt)) q.from q.to in
         absurd (q.order e (runs_lives m e r) less con))
         (λ (le : w.id.0 ≤ e.request.id.0). le)
         (cases_lt e.request.id.0 w.id.0))
@@ -114,11 +114,11 @@ content_touch start h m e i block port k s seen r lt last = by_op (is_writer e.r
     by_op : (b : Bool) → is_writer e.request.asked.op ≡ b
         → IsLast start port k (plug_count port h) m.next (Touch e i block ∷ h) (disks_after e.request i m.disks port k)
     by_op true w =
-        subst (λ (d : Port → Disk). IsLast start port k (plug_count port h) m.next (Touch e i block ∷ h) (d port k))
+        subst (λ (d : Port → DiskBytes). IsLast start port k (plug_count port h) m.next (Touch e i block ∷ h) (d port k))
         (sym (cond-true (is_writer e.request.asked.op) (put_sector e.request.port (e.request.asked.first.0 + i) (written_by e.request.asked.op e.request.held i) m.disks) m.disks w))
         (by_place w _ refl)
     by_op false w =
-        quiet _ (ap (λ (d : Port → Disk). d port k) (cond-false (is_writer e.request.asked.op) (put_sector e.request.port (e.request.asked.first.0 + i) (written_by e.request.asked.op e.request.held i) m.disks) m.disks w))
+        quiet _ (ap (λ (d : Port → DiskBytes). d port k) (cond-false (is_writer e.request.asked.op) (put_sector e.request.port (e.request.asked.first.0 + i) (written_by e.request.asked.op e.request.held i) m.disks) m.disks w))
         (λ x writes here touch. both_ways _ w (subst (λ (j : Accepted). is_writer j.asked.op ≡ true) (sym touch.0) writes))
 
 -- the disks hold what was last put there, after each step

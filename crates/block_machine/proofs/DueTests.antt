@@ -6,7 +6,7 @@ use Rattle.std.specs.Prelude.{nat_lt}
 use Rattle.std.specs.List.{Contains}
 use Rattle.ata_types.specs.declared.range.Range.{Range}
 use Rattle.ata_types.specs.Range.{range_end, Overlaps}
-use Rattle.block_machine.specs.declared.due.Mode.{Mode}
+use Rattle.block_machine.specs.declared.due.QueueMode.{QueueMode}
 use Rattle.block_machine.specs.declared.due.Unanswered.{Unanswered}
 use Rattle.block_machine.specs.Due.{overlap, is_plain, ahead, free_slots, IsDue, is_due}
 
@@ -39,7 +39,7 @@ overlap_is_overlaps a b = (to, from)
         (and_from _ _ (lt-ltb 0 a.count (omega (arith, la, ha, lb, hb))) (lt-ltb 0 b.count (omega (arith, la, ha, lb, hb))))
 
 -- the test says which requests of the book are due
-pub due_test : (mode : Mode) (book : List Unanswered) (r : Unanswered) → Contains book r → IsTrue (is_due mode book r) ↔ IsDue mode book r
+pub due_test : (mode : QueueMode) (book : List Unanswered) (r : Unanswered) → Contains book r → IsTrue (is_due mode book r) ↔ IsDue mode book r
 due_test mode book r here = (to, from)
   where
     to : is_due mode book r ≡ true → IsDue mode book r

@@ -4,9 +4,9 @@ use Rattle.std.proofs.lemmas.Bool.{cases_lt, or_left, and_parts, and_from, and_l
 use Rattle.std.specs.List.{Contains, list_any, count_by}
 use Rattle.ata_types.specs.declared.Port.{Port}
 use Rattle.ata_types.specs.declared.request.RequestId.{RequestId}
-use Rattle.block_machine.specs.declared.due.Mode.{Mode}
+use Rattle.block_machine.specs.declared.due.QueueMode.{QueueMode}
 use Rattle.block_machine.specs.declared.due.Unanswered.{Unanswered}
-use Rattle.block_machine.specs.Due.{IsDue, IsInOrder, conflict, holds_back, is_plain, is_earlier, is_clear, ahead, issued_count, free_slots, mark_issued, with_issued}
+use Rattle.block_machine.specs.Due.{IsDue, IsInOrder, must_keep_order, waits_for, is_plain, is_earlier_on_port, is_clear, ahead, issued_count, free_slots, mark_issued, with_issued}
 use Rattle.block_machine.proofs.Members.{into_map, some_in}
 use Rattle.block_machine.proofs.Order.{In, Ordered, in_from, from_in, ordered_from}
 use Rattle.block_machine.proofs.Counting.{count_cons, count_map, count_least, unheld}
@@ -67,28 +67,28 @@ count_more p q (y ∷ ys) x more (inr h) px qx =
     head_of false b f = omega arith
 
 -- an issued plain request, or any issued one where x is plain, holds x back
-holds_issued : (mode : Mode) (x o : Unanswered) → (o.port.0 == x.port.0) ≡ true → o.issued ≡ true
-    → (is_plain mode x.op ≡ true) ⊎ (is_plain mode o.op ≡ true) → holds_back mode x o ≡ true
+holds_issued : (mode : QueueMode) (x o : Unanswered) → (o.port.0 == x.port.0) ≡ true → o.issued ≡ true
+    → (is_plain mode x.op ≡ true) ⊎ (is_plain mode o.op ≡ true) → waits_for mode x o ≡ true
 holds_issued mode x o port now plain = and_from _ _ port (go (is_plain mode x.op) refl plain)
   where
     go : (b : Bool) → is_plain mode x.op ≡ b → (is_plain mode x.op ≡ true) ⊎ (is_plain mode o.op ≡ true)
-        → cond b (o.issued || ltb o.id.0 x.id.0) ((is_plain mode o.op && o.issued) || (ltb o.id.0 x.id.0 && (is_plain mode o.op || conflict o x))) ≡ true
+        → cond b (o.issued || ltb o.id.0 x.id.0) ((is_plain mode o.op && o.issued) || (ltb o.id.0 x.id.0 && (is_plain mode o.op || must_keep_order o x))) ≡ true
     go true p h = or_left _ _ now
     go false p (inl q) = absurd (both_ways _ p q)
     go false p (inr q) = or_left _ _ (and_from _ _ q now)
 
 -- between two queued requests, whether the other is issued doesn't matter
-holds_queued : (mode : Mode) (x o : Unanswered) → is_plain mode x.op ≡ false → is_plain mode o.op ≡ false → holds_back mode x (record o { issued = true }) ≡ holds_back mode x o
+holds_queued : (mode : QueueMode) (x o : Unanswered) → is_plain mode x.op ≡ false → is_plain mode o.op ≡ false → waits_for mode x (record o { issued = true }) ≡ waits_for mode x o
 holds_queued mode x o px po =
     ap (λ (b : Bool). (o.port.0 == x.port.0) && b)
     (cond-false (is_plain mode x.op) _ _ px
-    ∙ ap (λ (b : Bool). b || (ltb o.id.0 x.id.0 && (is_plain mode o.op || conflict o x))) (and_left _ true po ∙ sym (and_left _ o.issued po))
+    ∙ ap (λ (b : Bool). b || (ltb o.id.0 x.id.0 && (is_plain mode o.op || must_keep_order o x))) (and_left _ true po ∙ sym (and_left _ o.issued po))
     ∙ sym (cond-false (is_plain mode x.op) _ _ px))
 
-holds_elsewhere : (mode : Mode) (x o : Unanswered) → (o.port.0 == x.port.0) ≡ false → holds_back mode x (record o { issued = true }) ≡ holds_back mode x o
+holds_elsewhere : (mode : QueueMode) (x o : Unanswered) → (o.port.0 == x.port.0) ≡ false → waits_for mode x (record o { issued = true }) ≡ waits_for mode x o
 holds_elsewhere mode x o port = and_left _ _ port ∙ sym (and_left _ _ port)
 
-module _ (mode : Mode) (book : List Unanswered) (e : Unanswered) (order : Ordered book) (due : IsDue mode book e) where
+module _ (mode : QueueMode) (book : List Unanswered) (e : Unanswered) (order : Ordered book) (due : IsDue mode book e) where
   here : In e book
   here = in_from book e due.here
 
@@ -113,34 +113,34 @@ module _ (mode : Mode) (book : List Unanswered) (e : Unanswered) (order : Ordere
       (cases_lt y.id.0 e.id.0)
 
   -- whether another request is held back doesn't change
-  held_same : (y : Unanswered) → In y book → (y.id.0 ≡ e.id.0 → ⊥) → list_any (holds_back mode y) (with_issued e.id book) ≡ list_any (holds_back mode y) book
+  held_same : (y : Unanswered) → In y book → (y.id.0 ≡ e.id.0 → ⊥) → list_any (waits_for mode y) (with_issued e.id book) ≡ list_any (waits_for mode y) book
   held_same y h ne = by_port (e.port.0 == y.port.0) refl
     where
-      alike : holds_back mode y (record e { issued = true }) ≡ holds_back mode y e → list_any (holds_back mode y) (with_issued e.id book) ≡ list_any (holds_back mode y) book
-      alike same = any_map (holds_back mode y) (holds_back mode y) (mark_issued e.id) book (λ z k. ⊎_elim
+      alike : waits_for mode y (record e { issued = true }) ≡ waits_for mode y e → list_any (waits_for mode y) (with_issued e.id book) ≡ list_any (waits_for mode y) book
+      alike same = any_map (waits_for mode y) (waits_for mode y) (mark_issued e.id) book (λ z k. ⊎_elim
           (λ p. let is : z ≡ e = is_e z k p.0 in
-          ap (holds_back mode y) (p.1 ∙ ap (λ (o : Unanswered). record o { issued = true }) is) ∙ same ∙ ap (holds_back mode y) (sym is))
-          (λ p. ap (holds_back mode y) p.1)
+          ap (waits_for mode y) (p.1 ∙ ap (λ (o : Unanswered). record o { issued = true }) is) ∙ same ∙ ap (waits_for mode y) (sym is))
+          (λ p. ap (waits_for mode y) p.1)
           (mark_cases e.id z))
 
       both : (e.port.0 == y.port.0) ≡ true → (is_plain mode y.op ≡ true) ⊎ (is_plain mode e.op ≡ true)
-          → list_any (holds_back mode y) (with_issued e.id book) ≡ list_any (holds_back mode y) book
+          → list_any (waits_for mode y) (with_issued e.id book) ≡ list_any (waits_for mode y) book
       both port plain =
           let port' : (y.port.0 == e.port.0) ≡ true = eq-eqb y.port.0 e.port.0 (sym (eqb-true e.port.0 y.port.0 port)) in
           let later = comes_later y h ne port' (⊎_elim (λ p. inr p) (λ p. inl p) plain) in
-          let new : list_any (holds_back mode y) (with_issued e.id book) ≡ true =
-          some_in (holds_back mode y) (with_issued e.id book) (record e { issued = true })
+          let new : list_any (waits_for mode y) (with_issued e.id book) ≡ true =
+          some_in (waits_for mode y) (with_issued e.id book) (record e { issued = true })
           (subst (λ (z : Unanswered). Contains (with_issued e.id book) z) becomes (into_map (mark_issued e.id) book e due.here))
           (holds_issued mode y (record e { issued = true }) port refl plain) in
-          new ∙ sym (some_in (holds_back mode y) book e due.here (holds_if mode y e port (lt-ltb e.id.0 y.id.0 later) plain))
+          new ∙ sym (some_in (waits_for mode y) book e due.here (holds_if mode y e port (lt-ltb e.id.0 y.id.0 later) plain))
 
       by_plain : (e.port.0 == y.port.0) ≡ true → (a b : Bool) → is_plain mode y.op ≡ a → is_plain mode e.op ≡ b
-          → list_any (holds_back mode y) (with_issued e.id book) ≡ list_any (holds_back mode y) book
+          → list_any (waits_for mode y) (with_issued e.id book) ≡ list_any (waits_for mode y) book
       by_plain port true b p q = both port (inl p)
       by_plain port false true p q = both port (inr q)
       by_plain port false false p q = alike (holds_queued mode y e p q)
 
-      by_port : (b : Bool) → (e.port.0 == y.port.0) ≡ b → list_any (holds_back mode y) (with_issued e.id book) ≡ list_any (holds_back mode y) book
+      by_port : (b : Bool) → (e.port.0 == y.port.0) ≡ b → list_any (waits_for mode y) (with_issued e.id book) ≡ list_any (waits_for mode y) book
       by_port true port = by_plain port _ _ refl refl
       by_port false port = alike (holds_elsewhere mode y e port)
 
@@ -148,16 +148,16 @@ module _ (mode : Mode) (book : List Unanswered) (e : Unanswered) (order : Ordere
   clear_same y h ne = ap (λ (b : Bool). not y.issued && not b) (held_same y h ne)
 
   -- the count of those ahead of x falls by one if e was ahead of it
-  ahead_less : (x : Unanswered) → ahead mode (with_issued e.id book) x + cond (is_earlier e x) 1 0 ≡ ahead mode book x
+  ahead_less : (x : Unanswered) → ahead mode (with_issued e.id book) x + cond (is_earlier_on_port e x) 1 0 ≡ ahead mode book x
   ahead_less x =
-      let new : Unanswered → Bool = λ y. is_earlier y x && is_clear mode (with_issued e.id book) y in
-      let old : Unanswered → Bool = λ y. is_earlier y x && is_clear mode book y in
+      let new : Unanswered → Bool = λ y. is_earlier_on_port y x && is_clear mode (with_issued e.id book) y in
+      let old : Unanswered → Bool = λ y. is_earlier_on_port y x && is_clear mode book y in
       let changed : ahead mode (with_issued e.id book) x + cond (old e) 1 0 ≡ ahead mode book x + cond (new (mark_issued e.id e)) 1 0
       = count_changed new old (mark_issued e.id) book e order here
-      (λ y h ne. ap new (stays y ne) ∙ ap (λ (b : Bool). is_earlier y x && b) (clear_same y h ne)) in
+      (λ y h ne. ap new (stays y ne) ∙ ap (λ (b : Bool). is_earlier_on_port y x && b) (clear_same y h ne)) in
       let gone : ◌≡◌ {A = ℕ} (cond (new (mark_issued e.id e)) 1 0) 0 = ap (λ (b : Bool). cond {A = ℕ} b 1 0) (ap new becomes ∙ and_right _ _ refl) in
-      let was : ◌≡◌ {A = ℕ} (cond (old e) 1 0) (cond (is_earlier e x) 1 0) =
-      ap (λ (b : Bool). cond {A = ℕ} b 1 0) (ap (λ (b : Bool). is_earlier e x && b) due.clear ∙ and_true _) in
+      let was : ◌≡◌ {A = ℕ} (cond (old e) 1 0) (cond (is_earlier_on_port e x) 1 0) =
+      ap (λ (b : Bool). cond {A = ℕ} b 1 0) (ap (λ (b : Bool). is_earlier_on_port e x && b) due.clear ∙ and_true _) in
       omega (arith, changed, gone, was)
     where
       and_true : (b : Bool) → (b && true) ≡ b
@@ -178,20 +178,20 @@ module _ (mode : Mode) (book : List Unanswered) (e : Unanswered) (order : Ordere
   slots_less x port = ap (λ (n : ℕ). mode.usable - n)
       (ap (issued_count (with_issued e.id book)) port ∙ one_more ∙ ap (λ (p : Port). issued_count book p + 1) (sym port))
 
-  earlier_one : (x : Unanswered) → x.port ≡ e.port → e.id.0 < x.id.0 → ◌≡◌ {A = ℕ} (cond (is_earlier e x) 1 0) 1
+  earlier_one : (x : Unanswered) → x.port ≡ e.port → e.id.0 < x.id.0 → ◌≡◌ {A = ℕ} (cond (is_earlier_on_port e x) 1 0) 1
   earlier_one x port less = ap (λ (b : Bool). cond {A = ℕ} b 1 0) (and_from _ _ (eq-eqb e.port.0 x.port.0 (ap (λ (p : Port). p.0) (sym port))) (lt-ltb e.id.0 x.id.0 less))
 
-  later_none : (x : Unanswered) → x.id.0 ≤ e.id.0 → ◌≡◌ {A = ℕ} (cond (is_earlier e x) 1 0) 0
+  later_none : (x : Unanswered) → x.id.0 ≤ e.id.0 → ◌≡◌ {A = ℕ} (cond (is_earlier_on_port e x) 1 0) 0
   later_none x le = ap (λ (b : Bool). cond {A = ℕ} b 1 0) (and_right _ _ (false_from_ne_true _ (λ t. let lt = ltb-true e.id.0 x.id.0 t in let f : ⊥ = omega (arith, lt, le) in f)))
 
   -- an earlier one of the port that is clear has fewer ahead of it
   fewer_ahead : (x : Unanswered) → In x book → is_clear mode book x ≡ true → x.port ≡ e.port → x.id.0 < e.id.0 → ahead mode book x < ahead mode book e
   fewer_ahead x h clear port less = count_more
-      (λ y. is_earlier y x && is_clear mode book y)
-      (λ y. is_earlier y e && is_clear mode book y)
+      (λ y. is_earlier_on_port y x && is_clear mode book y)
+      (λ y. is_earlier_on_port y e && is_clear mode book y)
       book x
       (λ y k t.
-      let p = and_parts (is_earlier y x) (is_clear mode book y) t in
+      let p = and_parts (is_earlier_on_port y x) (is_clear mode book y) t in
       let q = and_parts (y.port.0 == x.port.0) (ltb y.id.0 x.id.0) p.0 in
       let lower = ltb-true y.id.0 x.id.0 q.1 in
       let port' : x.port.0 ≡ e.port.0 = ap (λ (r : Port). r.0) port in
@@ -239,9 +239,9 @@ module _ (mode : Mode) (book : List Unanswered) (e : Unanswered) (order : Ordere
         (cases_lt e.id.0 x.id.0);
   }
 
-pub issues_one_by_one : (mode : Mode) (book : List Unanswered) (e other : Unanswered) → IsInOrder book → IsDue mode book e → Contains book other
+pub law_issues_one_by_one : (mode : QueueMode) (book : List Unanswered) (e other : Unanswered) → IsInOrder book → IsDue mode book e → Contains book other
     → other.id ≢ e.id → other.port ≡ e.port → IsDue mode book other ↔ IsDue mode (with_issued e.id book) other
-issues_one_by_one mode book e other order due here differ port = (
+law_issues_one_by_one mode book e other order due here differ port = (
   still_due mode book e (ordered_from book order) due other ne port,
   was_due mode book e (ordered_from book order) due other here ne port,
 )

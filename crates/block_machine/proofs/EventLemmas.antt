@@ -10,12 +10,12 @@ use Rattle.block_machine.specs.State.{Block, Memory, Pending, Machine, frame_at,
 use Rattle.block_machine.specs.Steps.{Step, Accept, Touch, Again, Answer, Release, Store, May, after_step, stays, unlend, is_lent_to, put_bytes, memory_after, AllTouched}
 use Rattle.block_machine.specs.Left.{after, IsLegal, IsStart, AllTold}
 use Rattle.block_machine.specs.Ports.{Ports, Evidence}
-use Rattle.block_machine.specs.Events.{Moment, Ask, Submit, StoreAt, LoadAt, Service, Tick, Reset, RevokeOf, State, Device, Event, AllMay, IsDevices, IsServers, Belong, AllLawful, moment_of, IsRun, steps_of, AnswerHolds, AnswersHold, EveryReadHolds}
+use Rattle.block_machine.specs.Events.{AbstractState, Ask, Submit, StoreAt, LoadAt, Service, Tick, Reset, RevokeOf, State, Device, CallRecord, AllMay, IsByDevice, IsByServer, Belong, AllLawful, moment_of, IsRun, steps_of, AnswerHolds, AnswersHold, EveryReadHolds}
 use Rattle.block_machine.proofs.Order.{In}
 use Rattle.block_machine.proofs.Sound.{Sound}
 use Rattle.block_machine.proofs.Trace.{runs_lives}
 use Rattle.block_machine.proofs.Reading.{put_other}
-use Rattle.block_machine.proofs.Runs.{traced, read_holds_left}
+use Rattle.block_machine.proofs.Runs.{traced, law_read_holds_left}
 
 -- Steps one after the other.
 
@@ -29,15 +29,15 @@ legal_more start (step ∷ late) early l a =
     (legal_more start late early l a.0, subst (λ (m : Machine). May m step) (sym (after-append start late early)) a.1)
 
 -- the machine of a run is the one that its steps leave
-pub moment_is : {D : Type 0} (first : Moment) (run : List (Event D)) → (moment_of first run).machine ≡ after first.machine (steps_of run)
+pub moment_is : {D : Type 0} (first : AbstractState) (run : List (CallRecord D)) → (moment_of first run).machine ≡ after first.machine (steps_of run)
 moment_is first [] = refl
 moment_is first (event ∷ past) = ap (λ (m : Machine). after m event.steps) (moment_is first past) ∙ sym (after-append first.machine event.steps (steps_of past))
 
-pub run_starts : {D : Type 0} (first : Moment) (run : List (Event D)) → IsRun first run → IsStart first.machine
+pub run_starts : {D : Type 0} (first : AbstractState) (run : List (CallRecord D)) → IsRun first run → IsStart first.machine
 run_starts first [] r = r.0
 run_starts first (event ∷ past) r = run_starts first past r.0
 
-pub run_legal : {D : Type 0} (first : Moment) (run : List (Event D)) → IsRun first run → IsLegal first.machine (steps_of run)
+pub run_legal : {D : Type 0} (first : AbstractState) (run : List (CallRecord D)) → IsRun first run → IsLegal first.machine (steps_of run)
 run_legal first [] r = tt
 run_legal first (event ∷ past) r = legal_more first.machine event.steps (steps_of past) (run_legal first past r.0)
     (subst (λ (m : Machine). AllMay m event.steps) (moment_is first past) r.1.may)
@@ -53,7 +53,7 @@ abbrev pub AllWhole : List Step → Type 0
 AllWhole [] = Unit {0}
 AllWhole (step ∷ past) = AllWhole past × IsWhole step
 
-answer_whole : (old : Moment) (evidence : Evidence) (ports : Ports) (step : Step) (before : List Step) → AllLawful old evidence ports (step ∷ before) → AllLawful old evidence ports before × IsWhole step
+answer_whole : (old : AbstractState) (evidence : Evidence) (ports : Ports) (step : Step) (before : List Step) → AllLawful old evidence ports (step ∷ before) → AllLawful old evidence ports before × IsWhole step
 answer_whole old evidence ports (Answer e Ok) before l = (l.0, (l.1.2, l.1.3))
 answer_whole old evidence ports (Answer e (DeviceError status error)) before l = (l.0, tt)
 answer_whole old evidence ports (Answer e Aborted) before l = (l.0, tt)
@@ -63,12 +63,12 @@ answer_whole old evidence ports (Answer e Revoked) before l = (l.0, tt)
 answer_whole old evidence ports (Again e) before l = (l.0, tt)
 answer_whole old evidence ports _ before l = (l, tt)
 
-call_whole : (old : Moment) (evidence : Evidence) (ports : Ports) (steps past : List Step) → AllLawful old evidence ports steps → AllWhole past → AllWhole (steps ++ past)
+call_whole : (old : AbstractState) (evidence : Evidence) (ports : Ports) (steps past : List Step) → AllLawful old evidence ports steps → AllWhole past → AllWhole (steps ++ past)
 call_whole old evidence ports [] past l w = w
 call_whole old evidence ports (step ∷ before) past l w =
     let q = answer_whole old evidence ports step before l in (call_whole old evidence ports before past q.0 w, q.1)
 
-pub run_whole : {D : Type 0} (first : Moment) (run : List (Event D)) → IsRun first run → AllWhole (steps_of run)
+pub run_whole : {D : Type 0} (first : AbstractState) (run : List (CallRecord D)) → IsRun first run → AllWhole (steps_of run)
 run_whole first [] r = tt
 run_whole first (event ∷ past) r = call_whole (moment_of first past) event.evidence event.ports event.steps (steps_of past) r.1.lawful (run_whole first past r.0)
 
@@ -78,7 +78,7 @@ up_to start [] step early l w = (l.0, l.1, w.1)
 up_to start (x ∷ late) step early l w = up_to start late step early l.0 w.0
 
 -- a step of a run
-pub step_of_run : {D : Type 0} (first : Moment) (run : List (Event D)) (late : List Step) (step : Step) (early : List Step) → IsRun first run → steps_of run ≡ late ++ step ∷ early
+pub step_of_run : {D : Type 0} (first : AbstractState) (run : List (CallRecord D)) (late : List Step) (step : Step) (early : List Step) → IsRun first run → steps_of run ≡ late ++ step ∷ early
     → IsLegal first.machine early × May (after first.machine early) step × IsWhole step
 step_of_run first run late step early r split = up_to first.machine late step early (subst (IsLegal first.machine) split (run_legal first run r)) (subst AllWhole split (run_whole first run r))
 
@@ -93,37 +93,37 @@ abbrev IsSilent : Step → Type 0
 IsSilent (Answer e outcome) = ⊥
 IsSilent _ = Unit {0}
 
-devices_quiet : (step : Step) → IsDevices step → IsQuiet step × IsSilent step
+devices_quiet : (step : Step) → IsByDevice step → IsQuiet step × IsSilent step
 devices_quiet (Accept r) d = absurd d
 devices_quiet (Store client frame offset bytes) d = absurd d
 devices_quiet (Answer e outcome) d = absurd d
 devices_quiet _ d = (tt, tt)
 
-quiet_service : (D : Type 0) (ports : Ports) (step : Step) → IsServers {D = D} Service ports step → IsQuiet step
+quiet_service : (D : Type 0) (ports : Ports) (step : Step) → IsByServer {D = D} Service ports step → IsQuiet step
 quiet_service D ports (Accept r) h = absurd h
 quiet_service D ports (Store client frame offset bytes) h = absurd h
 quiet_service D ports _ h = tt
 
-quiet_tick : (D : Type 0) (ports : Ports) (step : Step) → IsServers {D = D} Tick ports step → IsQuiet step
+quiet_tick : (D : Type 0) (ports : Ports) (step : Step) → IsByServer {D = D} Tick ports step → IsQuiet step
 quiet_tick D ports (Accept r) h = absurd h
 quiet_tick D ports (Store client frame offset bytes) h = absurd h
 quiet_tick D ports _ h = tt
 
-quiet_reset : (D : Type 0) (ports : Ports) (step : Step) → IsServers {D = D} Reset ports step → IsQuiet step
+quiet_reset : (D : Type 0) (ports : Ports) (step : Step) → IsByServer {D = D} Reset ports step → IsQuiet step
 quiet_reset D ports (Accept r) h = absurd h
 quiet_reset D ports (Store client frame offset bytes) h = absurd h
 quiet_reset D ports _ h = tt
 
-quiet_revoke : (D : Type 0) (client : ClientId) (number : ℕ) (ports : Ports) (step : Step) → IsServers {D = D} (RevokeOf client number) ports step → IsQuiet step
+quiet_revoke : (D : Type 0) (client : ClientId) (number : ℕ) (ports : Ports) (step : Step) → IsByServer {D = D} (RevokeOf client number) ports step → IsQuiet step
 quiet_revoke D client number ports (Accept r) h = absurd h
 quiet_revoke D client number ports (Store c frame offset bytes) h = absurd h
 quiet_revoke D client number ports _ h = tt
 
 abbrev Quiet : {D : Type 0} → Ask D → Ports → Type 0
-Quiet ask ports = (step : Step) → IsServers ask ports step → IsQuiet step
+Quiet ask ports = (step : Step) → IsByServer ask ports step → IsQuiet step
 
 abbrev Silent : {D : Type 0} → Ask D → Ports → Type 0
-Silent ask ports = (step : Step) → IsServers ask ports step → IsSilent step
+Silent ask ports = (step : Step) → IsByServer ask ports step → IsSilent step
 
 quiet_or_silent : {D : Type 0} (ask : Ask D) (ports : Ports) → Quiet ask ports ⊎ Silent ask ports
 quiet_or_silent {D} Service ports = inl (quiet_service D ports)
@@ -132,27 +132,27 @@ quiet_or_silent {D} Reset ports = inl (quiet_reset D ports)
 quiet_or_silent {D} (RevokeOf client number) ports = inl (quiet_revoke D client number ports)
 quiet_or_silent {D} (Submit r) ports = inr go
   where
-    go : (step : Step) → IsServers {D = D} (Submit r) ports step → IsSilent step
+    go : (step : Step) → IsByServer {D = D} (Submit r) ports step → IsSilent step
     go (Answer e outcome) h = absurd h
     go _ h = tt
 quiet_or_silent {D} (StoreAt c f o b) ports = inr go
   where
-    go : (step : Step) → IsServers {D = D} (StoreAt c f o b) ports step → IsSilent step
+    go : (step : Step) → IsByServer {D = D} (StoreAt c f o b) ports step → IsSilent step
     go (Answer e outcome) h = absurd h
     go _ h = tt
 quiet_or_silent {D} (LoadAt c f o n) ports = inr go
   where
-    go : (step : Step) → IsServers {D = D} (LoadAt c f o n) ports step → IsSilent step
+    go : (step : Step) → IsByServer {D = D} (LoadAt c f o n) ports step → IsSilent step
     go (Answer e outcome) h = absurd h
     go _ h = tt
 quiet_or_silent {D} (State port) ports = inr go
   where
-    go : (step : Step) → IsServers {D = D} (State port) ports step → IsSilent step
+    go : (step : Step) → IsByServer {D = D} (State port) ports step → IsSilent step
     go (Answer e outcome) h = absurd h
     go _ h = tt
 quiet_or_silent {D} (Device d) ports = inr go
   where
-    go : (step : Step) → IsServers {D = D} (Device d) ports step → IsSilent step
+    go : (step : Step) → IsByServer {D = D} (Device d) ports step → IsSilent step
     go (Answer e outcome) h = absurd h
     go _ h = tt
 
@@ -199,7 +199,7 @@ answer_holds : (start : Machine) (memory : Memory) (past : List Step) (step : St
 answer_holds start memory past (Answer e Ok) s l told w stays = λ op.
     let m = after start past in
     let sound = (traced start past s l.0).sound in
-    let holds = read_holds_left start past e s l.0 told l.1.0 w.0 op in
+    let holds = law_read_holds_left start past e s l.0 told l.1.0 w.0 op in
     let room = sound.room e (inl l.1.0) (ap is_reader op) in
     let gone : (i : ℕ) → i < length e.request.asked.frames.items → unlend e.request.id m.lent (frame_at e.request.asked.frames.items i) ≡ None = λ i lt.
     cond-true (is_lent_to e.request.id (m.lent (frame_at e.request.asked.frames.items i))) None (m.lent (frame_at e.request.asked.frames.items i))
@@ -234,16 +234,16 @@ silents_hold : (start : Machine) (memory : Memory) (steps past : List Step) → 
 silents_hold start memory [] past h = tt
 silents_hold start memory (step ∷ before) past h = (silents_hold start memory before past (λ x i. h x (inr i)), silent_holds start memory (before ++ past) step (h step (inl refl)))
 
-belongs : {D : Type 0} (ask : Ask D) (ports : Ports) (steps : List Step) → Belong ask ports steps → (step : Step) → In step steps → IsDevices step ⊎ IsServers ask ports step
+belongs : {D : Type 0} (ask : Ask D) (ports : Ports) (steps : List Step) → Belong ask ports steps → (step : Step) → In step steps → IsByDevice step ⊎ IsByServer ask ports step
 belongs ask ports [] b step i = absurd i
-belongs ask ports (x ∷ xs) b step (inl e) = subst (λ (y : Step). IsDevices y ⊎ IsServers ask ports y) (sym e) b.1
+belongs ask ports (x ∷ xs) b step (inl e) = subst (λ (y : Step). IsByDevice y ⊎ IsByServer ask ports y) (sym e) b.1
 belongs ask ports (x ∷ xs) b step (inr i) = belongs ask ports xs b.0 step i
 
 -- each read of a run that was answered Ok has, at the end of its call, what is left
-pub every_read_holds : {D : Type 0} (first : Moment) (run : List (Event D)) → IsRun first run → AllTold first.machine (steps_of run) → EveryReadHolds first run
-every_read_holds first [] r told = tt
-every_read_holds first (event ∷ past) r told = (
-  every_read_holds first past r.0 (told_before event.steps (steps_of past) told),
+pub law_every_read_holds : {D : Type 0} (first : AbstractState) (run : List (CallRecord D)) → IsRun first run → AllTold first.machine (steps_of run) → EveryReadHolds first run
+law_every_read_holds first [] r told = tt
+law_every_read_holds first (event ∷ past) r told = (
+  law_every_read_holds first past r.0 (told_before event.steps (steps_of past) told),
   ⊎_elim
       (λ (q : Quiet event.ask event.ports). answers_hold first.machine (moment_of first (event ∷ past)).machine.memory event.steps (steps_of past)
       (run_starts first past r.0) (run_legal first (event ∷ past) r) told (run_whole first (event ∷ past) r)

@@ -3,37 +3,37 @@ use Rattle.std.proofs.Common.{◌≡◌, List, [], ◌∷◌, ◌++◌, refl, sy
 use Rattle.block_machine.specs.State.{Machine}
 use Rattle.block_machine.specs.Steps.{Step, May}
 use Rattle.block_machine.specs.Left.{after, AllTold}
-use Rattle.block_machine.specs.Events.{Moment, AllMay, Happens, moment_after, moment_of, IsRun, steps_of, EveryReadHolds}
-use Rattle.block_machine.specs.Histories.{Instant, Happening, now, events_of, IsHistory, IsReached, AddsSteps}
-use Rattle.block_machine.proofs.EventLemmas.{after-append, legal_more, run_starts, run_legal, moment_is, every_read_holds}
+use Rattle.block_machine.specs.Events.{AbstractState, AllMay, Happens, moment_after, moment_of, IsRun, steps_of, EveryReadHolds}
+use Rattle.block_machine.specs.Histories.{JointState, Happening, now, events_of, IsHistory, IsReachable, IsSimulatedBySteps}
+use Rattle.block_machine.proofs.EventLemmas.{after-append, legal_more, run_starts, run_legal, moment_is, law_every_read_holds}
 
-pub now_is : {D E : Type 0} (first : Instant D) (past : List (Happening D E)) → (now first past).moment ≡ moment_of first.moment (events_of past)
+pub now_is : {D E : Type 0} (first : JointState D) (past : List (Happening D E)) → (now first past).moment ≡ moment_of first.moment (events_of past)
 now_is first [] = refl
-now_is first (h ∷ past) = ap (λ (m : Moment). moment_after m h.event) (now_is first past)
+now_is first (h ∷ past) = ap (λ (m : AbstractState). moment_after m h.event) (now_is first past)
 
 -- the events of a history are a run
-pub history_is_run : {D E : Type 0} (Begins : Instant D → Type 0) (Agrees : Instant D → Happening D E → Type 0) (first : Instant D) (past : List (Happening D E))
-    → IsHistory Begins Agrees first past → IsRun first.moment (events_of past)
-history_is_run Begins Agrees first [] h = h.0
-history_is_run Begins Agrees first (x ∷ past) h =
-    (history_is_run Begins Agrees first past h.0, subst (λ (m : Moment). Happens m x.event) (now_is first past) h.1)
+pub history_is_run : {D E : Type 0} (Begins : JointState D → Type 0) (Relation : JointState D → Happening D E → Type 0) (first : JointState D) (past : List (Happening D E))
+    → IsHistory Begins Relation first past → IsRun first.moment (events_of past)
+history_is_run Begins Relation first [] h = h.0
+history_is_run Begins Relation first (x ∷ past) h =
+    (history_is_run Begins Relation first past h.0, subst (λ (m : AbstractState). Happens m x.event) (now_is first past) h.1)
 
 -- so its reads hold what is left, and its flushed writes last
-pub history_reads : {D E : Type 0} (Begins : Instant D → Type 0) (Agrees : Instant D → Happening D E → Type 0) (first : Instant D) (past : List (Happening D E))
-    → IsHistory Begins Agrees first past → AllTold first.moment.machine (steps_of (events_of past)) → EveryReadHolds first.moment (events_of past)
-history_reads Begins Agrees first past h told = every_read_holds first.moment (events_of past) (history_is_run Begins Agrees first past h) told
+pub history_reads : {D E : Type 0} (Begins : JointState D → Type 0) (Relation : JointState D → Happening D E → Type 0) (first : JointState D) (past : List (Happening D E))
+    → IsHistory Begins Relation first past → AllTold first.moment.machine (steps_of (events_of past)) → EveryReadHolds first.moment (events_of past)
+history_reads Begins Relation first past h told = law_every_read_holds first.moment (events_of past) (history_is_run Begins Relation first past h) told
 
 -- the machine of a history is reached
-pub history_reaches : {D E : Type 0} (Begins : Instant D → Type 0) (Agrees : Instant D → Happening D E → Type 0) (first : Instant D) (past : List (Happening D E))
-    → IsHistory Begins Agrees first past → IsReached (now first past).moment.machine
-history_reaches Begins Agrees first past h =
-    let run = history_is_run Begins Agrees first past h in
+pub history_reaches : {D E : Type 0} (Begins : JointState D → Type 0) (Relation : JointState D → Happening D E → Type 0) (first : JointState D) (past : List (Happening D E))
+    → IsHistory Begins Relation first past → IsReachable (now first past).moment.machine
+history_reaches Begins Relation first past h =
+    let run = history_is_run Begins Relation first past h in
     record {
       first = first.moment.machine;
       past = steps_of (events_of past);
       starts = run_starts first.moment (events_of past) run;
       legal = run_legal first.moment (events_of past) run;
-      is = ap (λ (m : Moment). m.machine) (now_is first past) ∙ moment_is first.moment (events_of past);
+      is = ap (λ (m : AbstractState). m.machine) (now_is first past) ∙ moment_is first.moment (events_of past);
     }
 
 -- Parts of a call.
@@ -42,7 +42,7 @@ pub may-append : (m : Machine) (late early : List Step) → AllMay m early → A
 may-append m [] early a b = a
 may-append m (step ∷ late) early a b = (may-append m late early a b.0, subst (λ (x : Machine). May x step) (sym (after-append m late early)) b.1)
 
-pub reached_more : (m : Machine) (steps : List Step) → IsReached m → AllMay m steps → IsReached (after m steps)
+pub reached_more : (m : Machine) (steps : List Step) → IsReachable m → AllMay m steps → IsReachable (after m steps)
 reached_more m steps r a = record {
   first = r.first;
   past = steps ++ r.past;
@@ -53,7 +53,7 @@ reached_more m steps r a = record {
 
 -- one part of a call, and then another
 pub steps_then : {S : Type 0} {Fits : Machine → S → Type 0} {a b c : S} {P Q : Machine → List Step → Type 0} (R : Machine → List Step → Type 0)
-    → AddsSteps Fits a b P → AddsSteps Fits b c Q → ((m : Machine) (early late : List Step) → P m early → Q (after m early) late → R m (late ++ early)) → AddsSteps Fits a c R
+    → IsSimulatedBySteps Fits a b P → IsSimulatedBySteps Fits b c Q → ((m : Machine) (early late : List Step) → P m early → Q (after m early) late → R m (late ++ early)) → IsSimulatedBySteps Fits a c R
 steps_then {S} {Fits} {a} {b} {c} R ab bc join = record {
   adds = λ m r fits.
       let x = ab.adds m r fits in

@@ -12,8 +12,8 @@ use Rattle.block_machine.specs.Confined.{WasAccepted, HasFrame}
 use Rattle.block_machine.specs.State.{Accepted, Pending, Machine, frame_at}
 use Rattle.block_machine.specs.Steps.{Step, Accept, Answer, Release, May, IsLiving, after_step, stays, unlend, is_lent_to}
 use Rattle.block_machine.specs.Left.{after, IsStart, IsLegal}
-use Rattle.block_machine.specs.Histories.{IsReached}
-use Rattle.block_machine.proofs.Accepts.{living_accepted, one_id_is_one_request}
+use Rattle.block_machine.specs.Histories.{IsReachable}
+use Rattle.block_machine.proofs.Accepts.{living_accepted, law_one_id_is_one_request}
 use Rattle.block_machine.proofs.Configured.{owners_stay}
 use Rattle.block_machine.proofs.Keeps.{get_frame, place_of}
 use Rattle.block_machine.proofs.Limits.{owned}
@@ -57,7 +57,7 @@ lent_at start (step ∷ past) f id s legal h = ⊎_elim
     ∙ owned _ o.0.asked.client (λ ne. o.1.1.unbroken (Frames (FrameForeign o.3.0)) (frame_at o.0.asked.frames.items o.3.0, get_frame o.0.asked.frames.items o.3.0 o.3.1, ne)))).2)
     (lent_before (after start past) step f id legal.1 h)
 
-pub lent_clients : (m : Machine) (f : Frame) (id : RequestId) → IsReached m → m.lent f ≡ Some id → DRIVER_FRAMES ≤ f.0
+pub lent_clients : (m : Machine) (f : Frame) (id : RequestId) → IsReachable m → m.lent f ≡ Some id → DRIVER_FRAMES ≤ f.0
 lent_clients m f id r h = lent_at r.first r.past f id r.starts r.legal (ap (λ (x : Machine). x.lent f) (sym r.is) ∙ h)
 
 -- what is lent, is lent to an accepted request that has it
@@ -70,8 +70,8 @@ lent_accepted start (step ∷ past) f id s legal h = ⊎_elim
     (lent_before (after start past) step f id legal.1 h)
 
 -- a frame that is lent to a request is one of its frames
-pub lent_own : (m : Machine) (f : Frame) (e : Pending) → IsReached m → IsLiving m e → m.lent f ≡ Some e.request.id → HasFrame e.request f
+pub lent_own : (m : Machine) (f : Frame) (e : Pending) → IsReachable m → IsLiving m e → m.lent f ≡ Some e.request.id → HasFrame e.request f
 lent_own m f e r l h =
     let x = lent_accepted r.first r.past f e.request.id r.starts r.legal (ap (λ (n : Machine). n.lent f) (sym r.is) ∙ h) in
     let mine = living_accepted r.first r.past r.starts r.legal e (subst (λ (n : Machine). IsLiving n e) r.is l) in
-    subst (λ (o : Accepted). HasFrame o f) (one_id_is_one_request r.first r.past x.0 e.request x.1 mine x.2) x.3
+    subst (λ (o : Accepted). HasFrame o f) (law_one_id_is_one_request r.first r.past x.0 e.request x.1 mine x.2) x.3

@@ -7,11 +7,11 @@ use Rattle.ata_types.specs.declared.request.ClientId.{ClientId}
 use Rattle.ata_types.specs.declared.request.RequestId.{RequestId}
 use Rattle.ata_types.specs.declared.refusal.FrameFault.TheVariants.{FrameForeign}
 use Rattle.ata_types.specs.declared.refusal.Rule.TheVariants.{Frames}
-use Rattle.block_machine.specs.declared.due.Mode.{Mode}
+use Rattle.block_machine.specs.declared.due.QueueMode.{QueueMode}
 use Rattle.block_machine.specs.declared.due.Unanswered.{Unanswered}
 use Rattle.block_machine.specs.Due.{IsDue, IsInOrder, is_plain, issued_count}
 use Rattle.block_machine.specs.State.{Accepted, Pending, Machine, frame_at, unanswered}
-use Rattle.block_machine.specs.Steps.{Step, Accept, Issue, Touch, End, Age, Again, Answer, Revoke, Release, Unplug, Replace, Store, Load, May, IsLiving, after_step, at, without, issue, touch, mark_ended, requeued, older, newly_accepted, stays, unanswered_of}
+use Rattle.block_machine.specs.Steps.{Step, Accept, Issue, Touch, End, Age, Again, Answer, Revoke, Release, Unplug, Replace, Store, Load, May, IsLiving, after_step, at, without, newly_issued, touch, mark_ended, requeued, older, newly_accepted, stays, unanswered_of}
 use Rattle.block_machine.specs.Left.{after, IsLegal, IsStart}
 use Rattle.block_machine.specs.Confined.{WasAccepted, WithinLimits}
 use Rattle.block_machine.proofs.Members.{contains_none, contains_here, contains_there, contains_cases, map_in, into_map, at_cases, without_in, append_in}
@@ -65,7 +65,7 @@ order_append (y ∷ ys) x o less = (
 
 order_step : (m : Machine) (step : Step) → May m step → Sound m → Ordered (map unanswered m.book) → Ordered (map unanswered (after_step m step).book)
 order_step m (Accept r) may s o = order_append m.book (newly_accepted r) o (λ e i. let b = s.below e (inl i) in let q = may.id in omega (arith, b, q))
-order_step m (Issue mode e) may s o = order_map (at e.request.id issue) m.book (at_keeps e.request.id issue (λ x. refl)) o
+order_step m (Issue mode e) may s o = order_map (at e.request.id newly_issued) m.book (at_keeps e.request.id newly_issued (λ x. refl)) o
 order_step m (Touch e i block) may s o = order_map (at e.request.id (touch i)) m.book (at_keeps e.request.id (touch i) (λ x. refl)) o
 order_step m (End e) may s o = order_map (at e.request.id mark_ended) m.book (at_keeps e.request.id mark_ended (λ x. refl)) o
 order_step m (Age ready) may s o = order_map (older ready) m.book (older_keeps ready) o
@@ -77,8 +77,8 @@ ordered : (start : Machine) (h : List Step) → IsStart start → IsLegal start 
 ordered start [] s legal = subst (λ (es : List Pending). Ordered (map unanswered es)) (sym s.book) tt
 ordered start (step ∷ past) s legal = order_step (after start past) step legal.1 (traced start past s legal.0).sound (ordered start past s legal.0)
 
-pub book_in_order : (start : Machine) (h : List Step) → IsStart start → IsLegal start h → IsInOrder (map unanswered (after start h).book)
-book_in_order start h s legal = from_ordered (map unanswered (after start h).book) (ordered start h s legal)
+pub law_book_in_order : (start : Machine) (h : List Step) → IsStart start → IsLegal start h → IsInOrder (map unanswered (after start h).book)
+law_book_in_order start h s legal = from_ordered (map unanswered (after start h).book) (ordered start h s legal)
 
 -- Issues.
 
@@ -110,7 +110,7 @@ counted_step m (Accept r) may s c x (inl h) = ⊎_elim
     (λ p. subst IsCounted (sym p) (record { some = λ t. absurd (false≢true t); most = omega arith; left = λ _. omega arith }))
     (append_in m.book (newly_accepted r) x h)
 counted_step m (Accept r) may s c x (inr h) = c x (inr h)
-counted_step m (Issue mode e) may s c x (inl h) = counted_at e.request.id issue m.book (λ o i. c o (inl i))
+counted_step m (Issue mode e) may s c x (inl h) = counted_at e.request.id newly_issued m.book (λ o i. c o (inl i))
     (λ o i id.
     let left = (c o (inl i)).left (subst (λ (y : Pending). y.issued ≡ false) (s.one e o may.0 i (sym id)) (not-true _ (and_parts _ _ may.1.clear).0)) in
     record { some = λ _. omega arith; most = omega (arith, left); left = λ t. absurd (false≢true (sym t)) }) x h
@@ -180,7 +180,7 @@ few_step m (Accept r) may c le =
     let none : ◌≡◌ {A = ℕ} (cond (r.asked.client.0 == c.0) 1 0) 0 = ap (λ (b : Bool). cond {A = ℕ} b 1 0) f in
     omega (arith, more, last, none, le))
     (cases_Bool (r.asked.client.0 == c.0))
-few_step m (Issue mode e) may c le = let a = same_count c (at e.request.id issue) m.book (at_keeps e.request.id issue (λ x. refl)) in omega (arith, a, le)
+few_step m (Issue mode e) may c le = let a = same_count c (at e.request.id newly_issued) m.book (at_keeps e.request.id newly_issued (λ x. refl)) in omega (arith, a, le)
 few_step m (Touch e i block) may c le = let a = same_count c (at e.request.id (touch i)) m.book (at_keeps e.request.id (touch i) (λ x. refl)) in omega (arith, a, le)
 few_step m (End e) may c le = let a = same_count c (at e.request.id mark_ended) m.book (at_keeps e.request.id mark_ended (λ x. refl)) in omega (arith, a, le)
 few_step m (Age ready) may c le = let a = same_count c (older ready) m.book (older_keeps ready) in omega (arith, a, le)
@@ -215,8 +215,8 @@ accepted_owned start (step ∷ past) r (inl c) i lt = owner_step (after start pa
 accepted_owned start (step ∷ past) r (inr w) i lt = owner_step (after start past) step (frame_at r.asked.frames.items i) ∙ accepted_owned start past r w i lt
 
 -- all of these together
-pub limits_hold : (start : Machine) (h : List Step) → IsStart start → IsLegal start h → WithinLimits (after start h)
-limits_hold start h s legal = record {
+pub law_limits_hold : (start : Machine) (h : List Step) → IsStart start → IsLegal start h → WithinLimits (after start h)
+law_limits_hold start h s legal = record {
   few = few start h s legal;
   all = all_few start h s legal (few start h s legal);
   issues = λ e l. (all_counted start h s legal e l).most;
@@ -226,7 +226,7 @@ limits_hold start h s legal = record {
 }
 
 -- a request that is due finds a free slot, a plain one a port with nothing issued
-pub finds_slot : (mode : Mode) (book : List Unanswered) (r : Unanswered) → IsDue mode book r
+pub finds_slot : (mode : QueueMode) (book : List Unanswered) (r : Unanswered) → IsDue mode book r
     → (is_plain mode r.op ≡ true → issued_count book r.port ≡ 0) × (is_plain mode r.op ≡ false → issued_count book r.port < mode.usable)
 finds_slot mode book r due = (
   (λ plain. count_none _ book (λ y k. false_from_ne_true _ (λ t.

@@ -3,9 +3,9 @@ use Rattle.std.proofs.Common.{◌≡◌, ◌⊎◌, ◌↔◌, ℕ, ◌+◌, ◌
 use Rattle.std.specs.List.{count_by, Contains}
 use Rattle.std.proofs.lemmas.Bool.{cases_lt, cond-true, cond-false, or_left, or_right, and_left, and_right, and_parts, and_from, both_ways, false_from_ne_true}
 use Rattle.ata_types.specs.declared.Port.{Port}
-use Rattle.block_machine.specs.declared.due.Mode.{Mode}
+use Rattle.block_machine.specs.declared.due.QueueMode.{QueueMode}
 use Rattle.block_machine.specs.declared.due.Unanswered.{Unanswered}
-use Rattle.block_machine.specs.Due.{IsInOrder, conflict, holds_back, is_plain, is_earlier, is_clear, ahead, free_slots, is_due, due_ahead}
+use Rattle.block_machine.specs.Due.{IsInOrder, must_keep_order, waits_for, is_plain, is_earlier_on_port, is_clear, ahead, free_slots, is_due, due_ahead}
 use Rattle.block_machine.proofs.Keeps.{same_port}
 use Rattle.block_machine.proofs.Order.{In, Ordered, in_from, from_in, ordered_from}
 use Rattle.block_machine.proofs.Counting.{count_cons, count_append, count_eq, count_none, count_least, unheld}
@@ -107,32 +107,32 @@ turn false true c = refl
 turn false false c = refl
 
 -- an earlier request of the port holds r back where one of the two is plain
-pub holds_if : (mode : Mode) (r o : Unanswered) → (o.port.0 == r.port.0) ≡ true → ltb o.id.0 r.id.0 ≡ true
-    → (is_plain mode r.op ≡ true) ⊎ (is_plain mode o.op ≡ true) → holds_back mode r o ≡ true
+pub holds_if : (mode : QueueMode) (r o : Unanswered) → (o.port.0 == r.port.0) ≡ true → ltb o.id.0 r.id.0 ≡ true
+    → (is_plain mode r.op ≡ true) ⊎ (is_plain mode o.op ≡ true) → waits_for mode r o ≡ true
 holds_if mode r o port less plain = and_from _ _ port (go (is_plain mode r.op) refl plain)
   where
     go : (b : Bool) → is_plain mode r.op ≡ b → (is_plain mode r.op ≡ true) ⊎ (is_plain mode o.op ≡ true)
-        → cond b (o.issued || ltb o.id.0 r.id.0) ((is_plain mode o.op && o.issued) || (ltb o.id.0 r.id.0 && (is_plain mode o.op || conflict o r))) ≡ true
+        → cond b (o.issued || ltb o.id.0 r.id.0) ((is_plain mode o.op && o.issued) || (ltb o.id.0 r.id.0 && (is_plain mode o.op || must_keep_order o r))) ≡ true
     go true p h = or_right _ _ less
     go false p (inl q) = absurd (both_ways _ p q)
     go false p (inr q) = or_right _ _ (and_from _ _ less (or_left _ _ q))
 
 -- those of a port that are clear
-abbrev clear_of : Mode → List Unanswered → Port → Unanswered → Bool
+abbrev clear_of : QueueMode → List Unanswered → Port → Unanswered → Bool
 clear_of mode book port y = (y.port.0 == port.0) && is_clear mode book y
 
-ahead_rank : (mode : Mode) (book : List Unanswered) (r : Unanswered) → ahead mode book r ≡ rank (clear_of mode book r.port) book r
+ahead_rank : (mode : QueueMode) (book : List Unanswered) (r : Unanswered) → ahead mode book r ≡ rank (clear_of mode book r.port) book r
 ahead_rank mode book r = count_eq _ _ book (λ y k. turn (y.port.0 == r.port.0) (ltb y.id.0 r.id.0) (is_clear mode book y))
 
 -- a plain one that is clear has none ahead
-plain_first : (mode : Mode) (book : List Unanswered) (r : Unanswered) → is_clear mode book r ≡ true → is_plain mode r.op ≡ true → ahead mode book r ≡ 0
+plain_first : (mode : QueueMode) (book : List Unanswered) (r : Unanswered) → is_clear mode book r ≡ true → is_plain mode r.op ≡ true → ahead mode book r ≡ 0
 plain_first mode book r clear plain = count_none _ book (λ y k. false_from_ne_true _ (λ t.
-    let p = and_parts (is_earlier y r) (is_clear mode book y) t in
+    let p = and_parts (is_earlier_on_port y r) (is_clear mode book y) t in
     let q = and_parts (y.port.0 == r.port.0) (ltb y.id.0 r.id.0) p.0 in
     both_ways _ (unheld mode book r clear y (from_in y book k)) (holds_if mode r y q.0 q.1 (inl plain))))
 
 -- where a slot is free, one is due where it is clear and few enough are ahead
-due_by_rank : (mode : Mode) (book : List Unanswered) (n : ℕ) (o : Unanswered) → free_slots mode book o.port ≡ suc n
+due_by_rank : (mode : QueueMode) (book : List Unanswered) (n : ℕ) (o : Unanswered) → free_slots mode book o.port ≡ suc n
     → is_due mode book o ≡ (is_clear mode book o && ltb (ahead mode book o) (suc n))
 due_by_rank mode book n o free = go (is_clear mode book o) (is_plain mode o.op) refl refl
   where
@@ -144,16 +144,16 @@ due_by_rank mode book n o free = go (is_clear mode book o) (is_plain mode o.op) 
     go true true e f = ap (λ (x : Bool). is_clear mode book o && x)
         (or_left _ _ f ∙ sym (ap (λ (m : ℕ). ltb m (suc n)) (plain_first mode book o e f) ∙ lt-ltb 0 (suc n) (omega arith)))
 
-module _ (mode : Mode) (book : List Unanswered) (r : Unanswered) (order : Ordered book) (here : In r book) where
+module _ (mode : QueueMode) (book : List Unanswered) (r : Unanswered) (order : Ordered book) (here : In r book) where
   less_due : due_ahead mode book r ≤ ahead mode book r
   less_due = count_least
-      (λ o. is_earlier o r && is_due mode book o)
-      (λ o. is_earlier o r && is_clear mode book o) book
-      (λ y k t. let a = and_parts (is_earlier y r) (is_due mode book y) t in and_from _ _ a.0 (and_parts (is_clear mode book y) _ a.1).0)
+      (λ o. is_earlier_on_port o r && is_due mode book o)
+      (λ o. is_earlier_on_port o r && is_clear mode book o) book
+      (λ y k t. let a = and_parts (is_earlier_on_port y r) (is_due mode book y) t in and_from _ _ a.0 (and_parts (is_clear mode book y) _ a.1).0)
 
   module _ (n : ℕ) (free : free_slots mode book r.port ≡ suc n) where
     due_one : (o : Unanswered) (b : Bool) → (o.port.0 == r.port.0) ≡ b
-        → (is_earlier o r && is_due mode book o)
+        → (is_earlier_on_port o r && is_due mode book o)
         ≡ (ltb o.id.0 r.id.0 && (clear_of mode book r.port o && ltb (rank (clear_of mode book r.port) book o) (suc n)))
     due_one o true t =
         let port : o.port ≡ r.port = same_port o.port r.port (eqb-true o.port.0 r.port.0 t) in
@@ -189,9 +189,9 @@ module _ (mode : Mode) (book : List Unanswered) (r : Unanswered) (order : Ordere
           (cases_lt (ahead mode book r) (suc n))
 
 -- a slot is left for a request whether those ahead are counted as clear or as due
-pub slots_by_due : (mode : Mode) (book : List Unanswered) (r : Unanswered) → IsInOrder book → Contains book r
+pub law_slots_by_due : (mode : QueueMode) (book : List Unanswered) (r : Unanswered) → IsInOrder book → Contains book r
     → (ahead mode book r < free_slots mode book r.port) ↔ (due_ahead mode book r < free_slots mode book r.port)
-slots_by_due mode book r order here = (
+law_slots_by_due mode book r order here = (
   (λ lt. let le = less_due mode book r (ordered_from book order) (in_from book r here) in omega (arith, le, lt)),
   slot_by_due mode book r (ordered_from book order) (in_from book r here),
 )

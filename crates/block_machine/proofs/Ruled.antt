@@ -5,7 +5,7 @@ use Rattle.ata_types.specs.declared.grant.GrantRow.{GrantRow}
 use Rattle.ata_types.specs.declared.refusal.Rule.{Rule}
 use Rattle.ata_types.specs.declared.refusal.Rule.TheVariants.{NoGrant, NoRight, BadCount, OutsideGrant, FrameCount, Frames}
 use Rattle.ata_types.specs.Grant.{Allows, Covers}
-use Rattle.block_machine.specs.declared.due.Mode.{Mode}
+use Rattle.block_machine.specs.declared.due.QueueMode.{QueueMode}
 use Rattle.block_machine.specs.Rules.{Breaks, HasRow, IsNamed}
 use Rattle.block_machine.specs.State.{Accepted, Pending, Machine}
 use Rattle.block_machine.specs.Steps.{Step, Issue, May, IsNew}
@@ -29,9 +29,9 @@ module _ (start m : Machine) (r : Accepted) (s : IsStart start) (granted : IsGra
   unbroken has FrameCount is breaks = new.1.unbroken FrameCount breaks
   unbroken has (Frames fault) is breaks = is
 
-pub issues_keep_the_rules : (start : Machine) (h : List Step) (mode : Mode) (e : Pending) → IsStart start → IsLegal start h → May (after start h) (Issue mode e)
+pub law_issues_keep_the_rules : (start : Machine) (h : List Step) (mode : QueueMode) (e : Pending) → IsStart start → IsLegal start h → May (after start h) (Issue mode e)
     → WasAccepted start h e.request × KeepsRules (after start h) e.request
-issues_keep_the_rules start h mode e s legal may =
+law_issues_keep_the_rules start h mode e s legal may =
     let was = living_accepted start h s legal e (inl may.0) in (
       was,
       record {

@@ -67,9 +67,9 @@ reads : (op : Op) → op ≡ Read → is_reader op ≡ true
 reads op e = ap is_reader e
 
 -- a read with all its sectors touched holds what was left
-pub read_holds_left : (start : Machine) (h : List Step) (e : Pending) → IsStart start → IsLegal start h → AllTold start h
+pub law_read_holds_left : (start : Machine) (h : List Step) (e : Pending) → IsStart start → IsLegal start h → AllTold start h
     → Contains (after start h).book e → AllTouched e → e.request.asked.op ≡ Read → HoldsLeft start h (after start h).memory e.request
-read_holds_left start h e s legal told here whole op = record {
+law_read_holds_left start h e s legal told here whole op = record {
   sectors = λ i lt. (good_all start h s legal told e here (reads e.request.asked.op op) i lt (whole i lt)).1;
   rest = λ i b past room lb. (traced start h s legal).held e (inl here) i b (λ _. past) room lb;
 }

@@ -13,7 +13,7 @@ use Rattle.ata_types.specs.declared.request.Op.TheVariants.{Trim, Flush}
 use Rattle.ata_types.specs.declared.grant.GrantRow.{GrantRow}
 use Rattle.ata_types.specs.Grant.{Allows, Covers}
 use Rattle.ata_types.specs.declared.memory.TheConstants.{DRIVER_FRAMES}
-use Rattle.block_machine.specs.Rules.{DifferInName, HasRow, IsCount, frames_for}
+use Rattle.block_machine.specs.Rules.{DifferInName, HasRow, IsAllowedCount, frames_for}
 use Rattle.block_machine.specs.Refusals.{Situation, IsAcceptable}
 use Rattle.block_machine.specs.State.{Memory, Machine}
 use Rattle.block_machine.specs.Left.{IsRow, IsStart}
@@ -132,7 +132,7 @@ pub record IsFit (n : ℕ) (s : Situation) (r : Request) : Type 0 where
   pub client_is : r.client ≡ client
   pub grant : r.grant ≡ n
   pub allowed : Allows (row n).rights r.op
-  pub count : IsCount r.op r.count
+  pub count : IsAllowedCount r.op r.count
   pub covered : r.op ≢ Flush → Covers (row n) r.first.0 r.count
   pub frames : length r.frames.items ≡ frames_for r.op r.count
   pub single : length r.frames.items ≤ 1

@@ -3,10 +3,10 @@
 use Rattle.std.proofs.Common.{◌≡◌, ℕ, ◌/◌, ◌<◌, List, length, Some, sym, subst}
 use Rattle.ata_types.specs.declared.request.Op.TheVariants.{Flush}
 use Rattle.block_machine.specs.State.{Pending, Machine, frame_at}
-use Rattle.block_machine.specs.Steps.{Step, MayMove}
+use Rattle.block_machine.specs.Steps.{Step, MayStillMove}
 use Rattle.block_machine.specs.Left.{after, IsLegal, IsStart}
 use Rattle.block_machine.specs.Confined.{MovesBytes, IsHeld}
-use Rattle.block_machine.specs.Histories.{IsReached}
+use Rattle.block_machine.specs.Histories.{IsReachable}
 use Rattle.block_machine.proofs.Sound.{Sound}
 use Rattle.block_machine.proofs.Trace.{runs_lives}
 use Rattle.block_machine.proofs.Runs.{traced}
@@ -14,10 +14,10 @@ use Rattle.block_machine.proofs.Accepts.{living_accepted, was_new, has_frame, fl
 
 pub record Standing (m : Machine) : Type 0 where
   pub sound : Sound m
-  pub framed : (e : Pending) → MayMove m e → MovesBytes e.request.asked.op → (i : ℕ) → i < e.request.asked.count → i / 8 < length e.request.asked.frames.items
-  pub lent : (e : Pending) → MayMove m e → (i : ℕ) → i < length e.request.asked.frames.items → m.lent (frame_at e.request.asked.frames.items i) ≡ Some e.request.id
-  pub held : (e : Pending) → MayMove m e → IsHeld m e.request
-  pub flush : (e : Pending) → MayMove m e → e.request.asked.op ≡ Flush → e.request.asked.count ≡ 0
+  pub framed : (e : Pending) → MayStillMove m e → MovesBytes e.request.asked.op → (i : ℕ) → i < e.request.asked.count → i / 8 < length e.request.asked.frames.items
+  pub lent : (e : Pending) → MayStillMove m e → (i : ℕ) → i < length e.request.asked.frames.items → m.lent (frame_at e.request.asked.frames.items i) ≡ Some e.request.id
+  pub held : (e : Pending) → MayStillMove m e → IsHeld m e.request
+  pub flush : (e : Pending) → MayStillMove m e → e.request.asked.op ≡ Flush → e.request.asked.count ≡ 0
 
 standing_at : (start : Machine) (h : List Step) → IsStart start → IsLegal start h → Standing (after start h)
 standing_at start h s legal =
@@ -34,5 +34,5 @@ standing_at start h s legal =
           flush_empty new.0 e.request new.1 op;
     }
 
-pub standing : (m : Machine) → IsReached m → Standing m
+pub standing : (m : Machine) → IsReachable m → Standing m
 standing m r = subst Standing (sym r.is) (standing_at r.first r.past r.starts r.legal)

@@ -3,9 +3,9 @@ use Rattle.std.proofs.Common.{◌≡◌, true, [], ◌∷◌, List, inl, inr, �
 use Rattle.std.proofs.lemmas.Bool.{false≢true}
 use Rattle.std.specs.List.{Contains}
 use Rattle.block_machine.specs.State.{Pending, Machine}
-use Rattle.block_machine.specs.Steps.{Step, Accept, Issue, Touch, End, Age, Again, Answer, Revoke, Release, Unplug, Replace, Store, Load, May, MayMove, after_step, issue, touch, mark_ended, requeued, older, newly_accepted}
+use Rattle.block_machine.specs.Steps.{Step, Accept, Issue, Touch, End, Age, Again, Answer, Revoke, Release, Unplug, Replace, Store, Load, May, MayStillMove, after_step, newly_issued, touch, mark_ended, requeued, older, newly_accepted}
 use Rattle.block_machine.specs.Left.{after, IsLegal, IsStart}
-use Rattle.block_machine.specs.Histories.{IsReached}
+use Rattle.block_machine.specs.Histories.{IsReachable}
 use Rattle.block_machine.proofs.Keeps.{older_ended, older_issued}
 use Rattle.block_machine.proofs.Members.{map_in, at_cases, without_in, append_in}
 use Rattle.block_machine.proofs.Runs.{traced, nobody}
@@ -18,7 +18,7 @@ started : (e o : Pending) → e ≡ o → IsStarted o → IsStarted e
 started e o same s = subst IsStarted (sym same) s
 
 -- what may move of the book is issued
-moving_issued : (m : Machine) → Sound m → (e p : Pending) → Contains m.book e → MayMove m p → e.request.id.0 ≡ p.request.id.0 → e.issued ≡ true
+moving_issued : (m : Machine) → Sound m → (e p : Pending) → Contains m.book e → MayStillMove m p → e.request.id.0 ≡ p.request.id.0 → e.issued ≡ true
 moving_issued m s e p here (inl may) same = ap (λ (x : Pending). x.issued) (s.one e p here may.0 same) ∙ may.1
 moving_issued m s e p here (inr kept) same = absurd (s.apart e p here kept same)
 
@@ -30,9 +30,9 @@ started_step m (Accept r) may s all e h = ⊎_elim
 started_step m (Issue mode p) may s all e h =
     let r = map_in _ m.book e h in
     ⊎_elim
-    (λ c. started e (issue r.0) (r.2 ∙ c.1) (λ _. refl))
+    (λ c. started e (newly_issued r.0) (r.2 ∙ c.1) (λ _. refl))
     (λ c. started e r.0 (r.2 ∙ c.1) (all r.0 r.1))
-    (at_cases p.request.id issue r.0)
+    (at_cases p.request.id newly_issued r.0)
 started_step m (Touch p i block) may s all e h =
     let r = map_in _ m.book e h in
     ⊎_elim
@@ -67,5 +67,5 @@ started_at start [] s legal e h = absurd (nobody start s e (inl h))
 started_at start (step ∷ past) s legal e h =
     started_step (after start past) step legal.1 (traced start past s legal.0).sound (started_at start past s legal.0) e h
 
-pub ended_issued : (m : Machine) (e : Pending) → IsReached m → Contains m.book e → e.ended ≡ true → e.issued ≡ true
+pub ended_issued : (m : Machine) (e : Pending) → IsReachable m → Contains m.book e → e.ended ≡ true → e.issued ≡ true
 ended_issued m e r here = started_at r.first r.past r.starts r.legal e (subst (λ (n : Machine). Contains n.book e) r.is here)

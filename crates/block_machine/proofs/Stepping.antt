@@ -4,22 +4,22 @@ use Rattle.std.proofs.lemmas.Bool.{cond-true, cond-false}
 use Rattle.ata_types.specs.declared.Port.{Port}
 use Rattle.ata_types.specs.declared.request.RequestId.{RequestId}
 use Rattle.block_machine.specs.declared.due.Unanswered.{Unanswered}
-use Rattle.block_machine.specs.Due.{with_issued, with_waiting, with_none}
+use Rattle.block_machine.specs.Due.{with_issued, with_waiting, without_request}
 use Rattle.block_machine.specs.State.{Pending, unanswered}
-use Rattle.block_machine.specs.Steps.{at, without, issue, requeued, touch, mark_ended, older}
+use Rattle.block_machine.specs.Steps.{at, without, newly_issued, requeued, touch, mark_ended, older}
 
-pub asks_issued : (ps : List Pending) (id : RequestId) → map unanswered (map (at id issue) ps) ≡ with_issued id (map unanswered ps)
+pub asks_issued : (ps : List Pending) (id : RequestId) → map unanswered (map (at id newly_issued) ps) ≡ with_issued id (map unanswered ps)
 asks_issued [] id = refl
 asks_issued (p ∷ ps) id = go (p.request.id.0 == id.0) refl (asks_issued ps id)
   where
-    go : (b : Bool) → (p.request.id.0 == id.0) ≡ b → map unanswered (map (at id issue) ps) ≡ with_issued id (map unanswered ps)
-        → map unanswered (map (at id issue) (p ∷ ps)) ≡ with_issued id (map unanswered (p ∷ ps))
+    go : (b : Bool) → (p.request.id.0 == id.0) ≡ b → map unanswered (map (at id newly_issued) ps) ≡ with_issued id (map unanswered ps)
+        → map unanswered (map (at id newly_issued) (p ∷ ps)) ≡ with_issued id (map unanswered (p ∷ ps))
     go true e rest =
-        ap (λ (x : Pending). unanswered x ∷ map unanswered (map (at id issue) ps)) (cond-true (p.request.id.0 == id.0) (issue p) p e)
-        ∙ (ap (λ (us : List Unanswered). unanswered (issue p) ∷ us) rest
+        ap (λ (x : Pending). unanswered x ∷ map unanswered (map (at id newly_issued) ps)) (cond-true (p.request.id.0 == id.0) (newly_issued p) p e)
+        ∙ (ap (λ (us : List Unanswered). unanswered (newly_issued p) ∷ us) rest
         ∙ ap (λ (x : Unanswered). x ∷ with_issued id (map unanswered ps)) (sym (cond-true (p.request.id.0 == id.0) (record (unanswered p) { issued = true }) (unanswered p) e)))
     go false e rest =
-        ap (λ (x : Pending). unanswered x ∷ map unanswered (map (at id issue) ps)) (cond-false (p.request.id.0 == id.0) (issue p) p e)
+        ap (λ (x : Pending). unanswered x ∷ map unanswered (map (at id newly_issued) ps)) (cond-false (p.request.id.0 == id.0) (newly_issued p) p e)
         ∙ (ap (λ (us : List Unanswered). unanswered p ∷ us) rest
         ∙ ap (λ (x : Unanswered). x ∷ with_issued id (map unanswered ps)) (sym (cond-false (p.request.id.0 == id.0) (record (unanswered p) { issued = true }) (unanswered p) e)))
 
@@ -38,12 +38,12 @@ asks_waiting (p ∷ ps) id = go (p.request.id.0 == id.0) refl (asks_waiting ps i
         ∙ (ap (λ (us : List Unanswered). unanswered p ∷ us) rest
         ∙ ap (λ (x : Unanswered). x ∷ with_waiting id (map unanswered ps)) (sym (cond-false (p.request.id.0 == id.0) (record (unanswered p) { issued = false }) (unanswered p) e)))
 
-pub asks_gone : (ps : List Pending) (id : RequestId) → map unanswered (without id ps) ≡ with_none id (map unanswered ps)
+pub asks_gone : (ps : List Pending) (id : RequestId) → map unanswered (without id ps) ≡ without_request id (map unanswered ps)
 asks_gone [] id = refl
 asks_gone (p ∷ ps) id = go (not (p.request.id.0 == id.0)) refl (asks_gone ps id)
   where
-    go : (b : Bool) → not (p.request.id.0 == id.0) ≡ b → map unanswered (without id ps) ≡ with_none id (map unanswered ps)
-        → map unanswered (cond b (p ∷ without id ps) (without id ps)) ≡ cond b (unanswered p ∷ with_none id (map unanswered ps)) (with_none id (map unanswered ps))
+    go : (b : Bool) → not (p.request.id.0 == id.0) ≡ b → map unanswered (without id ps) ≡ without_request id (map unanswered ps)
+        → map unanswered (cond b (p ∷ without id ps) (without id ps)) ≡ cond b (unanswered p ∷ without_request id (map unanswered ps)) (without_request id (map unanswered ps))
     go true e rest = ap (λ (us : List Unanswered). unanswered p ∷ us) rest
     go false e rest = rest
 

@@ -3,10 +3,10 @@ use Rattle.std.proofs.Common.{◌≡◌, ◌⊎◌, ℕ, ◌+◌, ◌<◌, ◌�
 use Rattle.std.proofs.lemmas.Bool.{or_right, and_from, and_right, cond-false}
 use Rattle.std.specs.List.{Contains}
 use Rattle.ata_types.specs.declared.Port.{Port}
-use Rattle.block_machine.specs.State.{Block, Disk, Accepted, Pending, Machine, waiting, sector_of}
-use Rattle.block_machine.specs.Due.{conflict, is_writer}
-use Rattle.block_machine.specs.Steps.{Step, Accept, Issue, Touch, End, Age, Again, Answer, Revoke, Release, Unplug, Replace, Store, Load, May, IsNew, after_step, at, IsLiving, MayMove, issue, touch, mark_ended, requeued, older, newly_accepted}
-use Rattle.block_machine.specs.Left.{IsAccept, plugs, disk_of, plug_count, bytes_when_plugged, IsTouch, touches, HasTouched, disk_read, Wrote, IsLast}
+use Rattle.block_machine.specs.State.{Block, DiskBytes, Accepted, Pending, Machine, waiting, sector_of}
+use Rattle.block_machine.specs.Due.{must_keep_order, is_writer}
+use Rattle.block_machine.specs.Steps.{Step, Accept, Issue, Touch, End, Age, Again, Answer, Revoke, Release, Unplug, Replace, Store, Load, May, IsNew, after_step, at, IsLiving, MayStillMove, newly_issued, touch, mark_ended, requeued, older, newly_accepted}
+use Rattle.block_machine.specs.Left.{IsAccept, plugs, disk_put_in, plug_count, bytes_when_plugged, IsTouch, touches, HasTouched, disk_read, Wrote, IsLast}
 use Rattle.block_machine.proofs.Members.{contains_none, contains_cases, map_in, without_in, append_in}
 use Rattle.block_machine.proofs.Sound.{Sound, KeepsRequest}
 use Rattle.block_machine.proofs.Keeps.{at_keeps, older_keeps}
@@ -40,7 +40,7 @@ Comes m step r = IsAccept step r × IsNew m r
 pub lives_before : (m : Machine) (step : Step) → May m step → (a : Pending) → IsLiving (after_step m step) a → Before m a ⊎ Comes m step a.request
 lives_before m (Accept request) may a (inl h) = ⊎_elim (λ i. inl (same_before m a (inl i))) (λ p. inr (ap (λ (y : Pending). y.request) (sym p), subst (λ (y : Pending). IsNew m y.request) (sym p) may)) (append_in m.book (newly_accepted request) a h)
 lives_before m (Accept request) may a (inr h) = inl (same_before m a (inr h))
-lives_before m (Issue mode e) may a (inl h) = inl (in_book m a (moved (at e.request.id issue) m.book (at_keeps e.request.id issue (λ x. refl)) a h))
+lives_before m (Issue mode e) may a (inl h) = inl (in_book m a (moved (at e.request.id newly_issued) m.book (at_keeps e.request.id newly_issued (λ x. refl)) a h))
 lives_before m (Issue mode e) may a (inr h) = inl (same_before m a (inr h))
 lives_before m (Touch e i block) may a (inl h) = inl (in_book m a (moved (at e.request.id (touch i)) m.book (at_keeps e.request.id (touch i) (λ x. refl)) a h))
 lives_before m (Touch e i block) may a (inr h) = inl (in_kept m a (moved (at e.request.id (touch i)) m.kept (at_keeps e.request.id (touch i) (λ x. refl)) a h))
@@ -74,13 +74,13 @@ living_one m s a b (inr i) (inr j) eq = s.kept_one a b i j eq
 pub lives_one : (m : Machine) → Sound m → (a b : Pending) → IsLiving m a → IsLiving m b → a.request.id.0 ≡ b.request.id.0 → a.request ≡ b.request
 lives_one m s a b i j eq = ap (λ (x : Pending). x.request) (living_one m s a b i j eq)
 
-pub runs_lives : (m : Machine) (e : Pending) → MayMove m e → IsLiving m e
+pub runs_lives : (m : Machine) (e : Pending) → MayStillMove m e → IsLiving m e
 runs_lives m e (inl h) = inl h.0
 runs_lives m e (inr h) = inr h
 
 -- two requests of a port with a sector in common, one of which writes, conflict
 pub conflict_at : (a b : Accepted) (k : ℕ) → a.port ≡ b.port → (is_writer a.asked.op || is_writer b.asked.op) ≡ true
-    → a.asked.first.0 ≤ k → k < a.asked.first.0 + a.asked.count → b.asked.first.0 ≤ k → k < b.asked.first.0 + b.asked.count → conflict (waiting a) (waiting b) ≡ true
+    → a.asked.first.0 ≤ k → k < a.asked.first.0 + a.asked.count → b.asked.first.0 ≤ k → k < b.asked.first.0 + b.asked.count → must_keep_order (waiting a) (waiting b) ≡ true
 conflict_at a b k port w al ah bl bh =
     and_from _ _ (eq-eqb a.port.0 b.port.0 (ap (λ (p : Port). p.0) port)) (or_right _ _ (and_from _ _ w
     (and_from _ _ (and_from _ _ (lt-ltb a.asked.first.0 (b.asked.first.0 + b.asked.count) (omega arith)) (lt-ltb b.asked.first.0 (a.asked.first.0 + a.asked.count) (omega arith)))
@@ -92,7 +92,7 @@ pub record Seen (m : Machine) (w : Accepted) (k : ℕ) : Type 0 where
   pub from : w.asked.first.0 ≤ k
   pub to : k < w.asked.first.0 + w.asked.count
   pub one : (a : Pending) → IsLiving m a → a.request.id.0 ≡ w.id.0 → a.request ≡ w
-  pub order : (a : Pending) → IsLiving m a → a.request.id.0 < w.id.0 → conflict (waiting a.request) (waiting w) ≡ true → ⊥
+  pub order : (a : Pending) → IsLiving m a → a.request.id.0 < w.id.0 → must_keep_order (waiting a.request) (waiting w) ≡ true → ⊥
 
 pub seen_step : (m : Machine) (step : Step) → May m step → (w : Accepted) (k : ℕ) → Seen m w k → Seen (after_step m step) w k
 seen_step m step may w k s = record {
@@ -104,13 +104,13 @@ seen_step m step may w k s = record {
       (λ (p : Comes m step a.request). let b = s.below in let q = p.1.id in absurd (omega (arith, b, q, eq)))
       (lives_before m step may a l);
   order = λ a l lt con. ⊎_elim
-      (λ r. s.order r.0 r.1 (subst (λ (j : Accepted). j.id.0 < w.id.0) r.2 lt) (subst (λ (j : Accepted). conflict (waiting j) (waiting w) ≡ true) r.2 con))
+      (λ r. s.order r.0 r.1 (subst (λ (j : Accepted). j.id.0 < w.id.0) r.2 lt) (subst (λ (j : Accepted). must_keep_order (waiting j) (waiting w) ≡ true) r.2 con))
       (λ (p : Comes m step a.request). let b = s.below in let q = p.1.id in omega (arith, b, q, lt))
       (lives_before m step may a l);
 }
 
 -- a request that touches a sector now
-pub seen_now : (m : Machine) → Sound m → (e : Pending) (i : ℕ) → MayMove m e → i < e.request.asked.count → Seen m e.request (sector_of e.request i)
+pub seen_now : (m : Machine) → Sound m → (e : Pending) (i : ℕ) → MayStillMove m e → i < e.request.asked.count → Seen m e.request (sector_of e.request i)
 seen_now m s e i r lt = record {
   below = s.below e (runs_lives m e r);
   from = omega arith;
@@ -143,7 +143,7 @@ read_number request k (step ∷ past) =
 
 plugged_more : (start : Machine) (port : Port) (n : ℕ) (step : Step) (past : List Step) → n ≤ plug_count port past → bytes_when_plugged start port n (step ∷ past) ≡ bytes_when_plugged start port n past
 plugged_more start port n step past le =
-    cond-false (plugs port step && suc (plug_count port past) == n) (disk_of step) (bytes_when_plugged start port n past)
+    cond-false (plugs port step && suc (plug_count port past) == n) (disk_put_in step) (bytes_when_plugged start port n past)
     (and_right _ _ (ne_eqb (suc (plug_count port past)) n (λ e. let f : ⊥ = omega (arith, le, e) in f)))
 
 -- what was last stays last after a step that is no touch of its kind
@@ -166,4 +166,4 @@ last_from start port k n limit limit' step past block le untouched up down last 
 
     go : IsLast start port k n limit past block → IsLast start port k n limit' (step ∷ past) block
     go (inl r) = inl (r.0, now_too r.0 r.1, λ other o. r.2 other (past_too other o), r.3)
-    go (inr r) = inr (λ w o. r.0 w (past_too w o), r.1 ∙ ap (λ (d : Disk). d k) (sym (plugged_more start port n step past le)))
+    go (inr r) = inr (λ w o. r.0 w (past_too w o), r.1 ∙ ap (λ (d : DiskBytes). d k) (sym (plugged_more start port n step past le)))

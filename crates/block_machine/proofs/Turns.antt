@@ -6,20 +6,20 @@ use Rattle.std.proofs.lemmas.Bool.{and_left, and_right, and_parts, and_from, con
 use Rattle.std.proofs.lemmas.List.{get_or-map, length-map}
 use Rattle.ata_types.specs.declared.Port.{Port}
 use Rattle.ata_types.specs.declared.request.RequestId.{RequestId}
-use Rattle.block_machine.specs.declared.due.Mode.{Mode}
+use Rattle.block_machine.specs.declared.due.QueueMode.{QueueMode}
 use Rattle.block_machine.specs.declared.due.Unanswered.{Unanswered}
-use Rattle.block_machine.specs.Due.{IsDue, IsInOrder, holds_back, is_plain, is_earlier, is_clear, ahead, issued_count, free_slots, is_due, mark_issued, with_issued, mark_waiting, with_waiting, with_none, of_port, due_of, AreDueInTurn}
+use Rattle.block_machine.specs.Due.{IsDue, IsInOrder, waits_for, is_plain, is_earlier_on_port, is_clear, ahead, issued_count, free_slots, is_due, mark_issued, with_issued, mark_waiting, with_waiting, without_request, of_port, due_of, AreAllDueInOrder}
 use Rattle.block_machine.proofs.Members.{into_map}
 use Rattle.block_machine.proofs.Order.{In, Ordered, in_from, from_in, ordered_from}
 use Rattle.block_machine.proofs.Counting.{count_cons}
-use Rattle.block_machine.proofs.Dues.{in_order_one, issues_one_by_one}
+use Rattle.block_machine.proofs.Dues.{in_order_one, law_issues_one_by_one}
 use Rattle.block_machine.proofs.Keeps.{same_port}
 use Rattle.block_machine.proofs.DueTests.{same_test, due_test as tested}
 
-abbrev pub due_test : Mode → Port → List Unanswered → Unanswered → Bool
+abbrev pub due_test : QueueMode → Port → List Unanswered → Unanswered → Bool
 due_test mode port book x = x.port.0 == port.0 && is_due mode book x
 
-abbrev due_ids : Mode → Port → List Unanswered → List RequestId
+abbrev due_ids : QueueMode → Port → List Unanswered → List RequestId
 due_ids mode port book = map (λ r. r.id) (due_of mode port book)
 
 -- ---- members of a filter
@@ -44,7 +44,7 @@ in_filter p (y ∷ ys) x t h = go (p y) refl (λ k. in_filter p ys x t k) h
     go false e rest (inr k) = rest k
 
 -- a request of the port is due exactly where it is one of the due
-pub due_member : (mode : Mode) (port : Port) (book : List Unanswered) (r : Unanswered) → r.port ≡ port → Contains (due_of mode port book) r ↔ IsDue mode book r
+pub due_member : (mode : QueueMode) (port : Port) (book : List Unanswered) (r : Unanswered) → r.port ≡ port → Contains (due_of mode port book) r ↔ IsDue mode book r
 due_member mode port book r own = (to, from)
   where
     to : Contains (due_of mode port book) r → IsDue mode book r
@@ -58,7 +58,7 @@ due_member mode port book r own = (to, from)
         (in_from book r d.here))
 
 -- each of the due is of the port
-pub due_own : (mode : Mode) (port : Port) (book : List Unanswered) (r : Unanswered) → Contains (due_of mode port book) r → r.port ≡ port
+pub due_own : (mode : QueueMode) (port : Port) (book : List Unanswered) (r : Unanswered) → Contains (due_of mode port book) r → r.port ≡ port
 due_own mode port book r h =
     let f = filter_in (due_test mode port book) book r (in_from (due_of mode port book) r h) in
     same_port r.port port (eqb-true r.port.0 port.0 (and_parts (r.port.0 == port.0) (is_due mode book r) f.1).0)
@@ -97,9 +97,9 @@ kept_apart p q gone f (x ∷ xs) out same = go (gone x) (q x) refl refl (kept_ap
         ∙ sym (ap (filter stays) (cond-false (q x) (x ∷ old) old qx)))
 
 -- once a due request is issued, the others that were due are the due ones
-pub due_after_issue : (mode : Mode) (port : Port) (book : List Unanswered) (e : Unanswered) → IsInOrder book → IsDue mode book e → e.port ≡ port
-    → due_of mode port (with_issued e.id book) ≡ with_none e.id (due_of mode port book)
-due_after_issue mode port book e order due own =
+pub law_due_after_issue : (mode : QueueMode) (port : Port) (book : List Unanswered) (e : Unanswered) → IsInOrder book → IsDue mode book e → e.port ≡ port
+    → due_of mode port (with_issued e.id book) ≡ without_request e.id (due_of mode port book)
+law_due_after_issue mode port book e order due own =
     kept_apart (due_test mode port (with_issued e.id book)) (due_test mode port book) (λ x. x.id.0 == e.id.0) (mark_issued e.id) book out same
   where
     out : (x : Unanswered) → In x book → (x.id.0 == e.id.0) ≡ true → due_test mode port (with_issued e.id book) (mark_issued e.id x) ≡ false
@@ -121,7 +121,7 @@ due_after_issue mode port book e order due own =
         by false apart = and_left _ _ apart ∙ sym (and_left _ _ apart)
         by true mine =
             let here : x.port ≡ e.port = same_port x.port port (eqb-true x.port.0 port.0 mine) ∙ sym own in
-            let both = issues_one_by_one mode book e x order due old (λ is. eqb-false x.id.0 e.id.0 other (ap (λ (i : RequestId). i.0) is)) here in
+            let both = law_issues_one_by_one mode book e x order due old (λ is. eqb-false x.id.0 e.id.0 other (ap (λ (i : RequestId). i.0) is)) here in
             let n = tested mode (with_issued e.id book) x new in
             let o = tested mode book x old in
             ap (λ (b : Bool). (x.port.0 == port.0) && b) (same_test (is_due mode (with_issued e.id book) x) (is_due mode book x)
@@ -150,23 +150,23 @@ ordered_filter p (x ∷ xs) o = go (p x) refl (ordered_filter p xs o.1)
     go true e rest = ((λ later h. o.0 later (filter_in p xs later h).0), rest)
     go false e rest = rest
 
-none_dropped : (id : RequestId) (xs : List Unanswered) → ((x : Unanswered) → In x xs → (x.id.0 == id.0) ≡ false) → with_none id xs ≡ xs
+none_dropped : (id : RequestId) (xs : List Unanswered) → ((x : Unanswered) → In x xs → (x.id.0 == id.0) ≡ false) → without_request id xs ≡ xs
 none_dropped id [] none = refl
 none_dropped id (x ∷ xs) none =
-    cond-true (not (x.id.0 == id.0)) (x ∷ with_none id xs) (with_none id xs) (ap not (none x (inl refl)))
+    cond-true (not (x.id.0 == id.0)) (x ∷ without_request id xs) (without_request id xs) (ap not (none x (inl refl)))
     ∙ ap (λ (ys : List Unanswered). x ∷ ys) (none_dropped id xs (λ y h. none y (inr h)))
 
 none_of_none : (xs : List Unanswered) (r : Unanswered) → [] ≡ map (λ (x : Unanswered). x.id) xs → In r xs → ⊥
 none_of_none [] r is h = h
 none_of_none (x ∷ xs) r is h = let f : 0 ≡ length (map (λ (y : Unanswered). y.id) (x ∷ xs)) = ap length is in absurd (omega (arith, f))
 
-pub in_turn : (mode : Mode) (port : Port) (ids : List RequestId) (book : List Unanswered) → IsInOrder book → ids ≡ due_ids mode port book → AreDueInTurn mode port ids book
+pub in_turn : (mode : QueueMode) (port : Port) (ids : List RequestId) (book : List Unanswered) → IsInOrder book → ids ≡ due_ids mode port book → AreAllDueInOrder mode port ids book
 in_turn mode port [] book order is = λ r own due.
     none_of_none (due_of mode port book) r is (in_from (due_of mode port book) r ((due_member mode port book r own).1 due))
 in_turn mode port (id ∷ ids) book order is = go (due_of mode port book) refl (λ b o e. in_turn mode port ids b o e)
   where
-    go : (ds : List Unanswered) → due_of mode port book ≡ ds → ((b : List Unanswered) → IsInOrder b → ids ≡ due_ids mode port b → AreDueInTurn mode port ids b)
-        → AreDueInTurn mode port (id ∷ ids) book
+    go : (ds : List Unanswered) → due_of mode port book ≡ ds → ((b : List Unanswered) → IsInOrder b → ids ≡ due_ids mode port b → AreAllDueInOrder mode port ids b)
+        → AreAllDueInOrder mode port (id ∷ ids) book
     go [] e rest = let none : ◌≡◌ {A = ℕ} (length (id ∷ ids)) 0 = ap length (is ∙ ap (λ (xs : List Unanswered). map (λ (x : Unanswered). x.id) xs) e) in absurd (omega (arith, none))
     go (r ∷ rs) e rest =
         let both : id ∷ ids ≡ r.id ∷ map (λ (x : Unanswered). x.id) rs = is ∙ ap (λ (xs : List Unanswered). map (λ (x : Unanswered). x.id) xs) e in
@@ -177,12 +177,12 @@ in_turn mode port (id ∷ ids) book order is = go (due_of mode port book) refl (
         let due = (due_member mode port book r own).0 here in
         let later : Ordered (r ∷ rs) = subst (λ (xs : List Unanswered). Ordered xs) e (ordered_filter (due_test mode port book) book (ordered_from book order)) in
         let left : due_of mode port (with_issued r.id book) ≡ rs =
-        due_after_issue mode port book r order due own
-        ∙ (ap (with_none r.id) e
-        ∙ (cond-false (not (r.id.0 == r.id.0)) (r ∷ with_none r.id rs) (with_none r.id rs) (ap not (eq-eqb r.id.0 r.id.0 refl))
+        law_due_after_issue mode port book r order due own
+        ∙ (ap (without_request r.id) e
+        ∙ (cond-false (not (r.id.0 == r.id.0)) (r ∷ without_request r.id rs) (without_request r.id rs) (ap not (eq-eqb r.id.0 r.id.0 refl))
         ∙ none_dropped r.id rs (λ x h. apart x (later.0 x h) (x.id.0 == r.id.0) refl))) in (
           (r, sym first, own, due),
-          subst (λ (i : RequestId). AreDueInTurn mode port ids (with_issued i book)) (sym first)
+          subst (λ (i : RequestId). AreAllDueInOrder mode port ids (with_issued i book)) (sym first)
               (rest (with_issued r.id book) (order_stays r.id book order) (others ∙ sym (ap (λ (xs : List Unanswered). map (λ (x : Unanswered). x.id) xs) left))),
         )
       where
@@ -229,18 +229,18 @@ count_own s p q none same (x ∷ xs) = go (s x) refl (count_own s p q none same 
         let there : count_by q (cond (s x) (x ∷ filter s xs) (filter s xs)) ≡ count_by q (filter s xs) = ap (count_by q) (cond-false (s x) (x ∷ filter s xs) (filter s xs) e) in
         omega (arith, rest, here, there, count_cons p x xs)
 
-module _ (mode : Mode) (port : Port) (book : List Unanswered) where
+module _ (mode : QueueMode) (port : Port) (book : List Unanswered) where
   abbrev own : Unanswered → Bool
   own x = x.port.0 == port.0
 
   clear_own : (r : Unanswered) → r.port ≡ port → is_clear mode book r ≡ is_clear mode (of_port port book) r
   clear_own r its = ap (λ (b : Bool). not r.issued && not b)
-      (any_own own (holds_back mode r) (λ x other. and_left _ _ (ap (λ (p : Port). x.port.0 == p.0) its ∙ other)) book)
+      (any_own own (waits_for mode r) (λ x other. and_left _ _ (ap (λ (p : Port). x.port.0 == p.0) its ∙ other)) book)
 
   ahead_own : (r : Unanswered) → r.port ≡ port → ahead mode book r ≡ ahead mode (of_port port book) r
-  ahead_own r its = count_own own (λ o. is_earlier o r && is_clear mode book o) (λ o. is_earlier o r && is_clear mode (of_port port book) o)
+  ahead_own r its = count_own own (λ o. is_earlier_on_port o r && is_clear mode book o) (λ o. is_earlier_on_port o r && is_clear mode (of_port port book) o)
       (λ x other. and_left _ _ (and_left _ _ (ap (λ (p : Port). x.port.0 == p.0) its ∙ other)))
-      (λ x mine. ap (λ (b : Bool). is_earlier x r && b) (clear_own x (same_port x.port port (eqb-true x.port.0 port.0 mine))))
+      (λ x mine. ap (λ (b : Bool). is_earlier_on_port x r && b) (clear_own x (same_port x.port port (eqb-true x.port.0 port.0 mine))))
       book
 
   issued_own : issued_count book port ≡ issued_count (of_port port book) port
@@ -257,10 +257,10 @@ module _ (mode : Mode) (port : Port) (book : List Unanswered) where
   due_of_own : due_of mode port book ≡ filter (is_due mode (of_port port book)) (of_port port book)
   due_of_own = filter_both own (is_due mode book) (is_due mode (of_port port book)) (λ x mine. due_is_own x (same_port x.port port (eqb-true x.port.0 port.0 mine))) book
 
-pub due_of_same : (mode : Mode) (port : Port) (book other : List Unanswered) → of_port port book ≡ of_port port other → due_of mode port book ≡ due_of mode port other
+pub due_of_same : (mode : QueueMode) (port : Port) (book other : List Unanswered) → of_port port book ≡ of_port port other → due_of mode port book ≡ due_of mode port other
 due_of_same mode port book other same = due_of_own mode port book ∙ (ap (λ (xs : List Unanswered). filter (is_due mode xs) xs) same ∙ sym (due_of_own mode port other))
 
-pub due_same : (mode : Mode) (port : Port) (book other : List Unanswered) (r : Unanswered) → of_port port book ≡ of_port port other → r.port ≡ port → IsDue mode book r ↔ IsDue mode other r
+pub due_same : (mode : QueueMode) (port : Port) (book other : List Unanswered) (r : Unanswered) → of_port port book ≡ of_port port other → r.port ≡ port → IsDue mode book r ↔ IsDue mode other r
 due_same mode port book other r same its =
     let a = due_member mode port book r its in
     let b = due_member mode port other r its in
@@ -317,5 +317,5 @@ module _ (port : Port) (book : List Unanswered) (e : Unanswered) (order : IsInOr
       keeps x true t = ap (λ (y : Unanswered). y.port.0 == port.0) (cond-true (x.id.0 == e.id.0) (record x { issued = false }) x t)
       keeps x false t = ap (λ (y : Unanswered). y.port.0 == port.0) (cond-false (x.id.0 == e.id.0) (record x { issued = false }) x t)
 
-  pub gone_elsewhere : of_port port (with_none e.id book) ≡ of_port port book
+  pub gone_elsewhere : of_port port (without_request e.id book) ≡ of_port port book
   gone_elsewhere = filter_swap (λ x. x.port.0 == port.0) (λ x. not (x.id.0 == e.id.0)) book (λ x h mine. ap not (apart x h mine))

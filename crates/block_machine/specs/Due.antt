@@ -8,7 +8,7 @@ use Rattle.ata_types.specs.declared.request.Op.{Op}
 use Rattle.ata_types.specs.declared.request.Op.TheVariants.{Write, Trim, Flush}
 use Rattle.ata_types.specs.declared.request.RequestId.{RequestId}
 use Rattle.ata_types.specs.Range.{range_end}
-use Rattle.block_machine.specs.declared.due.Mode.{Mode}
+use Rattle.block_machine.specs.declared.due.QueueMode.{QueueMode}
 use Rattle.block_machine.specs.declared.due.Unanswered.{Unanswered}
 
 -- the operation is a flush
@@ -28,64 +28,64 @@ overlap a b = (nat_lt a.first.0 (range_end b) && nat_lt b.first.0 (range_end a))
     (nat_lt 0 a.count && nat_lt 0 b.count)
 
 -- two requests of one port conflict if one is a flush, or if one of them writes or trims and their ranges overlap
-abbrev pub conflict : Unanswered → Unanswered → Bool
-conflict a b = a.port.0 == b.port.0
+abbrev pub must_keep_order : Unanswered → Unanswered → Bool
+must_keep_order a b = a.port.0 == b.port.0
     && ((is_flush a.op || is_flush b.op) || ((is_writer a.op || is_writer b.op) && overlap a.range b.range))
 
 -- trims and flushes are plain, and so are reads and writes where commands aren't queued
-abbrev pub is_plain : Mode → Op → Bool
+abbrev pub is_plain : QueueMode → Op → Bool
 is_plain mode Trim = true
 is_plain mode Flush = true
 is_plain mode _ = not mode.queued
 
 -- the one was accepted before the other, on the same port
-abbrev pub is_earlier : Unanswered → Unanswered → Bool
-is_earlier a b = a.port.0 == b.port.0 && nat_lt a.id.0 b.id.0
+abbrev pub is_earlier_on_port : Unanswered → Unanswered → Bool
+is_earlier_on_port a b = a.port.0 == b.port.0 && nat_lt a.id.0 b.id.0
 
 -- A request stands in the way of r. A plain r waits for each issued and each earlier one of its port.
 -- A queued r waits for the plain ones, issued or earlier, and for earlier ones that conflict with it.
-abbrev pub holds_back : Mode → Unanswered → Unanswered → Bool
-holds_back mode r other =
+abbrev pub waits_for : QueueMode → Unanswered → Unanswered → Bool
+waits_for mode r other =
     other.port.0 == r.port.0
     && (if is_plain mode r.op
     then other.issued || nat_lt other.id.0 r.id.0
     else (is_plain mode other.op && other.issued)
-    || (nat_lt other.id.0 r.id.0 && (is_plain mode other.op || conflict other r)))
+    || (nat_lt other.id.0 r.id.0 && (is_plain mode other.op || must_keep_order other r)))
 
 -- it waits, and nothing stands in its way
-abbrev pub is_clear : Mode → List Unanswered → Unanswered → Bool
-is_clear mode book r = not r.issued && not (list_any (holds_back mode r) book)
+abbrev pub is_clear : QueueMode → List Unanswered → Unanswered → Bool
+is_clear mode book r = not r.issued && not (list_any (waits_for mode r) book)
 
 -- how many earlier ones of its port are clear to go
-abbrev pub ahead : Mode → List Unanswered → Unanswered → ℕ
-ahead mode book r = count_by (λ other. is_earlier other r && is_clear mode book other) book
+abbrev pub ahead : QueueMode → List Unanswered → Unanswered → ℕ
+ahead mode book r = count_by (λ other. is_earlier_on_port other r && is_clear mode book other) book
 
 -- how many requests of the port are issued: each has a slot
 abbrev pub issued_count : List Unanswered → Port → ℕ
 issued_count book port = count_by (λ other. other.port.0 == port.0 && other.issued) book
 
 -- how many usable slots of the port are free
-abbrev pub free_slots : Mode → List Unanswered → Port → ℕ
+abbrev pub free_slots : QueueMode → List Unanswered → Port → ℕ
 free_slots mode book port = mode.usable - issued_count book port
 
 -- The request is due: it is clear to go, and a slot is left for it after the earlier ones that go.
 -- (A plain one goes alone, so its slot is free.)
-pub record IsDue (mode : Mode) (book : List Unanswered) (r : Unanswered) : Type 0 where
+pub record IsDue (mode : QueueMode) (book : List Unanswered) (r : Unanswered) : Type 0 where
   pub here : Contains book r
   pub clear : is_clear mode book r ≡ true
   pub slot : is_plain mode r.op ≡ false → ahead mode book r < free_slots mode book r.port
 
 -- `IsDue` of a request of the book, as a test
-abbrev pub is_due : Mode → List Unanswered → Unanswered → Bool
+abbrev pub is_due : QueueMode → List Unanswered → Unanswered → Bool
 is_due mode book r = is_clear mode book r &&
     (is_plain mode r.op || nat_lt (ahead mode book r) (free_slots mode book r.port))
 
--- how many earlier ones of its port are due: law `slots_by_due` says that a slot is left after these too
-abbrev pub due_ahead : Mode → List Unanswered → Unanswered → ℕ
-due_ahead mode book r = count_by (λ other. is_earlier other r && is_due mode book other) book
+-- how many earlier ones of its port are due: `law_slots_by_due` says that a slot is left after these too
+abbrev pub due_ahead : QueueMode → List Unanswered → Unanswered → ℕ
+due_ahead mode book r = count_by (λ other. is_earlier_on_port other r && is_due mode book other) book
 
 -- no request of the port is due
-abbrev pub NoneDue : Mode → List Unanswered → Port → Type 0
+abbrev pub NoneDue : QueueMode → List Unanswered → Port → Type 0
 NoneDue mode book port = (r : Unanswered) → r.port ≡ port → IsDue mode book r → ⊥
 
 -- the book is in order of acceptance
@@ -109,20 +109,20 @@ abbrev pub with_waiting : RequestId → List Unanswered → List Unanswered
 with_waiting id book = map (mark_waiting id) book
 
 -- the book without the request of this id
-abbrev pub with_none : RequestId → List Unanswered → List Unanswered
-with_none id book = filter (λ r. not (r.id.0 == id.0)) book
+abbrev pub without_request : RequestId → List Unanswered → List Unanswered
+without_request id book = filter (λ r. not (r.id.0 == id.0)) book
 
 -- the requests of the port
 abbrev pub of_port : Port → List Unanswered → List Unanswered
 of_port port book = filter (λ r. r.port.0 == port.0) book
 
 -- the requests of the port that are due, in order of acceptance
-abbrev pub due_of : Mode → Port → List Unanswered → List Unanswered
+abbrev pub due_of : QueueMode → Port → List Unanswered → List Unanswered
 due_of mode port book = filter (λ r. r.port.0 == port.0 && is_due mode book r) book
 
 -- each of these is due on the port once those before it were issued; and once all were, none is
-abbrev pub AreDueInTurn : Mode → Port → List RequestId → List Unanswered → Type 0
-AreDueInTurn mode port [] book = NoneDue mode book port
-AreDueInTurn mode port (id ∷ ids) book =
+abbrev pub AreAllDueInOrder : QueueMode → Port → List RequestId → List Unanswered → Type 0
+AreAllDueInOrder mode port [] book = NoneDue mode book port
+AreAllDueInOrder mode port (id ∷ ids) book =
     ((r : Unanswered) × (r.id ≡ id) × (r.port ≡ port) × IsDue mode book r)
-    × AreDueInTurn mode port ids (with_issued id book)
+    × AreAllDueInOrder mode port ids (with_issued id book)

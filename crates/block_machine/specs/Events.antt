@@ -24,7 +24,7 @@ use Rattle.block_machine.specs.Steps.{Step, Accept, Issue, Touch, End, Age, Agai
 use Rattle.block_machine.specs.Left.{after, IsStart, HoldsLeft}
 
 -- machine and ports between two calls
-pub record Moment : Type 0 where
+pub record AbstractState : Type 0 where
   pub machine : Machine
   pub ports : Ports
 
@@ -42,24 +42,24 @@ pub data Ask (D : Type 0) : Type 0 where
   Device : D → Ask D
 
 -- what it says
-pub data Said : Type 0 where
-  Submitted : Result RequestId Refusal → Said
+pub data CallResult : Type 0 where
+  Submitted : Result RequestId Refusal → CallResult
   -- none: it was stored
-  Stored : Option MemFault → Said
-  Loaded : Result (List ℕ) MemFault → Said
+  Stored : Option MemFault → CallResult
+  Loaded : Result (List ℕ) MemFault → CallResult
   -- of `Service` and `Tick`
-  Served : List Reply → Said
+  Served : List Reply → CallResult
   -- none: the adapter didn't end its reset
-  WasReset : Option (List Reply) → Said
+  WasReset : Option (List Reply) → CallResult
   -- none: there is no such grant
-  WasRevoked : Option (List Reply) → Said
-  Shown : PortState → Said
-  Stepped : Bool → Said
+  WasRevoked : Option (List Reply) → CallResult
+  Shown : PortState → CallResult
+  Stepped : Bool → CallResult
 
 -- a call: what it asked, what it said, the evidence, its steps, and what the ports are at its end
-pub record Event (D : Type 0) : Type 0 where
+pub record CallRecord (D : Type 0) : Type 0 where
   pub ask : Ask D
-  pub said : Said
+  pub said : CallResult
   pub evidence : Evidence
   pub steps : List Step
   pub ports : Ports
@@ -70,55 +70,55 @@ AllMay old [] = Unit {0}
 AllMay old (step ∷ before) = AllMay old before × May (after old before) step
 
 -- the step is the device's own: it may come in each call
-abbrev pub IsDevices : Step → Type 0
-IsDevices (Touch e i block) = Unit {0}
-IsDevices (End e) = Unit {0}
-IsDevices (Unplug port) = Unit {0}
-IsDevices (Replace port id size disk) = Unit {0}
-IsDevices _ = ⊥
+abbrev pub IsByDevice : Step → Type 0
+IsByDevice (Touch e i block) = Unit {0}
+IsByDevice (End e) = Unit {0}
+IsByDevice (Unplug port) = Unit {0}
+IsByDevice (Replace port id size disk) = Unit {0}
+IsByDevice _ = ⊥
 
 -- what a restart, or a reset, tells of a request that isn't done
-abbrev pub GivesUp : Outcome → Type 0
-GivesUp outcome.Aborted = Unit {0}
-GivesUp outcome.Unplugged = Unit {0}
-GivesUp outcome.PortDead = Unit {0}
-GivesUp outcome.Revoked = Unit {0}
-GivesUp _ = ⊥
+abbrev pub EndsUndone : Outcome → Type 0
+EndsUndone outcome.Aborted = Unit {0}
+EndsUndone outcome.Unplugged = Unit {0}
+EndsUndone outcome.PortDead = Unit {0}
+EndsUndone outcome.Revoked = Unit {0}
+EndsUndone _ = ⊥
 
 -- The step is one that the server makes in a call that asks this. Requests are issued, or wait again, on ports that are
 -- ready at its end, and are issued in the mode that the port has then. A tick tells no fault, a reset tells neither
 -- faults nor that something was done, and a revocation answers Revoked alone.
-abbrev pub IsServers : {D : Type 0} → Ask D → Ports → Step → Type 0
-IsServers (Submit r) ports (Accept new) = new.asked ≡ r
-IsServers (Submit r) ports (Issue mode e) = (ports.state e.request.port ≡ Ready) × (ports.mode e.request.port ≡ mode)
-IsServers (StoreAt client frame at bytes) ports (Store c f o b) = (c ≡ client) × (f ≡ frame) × (o ≡ at) × (b ≡ bytes)
-IsServers (LoadAt client frame at n) ports (Load c f o b) = (c ≡ client) × (f ≡ frame) × (o ≡ at) × (length b ≡ n)
-IsServers Service ports (Issue mode e) = (ports.state e.request.port ≡ Ready) × (ports.mode e.request.port ≡ mode)
-IsServers Service ports (Again e) = ports.state e.request.port ≡ Ready
-IsServers Service ports (Answer e o) = Unit {0}
-IsServers Tick ports (Age ready) = Unit {0}
-IsServers Tick ports (Issue mode e) = (ports.state e.request.port ≡ Ready) × (ports.mode e.request.port ≡ mode)
-IsServers Tick ports (Again e) = ports.state e.request.port ≡ Ready
-IsServers Tick ports (Answer e o) = GivesUp o ⊎ (o ≡ outcome.Ok)
-IsServers Reset ports Release = Unit {0}
-IsServers Reset ports (Issue mode e) = (ports.state e.request.port ≡ Ready) × (ports.mode e.request.port ≡ mode)
-IsServers Reset ports (Again e) = ports.state e.request.port ≡ Ready
-IsServers Reset ports (Answer e o) = GivesUp o
-IsServers (RevokeOf client number) ports (Revoke c n) = (c ≡ client) × (n ≡ number)
-IsServers (RevokeOf client number) ports (Answer e o) = o ≡ outcome.Revoked
-IsServers (RevokeOf client number) ports (Issue mode e) = (ports.state e.request.port ≡ Ready)
+abbrev pub IsByServer : {D : Type 0} → Ask D → Ports → Step → Type 0
+IsByServer (Submit r) ports (Accept new) = new.asked ≡ r
+IsByServer (Submit r) ports (Issue mode e) = (ports.state e.request.port ≡ Ready) × (ports.mode e.request.port ≡ mode)
+IsByServer (StoreAt client frame at bytes) ports (Store c f o b) = (c ≡ client) × (f ≡ frame) × (o ≡ at) × (b ≡ bytes)
+IsByServer (LoadAt client frame at n) ports (Load c f o b) = (c ≡ client) × (f ≡ frame) × (o ≡ at) × (length b ≡ n)
+IsByServer Service ports (Issue mode e) = (ports.state e.request.port ≡ Ready) × (ports.mode e.request.port ≡ mode)
+IsByServer Service ports (Again e) = ports.state e.request.port ≡ Ready
+IsByServer Service ports (Answer e o) = Unit {0}
+IsByServer Tick ports (Age ready) = Unit {0}
+IsByServer Tick ports (Issue mode e) = (ports.state e.request.port ≡ Ready) × (ports.mode e.request.port ≡ mode)
+IsByServer Tick ports (Again e) = ports.state e.request.port ≡ Ready
+IsByServer Tick ports (Answer e o) = EndsUndone o ⊎ (o ≡ outcome.Ok)
+IsByServer Reset ports Release = Unit {0}
+IsByServer Reset ports (Issue mode e) = (ports.state e.request.port ≡ Ready) × (ports.mode e.request.port ≡ mode)
+IsByServer Reset ports (Again e) = ports.state e.request.port ≡ Ready
+IsByServer Reset ports (Answer e o) = EndsUndone o
+IsByServer (RevokeOf client number) ports (Revoke c n) = (c ≡ client) × (n ≡ number)
+IsByServer (RevokeOf client number) ports (Answer e o) = o ≡ outcome.Revoked
+IsByServer (RevokeOf client number) ports (Issue mode e) = (ports.state e.request.port ≡ Ready)
     × (ports.mode e.request.port ≡ mode)
-IsServers ask ports step = ⊥
+IsByServer ask ports step = ⊥
 
 -- each step is the device's, or one of such a call
 abbrev pub Belong : {D : Type 0} → Ask D → Ports → List Step → Type 0
 Belong ask ports [] = Unit {0}
-Belong ask ports (step ∷ before) = Belong ask ports before × (IsDevices step ⊎ IsServers ask ports step)
+Belong ask ports (step ∷ before) = Belong ask ports before × (IsByDevice step ⊎ IsByServer ask ports step)
 
 -- all steps are the device's
 abbrev pub AllDevices : List Step → Type 0
 AllDevices [] = Unit {0}
-AllDevices (step ∷ before) = AllDevices before × IsDevices step
+AllDevices (step ∷ before) = AllDevices before × IsByDevice step
 
 -- the requests that the steps accept
 abbrev pub accepts_of : List Step → List Accepted
@@ -190,7 +190,7 @@ pub record WasIssued (m : Machine) (id : RequestId) : Type 0 where
 
 -- the port stopped in the call, and is ready after it with the disk that it had: a request of it that isn't done goes
 -- again
-abbrev pub IsReadyAgain : Moment → Evidence → Ports → Port → Type 0
+abbrev pub IsReadyAgain : AbstractState → Evidence → Ports → Port → Type 0
 IsReadyAgain old evidence ports port = (ports.state port ≡ Ready) × Contains evidence.stopped port
     × SameDisk old.ports ports port
 
@@ -200,8 +200,8 @@ IsReadyAgain old evidence ports port = (ports.state port ≡ Ready) × Contains 
 -- Revoked is told of a request that isn't issued, or where it would go again. An issued request's frames are given back
 -- only where it ended or its port stopped: else they may still be written. And PortDead leaves the port dead. (So it
 -- was when the call began, or it got stuck in the call: that follows from what the calls make of ports, by law
--- `dead_ports_were_stuck`. That a request is told Revoked only once its grant was revoked, `IsTellable` says.)
-abbrev pub IsLawful : Moment → Evidence → Ports → Pending → Outcome → Type 0
+-- `law_dead_ports_were_stuck`. That a request is told Revoked only once its grant was revoked, `IsTellable` says.)
+abbrev pub IsLawful : AbstractState → Evidence → Ports → Pending → Outcome → Type 0
 IsLawful old evidence ports e outcome.Ok = WasIssued old.machine e.request.id × (e.issued ≡ true) × AllTouched e
     × (e.ended ≡ true)
 IsLawful old evidence ports e (outcome.DeviceError status error) = WasIssued old.machine e.request.id
@@ -216,7 +216,7 @@ IsLawful old evidence ports e outcome.Revoked = (e.issued ≡ false) ⊎ IsReady
 
 -- Each answer of the call is lawful, with these ports at its end. And a request waits again only where its port
 -- stopped: else its command may still move.
-abbrev pub AllLawful : Moment → Evidence → Ports → List Step → Type 0
+abbrev pub AllLawful : AbstractState → Evidence → Ports → List Step → Type 0
 AllLawful old evidence ports [] = Unit {0}
 AllLawful old evidence ports (Answer e o ∷ before) = AllLawful old evidence ports before
     × IsLawful old evidence ports e o
@@ -241,7 +241,7 @@ pub record Tells (steps : List Step) (replies : List Reply) : Type 0 where
   pub told : replies ≡ map reply_of answers
 
 -- what a request meets at a moment
-abbrev pub situation_of : Moment → Situation
+abbrev pub situation_of : AbstractState → Situation
 situation_of m = record {
   rows = m.machine.rows;
   owner = m.machine.owner;
@@ -254,22 +254,22 @@ situation_of m = record {
 }
 
 -- no request of a ready port is due
-abbrev pub AllIssued : Moment → Type 0
+abbrev pub AllIssued : AbstractState → Type 0
 AllIssued m = (port : Port) → m.ports.state port ≡ Ready → NoneDue (m.ports.mode port) (map unanswered m.machine.book)
     port
 
 -- where a port isn't ready, none of its requests is unanswered
-abbrev pub IsEmptied : Moment → Port → Type 0
+abbrev pub IsEmptied : AbstractState → Port → Type 0
 IsEmptied m port = m.ports.state port ≢ Ready → (e : Pending) → Contains m.machine.book e → e.request.port ≢ port
 
 -- a request that was unanswered when the call began, and still is, is on a port that shows serial and size as it did
 -- then
-abbrev pub KeepsDisks : Moment → Moment → Type 0
+abbrev pub KeepsDisks : AbstractState → AbstractState → Type 0
 KeepsDisks old new = (e o : Pending) → Contains new.machine.book e → Contains old.machine.book o
     → o.request.id ≡ e.request.id → SameDisk old.ports new.ports e.request.port
 
 -- a tick brings the age of an issued request of this ready port to three
-pub record IsHung (old : Moment) (port : Port) : Type 0 where
+pub record HasTimedOut (old : AbstractState) (port : Port) : Type 0 where
   pub ready : old.ports.state port ≡ Ready
   pub pending : Pending
   pub here : Contains old.machine.book pending
@@ -315,7 +315,7 @@ ShowsDisk (Unfit cause) = Unit {0}
 ShowsDisk _ = ⊥
 
 -- Where the port shows a disk after the call, it had one when the call began, or one went or came in it.
-abbrev pub HadDisk : Moment → List Step → Moment → Port → Type 0
+abbrev pub HadDisk : AbstractState → List Step → AbstractState → Port → Type 0
 HadDisk old steps new port = ShowsDisk (new.ports.state port)
     → (old.machine.present port ≡ true) ⊎ (list_any (changes_disk port) steps ≡ true)
 
@@ -330,17 +330,18 @@ pub record AgesOnce (ports : Ports) (steps : List Step) : Type 0 where
 
 -- A tick restarts each port that is hung, and no other: what had ended there is answered Ok, no request then keeps its
 -- issue, and it shows a disk only where one was in. Other ports stay what they are, and nothing is answered there.
-pub record RestartsHung (old : Moment) (evidence : Evidence) (steps : List Step) (new : Moment) : Type 0 where
-  pub ports : (port : Port) → ((IsHung old port → ⊥) × SamePort old.ports new.ports port)
-      ⊎ (IsHung old port × MayBecome old.ports evidence new.ports port)
-  pub again : (e : Pending) → Contains steps (Again e) → IsHung old e.request.port
-  pub answer : (e : Pending) (o : Outcome) → Contains steps (Answer e o) → IsHung old e.request.port
-  pub ended : (port : Port) → IsHung old port → AnswersEnded old.machine steps port
-  pub anew : (port : Port) → IsHung old port → NoneKeepsIssue steps new.machine port
-  pub interrupts : (port : Port) → IsHung old port → IsInterrupted evidence port
-  pub spares : (port : Port) → IsInterrupted evidence port → IsHung old port
+pub record RestartsTimedOut (old : AbstractState) (evidence : Evidence) (steps : List Step)
+    (new : AbstractState) : Type 0 where
+  pub ports : (port : Port) → ((HasTimedOut old port → ⊥) × SamePort old.ports new.ports port)
+      ⊎ (HasTimedOut old port × MayBecome old.ports evidence new.ports port)
+  pub again : (e : Pending) → Contains steps (Again e) → HasTimedOut old e.request.port
+  pub answer : (e : Pending) (o : Outcome) → Contains steps (Answer e o) → HasTimedOut old e.request.port
+  pub ended : (port : Port) → HasTimedOut old port → AnswersEnded old.machine steps port
+  pub anew : (port : Port) → HasTimedOut old port → NoneKeepsIssue steps new.machine port
+  pub interrupts : (port : Port) → HasTimedOut old port → IsInterrupted evidence port
+  pub spares : (port : Port) → IsInterrupted evidence port → HasTimedOut old port
   pub finds : FindsAnother steps old.ports new.ports
-  pub disk : (port : Port) → IsHung old port → HadDisk old steps new port
+  pub disk : (port : Port) → HasTimedOut old port → HadDisk old steps new port
 
 -- The kept requests' frames are given back once, before the server does anything else.
 pub record ReleasesOnce (steps : List Step) : Type 0 where
@@ -351,7 +352,7 @@ pub record ReleasesOnce (steps : List Step) : Type 0 where
   pub once : count_by is_release later ≡ 0
 
 -- a service answers the requests of a dead port PortDead
-abbrev pub TellsDead : Moment → List Step → Type 0
+abbrev pub TellsDead : AbstractState → List Step → Type 0
 TellsDead old steps = (e : Pending) (o : Outcome) → Contains steps (Answer e o) → old.ports.state e.request.port ≡ Dead
     → o ≡ outcome.PortDead
 
@@ -359,8 +360,8 @@ TellsDead old steps = (e : Pending) (o : Outcome) → Contains steps (Answer e o
 -- of that port's unanswered; it issues what is due; it leaves no request unanswered where the port isn't ready; it
 -- makes of each port what it may; and one that it changed shows a disk only where one was in. (What it makes of
 -- trouble, the crate that knows the device says.)
-pub record AnswersService (old : Moment) (evidence : Evidence) (steps : List Step) (replies : List Reply)
-    (new : Moment) : Type 0 where
+pub record AnswersService (old : AbstractState) (evidence : Evidence) (steps : List Step) (replies : List Reply)
+    (new : AbstractState) : Type 0 where
   pub tells : Tells steps replies
   pub dead : TellsDead old steps
   pub unplugs : UnplugsAll steps new.machine
@@ -370,18 +371,18 @@ pub record AnswersService (old : Moment) (evidence : Evidence) (steps : List Ste
   pub disk : (port : Port) → SamePort old.ports new.ports port ⊎ HadDisk old steps new port
 
 -- What a tick says and does.
-pub record AnswersTick (old : Moment) (evidence : Evidence) (steps : List Step) (replies : List Reply)
-    (new : Moment) : Type 0 where
+pub record AnswersTick (old : AbstractState) (evidence : Evidence) (steps : List Step) (replies : List Reply)
+    (new : AbstractState) : Type 0 where
   pub tells : Tells steps replies
   pub ages : AgesOnce old.ports steps
-  pub restarts : RestartsHung old evidence steps new
+  pub restarts : RestartsTimedOut old evidence steps new
   pub unplugs : UnplugsAll steps new.machine
   pub issues : AllIssued new
   pub emptied : (port : Port) → old.ports.state port ≡ Ready → IsEmptied new port
 
 -- What a reset that ends makes of each port: it boots it, none of its requests keeps an issue, none is unanswered where
 -- it isn't ready then, a port that is served has stopped, and one that shows a disk had it, or got it.
-pub record IsRebooted (old : Moment) (evidence : Evidence) (steps : List Step) (new : Moment)
+pub record IsRebooted (old : AbstractState) (evidence : Evidence) (steps : List Step) (new : AbstractState)
     (port : Port) : Type 0 where
   pub emptied : IsEmptied new port
   pub becomes : MayBecome old.ports evidence new.ports port
@@ -390,8 +391,8 @@ pub record IsRebooted (old : Moment) (evidence : Evidence) (steps : List Step) (
   pub disk : HadDisk old steps new port
 
 -- What a reset that ends says and does.
-pub record AnswersReset (old : Moment) (evidence : Evidence) (steps : List Step) (replies : List Reply)
-    (new : Moment) : Type 0 where
+pub record AnswersReset (old : AbstractState) (evidence : Evidence) (steps : List Step) (replies : List Reply)
+    (new : AbstractState) : Type 0 where
   pub tells : Tells steps replies
   pub releases : ReleasesOnce steps
   pub unplugs : UnplugsAll steps new.machine
@@ -402,8 +403,9 @@ pub record AnswersReset (old : Moment) (evidence : Evidence) (steps : List Step)
 -- What a revocation says and does. The row was there, and goes, and no other does. Of the unanswered requests exactly
 -- those are told Revoked that waited when the call began and were accepted under that grant. And then what is due is
 -- issued.
-pub record AnswersRevoke (client : ClientId) (number : ℕ) (old : Moment) (steps : List Step) (replies : List Reply)
-    (new : Moment) : Type 0 where
+pub record AnswersRevoke (client : ClientId) (number : ℕ) (old : AbstractState) (steps : List Step)
+    (replies : List Reply)
+    (new : AbstractState) : Type 0 where
   pub there : HasRow client number old.machine.rows
   pub rows : new.machine.rows ≡ without_row client number old.machine.rows
   pub tells : Tells steps replies
@@ -415,7 +417,8 @@ pub record AnswersRevoke (client : ClientId) (number : ℕ) (old : Moment) (step
   pub issues : AllIssued new
 
 -- What is said of a call agrees with its steps, and the call did what was asked.
-abbrev pub IsAnswered : {D : Type 0} → Ask D → Said → Moment → Evidence → List Step → Moment → Type 0
+abbrev pub IsAnswered : {D : Type 0} → Ask D → CallResult → AbstractState → Evidence → List Step → AbstractState
+    → Type 0
 IsAnswered (Submit r) (Submitted (Ok id)) old evidence steps new = IsAcceptable (situation_of old) r
     × ((a : Accepted) × (accepts_of steps ≡ a ∷ []) × (a.id ≡ id)) × SamePorts old.ports new.ports × AllIssued new
 IsAnswered (Submit r) (Submitted (Err refusal)) old evidence steps new = IsFirstRefusal (situation_of old) r refusal
@@ -450,11 +453,11 @@ IsAnswered ask said old evidence steps new = ⊥
 -- ---- events, and runs of them
 
 -- the moment after the event
-abbrev pub moment_after : {D : Type 0} → Moment → Event D → Moment
+abbrev pub moment_after : {D : Type 0} → AbstractState → CallRecord D → AbstractState
 moment_after old event = record { machine = after old.machine event.steps; ports = event.ports }
 
 -- The event may happen at the old moment.
-pub record Happens {D : Type 0} (old : Moment) (event : Event D) : Type 0 where
+pub record Happens {D : Type 0} (old : AbstractState) (event : CallRecord D) : Type 0 where
   pub may : AllMay old.machine event.steps
   pub belong : Belong event.ask event.ports event.steps
   pub last : IssuesLast event.steps
@@ -464,53 +467,53 @@ pub record Happens {D : Type 0} (old : Moment) (event : Event D) : Type 0 where
   pub answered : IsAnswered event.ask event.said old event.evidence event.steps (moment_after old event)
 
 -- the moment after a run of events
-abbrev pub moment_of : {D : Type 0} → Moment → List (Event D) → Moment
+abbrev pub moment_of : {D : Type 0} → AbstractState → List (CallRecord D) → AbstractState
 moment_of first [] = first
 moment_of first (event ∷ past) = moment_after (moment_of first past) event
 
 -- each event of the run happened at the moment that the events before it left
-abbrev pub IsRun : {D : Type 0} → Moment → List (Event D) → Type 0
+abbrev pub IsRun : {D : Type 0} → AbstractState → List (CallRecord D) → Type 0
 IsRun first [] = IsStart first.machine × AreFit first.ports
 IsRun first (event ∷ past) = IsRun first past × Happens (moment_of first past) event
 
 -- ---- what a run gives
 
 -- what a call makes of it that the adapter didn't end a reset: this is so until a service, or a reset that ends
-abbrev pub StaysStuck : {D : Type 0} → Ask D → Said → Type 0 → Type 0
+abbrev pub StaysStuck : {D : Type 0} → Ask D → CallResult → Type 0 → Type 0
 StaysStuck Reset (WasReset None) was = Unit {0}
 StaysStuck Reset said was = ⊥
 StaysStuck Service said was = ⊥
 StaysStuck ask said was = was
 
 -- a reset of the run was stuck, and no service and no reset that ends came since
-abbrev pub IsStillStuck : {D : Type 0} → List (Event D) → Type 0
+abbrev pub IsStillStuck : {D : Type 0} → List (CallRecord D) → Type 0
 IsStillStuck [] = ⊥
 IsStillStuck (event ∷ past) = StaysStuck event.ask event.said (IsStillStuck past)
 
 -- the steps of a run
-abbrev pub steps_of : {D : Type 0} → List (Event D) → List Step
+abbrev pub steps_of : {D : Type 0} → List (CallRecord D) → List Step
 steps_of [] = []
 steps_of (event ∷ past) = event.steps ++ steps_of past
 
 -- the replies that a call gives
-abbrev pub replies_of : Said → List Reply
+abbrev pub replies_of : CallResult → List Reply
 replies_of (Served replies) = replies
 replies_of (WasReset (Some replies)) = replies
 replies_of (WasRevoked (Some replies)) = replies
 replies_of said = []
 
 -- the replies of a run
-abbrev pub all_replies : {D : Type 0} → List (Event D) → List Reply
+abbrev pub all_replies : {D : Type 0} → List (CallRecord D) → List Reply
 all_replies [] = []
 all_replies (event ∷ past) = replies_of event.said ++ all_replies past
 
 -- the call accepts a request under this id
-abbrev pub gives_id : RequestId → Said → Bool
+abbrev pub gives_id : RequestId → CallResult → Bool
 gives_id id (Submitted (Ok given)) = given.0 == id.0
 gives_id id said = false
 
 -- a submit of this client was answered with this id in the run
-abbrev pub WasGiven : {D : Type 0} → RequestId → ClientId → List (Event D) → Type 0
+abbrev pub WasGiven : {D : Type 0} → RequestId → ClientId → List (CallRecord D) → Type 0
 WasGiven id client [] = ⊥
 WasGiven id client (event ∷ past) =
     ((r : Request) × (event.ask ≡ Submit r) × (event.said ≡ Submitted (Ok id)) × (r.client ≡ client))
@@ -528,7 +531,7 @@ AnswersHold start memory past (step ∷ before) =
     AnswersHold start memory past before × AnswerHolds start memory (before ++ past) step
 
 -- Each read of the run that was answered Ok has, at the end of the call that answered it, what is left.
-abbrev pub EveryReadHolds : {D : Type 0} → Moment → List (Event D) → Type 0
+abbrev pub EveryReadHolds : {D : Type 0} → AbstractState → List (CallRecord D) → Type 0
 EveryReadHolds first [] = Unit {0}
 EveryReadHolds first (event ∷ past) = EveryReadHolds first past
     × AnswersHold first.machine (moment_of first (event ∷ past)).machine.memory (steps_of past) event.steps

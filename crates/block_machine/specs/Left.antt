@@ -10,7 +10,7 @@ use Rattle.ata_types.specs.declared.grant.GrantRow.{GrantRow}
 use Rattle.ata_types.specs.declared.memory.TheConstants.{DRIVER_FRAMES, MOST_FRAMES}
 use Rattle.block_machine.specs.Rules.{DifferInName}
 use Rattle.block_machine.specs.Due.{is_writer}
-use Rattle.block_machine.specs.State.{Block, Disk, Memory, Accepted, Machine, block_of, sector_of, written_by}
+use Rattle.block_machine.specs.State.{Block, DiskBytes, Memory, Accepted, Machine, block_of, sector_of, written_by}
 use Rattle.block_machine.specs.Steps.{Step, Accept, Issue, Touch, End, Replace, May, HasHeld, after_step}
 
 -- the machine after a history of steps
@@ -52,9 +52,9 @@ plugs port (Replace p id size disk) = p.0 == port.0
 plugs port _ = false
 
 -- what the disk holds that the step puts in
-abbrev pub disk_of : Step → Disk
-disk_of (Replace p id size disk) = disk
-disk_of _ = λ k b. 0
+abbrev pub disk_put_in : Step → DiskBytes
+disk_put_in (Replace p id size disk) = disk
+disk_put_in _ = λ k b. 0
 
 -- How many disks were put in at the port. Disk number n of the port is the one that was put in n-th; the one that was
 -- there at the start has number 0. One that is put in again counts as another.
@@ -63,10 +63,11 @@ plug_count port [] = 0
 plug_count port (step ∷ past) = if plugs port step then suc (plug_count port past) else plug_count port past
 
 -- what disk number n of the port held when it was put in
-abbrev pub bytes_when_plugged : Machine → Port → ℕ → List Step → Disk
+abbrev pub bytes_when_plugged : Machine → Port → ℕ → List Step → DiskBytes
 bytes_when_plugged start port n [] = start.disks port
 bytes_when_plugged start port n (step ∷ past) =
-    if plugs port step && suc (plug_count port past) == n then disk_of step else bytes_when_plugged start port n past
+    if plugs port step && suc (plug_count port past) == n then disk_put_in step
+    else bytes_when_plugged start port n past
 
 -- the step accepts the request
 abbrev pub IsAccept : Step → Accepted → Type 0

@@ -4,7 +4,7 @@ use Rattle.ata_types.specs.declared.Port.{Port}
 use Rattle.ata_types.specs.declared.PortState.{PortState}
 use Rattle.ata_types.specs.declared.PortState.TheVariants.{Absent, Ready, Unfit, Dead}
 use Rattle.ata_types.specs.declared.request.RequestId.{RequestId}
-use Rattle.block_machine.specs.declared.due.Mode.{Mode}
+use Rattle.block_machine.specs.declared.due.QueueMode.{QueueMode}
 
 -- What the ports are. Serial and sectors are those of the disk that the port is ready with, or was last ready with; the
 -- two last things are known of a ready port alone.
@@ -17,10 +17,10 @@ pub record Ports : Type 0 where
   pub sectors : Port → ℕ
   -- whether it promises zeros after a trim, and how the port takes commands with it
   pub trims : Port → Bool
-  pub mode : Port → Mode
+  pub mode : Port → QueueMode
 
 -- a port has 1 to 32 usable slots, and one where commands aren't queued
-abbrev pub IsMode : Mode → Type 0
+abbrev pub IsMode : QueueMode → Type 0
 IsMode mode = (1 ≤ mode.usable) × (mode.usable ≤ 32) × (mode.queued ≡ false → mode.usable ≡ 1)
 
 -- What ports are between any two calls: at most four are served, and there are nine causes to be unfit. (A mode is
@@ -46,7 +46,7 @@ abbrev pub SameDisk : Ports → Ports → Port → Type 0
 SameDisk old new port = (new.serial port ≡ old.serial port) × (new.sectors port ≡ old.sectors port)
 
 -- a fault that the device told of a request: the two bytes of the task file
-pub record Fault : Type 0 where
+pub record RequestFault : Type 0 where
   pub id : RequestId
   pub status : ℕ
   pub error : ℕ
@@ -65,7 +65,7 @@ pub record Fault : Type 0 where
 -- `faults` and `lost` may leave some out; the others name each port that the layer claims to heed, where they apply to
 -- it.
 pub record Evidence : Type 0 where
-  pub faults : List Fault
+  pub faults : List RequestFault
   pub lost : List Port
   pub gone : List Port
   pub failed : List Port

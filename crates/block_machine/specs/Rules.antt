@@ -17,7 +17,7 @@ use Rattle.ata_types.specs.declared.refusal.Refusal.TheVariants as refused
 use Rattle.ata_types.specs.Grant.{Allows, Covers}
 use Rattle.ata_types.specs.declared.limits.TheConstants.{MOST_REQUEST_SECTORS}
 
--- a client's number is the one of this grant, which is known by its client and number
+-- both pairs of a client and a grant's number are the same
 abbrev pub IsUnder : ClientId → ℕ → ClientId → ℕ → Type 0
 IsUnder client number its_client its_number = (its_client ≡ client) × (its_number ≡ number)
 
@@ -46,11 +46,11 @@ abbrev pub without_row : ClientId → ℕ → List GrantRow → List GrantRow
 without_row client number rows = filter (λ row. not (is_under client number row.client row.number)) rows
 
 -- the operation may have so many sectors
-abbrev pub IsCount : Op → ℕ → Type 0
-IsCount Read n = (1 ≤ n) × (n ≤ MOST_REQUEST_SECTORS)
-IsCount Write n = (1 ≤ n) × (n ≤ MOST_REQUEST_SECTORS)
-IsCount Trim n = (1 ≤ n) × (n ≤ 4194240)
-IsCount Flush n = n ≡ 0
+abbrev pub IsAllowedCount : Op → ℕ → Type 0
+IsAllowedCount Read n = (1 ≤ n) × (n ≤ MOST_REQUEST_SECTORS)
+IsAllowedCount Write n = (1 ≤ n) × (n ≤ MOST_REQUEST_SECTORS)
+IsAllowedCount Trim n = (1 ≤ n) × (n ≤ 4194240)
+IsAllowedCount Flush n = n ≡ 0
 
 -- how many frames the operation has for so many sectors: one for eight, rounded up, where bytes are moved
 abbrev pub frames_for : Op → ℕ → ℕ
@@ -81,7 +81,7 @@ HasFault owner lent client frames (FrameLent i) = IsLentAt lent frames i
 abbrev pub Breaks : List GrantRow → (Frame → Option ClientId) → (Frame → Option RequestId) → Request → Rule → Type 0
 Breaks rows owner lent r NoGrant = (row : GrantRow) → IsNamed rows r row → ⊥
 Breaks rows owner lent r NoRight = (row : GrantRow) × IsNamed rows r row × (Allows row.rights r.op → ⊥)
-Breaks rows owner lent r BadCount = IsCount r.op r.count → ⊥
+Breaks rows owner lent r BadCount = IsAllowedCount r.op r.count → ⊥
 Breaks rows owner lent r OutsideGrant = (r.op ≢ Flush)
     × ((row : GrantRow) × IsNamed rows r row × (Covers row r.first.0 r.count → ⊥))
 Breaks rows owner lent r FrameCount = length r.frames.items ≢ frames_for r.op r.count

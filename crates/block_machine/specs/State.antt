@@ -16,8 +16,8 @@ abbrev pub Block : Type 0
 Block = ℕ → ℕ
 
 -- what a disk holds, by sector
-abbrev pub Disk : Type 0
-Disk = ℕ → Block
+abbrev pub DiskBytes : Type 0
+DiskBytes = ℕ → Block
 
 -- the bytes of the client frames, by frame and place
 abbrev pub Memory : Type 0
@@ -78,7 +78,7 @@ pub record Machine : Type 0 where
   pub present : Port → Bool
   pub disk_ids : Port → ℕ
   pub sizes : Port → ℕ
-  pub disks : Port → Disk
+  pub disks : Port → DiskBytes
   -- by port and sector, what that disk held there before, since a flush was last ended on it, or, if none was, since it
   -- was first in
   pub aside : Port → ℕ → List Block

@@ -9,18 +9,18 @@ use Rattle.ata_types.specs.declared.request.Op.TheVariants.{Write}
 use Rattle.ata_types.specs.declared.request.Outcome.{Outcome}
 use Rattle.ata_types.specs.declared.request.Outcome.TheVariants.{Aborted, PortDead, Revoked}
 use Rattle.ata_types.specs.declared.grant.GrantRow.{GrantRow}
-use Rattle.block_machine.specs.declared.due.Mode.{Mode}
+use Rattle.block_machine.specs.declared.due.QueueMode.{QueueMode}
 use Rattle.block_machine.specs.Rules.{IsNamed, BreaksNone, HasRow, without_row}
 use Rattle.block_machine.specs.Refusals.{IsOpen}
 use Rattle.block_machine.specs.Due.{IsDue, is_flush, is_writer}
-use Rattle.block_machine.specs.State.{Block, Disk, Memory, Accepted, Pending, Machine, block_of, frame_at, sector_of, unanswered, is_reader, written_by}
+use Rattle.block_machine.specs.State.{Block, DiskBytes, Memory, Accepted, Pending, Machine, block_of, frame_at, sector_of, unanswered, is_reader, written_by}
 
 -- A step. A pending request in it is the one that the step finds.
 pub data Step : Type 0 where
   -- a request goes into the book, and its frames are lent to it
   Accept : Accepted → Step
   -- a due request is issued, on a port that takes commands in this mode
-  Issue : Mode → Pending → Step
+  Issue : QueueMode → Pending → Step
   -- one sector of a request is moved or cleared: its number in the request, and the bytes that were moved
   Touch : Pending → ℕ → Block → Step
   -- a request with all its sectors touched is ended
@@ -36,7 +36,7 @@ pub data Step : Type 0 where
   Release : Step
   -- a disk is taken out; a disk is put in: which one, its sectors' number, and their bytes
   Unplug : Port → Step
-  Replace : Port → ℕ → ℕ → Disk → Step
+  Replace : Port → ℕ → ℕ → DiskBytes → Step
   -- a client stores bytes into its frame from an offset on, or is told them
   Store : ClientId → Frame → ℕ → List ℕ → Step
   Load : ClientId → Frame → ℕ → List ℕ → Step
@@ -54,8 +54,8 @@ abbrev pub newly_accepted : Accepted → Pending
 newly_accepted r = record { request = r; issues = 0; age = 0; issued = false; touched = λ _. false; ended = false }
 
 -- the request issued once more: nothing touched, not ended, of age 0
-abbrev pub issue : Pending → Pending
-issue e = record e { issues = suc e.issues; age = 0; issued = true; touched = λ _. false; ended = false }
+abbrev pub newly_issued : Pending → Pending
+newly_issued e = record e { issues = suc e.issues; age = 0; issued = true; touched = λ _. false; ended = false }
 
 -- sector number i touched too
 abbrev pub touch : ℕ → Pending → Pending
@@ -91,7 +91,7 @@ abbrev pub unlend_all : List Pending → (Frame → Option RequestId) → Frame 
 unlend_all kept lent f = if list_any (λ e. is_lent_to e.request.id (lent f)) kept then None else lent f
 
 -- a sector of a port's disk overwritten
-abbrev pub put_sector : Port → ℕ → Block → (Port → Disk) → Port → Disk
+abbrev pub put_sector : Port → ℕ → Block → (Port → DiskBytes) → Port → DiskBytes
 put_sector port k block disks p s = if p.0 == port.0 && s == k then block else disks p s
 
 -- n bytes of a frame overwritten, from an offset on
@@ -100,12 +100,12 @@ put_bytes frame offset n bytes memory f b =
     if f.0 == frame.0 && (nat_le offset b && nat_lt b (offset + n)) then bytes (b - offset) else memory f b
 
 -- what a touch of sector number i leaves on the disks: a writer's own bytes, or zeros
-abbrev pub disks_after : Accepted → ℕ → (Port → Disk) → Port → Disk
+abbrev pub disks_after : Accepted → ℕ → (Port → DiskBytes) → Port → DiskBytes
 disks_after r i disks =
     if is_writer r.asked.op then put_sector r.port (sector_of r i) (written_by r.asked.op r.held i) disks else disks
 
 -- and what it overwrites is put aside, the newest first: a disk may lose what its cache holds
-abbrev pub put_aside : Accepted → ℕ → (Port → Disk) → (Port → ℕ → List Block) → Port → ℕ → List Block
+abbrev pub put_aside : Accepted → ℕ → (Port → DiskBytes) → (Port → ℕ → List Block) → Port → ℕ → List Block
 put_aside r i disks aside p k =
     if is_writer r.asked.op && (p.0 == r.port.0 && k == sector_of r i) then disks p k ∷ aside p k else aside p k
 
@@ -123,7 +123,7 @@ stays e _ = false
 -- the machine after the step
 abbrev pub after_step : Machine → Step → Machine
 after_step m (Accept r) = record m { book = m.book ++ newly_accepted r ∷ []; lent = lend r m.lent; next = suc m.next }
-after_step m (Issue mode e) = record m { book = map (at e.request.id issue) m.book }
+after_step m (Issue mode e) = record m { book = map (at e.request.id newly_issued) m.book }
 after_step m (Touch e i block) =
     record m {
       disks = disks_after e.request i m.disks;
@@ -163,8 +163,8 @@ after_step m (Store client frame offset bytes) =
 after_step m (Load client frame offset bytes) = m
 
 -- issued, or kept: the device may move its sectors
-abbrev pub MayMove : Machine → Pending → Type 0
-MayMove m e = (Contains m.book e × (e.issued ≡ true)) ⊎ Contains m.kept e
+abbrev pub MayStillMove : Machine → Pending → Type 0
+MayStillMove m e = (Contains m.book e × (e.issued ≡ true)) ⊎ Contains m.kept e
 
 -- unanswered, or kept: its frames are lent to it
 abbrev pub IsLiving : Machine → Pending → Type 0
@@ -223,9 +223,9 @@ abbrev pub May : Machine → Step → Type 0
 May m (Accept r) = IsNew m r
 May m (Issue mode e) = Contains m.book e × IsDue mode (map unanswered m.book) (unanswered e) × NoneKept m e.request.port
     × HasGrant m e
-May m (Touch e i block) = MayMove m e × (i < e.request.asked.count) × (m.present e.request.port ≡ true)
+May m (Touch e i block) = MayStillMove m e × (i < e.request.asked.count) × (m.present e.request.port ≡ true)
     × (sector_of e.request i < m.sizes e.request.port) × MovesOwn e.request i block
-May m (End e) = MayMove m e × AllTouched e × (m.present e.request.port ≡ true)
+May m (End e) = MayStillMove m e × AllTouched e × (m.present e.request.port ≡ true)
 May m (Age ready) = Unit {0}
 May m (Again e) = Contains m.book e × (e.issued ≡ true) × (e.issues < 4) × HasGrant m e
 May m (Answer e outcome) = Contains m.book e × IsTellable m e outcome

@@ -6,7 +6,7 @@ use ata_types::{Op, Port, Range, RequestId};
 
 /// How a port takes commands at a moment.
 #[derive(Clone, Copy, Debug, Default, PartialEq, Eq)]
-pub struct Mode {
+pub struct QueueMode {
     /// Whether reads and writes are queued (native command queuing).
     pub queued: bool,
     /// How many slots are usable: 1 to 32.
@@ -34,7 +34,7 @@ pub fn is_writer(op: Op) -> bool
 }
 
 /// Whether the operation is issued alone, in this mode.
-pub fn is_plain(mode: Mode, op: Op) -> bool
+pub fn is_plain(mode: QueueMode, op: Op) -> bool
     ensures { result ≡ due.is_plain mode op }
 {
     match op {
@@ -52,8 +52,8 @@ fn overlap(a: &Range, b: &Range) -> bool
 
 /// Whether the two conflict: a flush with every request of its port, and two with a sector in common if one of them
 /// writes or trims.
-pub fn conflict(a: &Unanswered, b: &Unanswered) -> bool
-    ensures { result ≡ due.conflict a.now b.now }
+pub fn must_keep_order(a: &Unanswered, b: &Unanswered) -> bool
+    ensures { result ≡ due.must_keep_order a.now b.now }
 {
     let flush = a.op == Op::Flush || b.op == Op::Flush;
     let writes = is_writer(a.op) || is_writer(b.op);
@@ -61,8 +61,8 @@ pub fn conflict(a: &Unanswered, b: &Unanswered) -> bool
 }
 
 /// Whether `other` stands in the way of `r`.
-pub fn holds_back(mode: Mode, r: &Unanswered, other: &Unanswered) -> bool
-    ensures { result ≡ due.holds_back mode r.now other.now }
+pub fn waits_for(mode: QueueMode, r: &Unanswered, other: &Unanswered) -> bool
+    ensures { result ≡ due.waits_for mode r.now other.now }
 {
     if other.port.0 != r.port.0 {
         return false;
@@ -72,6 +72,6 @@ pub fn holds_back(mode: Mode, r: &Unanswered, other: &Unanswered) -> bool
         other.issued || earlier
     } else {
         let plain = is_plain(mode, other.op);
-        (plain && other.issued) || (earlier && (plain || conflict(other, r)))
+        (plain && other.issued) || (earlier && (plain || must_keep_order(other, r)))
     }
 }

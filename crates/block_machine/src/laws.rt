@@ -8,27 +8,27 @@ ghost use Rattle.ata_types.specs.declared.request.RequestId.{RequestId};
 ghost use Rattle.ata_types.specs.declared.grant.GrantRow.{GrantRow};
 ghost use Rattle.ata_types.specs.declared.request.Outcome.{Outcome};
 ghost use Rattle.ata_types.specs.declared.request.Op.TheVariants.{Read};
-ghost use Rattle.block_machine.specs.declared.due.Mode.{Mode};
+ghost use Rattle.block_machine.specs.declared.due.QueueMode.{QueueMode};
 ghost use Rattle.block_machine.specs.declared.due.Unanswered.{Unanswered};
-ghost use Rattle.block_machine.specs.Due.{IsDue, IsInOrder, is_plain, issued_count, is_due, ahead, due_ahead, free_slots, with_issued, with_waiting, with_none, of_port, due_of, AreDueInTurn};
+ghost use Rattle.block_machine.specs.Due.{IsDue, IsInOrder, is_plain, issued_count, is_due, ahead, due_ahead, free_slots, with_issued, with_waiting, without_request, of_port, due_of, AreAllDueInOrder};
 ghost use Rattle.block_machine.specs.State.{Block, Accepted, Pending, Machine, unanswered};
 ghost use Rattle.block_machine.specs.Steps.{Step, Touch, End, Issue, Again, Answer, Age, after_step, May, IsNew, IsLiving, AllTouched};
 ghost use Rattle.block_machine.specs.Left.{IsStart, IsLegal, AllTold, HoldsLeft, after};
 ghost use Rattle.block_machine.specs.Confined.{IsGranted, IsConfined, IsHeld, HasFrame, KeepsRules, WasAccepted, WithinLimits};
-ghost use Rattle.block_machine.specs.Events.{Moment, Event, AllMay, IsRun, EveryReadHolds, moment_of, steps_of};
-ghost use Rattle.block_machine.specs.Histories.{IsReached};
+ghost use Rattle.block_machine.specs.Events.{AbstractState, CallRecord, AllMay, IsRun, EveryReadHolds, moment_of, steps_of};
+ghost use Rattle.block_machine.specs.Histories.{IsReachable};
 
 /// Over every run of calls whose reads moved their disks' bytes: each read that is answered Ok has, at the end of the
 /// call that answers it, sector by sector what the writes and trims accepted before it left, and the rest of its frames
 /// is as it was when it was accepted.
-pub fn every_read_holds<D>()
-    ensures { (first : Moment) (run : List (Event D)) → IsRun first run
+pub fn law_every_read_holds<D>()
+    ensures { (first : AbstractState) (run : List (CallRecord D)) → IsRun first run
         → AllTold first.machine (steps_of run)
         → EveryReadHolds first run }
 {}
 
 /// After every history, a read with all its sectors touched since its last issue has what is left.
-pub fn read_holds_left()
+pub fn law_read_holds_left()
     ensures { (start : Machine) (history : List Step) (read : Pending) → IsStart start
         → IsLegal start history
         → AllTold start history → Contains (after start history).book read → AllTouched read
@@ -37,7 +37,7 @@ pub fn read_holds_left()
 {}
 
 /// Rows only go: each that is there was there at the start. Owners stay what they were.
-pub fn rows_shrink_and_owners_stay()
+pub fn law_rows_shrink_and_owners_stay()
     ensures { (start : Machine) (history : List Step)
         → ((row : GrantRow) → Contains (after start history).rows row → Contains start.rows row)
         × ((frame : Frame) → (after start history).owner frame ≡ start.owner frame) }
@@ -47,54 +47,55 @@ pub fn rows_shrink_and_owners_stay()
 /// runs. Among them: each touch of a sector in it is of an accepted request's own sector, at a frame that is lent to
 /// it; and each request that it issues was accepted, when it broke no rule, still breaks none by the rows as they are
 /// when it is issued, and its frames are lent to it.
-pub fn runs_are_legal<D>()
-    ensures legal { (first : Moment) (run : List (Event D)) → IsRun first run
+pub fn law_runs_are_legal<D>()
+    ensures legal { (first : AbstractState) (run : List (CallRecord D)) → IsRun first run
         → IsStart first.machine × IsLegal first.machine (steps_of run)
         × ((moment_of first run).machine ≡ after first.machine (steps_of run)) }
-    ensures touches { (first : Moment) (run : List (Event D)) (late early : List Step) (e : Pending) (i : ℕ)
+    ensures touches { (first : AbstractState) (run : List (CallRecord D)) (late early : List Step) (e : Pending) (i : ℕ)
         (block : Block)
         → IsRun first run → steps_of run ≡ late ++ Touch e i block ∷ early
         → IsConfined first.machine early e.request i }
-    ensures issues { (first : Moment) (run : List (Event D)) (late early : List Step) (mode : Mode) (e : Pending)
+    ensures issues { (first : AbstractState) (run : List (CallRecord D)) (late early : List Step) (mode : QueueMode)
+        (e : Pending)
         → IsRun first run → steps_of run ≡ late ++ Issue mode e ∷ early
         → WasAccepted first.machine early e.request × KeepsRules (after first.machine early) e.request }
 {}
 
 /// Steps go on from what earlier ones left: after some, and then others, the machine is as after them all, which may
 /// come where each part may. So a machine that is reached leads to others that are.
-pub fn steps_go_on()
+pub fn law_steps_go_on()
     ensures joined { (m : Machine) (late early : List Step) → after m (late ++ early) ≡ after (after m early) late }
     ensures may { (m : Machine) (late early : List Step) → AllMay m early → AllMay (after m early) late
         → AllMay m (late ++ early) }
-    ensures reached { (m : Machine) (steps : List Step) → IsReached m → AllMay m steps → IsReached (after m steps) }
+    ensures reached { (m : Machine) (steps : List Step) → IsReachable m → AllMay m steps → IsReachable (after m steps) }
 {}
 
 /// No two requests of a book have one id.
-pub fn one_id_is_in_the_book_once()
-    ensures { (m : Machine) (a b : Pending) → IsReached m → Contains m.book a → Contains m.book b
+pub fn law_one_id_is_in_the_book_once()
+    ensures { (m : Machine) (a b : Pending) → IsReachable m → Contains m.book a → Contains m.book b
         → a.request.id.0 ≡ b.request.id.0 → a ≡ b }
 {}
 
 /// A request that is kept was answered: none of the book has its id.
-pub fn what_is_kept_was_answered()
-    ensures { (m : Machine) (a b : Pending) → IsReached m → Contains m.book a → Contains m.kept b
+pub fn law_what_is_kept_was_answered()
+    ensures { (m : Machine) (a b : Pending) → IsReachable m → Contains m.book a → Contains m.kept b
         → a.request.id.0 ≢ b.request.id.0 }
 {}
 
 /// An unanswered request that has ended is issued.
-pub fn ended_is_issued()
-    ensures { (m : Machine) (e : Pending) → IsReached m → Contains m.book e → e.ended ≡ true
+pub fn law_ended_is_issued()
+    ensures { (m : Machine) (e : Pending) → IsReachable m → Contains m.book e → e.ended ≡ true
         → e.issued ≡ true }
 {}
 
 /// A frame that is lent to a request which is unanswered or kept is one of its own.
-pub fn lent_frame_is_its_own()
-    ensures { (m : Machine) (frame : Frame) (e : Pending) → IsReached m → IsLiving m e
+pub fn law_lent_frame_is_its_own()
+    ensures { (m : Machine) (frame : Frame) (e : Pending) → IsReachable m → IsLiving m e
         → m.lent frame ≡ Some e.request.id → HasFrame e.request frame }
 {}
 
 /// Each touch of a sector is of an accepted request's own sector, at a frame that is lent to it.
-pub fn touch_is_confined()
+pub fn law_touch_is_confined()
     ensures { (start : Machine) (history : List Step) (e : Pending) (i : ℕ) (block : Block)
         → IsStart start
         → IsLegal start history → May (after start history) (Touch e i block)
@@ -103,33 +104,33 @@ pub fn touch_is_confined()
 
 /// Each request that is issued was accepted, when it broke no rule. By the rows as they are when it is issued it breaks
 /// none on its grant, nor on how many sectors and frames it has; and its frames are lent to it.
-pub fn issues_keep_the_rules()
-    ensures { (start : Machine) (history : List Step) (mode : Mode) (e : Pending) → IsStart start
+pub fn law_issues_keep_the_rules()
+    ensures { (start : Machine) (history : List Step) (mode : QueueMode) (e : Pending) → IsStart start
         → IsLegal start history → May (after start history) (Issue mode e)
         → WasAccepted start history e.request × KeepsRules (after start history) e.request }
 {}
 
 /// A request that is accepted is within a row of its client.
-pub fn accepted_is_granted()
+pub fn law_accepted_is_granted()
     ensures { (m : Machine) (r : Accepted) → IsNew m r → IsGranted m.rows r }
 {}
 
 /// Each request that is unanswered or kept was accepted.
-pub fn living_was_accepted()
+pub fn law_living_was_accepted()
     ensures { (start : Machine) (history : List Step) (e : Pending) → IsStart start
         → IsLegal start history
         → IsLiving (after start history) e → WasAccepted start history e.request }
 {}
 
 /// A frame that is lent is lent to an accepted request, and is one of its own.
-pub fn lent_was_accepted()
+pub fn law_lent_was_accepted()
     ensures { (start : Machine) (history : List Step) (frame : Frame) (id : RequestId) → IsStart start
         → IsLegal start history → (after start history).lent frame ≡ Some id
         → (r : Accepted) × WasAccepted start history r × (r.id ≡ id) × HasFrame r frame }
 {}
 
 /// One id is one request, in the whole history.
-pub fn one_id_is_one_request()
+pub fn law_one_id_is_one_request()
     ensures { (start : Machine) (history : List Step) (one other : Accepted)
         → WasAccepted start history one
         → WasAccepted start history other → one.id ≡ other.id → one ≡ other }
@@ -137,96 +138,96 @@ pub fn one_id_is_one_request()
 
 /// The frames of a request that is unanswered or kept hold what they held when it was accepted, but for the sectors of
 /// a read: so the device moves a write's own bytes.
-pub fn frames_keep_bytes()
+pub fn law_frames_keep_bytes()
     ensures { (start : Machine) (history : List Step) (e : Pending) → IsStart start
         → IsLegal start history
         → IsLiving (after start history) e → IsHeld (after start history) e.request }
 {}
 
 /// The limits hold after every history.
-pub fn limits_hold()
+pub fn law_limits_hold()
     ensures { (start : Machine) (history : List Step) → IsStart start → IsLegal start history
         → WithinLimits (after start history) }
 {}
 
 /// The book stands in order of acceptance.
-pub fn book_in_order()
+pub fn law_book_in_order()
     ensures { (start : Machine) (history : List Step) → IsStart start → IsLegal start history
         → IsInOrder (map unanswered (after start history).book) }
 {}
 
 /// A due request finds a free slot: a plain one a port with nothing issued, a queued one fewer issued than are usable.
-pub fn due_finds_slot()
-    ensures { (mode : Mode) (book : List Unanswered) (r : Unanswered) → IsDue mode book r
+pub fn law_due_finds_slot()
+    ensures { (mode : QueueMode) (book : List Unanswered) (r : Unanswered) → IsDue mode book r
         → (is_plain mode r.op ≡ true → issued_count book r.port ≡ 0)
         × (is_plain mode r.op ≡ false → issued_count book r.port < mode.usable) }
 {}
 
 /// Once a due request is issued, another request of its port is due exactly where it was due before.
-pub fn issues_one_by_one()
-    ensures { (mode : Mode) (book : List Unanswered) (r other : Unanswered) → IsInOrder book
+pub fn law_issues_one_by_one()
+    ensures { (mode : QueueMode) (book : List Unanswered) (r other : Unanswered) → IsInOrder book
         → IsDue mode book r
         → Contains book other → other.id ≢ r.id → other.port ≡ r.port
         → IsDue mode book other ↔ IsDue mode (with_issued r.id book) other }
 {}
 
 /// A request that is issued isn't due.
-pub fn issued_is_not_due()
-    ensures { (mode : Mode) (book : List Unanswered) (r : Unanswered) → r.issued ≡ true
+pub fn law_issued_is_not_due()
+    ensures { (mode : QueueMode) (book : List Unanswered) (r : Unanswered) → r.issued ≡ true
         → ¬ IsDue mode book r }
 {}
 
 /// A slot is left for a request whether the earlier ones of its port are counted as clear to go or as due.
-pub fn slots_by_due()
-    ensures { (mode : Mode) (book : List Unanswered) (r : Unanswered) → IsInOrder book
+pub fn law_slots_by_due()
+    ensures { (mode : QueueMode) (book : List Unanswered) (r : Unanswered) → IsInOrder book
         → Contains book r
         → (ahead mode book r < free_slots mode book r.port) ↔
         (due_ahead mode book r < free_slots mode book r.port) }
 {}
 
 /// In a book in order, those that stand before a request are those that were accepted before it.
-pub fn earlier_ones_stand_before()
+pub fn law_earlier_ones_stand_before()
     ensures { (passes : Unanswered → Bool) (front back : List Unanswered) (r : Unanswered)
         → IsInOrder (front ++ r ∷ back) → count_by (λ other. nat_lt other.id.0 r.id.0 && passes other)
         (front ++ r ∷ back) ≡ count_by passes front }
 {}
 
 /// A request of the book is due where the test says so.
-pub fn due_is_tested()
-    ensures { (mode : Mode) (book : List Unanswered) (r : Unanswered) → Contains book r
+pub fn law_due_is_tested()
+    ensures { (mode : QueueMode) (book : List Unanswered) (r : Unanswered) → Contains book r
         → IsTrue (is_due mode book r) ↔ IsDue mode book r }
 {}
 
 /// A request of the port is due exactly where it is one of the port's due requests; and these are of the port.
-pub fn due_is_exact()
-    ensures exact { (mode : Mode) (port : Port) (book : List Unanswered) (r : Unanswered) → r.port ≡ port
+pub fn law_due_is_exact()
+    ensures exact { (mode : QueueMode) (port : Port) (book : List Unanswered) (r : Unanswered) → r.port ≡ port
         → Contains (due_of mode port book) r ↔ IsDue mode book r }
-    ensures own { (mode : Mode) (port : Port) (book : List Unanswered) (r : Unanswered)
+    ensures own { (mode : QueueMode) (port : Port) (book : List Unanswered) (r : Unanswered)
         → Contains (due_of mode port book) r → r.port ≡ port }
 {}
 
 /// Once a due request is issued, the others of its port that were due are the due ones.
-pub fn due_after_issue()
-    ensures { (mode : Mode) (port : Port) (book : List Unanswered) (r : Unanswered) → IsInOrder book
+pub fn law_due_after_issue()
+    ensures { (mode : QueueMode) (port : Port) (book : List Unanswered) (r : Unanswered) → IsInOrder book
         → IsDue mode book r → r.port ≡ port
-        → due_of mode port (with_issued r.id book) ≡ with_none r.id (due_of mode port book) }
+        → due_of mode port (with_issued r.id book) ≡ without_request r.id (due_of mode port book) }
 {}
 
 /// The due requests of a port may be issued one after the other, each of them due when its turn comes; then none is
 /// due.
-pub fn due_in_turn()
-    ensures { (mode : Mode) (port : Port) (book : List Unanswered) → IsInOrder book
-        → AreDueInTurn mode port (map (λ r. r.id) (due_of mode port book)) book }
+pub fn law_due_in_turn()
+    ensures { (mode : QueueMode) (port : Port) (book : List Unanswered) → IsInOrder book
+        → AreAllDueInOrder mode port (map (λ r. r.id) (due_of mode port book)) book }
 {}
 
 /// A port that takes plain commands alone has one due request at most, and none while one is issued. It is the first of
 /// those that wait.
-pub fn plain_ports_take_one()
-    ensures one { (mode : Mode) (port : Port) (book : List Unanswered) → IsInOrder book → mode.queued ≡ false
+pub fn law_plain_ports_take_one()
+    ensures one { (mode : QueueMode) (port : Port) (book : List Unanswered) → IsInOrder book → mode.queued ≡ false
         → length (due_of mode port book) ≤ 1 }
-    ensures none { (mode : Mode) (port : Port) (book : List Unanswered) (r : Unanswered) → mode.queued ≡ false
+    ensures none { (mode : QueueMode) (port : Port) (book : List Unanswered) (r : Unanswered) → mode.queued ≡ false
         → Contains book r → r.port ≡ port → r.issued ≡ true → due_of mode port book ≡ [] }
-    ensures first { (mode : Mode) (port : Port) (book : List Unanswered) (r : Unanswered) → IsInOrder book
+    ensures first { (mode : QueueMode) (port : Port) (book : List Unanswered) (r : Unanswered) → IsInOrder book
         → mode.queued ≡ false → Contains book r → r.port ≡ port
         → ((other : Unanswered) → Contains book other → other.port ≡ port → (other.issued ≡ false)
         × (r.id.0 ≤ other.id.0))
@@ -234,32 +235,32 @@ pub fn plain_ports_take_one()
 {}
 
 /// Which requests of a port are due depends on the port's own requests.
-pub fn own_requests_count()
-    ensures list { (mode : Mode) (port : Port) (book other : List Unanswered)
+pub fn law_own_requests_count()
+    ensures list { (mode : QueueMode) (port : Port) (book other : List Unanswered)
         → of_port port book ≡ of_port port other → due_of mode port book ≡ due_of mode port other }
-    ensures one { (mode : Mode) (port : Port) (book other : List Unanswered) (r : Unanswered)
+    ensures one { (mode : QueueMode) (port : Port) (book other : List Unanswered) (r : Unanswered)
         → of_port port book ≡ of_port port other → r.port ≡ port
         → IsDue mode book r ↔ IsDue mode other r }
 {}
 
 /// A request that is issued, waits again or is answered on one port leaves the requests of another as they are.
-pub fn other_ports_stay()
+pub fn law_other_ports_stay()
     ensures issued { (port : Port) (book : List Unanswered) (r : Unanswered) → IsInOrder book → Contains book r
         → r.port ≢ port → of_port port (with_issued r.id book) ≡ of_port port book }
     ensures waiting { (port : Port) (book : List Unanswered) (r : Unanswered) → IsInOrder book → Contains book r
         → r.port ≢ port → of_port port (with_waiting r.id book) ≡ of_port port book }
     ensures answered { (port : Port) (book : List Unanswered) (r : Unanswered) → IsInOrder book → Contains book r
-        → r.port ≢ port → of_port port (with_none r.id book) ≡ of_port port book }
+        → r.port ≢ port → of_port port (without_request r.id book) ≡ of_port port book }
 {}
 
 /// What the machine's steps on requests leave of what says which are due.
-pub fn steps_change_what_is_due()
-    ensures issue { (m : Machine) (mode : Mode) (e : Pending)
+pub fn law_steps_change_what_is_due()
+    ensures issue { (m : Machine) (mode : QueueMode) (e : Pending)
         → map unanswered (after_step m (Issue mode e)).book ≡ with_issued e.request.id (map unanswered m.book) }
     ensures again { (m : Machine) (e : Pending)
         → map unanswered (after_step m (Again e)).book ≡ with_waiting e.request.id (map unanswered m.book) }
     ensures answer { (m : Machine) (e : Pending) (outcome : Outcome)
-        → map unanswered (after_step m (Answer e outcome)).book ≡ with_none e.request.id (map unanswered m.book) }
+        → map unanswered (after_step m (Answer e outcome)).book ≡ without_request e.request.id (map unanswered m.book) }
     ensures age { (m : Machine) (ports : Port → Bool)
         → map unanswered (after_step m (Age ports)).book ≡ map unanswered m.book }
     ensures touch { (m : Machine) (e : Pending) (i : ℕ) (block : Block)

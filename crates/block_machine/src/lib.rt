@@ -10,4 +10,4 @@
 mod due;
 pub mod laws;
 
-pub use due::{Mode, Unanswered, conflict, holds_back, is_plain, is_writer};
+pub use due::{QueueMode, Unanswered, is_plain, is_writer, must_keep_order, waits_for};

@@ -11,22 +11,22 @@ use Rattle.ata_types.specs.declared.request.Request.{Request}
 use Rattle.ata_types.specs.declared.request.RequestId.{RequestId}
 use Rattle.adapter.specs.Rules.{HasPort}
 use Rattle.block_machine.specs.Refusals.{IsAcceptable}
-use Rattle.block_machine.specs.declared.due.Mode.{Mode}
+use Rattle.block_machine.specs.declared.due.QueueMode.{QueueMode}
 use Rattle.block_machine.specs.Rules.{BreaksNone, HasNoFault, IsNamed}
 use Rattle.dma_frames.specs.Table.{LendsOnly, Table, owner_of, lent_to}
-use Rattle.host_boot.specs.Taken.{found_of}
-use Rattle.request_queue.specs.Entries.{Held, unanswered_of}
+use Rattle.host_boot.specs.Taken.{probe_result_of}
+use Rattle.request_queue.specs.Entries.{Held, unanswered_entries}
 use Rattle.server_history.specs.Served.{Accepts, IssuesAll, accepted_as, accepting}
-use Rattle.server_history.specs.Server.{Server, IsKept, mode_in, no_slots, situation_of, state_of}
+use Rattle.server_history.specs.Server.{ServerState, InCallInvariant, mode_in, no_slots, server_situation, state_of}
 use Rattle.server_history.proofs.plain_calls.AcceptableRequests.{has_room, on_ready}
-use Rattle.slots.specs.Uses.{Uses as PortSlots}
+use Rattle.slots.specs.Uses.{PortSlots}
 use Rattle.block_server.proofs.Sending.{served_ready, slots_said}
 use Rattle.block_server.specs.Calls.{IsFor}
 use Rattle.block_server.specs.Ports.{Lends}
 
 -- ---- what is asked of the calls
 
-module _ (s : Server) (r : Request) (acc : IsAcceptable (situation_of s) r) where
+module _ (s : ServerState) (r : Request) (acc : IsAcceptable (server_situation s) r) where
   pub next_fits : s.last + 1 < 2 ^ 64
   next_fits = elim (cases_lt (s.last + 1) (2 ^ 64)) [ inl low ↦ low | inr high ↦ absurd (acc IdsSpent high) ]
 
@@ -36,15 +36,15 @@ module _ (s : Server) (r : Request) (acc : IsAcceptable (situation_of s) r) wher
   pub faultless : HasNoFault (owner_of s.table) (lent_to s.table) r.client r.frames.items
   faultless fault = none (Rattle.ata_types.specs.declared.refusal.Rule.TheVariants.Frames fault)
 
-  module _ (k : IsKept s) (port : Port) (is : IsFor s.grants r port) where
-    pub has_place : unanswered_of s.book r.client.0 < 16
+  module _ (k : InCallInvariant s) (port : Port) (is : IsFor s.grants r port) where
+    pub has_place : unanswered_entries s.book r.client.0 < 16
     has_place = has_room s r acc is.0 is.1 port is.2
 
-    ready : state_of (found_of s.ports port.0) ≡ ReadyState
+    ready : state_of (probe_result_of s.ports port.0) ≡ ReadyState
     ready = on_ready s r acc is.0 is.1 port is.2
 
     there : HasPort s.device port.0
-    there = k.there port.0 (served_ready (found_of s.ports port.0) ready)
+    there = k.there port.0 (served_ready (probe_result_of s.ports port.0) ready)
 
     pub its_slots : (number : ℕ) → number ≡ port.0 → (default : PortSlots) → slice_index_or s.slots port.0 no_slots ≡ slice_index_or s.slots number default
     its_slots = slots_said s port.0 k there.0
@@ -52,8 +52,8 @@ module _ (s : Server) (r : Request) (acc : IsAcceptable (situation_of s) r) wher
     -- ---- what the server then is
 
     -- It was put last into the book, and these frames lent to it.
-    module _ (keeps : (s : Server) (port : Port) (r : Request) (row : GrantRow) (id : RequestId) (table : Table) → IsKept s → IsAcceptable (situation_of s) r
-        → IsNamed s.grants r row → row.port ≡ port → id.0 ≡ s.last + 1 → LendsOnly s.table table r.frames.items (Some id) → IsKept (accepting port r id table s))
+    module _ (keeps : (s : ServerState) (port : Port) (r : Request) (row : GrantRow) (id : RequestId) (table : Table) → InCallInvariant s → IsAcceptable (server_situation s) r
+        → IsNamed s.grants r row → row.port ≡ port → id.0 ≡ s.last + 1 → LendsOnly s.table table r.frames.items (Some id) → InCallInvariant (accepting port r id table s))
         (id : RequestId) (id_is : id.0 ≡ s.last + 1) (frames : List Frame) (frames_are : frames ≡ r.frames.items)
         (table : Table) (lent : LendsOnly s.table table frames (Some id)) (loan : List Frame) (loan_is : loan ≡ frames)
         (book : List Held) (book_is : book ≡ s.book ++ record { entry = (accepted_as port r id).entry; frames = loan } ∷ []) where
@@ -63,7 +63,7 @@ module _ (s : Server) (r : Request) (acc : IsAcceptable (situation_of s) r) wher
       pub its_book : s.book ++ accepted_as port r id ∷ [] ≡ book
       its_book = sym (book_is ∙ ap (λ (fs : List Frame). s.book ++ record { entry = (accepted_as port r id).entry; frames = fs } ∷ []) (loan_is ∙ frames_are))
 
-      pub lends : (slots : PortSlots) → slice_index_or s.slots port.0 no_slots ≡ slots → (mode : Mode) → mode_in s port ≡ mode → Lends (accepting port r id table s) s.device book slots port mode
+      pub lends : (slots : PortSlots) → slice_index_or s.slots port.0 no_slots ≡ slots → (mode : QueueMode) → mode_in s port ≡ mode → Lends (accepting port r id table s) s.device book slots port mode
       lends slots are mode mode_is = record {
         kept = keeps s port r is.0 id table k acc is.1 is.2 id_is its_lent;
         ready = ready;
@@ -73,5 +73,5 @@ module _ (s : Server) (r : Request) (acc : IsAcceptable (situation_of s) r) wher
         mode_is = mode_is;
       }
 
-      pub accepts : (new : Server) → IssuesAll port (accepting port r id table s) new → Accepts port r id s new
+      pub accepts : (new : ServerState) → IssuesAll port (accepting port r id table s) new → Accepts port r id s new
       accepts new issues = record { row = is.0; named = is.1; port_is = is.2; id_is = id_is; table = table; lent = its_lent; issued = issues }

@@ -4,26 +4,26 @@ use Rattle.ata_types.specs.declared.Port.{Port}
 use Rattle.ata_types.specs.declared.PortState.{PortState}
 use Rattle.ata_types.specs.declared.PortState.TheVariants.{Absent, Dead, Foreign, Ready, Unfit}
 use Rattle.adapter.specs.Device.{Device}
-use Rattle.agreement.specs.Driven.{AnyUse, IsFollowed}
-use Rattle.block_machine.specs.declared.due.Mode.{Mode}
+use Rattle.refinement.specs.Driven.{AnyUse, IsSimulated}
+use Rattle.block_machine.specs.declared.due.QueueMode.{QueueMode}
 use Rattle.error_recovery.specs.declared.Next.{Next}
 use Rattle.error_recovery.specs.declared.Next.TheVariants as next
-use Rattle.host_boot.specs.Taken.{found_of, wanted_of}
-use Rattle.host_boot.specs.declared.Found.{Found}
-use Rattle.host_boot.specs.declared.Found.TheVariants.{Unready}
+use Rattle.host_boot.specs.Taken.{probe_result_of, wanted_of}
+use Rattle.host_boot.specs.declared.ProbeResult.{ProbeResult}
+use Rattle.host_boot.specs.declared.ProbeResult.TheVariants.{Unready}
 use Rattle.identify.specs.declared.wanted.Wanted.{Wanted}
 use Rattle.port_control.specs.declared.Running.{Running}
 use Rattle.port_control.specs.declared.Stopped.{Stopped}
-use Rattle.port_look.specs.Looks.{IsLooking}
-use Rattle.server_history.specs.Mended.{AreUnused}
-use Rattle.server_history.specs.Server.{Server, IsSettled, is_served}
-use Rattle.server_history.specs.Tried.{FindsAnew, IsFoundAnew, IsLookedAt, TriesPort}
-use Rattle.server_history.specs.Turns.{TriesUnready}
-use Rattle.slots.specs.Uses.{Uses as PortSlots}
+use Rattle.port_events.specs.Looks.{IsLooking}
+use Rattle.server_history.specs.ErrorHandling.{AreUnused}
+use Rattle.server_history.specs.Server.{ServerState, SettledInvariant, is_served}
+use Rattle.server_history.specs.Probing.{ProbesAnew, IsProbedAnew, IsLookedAt, ProbesPort}
+use Rattle.server_history.specs.Turns.{ProbesUnready}
+use Rattle.slots.specs.Uses.{PortSlots}
 
 -- a port that isn't ready is served
-pub served_unready : (found : Found) (state : PortState) → found ≡ Unready state → is_served found ≡ true
-served_unready found state is = subst (λ (f : Found). is_served f ≡ true) (sym is) refl
+pub served_unready : (found : ProbeResult) (state : PortState) → found ≡ Unready state → is_served found ≡ true
+served_unready found state is = subst (λ (f : ProbeResult). is_served f ≡ true) (sym is) refl
 
 -- what is to be booted isn't dead
 pub booted_alive : (state : PortState) (port : Port) (old new : Device) → IsLookedAt state port true old new → state ≢ Dead
@@ -35,13 +35,13 @@ booted_alive Dead port old new looks = let z : true ≡ false = looks.0 in absur
 
 -- a port that was given up, and may not be booted, is dead
 pub found_dead : (wanted : Wanted) (port : Port) (way : Next) (d : Device) → ((token : Running) → way ≢ next.Running token) → ((token : Stopped) → way ≡ next.Restart token → ⊥)
-    → IsFoundAnew wanted port way d d (Unready Dead)
+    → IsProbedAnew wanted port way d d (Unready Dead)
 found_dead wanted port (next.Running token) d halts restarts = absurd (halts token refl)
 found_dead wanted port (next.Restart token) d halts restarts = absurd (restarts token refl)
 found_dead wanted port next.Dead d halts restarts = (refl, refl)
 
 -- the server once its port was found anew
-abbrev pub found_anew : Server → Device → Found → Mode → PortSlots → ℕ → Server
+abbrev pub found_anew : ServerState → Device → ProbeResult → QueueMode → PortSlots → ℕ → ServerState
 found_anew s new found mode slots number = record s {
   device = new;
   ports = set s.ports number found;
@@ -51,15 +51,15 @@ found_anew s new found mode slots number = record s {
 
 -- what the law says of a port that was tried
 abbrev pub SettlesTried : Type 0
-SettlesTried = (s new : Server) (port : Port) → IsSettled s → (tries : TriesPort port s new) → (tries.state ≢ Dead → IsFollowed (IsLooking port) AnyUse s.device tries.seen) → TriesUnready port s new × IsSettled new
+SettlesTried = (s new : ServerState) (port : Port) → SettledInvariant s → (probes : ProbesPort port s new) → (probes.state ≢ Dead → IsSimulated (IsLooking port) AnyUse s.device probes.seen) → ProbesUnready port s new × SettledInvariant new
 
-module _ (law : SettlesTried) (s : Server) (port : Port) (state : PortState) (is : found_of s.ports port.0 ≡ Unready state) (settled : IsSettled s) (seen : Device) where
+module _ (law : SettlesTried) (s : ServerState) (port : Port) (state : PortState) (is : probe_result_of s.ports port.0 ≡ Unready state) (settled : SettledInvariant s) (seen : Device) where
   -- where nothing shows, that was all
-  pub left_settles : IsLookedAt state port false s.device seen → IsFollowed (IsLooking port) AnyUse s.device seen → TriesUnready port s (record s { device = seen }) × IsSettled (record s { device = seen })
-  left_settles looks followed = law s (record s { device = seen }) port settled tries (λ alive. followed)
+  pub left_settles : IsLookedAt state port false s.device seen → IsSimulated (IsLooking port) AnyUse s.device seen → ProbesUnready port s (record s { device = seen }) × SettledInvariant (record s { device = seen })
+  left_settles looks followed = law s (record s { device = seen }) port settled probes (λ alive. followed)
     where
-      tries : TriesPort port s (record s { device = seen })
-      tries = record {
+      probes : ProbesPort port s (record s { device = seen })
+      probes = record {
         state = state;
         is = is;
         result = false;
@@ -69,9 +69,9 @@ module _ (law : SettlesTried) (s : Server) (port : Port) (state : PortState) (is
         boots = λ booted. let z : false ≡ true = booted in absurd cc;
       }
 
-  module _ (looks : IsLookedAt state port true s.device seen) (followed : IsFollowed (IsLooking port) AnyUse s.device seen) (new : Device) (found : Found) (mode : Mode) (slots : PortSlots)
-      (finds : FindsAnew (wanted_of s.wanted port.0) port found mode seen new) (unused : AreUnused mode slots) where
-    boots_so : TriesPort port s (found_anew s new found mode slots port.0)
+  module _ (looks : IsLookedAt state port true s.device seen) (followed : IsSimulated (IsLooking port) AnyUse s.device seen) (new : Device) (found : ProbeResult) (mode : QueueMode) (slots : PortSlots)
+      (finds : ProbesAnew (wanted_of s.wanted port.0) port found mode seen new) (unused : AreUnused mode slots) where
+    boots_so : ProbesPort port s (found_anew s new found mode slots port.0)
     boots_so = record {
       state = state;
       is = is;
@@ -90,8 +90,8 @@ module _ (law : SettlesTried) (s : Server) (port : Port) (state : PortState) (is
     }
 
     -- else it was given up, and booted
-    pub booted_settles : (number : ℕ) → number ≡ port.0 → TriesUnready port s (found_anew s new found mode slots number) × IsSettled (found_anew s new found mode slots number)
+    pub booted_settles : (number : ℕ) → number ≡ port.0 → ProbesUnready port s (found_anew s new found mode slots number) × SettledInvariant (found_anew s new found mode slots number)
     unfolding boots_so
     booted_settles number same =
-        subst (λ (n : ℕ). TriesUnready port s (found_anew s new found mode slots n) × IsSettled (found_anew s new found mode slots n)) (sym same)
+        subst (λ (n : ℕ). ProbesUnready port s (found_anew s new found mode slots n) × SettledInvariant (found_anew s new found mode slots n)) (sym same)
         (law s (found_anew s new found mode slots port.0) port settled boots_so (λ alive. followed))

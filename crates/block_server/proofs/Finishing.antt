@@ -15,36 +15,36 @@ use Rattle.ata_types.specs.declared.request.RequestId.{RequestId}
 use Rattle.hba_regs.specs.Bits.{bit}
 use Rattle.adapter.specs.Device.{Device}
 use Rattle.adapter.specs.Rules.{HasPort}
-use Rattle.block_machine.specs.declared.due.Mode.{Mode}
-use Rattle.agreement.specs.Slots.{IsOver}
-use Rattle.block_server.specs.Ports.{AnswersAll, AnswersSlot, Lends, LendsDone, with_answers, with_part}
+use Rattle.block_machine.specs.declared.due.QueueMode.{QueueMode}
+use Rattle.refinement.specs.Slots.{IsOver}
+use Rattle.block_server.specs.Ports.{AnswersDoneSlots, AnswersSlot, Lends, LendsDone, with_answers, with_part}
 use Rattle.block_server.specs.View.{ServerView, server_of}
 use Rattle.dma_frames.specs.Table.{LendsOnly, Table}
-use Rattle.host_boot.specs.Taken.{found_of}
-use Rattle.request_queue.specs.Entries.{Held, IsEarlier, IsInOrder, has_id, without}
+use Rattle.host_boot.specs.Taken.{probe_result_of}
+use Rattle.request_queue.specs.Entries.{Held, IsEarlier, BookIsInOrder, has_id, without_entry}
 use Rattle.server_history.specs.Served.{AnswersDone, AnswersEach, AnswersOne, IssuesAll, done_reply}
-use Rattle.server_history.specs.Server.{Server, IsKept, IsSettled, mode_at, mode_in, no_slots, state_of, used_for}
-use Rattle.slots.specs.Uses.{Uses as PortSlots, IsEarliest, use_at, with_use}
-use Rattle.slots.specs.declared.Use.{Use as SlotUse}
+use Rattle.server_history.specs.Server.{ServerState, InCallInvariant, SettledInvariant, mode_at, mode_in, no_slots, state_of, used_for}
+use Rattle.slots.specs.Uses.{PortSlots, HasLeastId, use_at, with_use}
+use Rattle.slots.specs.declared.SlotUse.{SlotUse}
 use Rattle.block_server.proofs.Sending.{served_ready, slots_said}
 
 -- each slot that is used has a request
 abbrev pub HaveRequests : Type 0
-HaveRequests = (s : Server) (port : Port) (slot : ℕ) (used : SlotUse) → IsKept s → state_of (found_of s.ports port.0) ≡ Ready → used_for s.slots port.0 slot ≡ Some used
+HaveRequests = (s : ServerState) (port : Port) (slot : ℕ) (used : SlotUse) → InCallInvariant s → state_of (probe_result_of s.ports port.0) ≡ Ready → used_for s.slots port.0 slot ≡ Some used
     → (request : Held) × Contains s.book request × (request.entry.id ≡ used.id) × (request.entry.port ≡ port) × (request.entry.issued ≡ true)
 
 -- an id is one request's
 abbrev pub IdsDiffer : Type 0
-IdsDiffer = (entries : List Held) (a b : Held) → IsInOrder entries → Contains entries a → Contains entries b → a.entry.id ≡ b.entry.id → a ≡ b
+IdsDiffer = (entries : List Held) (a b : Held) → BookIsInOrder entries → Contains entries a → Contains entries b → a.entry.id ≡ b.entry.id → a ≡ b
 
 -- a server goes on while one is answered
 abbrev pub AnswersKeep : Type 0
-AnswersKeep = (s new : Server) (port : Port) (request : Held) → IsKept s → state_of (found_of s.ports port.0) ≡ Ready
-    → (one : AnswersOne port request s new) → IsOver (s.device.port port.0) one.slot → IsKept new
+AnswersKeep = (s new : ServerState) (port : Port) (request : Held) → InCallInvariant s → state_of (probe_result_of s.ports port.0) ≡ Ready
+    → (one : AnswersOne port request s new) → IsOver (s.device.port port.0) one.slot → InCallInvariant new
 
 -- what is left of a book once the request with this id is taken out
 abbrev pub LeavesOthers : Type 0
-LeavesOthers = (entries : List Held) (id : RequestId) (e : Held) → Contains (without id entries) e ↔ (Contains entries e × (e.entry.id ≢ id))
+LeavesOthers = (entries : List Held) (id : RequestId) (e : Held) → Contains (without_entry id entries) e ↔ (Contains entries e × (e.entry.id ≢ id))
 
 -- ---- a book without a request
 
@@ -53,31 +53,31 @@ either : (b : Bool) (x : Held) (xs : List Held) → length (cond b (x ∷ xs) xs
 either true x xs = omega arith
 either false x xs = omega arith
 
-left : (id : RequestId) (book : List Held) → length (without id book) ≤ length book
+left : (id : RequestId) (book : List Held) → length (without_entry id book) ≤ length book
 left id [] = omega arith
-left id (x ∷ xs) = let e = either (not (has_id id x)) x (without id xs) in let l = left id xs in omega (arith, e, l)
+left id (x ∷ xs) = let e = either (not (has_id id x)) x (without_entry id xs) in let l = left id xs in omega (arith, e, l)
 
-shorter_at : (id : RequestId) (book : List Held) (place : ℕ) (d : Held) → place < length book → has_id id (get_or book place d) ≡ true → length (without id book) < length book
+shorter_at : (id : RequestId) (book : List Held) (place : ℕ) (d : Held) → place < length book → has_id id (get_or book place d) ≡ true → length (without_entry id book) < length book
 shorter_at id [] place d low is = absurd (omega (arith, low))
 shorter_at id (x ∷ xs) zero d low is =
     let l = left id xs in
-    let same : length (without id (x ∷ xs)) ≡ length (without id xs) = ap (λ (b : Bool). length (cond (not b) (x ∷ without id xs) (without id xs))) is in
+    let same : length (without_entry id (x ∷ xs)) ≡ length (without_entry id xs) = ap (λ (b : Bool). length (cond (not b) (x ∷ without_entry id xs) (without_entry id xs))) is in
     omega (arith, l, same)
 shorter_at id (x ∷ xs) (suc place) d low is =
-    let e = either (not (has_id id x)) x (without id xs) in
+    let e = either (not (has_id id x)) x (without_entry id xs) in
     let l = shorter_at id xs place d (omega (arith, low)) is in
     omega (arith, e, l)
 
 -- it is shorter
-pub shorter : (id : RequestId) (book : List Held) (e : Held) → Contains book e → e.entry.id ≡ id → length (without id book) < length book
+pub shorter : (id : RequestId) (book : List Held) (e : Held) → Contains book e → e.entry.id ≡ id → length (without_entry id book) < length book
 shorter id book e here same =
     shorter_at id book here.0 e here.1 (ap (has_id id) here.2 ∙ eq-eqb e.entry.id.0 id.0 (ap (λ (i : RequestId). i.0) same))
 
 -- ---- one request
 
-module _ (s : Server) (table : Table) (book : List Held) (slots : PortSlots) (port : Port) (done : ℕ) (l : LendsDone s table book slots port done) where
+module _ (s : ServerState) (table : Table) (book : List Held) (slots : PortSlots) (port : Port) (done : ℕ) (l : LendsDone s table book slots port done) where
   there : HasPort s.device port.0
-  there = l.kept.there port.0 (served_ready (found_of s.ports port.0) l.ready)
+  there = l.kept.there port.0 (served_ready (probe_result_of s.ports port.0) l.ready)
 
   in_list : port.0 < length s.slots
   in_list = let f = l.kept.four in let p = there.0 in omega (arith, f, p)
@@ -93,7 +93,7 @@ module _ (s : Server) (table : Table) (book : List Held) (slots : PortSlots) (po
   answers_again t b u t' b' u' = ap (λ (list : List PortSlots). record s { table = t'; slots = list; book = b' }) (set-set s.slots port.0 u u')
 
   -- other parts in its place
-  pub lends_then : (t : Table) (b : List Held) (u : PortSlots) → IsKept (with_answers s t b u port) → LendsDone (with_answers s t b u port) t b u port done
+  pub lends_then : (t : Table) (b : List Held) (u : PortSlots) → InCallInvariant (with_answers s t b u port) → LendsDone (with_answers s t b u port) t b u port done
   lends_then t b u kept = record {
     kept = kept;
     ready = l.ready;
@@ -115,12 +115,12 @@ module _ (s : Server) (table : Table) (book : List Held) (slots : PortSlots) (po
 
     -- this one was taken out of the book, its frames were given back, and its slot is free
     pub answered : IdsDiffer → slot < 32 → (e : Held) → Contains book e → e.entry.id ≡ used.id → (new : Table) → LendsOnly table new e.frames None
-        → (later : List Held) → later ≡ without used.id book → (u : PortSlots) → u ≡ with_use slots slot None → AnswersSlot port slot (record { id = used.id; client = e.entry.client; outcome = Ok }) s (with_answers s new later u port)
+        → (later : List Held) → later ≡ without_entry used.id book → (u : PortSlots) → u ≡ with_use slots slot None → AnswersSlot port slot (record { id = used.id; client = e.entry.client; outcome = Ok }) s (with_answers s new later u port)
     answered one small e here id_is new lent later later_is u freed = record {
       request = e;
       answers = record {
         here = subst (λ (b : List Held). Contains b e) (sym l.book_is) here;
-        port_is = subst (λ (x : Held). x.entry.port ≡ port) (one book its.0 e (subst IsInOrder l.book_is l.kept.ordered) its.1 here (its.2 ∙ sym id_is)) its.3;
+        port_is = subst (λ (x : Held). x.entry.port ≡ port) (one book its.0 e (subst BookIsInOrder l.book_is l.kept.ordered) its.1 here (its.2 ∙ sym id_is)) its.3;
         slot = slot;
         small = small;
         used = used;
@@ -130,7 +130,7 @@ module _ (s : Server) (table : Table) (book : List Held) (slots : PortSlots) (po
         server = λ i. record s {
           table = new;
           slots = set s.slots port.0 ((freed ∙ ap (λ (x : PortSlots). with_use x slot None) (sym l.slots_are)) i);
-          book = (later_is ∙ ap (λ (b : List Held). without used.id b) (sym l.book_is) ∙ ap (λ (i : RequestId). without i s.book) (sym id_is)) i;
+          book = (later_is ∙ ap (λ (b : List Held). without_entry used.id b) (sym l.book_is) ∙ ap (λ (i : RequestId). without_entry i s.book) (sym id_is)) i;
         };
       };
       slot_is = refl;
@@ -140,10 +140,10 @@ module _ (s : Server) (table : Table) (book : List Held) (slots : PortSlots) (po
 -- ---- one after another
 
 -- one more was answered, after those
-each_more : (port : Port) (done : ℕ) (requests : List Held) (old mid new : Server) (e : Held) → AnswersEach port done requests old mid → (one : AnswersOne port e mid new) → bit done one.slot ≡ true
+each_more : (port : Port) (done : ℕ) (requests : List Held) (old mid new : ServerState) (e : Held) → AnswersEach port done requests old mid → (one : AnswersOne port e mid new) → bit done one.slot ≡ true
     → AnswersEach port done (requests ++ e ∷ []) old new
 each_more port done [] old mid new e each one its_bit =
-    subst (λ (from : Server). AnswersEach port done (e ∷ []) from new) each (new, one, its_bit, refl)
+    subst (λ (from : ServerState). AnswersEach port done (e ∷ []) from new) each (new, one, its_bit, refl)
 each_more port done (x ∷ xs) old mid new e each one its_bit = (each.0, each.1, each.2, each_more port done xs each.0 mid new e each.3 one its_bit)
 
 -- each of these was accepted before the request
@@ -159,7 +159,7 @@ is_none : {used : SlotUse} → None ≡ Some used → ⊥
 is_none same = cc
 
 -- What was answered so far of what was found done: what is still to be answered comes after it.
-pub record AnswersSome (port : Port) (done : ℕ) (before after : List Reply) (old new : Server) (table : Table) (book : List Held) (slots : PortSlots) : Type 0 where
+pub record AnswersSome (port : Port) (done : ℕ) (before after : List Reply) (old new : ServerState) (table : Table) (book : List Held) (slots : PortSlots) : Type 0 where
   pub requests : List Held
   pub told : after ≡ before ++ map done_reply requests
   pub ordered : AllPairs IsEarlier requests
@@ -168,20 +168,20 @@ pub record AnswersSome (port : Port) (done : ℕ) (before after : List Reply) (o
   pub later : (slot : ℕ) (used : SlotUse) → slot < 32 → bit done slot ≡ true → use_at slots slot ≡ Some used → AllBefore requests used.id
 
 -- none, at first
-pub none_answered : (s : Server) (table : Table) (book : List Held) (slots : PortSlots) (port : Port) (done : ℕ) → LendsDone s table book slots port done → (before : List Reply)
+pub none_answered : (s : ServerState) (table : Table) (book : List Held) (slots : PortSlots) (port : Port) (done : ℕ) → LendsDone s table book slots port done → (before : List Reply)
     → AnswersSome port done before before s (with_answers s table book slots port) table book slots
 none_answered s table book slots port done l before = record {
   requests = [];
   told = sym (append-nil before);
   ordered = λ i j d lt low. absurd (omega (arith, low));
   each = answers_same s table book slots port done l;
-  lends = subst (λ (x : Server). LendsDone x table book slots port done) (sym (answers_same s table book slots port done l)) l;
+  lends = subst (λ (x : ServerState). LendsDone x table book slots port done) (sym (answers_same s table book slots port done l)) l;
   later = λ slot used small its_bit taken k d low. absurd (omega (arith, low));
 }
 
 -- all, once no slot of it is used
-pub all_answered : (port : Port) (done : ℕ) (before after : List Reply) (old new : Server) (table : Table) (book : List Held) (slots : PortSlots) → AnswersSome port done before after old new table book slots
-    → ((slot : ℕ) → slot < 32 → bit_at done slot ≡ 1 → use_at slots slot ≡ None) → AnswersAll port done before after old new
+pub all_answered : (port : Port) (done : ℕ) (before after : List Reply) (old new : ServerState) (table : Table) (book : List Held) (slots : PortSlots) → AnswersSome port done before after old new table book slots
+    → ((slot : ℕ) → slot < 32 → bit_at done slot ≡ 1 → use_at slots slot ≡ None) → AnswersDoneSlots port done before after old new
 all_answered port done before after old new table book slots some none = record {
   requests = some.requests;
   told = some.told;
@@ -191,10 +191,10 @@ all_answered port done before after old new table book slots some none = record 
 }
 
 -- the earliest of those that are left is answered
-module _ (have : HaveRequests) (keep : AnswersKeep) (leaves : LeavesOthers) (port : Port) (done : ℕ) (before after : List Reply) (old s : Server) (table : Table) (book : List Held) (slots : PortSlots)
-    (some : AnswersSome port done before after old s table book slots) (slot : ℕ) (earliest : IsEarliest slots done slot)
+module _ (have : HaveRequests) (keep : AnswersKeep) (leaves : LeavesOthers) (port : Port) (done : ℕ) (before after : List Reply) (old s : ServerState) (table : Table) (book : List Held) (slots : PortSlots)
+    (some : AnswersSome port done before after old s table book slots) (slot : ℕ) (earliest : HasLeastId slots done slot)
     (reply : Reply) (t : Table) (b : List Held) (u : PortSlots) (answers : AnswersSlot port slot reply s (with_answers s t b u port)) (freed : u ≡ with_use slots slot None) where
-  abbrev new : Server
+  abbrev new : ServerState
   new = with_answers s t b u port
 
   abbrev e : Held
@@ -203,7 +203,7 @@ module _ (have : HaveRequests) (keep : AnswersKeep) (leaves : LeavesOthers) (por
   its_bit : bit done slot ≡ true
   its_bit = eq-eqb (bit_at done slot) 1 earliest.marked
 
-  kept : IsKept new
+  kept : InCallInvariant new
   kept = keep s new port e some.lends.kept some.lends.ready answers.answers
       (subst (IsOver (s.device.port port.0)) (sym answers.slot_is) (some.lends.over slot earliest.small its_bit))
 
@@ -230,7 +230,7 @@ module _ (have : HaveRequests) (keep : AnswersKeep) (leaves : LeavesOthers) (por
     differs : used.id ≢ e.entry.id
     differs =
         let x = have new port k used kept some.lends.ready (ap (λ (x : PortSlots). use_at x k) (lends_then s table book slots port done some.lends t b u kept).slots_are ∙ taken) in
-        let left : Contains (without e.entry.id s.book) x.0 = subst (λ (c : List Held). Contains c x.0) (ap (λ (x : Server). x.book) answers.answers.server) x.1 in
+        let left : Contains (without_entry e.entry.id s.book) x.0 = subst (λ (c : List Held). Contains c x.0) (ap (λ (x : ServerState). x.book) answers.answers.server) x.1 in
         λ same. ((leaves s.book e.entry.id x.0).0 left).1 (x.2 ∙ same)
 
     comes_later : e.entry.id.0 < used.id.0
@@ -258,9 +258,9 @@ module _ (have : HaveRequests) (keep : AnswersKeep) (leaves : LeavesOthers) (por
 -- ---- what was found done on the port
 
 -- it was answered, and what is due then is issued
-module _ (s : Server) (port : Port) (done : ℕ) (before after : List Reply) (table : Table) (book : List Held) (slots : PortSlots)
-    (answers : AnswersAll port done before after s (with_answers s table book slots port)) (lent : LendsDone (with_answers s table book slots port) table book slots port done) where
-  pub lends_on : (mode : Mode) → mode_in s port ≡ mode → Lends (with_answers s table book slots port) s.device book slots port mode
+module _ (s : ServerState) (port : Port) (done : ℕ) (before after : List Reply) (table : Table) (book : List Held) (slots : PortSlots)
+    (answers : AnswersDoneSlots port done before after s (with_answers s table book slots port)) (lent : LendsDone (with_answers s table book slots port) table book slots port done) where
+  pub lends_on : (mode : QueueMode) → mode_in s port ≡ mode → Lends (with_answers s table book slots port) s.device book slots port mode
   lends_on mode mode_is = record { kept = lent.kept; ready = lent.ready; device_is = refl; book_is = refl; slots_are = lent.slots_are; mode_is = mode_is }
 
   pub finishes : (device : Device) (later : List Held) (u : PortSlots) → IssuesAll port (with_answers s table book slots port) (with_part (with_answers s table book slots port) device later u port)
@@ -277,11 +277,11 @@ module _ (s : Server) (port : Port) (done : ℕ) (before after : List Reply) (ta
   }
 
 -- what a call has of the server that it begins with
-module _ {A : Type 0} (device : A → Device) (v now : ServerView A) (is : v ≡ now) (settled : IsSettled (server_of device v)) (port : Port) (ready : state_of (found_of now.ports port.0) ≡ Ready) where
-  pub ready_before : state_of (found_of v.ports port.0) ≡ Ready
-  ready_before = subst (λ (x : ServerView A). state_of (found_of x.ports port.0) ≡ Ready) (sym is) ready
+module _ {A : Type 0} (device : A → Device) (v now : ServerView A) (is : v ≡ now) (settled : SettledInvariant (server_of device v)) (port : Port) (ready : state_of (probe_result_of now.ports port.0) ≡ Ready) where
+  pub ready_before : state_of (probe_result_of v.ports port.0) ≡ Ready
+  ready_before = subst (λ (x : ServerView A). state_of (probe_result_of x.ports port.0) ≡ Ready) (sym is) ready
 
-  pub mode_before : (mode : Mode) → mode ≡ mode_at now.modes port.0 → mode_in (server_of device v) port ≡ mode
+  pub mode_before : (mode : QueueMode) → mode ≡ mode_at now.modes port.0 → mode_in (server_of device v) port ≡ mode
   mode_before mode said = ap (λ (x : ServerView A). mode_at x.modes port.0) is ∙ sym said
 
   module _ (done : ℕ) (over : (slot : ℕ) → slot < 32 → bit done slot ≡ true → IsOver ((device now.adapter).port port.0) slot) where
@@ -294,6 +294,6 @@ module _ {A : Type 0} (device : A → Device) (v now : ServerView A) (is : v ≡
       ready = ready_before;
       table_is = refl;
       book_is = refl;
-      slots_are = slots_said (server_of device v) port.0 settled.kept (settled.kept.there port.0 (served_ready (found_of v.ports port.0) ready_before)).0 number number_is default;
+      slots_are = slots_said (server_of device v) port.0 settled.kept (settled.kept.there port.0 (served_ready (probe_result_of v.ports port.0) ready_before)).0 number number_is default;
       over = over_before;
     }

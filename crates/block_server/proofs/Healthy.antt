@@ -15,11 +15,11 @@ use Rattle.adapter.specs.Idle.{IsIdle}
 use Rattle.adapter.specs.Rules.{IsOn}
 use Rattle.adapter.specs.declared.access.DeviceStep.{DeviceStep}
 use Rattle.adapter.specs.declared.tape.Entry.{Entry}
-use Rattle.agreement.specs.Acts.{InSlots}
-use Rattle.agreement.specs.Facts.{IsDisturbance, RunsWell, Undisturbed}
-use Rattle.agreement.specs.Slots.{ServesRequest}
-use Rattle.block_machine.specs.Events.{Ask, Said as MachineSaid, Service as AskService, Tick, Reset, RevokeOf, WasRevoked, Moment, EveryReadHolds, IsAnswered, IsHung, IsRun, WasIssued, moment_after, steps_of}
-use Rattle.block_machine.specs.Histories.{Happening, Instant, events_of, now}
+use Rattle.refinement.specs.Acts.{InSlots}
+use Rattle.refinement.specs.Facts.{IsDisturbance, RunsWell, Undisturbed}
+use Rattle.refinement.specs.Slots.{ServesRequest}
+use Rattle.block_machine.specs.Events.{Ask, CallResult, Service as AskService, Tick, Reset, RevokeOf, WasRevoked, AbstractState, EveryReadHolds, IsAnswered, HasTimedOut, IsRun, WasIssued, moment_after, steps_of}
+use Rattle.block_machine.specs.Histories.{Happening, JointState, events_of, now}
 use Rattle.block_machine.specs.Ports.{AreFit, Evidence, Ports}
 use Rattle.block_machine.specs.State.{Pending}
 use Rattle.block_machine.specs.Steps.{AllTouched, Answer, Step}
@@ -27,20 +27,20 @@ use Rattle.durability.specs.Durable.{EveryPlugFinds}
 use Rattle.driver_history.specs.Heeding.{HeedsAt}
 use Rattle.driver_history.specs.Claims.{AnswerRests, GoesWellFor, IsCalmlyTold, IsHealthyFor}
 use Rattle.driver_history.specs.Evidence.{StaysHealthy}
-use Rattle.driver_history.specs.Histories.{IsHistory}
+use Rattle.driver_history.specs.Histories.{IsDriverHistory}
 use Rattle.driver_history.specs.Holds.{HoldsAt, HoldsOf, NoneWaits}
 use Rattle.driver_history.specs.Moves.{KeepsMoves}
 use Rattle.configuration.specs.declared.Config.{Config}
-use Rattle.host_boot.specs.Taken.{found_of, wanted_of, StandsBehind, TakesOver}
-use Rattle.host_boot.specs.declared.Found.{Found}
-use Rattle.host_boot.specs.declared.Found.TheVariants.{Unserved, Ready as IsFound, Unready}
+use Rattle.host_boot.specs.Taken.{probe_result_of, wanted_of, StandsBehind, TakesOver}
+use Rattle.host_boot.specs.declared.ProbeResult.{ProbeResult}
+use Rattle.host_boot.specs.declared.ProbeResult.TheVariants.{Unserved, Ready as IsFound, Unready}
 use Rattle.host_boot.specs.declared.Host.{Host}
 use Rattle.identify.specs.declared.DiskInfo.{DiskInfo}
 use Rattle.identify.specs.declared.wanted.Wanted.{Wanted}
-use Rattle.server_history.specs.Histories.{AddsEvent, Leads}
+use Rattle.server_history.specs.Histories.{ExtendsHistory, LeadsToServer}
 use Rattle.server_history.specs.Server.{is_served, ports_of, state_of}
 use Rattle.block_server.specs.Clients.{AreCalls, EachAfter, HoldsBetween, IsConfinedCall, IsInState, IsSeenAt, OutlivesUnplugs}
-use Rattle.block_server.specs.Made.{IsNew}
+use Rattle.block_server.specs.Made.{IsInitialServer}
 use Rattle.block_server.specs.Promise.{IsServedWell, IsToldWell, Simulates, ServesPorts}
 use Rattle.block_server.specs.Running.{ask_of, said_of}
 use Rattle.block_server.specs.View.{ServerView, server_of, visible_of}
@@ -49,30 +49,30 @@ use Rattle.block_server.specs.declared.types.Said.{Said}
 
 -- What the laws of histories say, each of every history.
 pub record HistoryLaws : Type 0 where
-  pub seen : (wanted : List Wanted) (first : Instant Device) (past : List (Happening Device DeviceStep)) (h : Happening Device DeviceStep) (port : Port) (slot : ℕ) (id : RequestId)
-      → IsHistory wanted first (h ∷ past) → h.event.ask ≡ AskService → (now first past).moment.ports.state port ≡ Ready
+  pub seen : (wanted : List Wanted) (first : JointState Device) (past : List (Happening Device DeviceStep)) (h : Happening Device DeviceStep) (port : Port) (slot : ℕ) (id : RequestId)
+      → IsDriverHistory wanted first (h ∷ past) → h.event.ask ≡ AskService → (now first past).moment.ports.state port ≡ Ready
       → ServesRequest (now first past).moment.machine (now first past).device.memory ((now first past).device.port port.0) port.0 slot id
       → ((now first past).device.port port.0).ci slot ≡ false → ((now first past).device.port port.0).sact slot ≡ false
       → (done : Pending) × (done.request.id ≡ id) × Contains h.event.steps (Answer done Ok)
-  pub well : (wanted : List Wanted) (first : Instant Device) (past : List (Happening Device DeviceStep)) (h : Happening Device DeviceStep) (port : Port)
-      → IsHistory wanted first (h ∷ past) → IsHealthyFor (now first past) h port → GoesWellFor (now first past) h port
-  pub rest : (wanted : List Wanted) (first : Instant Device) (past : List (Happening Device DeviceStep)) (h : Happening Device DeviceStep)
-      (history : IsHistory wanted first (h ∷ past)) → (e : Pending) (told : Outcome) → Contains h.event.steps (Answer e told)
+  pub well : (wanted : List Wanted) (first : JointState Device) (past : List (Happening Device DeviceStep)) (h : Happening Device DeviceStep) (port : Port)
+      → IsDriverHistory wanted first (h ∷ past) → IsHealthyFor (now first past) h port → GoesWellFor (now first past) h port
+  pub rest : (wanted : List Wanted) (first : JointState Device) (past : List (Happening Device DeviceStep)) (h : Happening Device DeviceStep)
+      (history : IsDriverHistory wanted first (h ∷ past)) → (e : Pending) (told : Outcome) → Contains h.event.steps (Answer e told)
       → AnswerRests (now first past) h history.2.accesses e told
-  pub moves : (wanted : List Wanted) (first : Instant Device) (past : List (Happening Device DeviceStep)) (h : Happening Device DeviceStep)
-      → IsHistory wanted first (h ∷ past)
+  pub moves : (wanted : List Wanted) (first : JointState Device) (past : List (Happening Device DeviceStep)) (h : Happening Device DeviceStep)
+      → IsDriverHistory wanted first (h ∷ past)
       → KeepsMoves first.moment.machine (steps_of (events_of past)) h.event.steps (now first past).device h.device
-  pub run : (wanted : List Wanted) (first : Instant Device) (past : List (Happening Device DeviceStep)) → IsHistory wanted first past
+  pub run : (wanted : List Wanted) (first : JointState Device) (past : List (Happening Device DeviceStep)) → IsDriverHistory wanted first past
       → IsRun first.moment (events_of past)
-  pub reads : (wanted : List Wanted) (first : Instant Device) (past : List (Happening Device DeviceStep)) → IsHistory wanted first past
+  pub reads : (wanted : List Wanted) (first : JointState Device) (past : List (Happening Device DeviceStep)) → IsDriverHistory wanted first past
       → first.device.telling ≡ true → EveryReadHolds first.moment (events_of past)
-  pub lasts : (wanted : List Wanted) (first : Instant Device) (past : List (Happening Device DeviceStep)) → IsHistory wanted first past
+  pub lasts : (wanted : List Wanted) (first : JointState Device) (past : List (Happening Device DeviceStep)) → IsDriverHistory wanted first past
       → first.device.telling ≡ true → EveryPlugFinds first.moment.machine (steps_of (events_of past))
 
 -- What is known of ports that were found ready as an adapter was taken over.
 abbrev pub ReadyRunWell : Type 0
 ReadyRunWell = (wanted : List Wanted) (host : Host) (port : ℕ) (info : DiskInfo) (old new : Device) → IsIdle old → TakesOver wanted host old new
-    → found_of host.ports port ≡ IsFound info → Undisturbed port old new → RunsWell (new.port port)
+    → probe_result_of host.ports port ≡ IsFound info → Undisturbed port old new → RunsWell (new.port port)
 
 -- ---- calls after calls
 
@@ -103,12 +103,12 @@ calls_joined one two events further said more a b = record {
 }
 
 -- the call is no reset, nor a tick that finds a request of the port so old that it is restarted
-abbrev Spares : Instant Device → Port → Calls → Happening Device DeviceStep → Type 0
-Spares first port before h = (h.event.ask ≢ Reset) × (h.event.ask ≡ Tick → IsHung (now first before).moment port → ⊥)
+abbrev Spares : JointState Device → Port → Calls → Happening Device DeviceStep → Type 0
+Spares first port before h = (h.event.ask ≢ Reset) × (h.event.ask ≡ Tick → HasTimedOut (now first before).moment port → ⊥)
 
 -- ---- between two calls
 
-module _ (wanted : Wanted) (s : InSlots) (i : Instant Device) (port : Port) where
+module _ (wanted : Wanted) (s : InSlots) (i : JointState Device) (port : Port) where
   in_state : (served : Bool) (state : PortState) → i.moment.ports.state port ≡ state → HoldsOf wanted s i port served state → IsInState wanted i port served state
   in_state false state e h = sym e ∙ h.absent
   in_state true Ready e h = (h.on, h.info, h.disk, h.shows)
@@ -125,7 +125,7 @@ module _ (wanted : Wanted) (s : InSlots) (i : Instant Device) (port : Port) wher
   none_waits true Foreign h unready on = h.waits
   none_waits true (Unfit cause) h unready on = h.waits
 
-holds_between : (wanted : List Wanted) (i : Instant Device) → HoldsAt wanted i → HoldsBetween wanted i
+holds_between : (wanted : List Wanted) (i : JointState Device) → HoldsAt wanted i → HoldsBetween wanted i
 holds_between wanted i (s, h) = record {
   served = h.served;
   state = λ port low. in_state (wanted_of wanted port.0) s i port (i.moment.ports.served port) (i.moment.ports.state port) refl (h.port port low);
@@ -135,12 +135,12 @@ holds_between wanted i (s, h) = record {
   sectors = h.knows.agrees.sectors;
 }
 
-holds_now : (wanted : List Wanted) (first : Instant Device) (past : Calls) → IsHistory wanted first past → HoldsAt wanted (now first past)
+holds_now : (wanted : List Wanted) (first : JointState Device) (past : Calls) → IsDriverHistory wanted first past → HoldsAt wanted (now first past)
 holds_now wanted first [] history = history.1.0
 holds_now wanted first (h ∷ past) history = history.2.holds
 
 -- the tape after calls is the tape before with more
-grows : (wanted : List Wanted) (first : Instant Device) (past added : Calls) → EachAfter (IsConfinedCall wanted first) past added
+grows : (wanted : List Wanted) (first : JointState Device) (past added : Calls) → EachAfter (IsConfinedCall wanted first) past added
     → (gained : List Entry) × ((now first (added ++ past)).device.tape ≡ (now first past).device.tape ++ gained)
 grows wanted first past [] each = ([], sym (append-nil (now first past).device.tape))
 grows wanted first past (h ∷ added) each =
@@ -148,7 +148,7 @@ grows wanted first past (h ∷ added) each =
     let here = each.1.moves in
     (before.0 ++ here.gained, here.tape ∙ ap (λ (t : List Entry). t ++ here.gained) before.1 ∙ append_assoc (now first past).device.tape before.0 here.gained)
 
-seen_at : {A : Type 0} (device : A → Device) (s : ServerView A) (first : Instant Device) (past : Calls) → Leads first past (server_of device s)
+seen_at : {A : Type 0} (device : A → Device) (s : ServerView A) (first : JointState Device) (past : Calls) → LeadsToServer first past (server_of device s)
     → IsSeenAt (visible_of device s) (now first past)
 seen_at device s first past leads = record {
   device_is = leads.stands.device_is;
@@ -184,7 +184,7 @@ parts port old mid new one two first second u =
 
 -- ---- what is told where nothing goes wrong
 
-told_well : (ask : Ask DeviceStep) (said : MachineSaid) (old : Moment) (evidence : Evidence) (steps : List Step) (new : Moment) (e : Pending) (told : Outcome)
+told_well : (ask : Ask DeviceStep) (said : CallResult) (old : AbstractState) (evidence : Evidence) (steps : List Step) (new : AbstractState) (e : Pending) (told : Outcome)
     → IsAnswered ask said old evidence steps new → Contains steps (Answer e told) → IsCalmlyTold ask told
     → (told ≡ Ok → WasIssued old.machine e.request.id × (e.issued ≡ true) × AllTouched e × (e.ended ≡ true)) → IsToldWell ask old.machine e told
 told_well (RevokeOf client number) (WasRevoked (Some replies)) old evidence steps new e told answered here calm rests = (calm, (answered.only e told here).1)
@@ -194,8 +194,8 @@ told_well (RevokeOf client number) said old evidence steps new e told answered h
 told_well ask said old evidence steps new e told answered here calm rests = let r = rests calm in (calm, r.0, r.1, r.2, r.3)
 
 module _ (laws : HistoryLaws) where
-  served_well : (wanted : List Wanted) (first : Instant Device) (past : List (Happening Device DeviceStep)) (h : Happening Device DeviceStep) (port : Port)
-      → IsHistory wanted first (h ∷ past) → IsHealthyFor (now first past) h port → IsServedWell port (now first past) h
+  served_well : (wanted : List Wanted) (first : JointState Device) (past : List (Happening Device DeviceStep)) (h : Happening Device DeviceStep) (port : Port)
+      → IsDriverHistory wanted first (h ∷ past) → IsHealthyFor (now first past) h port → IsServedWell port (now first past) h
   served_well wanted first past h port history healthy =
       let goes = laws.well wanted first past h port history healthy in
       let old = now first past in
@@ -212,7 +212,7 @@ module _ (laws : HistoryLaws) where
         },
       )
 
-  all_confined : (wanted : List Wanted) (first : Instant Device) (past added : Calls) → IsHistory wanted first (added ++ past)
+  all_confined : (wanted : List Wanted) (first : JointState Device) (past added : Calls) → IsDriverHistory wanted first (added ++ past)
       → EachAfter (IsConfinedCall wanted first) past added
   all_confined wanted first past [] history = tt
   all_confined wanted first past (h ∷ added) history = (
@@ -241,12 +241,12 @@ module _ (laws : HistoryLaws) where
       driver = record { leads = leads; serves = tt; healthy = λ port ready stays spared. (tt, ready, stays.well) };
     }
 
-    module _ (old new : ServerView A) (first : Instant Device) (past : Calls) (h : Happening Device DeviceStep)
-        (leads : Leads first past (server_of device old)) (here : Leads first (h ∷ past) (server_of device new)) (port : Port) where
+    module _ (old new : ServerView A) (first : JointState Device) (past : Calls) (h : Happening Device DeviceStep)
+        (leads : LeadsToServer first past (server_of device old)) (here : LeadsToServer first (h ∷ past) (server_of device new)) (port : Port) where
       -- a call on which nothing goes wrong on a port that runs well
-      goes_well : state_of (found_of old.ports port.0) ≡ Ready → StaysHealthy port.0 (device old.adapter) (device new.adapter)
-          → (h.event.ask ≢ Reset) × (h.event.ask ≡ Tick → IsHung (now first past).moment port → ⊥)
-          → IsServedWell port (now first past) h × (state_of (found_of new.ports port.0) ≡ Ready) × RunsWell ((device new.adapter).port port.0)
+      goes_well : state_of (probe_result_of old.ports port.0) ≡ Ready → StaysHealthy port.0 (device old.adapter) (device new.adapter)
+          → (h.event.ask ≢ Reset) × (h.event.ask ≡ Tick → HasTimedOut (now first past).moment port → ⊥)
+          → IsServedWell port (now first past) h × (state_of (probe_result_of new.ports port.0) ≡ Ready) × RunsWell ((device new.adapter).port port.0)
       goes_well ready stays spared =
           let stays_in : StaysHealthy port.0 (now first past).device h.device =
           subst (λ (d : Device). StaysHealthy port.0 d h.device) (sym leads.stands.device_is)
@@ -259,7 +259,7 @@ module _ (laws : HistoryLaws) where
             subst (λ (d : Device). RunsWell (d.port port.0)) here.stands.device_is served.0.well,
           )
 
-    pub one_call : (old new : ServerView A) (event : Event) (one : Said) → AddsEvent (server_of device old) (server_of device new) (ask_of event) (said_of one)
+    pub one_call : (old new : ServerView A) (event : Event) (one : Said) → ExtendsHistory (server_of device old) (server_of device new) (ask_of event) (said_of one)
         → new.wanted ≡ old.wanted → Simulates device old new (event ∷ []) (one ∷ [])
     one_call old new event one adds wanted first past leads =
         let x = adds first past leads in
@@ -269,7 +269,7 @@ module _ (laws : HistoryLaws) where
         record {
           added = h ∷ [];
           clients = record {
-            calls = record { asks = ap (λ (a : Ask DeviceStep). a ∷ []) x.1; says = ap (λ (a : MachineSaid). a ∷ []) x.2 };
+            calls = record { asks = ap (λ (a : Ask DeviceStep). a ∷ []) x.1; says = ap (λ (a : CallResult). a ∷ []) x.2 };
             wanted = wanted;
             from = seen_at device old first past leads;
             to = seen_at device new first (h ∷ past) here;
@@ -302,7 +302,7 @@ module _ (laws : HistoryLaws) where
         let one = a.added in
         let two = b.added in
         let whole = sym (append_assoc two one past) in
-        let leads = subst (λ (l : Calls). Leads first l (server_of device new)) whole b.driver.leads in
+        let leads = subst (λ (l : Calls). LeadsToServer first l (server_of device new)) whole b.driver.leads in
         record {
           added = two ++ one;
           clients = record {
@@ -335,22 +335,22 @@ module _ (laws : HistoryLaws) where
 -- ---- a server as it is made
 
 module _ (law : ReadyRunWell) {A : Type 0} (device : A → Device) (config : Config) (adapter : A) (s : ServerView A) (port : Port) where
-  pub begins_well : IsIdle (device adapter) → IsNew device config adapter s → state_of (found_of s.ports port.0) ≡ Ready
+  pub begins_well : IsIdle (device adapter) → IsInitialServer device config adapter s → state_of (probe_result_of s.ports port.0) ≡ Ready
       → Undisturbed port.0 (device adapter) (device s.adapter) → RunsWell ((device s.adapter).port port.0)
-  begins_well idle made ready calm = by (found_of s.ports port.0) refl ready
+  begins_well idle made ready calm = by (probe_result_of s.ports port.0) refl ready
     where
       fit : AreFit (ports_of (server_of device s))
       fit = subst AreFit made.begun.1.stands.ports_are made.begun.1.history.0.1
 
       -- no port is told as ready that was found otherwise
-      unready : (state : PortState) → found_of s.ports port.0 ≡ Unready state → state ≡ Ready → ⊥
+      unready : (state : PortState) → probe_result_of s.ports port.0 ≡ Unready state → state ≡ Ready → ⊥
       unready state e is =
           let low : port.0 < 4 = fit.few port (ap is_served e) in
-          let found : found_of made.host.ports port.0 ≡ Unready Ready = ap (λ (l : List Found). found_of l port.0) (sym made.ports) ∙ e ∙ ap Unready is in
-          (subst (λ (f : Found). StandsBehind (wanted_of made.plan.wanted port.0) f port.0 (device s.adapter)) found (made.taken.stands port.0 low)).1
+          let found : probe_result_of made.host.ports port.0 ≡ Unready Ready = ap (λ (l : List ProbeResult). probe_result_of l port.0) (sym made.ports) ∙ e ∙ ap Unready is in
+          (subst (λ (f : ProbeResult). StandsBehind (wanted_of made.plan.wanted port.0) f port.0 (device s.adapter)) found (made.taken.stands port.0 low)).1
 
-      by : (f : Found) → found_of s.ports port.0 ≡ f → state_of f ≡ Ready → RunsWell ((device s.adapter).port port.0)
+      by : (f : ProbeResult) → probe_result_of s.ports port.0 ≡ f → state_of f ≡ Ready → RunsWell ((device s.adapter).port port.0)
       by Unserved e is = let z : Absent ≡ Ready = is in absurd cc
       by (IsFound info) e is =
-          law made.plan.wanted made.host port.0 info (device adapter) (device s.adapter) idle made.taken (ap (λ (l : List Found). found_of l port.0) (sym made.ports) ∙ e) calm
+          law made.plan.wanted made.host port.0 info (device adapter) (device s.adapter) idle made.taken (ap (λ (l : List ProbeResult). probe_result_of l port.0) (sym made.ports) ∙ e) calm
       by (Unready state) e is = absurd (unready state e is)

@@ -11,8 +11,8 @@ use Rattle.ata_types.specs.declared.request.RequestId.{RequestId}
 use Rattle.dma_frames.specs.Loan.{Lending}
 use Rattle.dma_frames.specs.Table.{LendsOnly, Table, lent_to}
 use Rattle.server_history.specs.Kept.{IsKeptIn, MayGoBack, TakesBack}
-use Rattle.request_queue.specs.Entries.{GivesBack, Held, Stands}
-use Rattle.server_history.specs.Server.{AreOfTwo, IsLentOut, Server, kept_at}
+use Rattle.request_queue.specs.Entries.{GivesBack, Held, HasItsFrames}
+use Rattle.server_history.specs.Server.{AreOfTwo, IsLentOut, ServerState, kept_at}
 
 same_request : {a b : RequestId} → Some a ≡ Some b → a ≡ b
 same_request is = cc
@@ -203,20 +203,20 @@ module _ (first now : List (List Lending)) (table mid : Table) (count : ℕ) (so
 -- ---- after the book
 
 -- what a law says of a server's kept loans
-pub record KeptLaws (s : Server) : Type 0 where
+pub record KeptLaws (s : ServerState) : Type 0 where
   pub lent : (port : ℕ) → All (IsLentOut s.table) (kept_at s.kept port)
   pub two : (port : ℕ) → AllPairs AreOfTwo (kept_at s.kept port)
   pub one : (port other : ℕ) (a b : Lending) → Contains (kept_at s.kept port) a → Contains (kept_at s.kept other) b → a.request ≡ b.request → (port ≡ other) × (a ≡ b)
   pub answered : (port : ℕ) (loan : Lending) (e : Held) → Contains (kept_at s.kept port) loan → Contains s.book e → e.entry.id ≢ loan.request
 
 -- what is kept may be given back once what is lent to the book's requests was
-pub may_go_back : (s : Server) (new : Table) → KeptLaws s → All (Stands s.table) s.book → GivesBack s.table new s.book → MayGoBack new s.kept
+pub may_go_back : (s : ServerState) (new : Table) → KeptLaws s → All (HasItsFrames s.table) s.book → GivesBack s.table new s.book → MayGoBack new s.kept
 may_go_back s new laws stands given = record {
   lent = λ port k d small i f inside.
       let b : Lending = get_or (kept_at s.kept port) k d in
       let here : Contains (kept_at s.kept port) b = (k, small, get_or_default (kept_at s.kept port) k b d small) in
       given.others (get_or b.frames i f) (λ e there own.
-      laws.answered port b e here there (same_request (sym (All-contains (λ (g : Frame). lent_to s.table g ≡ Some e.entry.id) e.frames (get_or b.frames i f) (All-contains (Stands s.table) s.book e stands there) own)
+      laws.answered port b e here there (same_request (sym (All-contains (λ (g : Frame). lent_to s.table g ≡ Some e.entry.id) e.frames (get_or b.frames i f) (All-contains (HasItsFrames s.table) s.book e stands there) own)
       ∙ laws.lent port k d small i f inside)))
       ∙ laws.lent port k d small i f inside;
   two = laws.two;

@@ -9,40 +9,40 @@ use Rattle.hba_regs.specs.Bits.{bit}
 use Rattle.adapter.specs.Access.{Access}
 use Rattle.adapter.specs.Device.{Device}
 use Rattle.adapter.specs.Rules.{HasPort}
-use Rattle.agreement.specs.Driven.{AgreesWith, AnyUse, IsFollowed}
-use Rattle.agreement.specs.Slots.{IsOver}
+use Rattle.refinement.specs.Driven.{RelatesWith, AnyUse, IsSimulated}
+use Rattle.refinement.specs.Slots.{IsOver}
 use Rattle.dma_frames.specs.Table.{Table}
-use Rattle.error_log.specs.declared.Failure.{Failure}
-use Rattle.error_recovery.specs.Recovery.{FitsFor, IsAloneIn, MayRecover, Mends, Rests}
+use Rattle.error_log.specs.declared.FailedSlot.{FailedSlot}
+use Rattle.error_recovery.specs.Recovery.{FitsFor, IsAloneIn, MayRecover, RecoversOrStops, Rests}
 use Rattle.error_recovery.specs.declared.Recovered.{Recovered}
-use Rattle.host_boot.specs.Taken.{found_of}
+use Rattle.host_boot.specs.Taken.{probe_result_of}
 use Rattle.ncq.specs.Masks.{ReadsDone}
-use Rattle.port_look.specs.Looks.{IsLooking, LooksAt}
-use Rattle.port_look.specs.declared.Look.TheVariants.{Failed as TellsFailed}
+use Rattle.port_events.specs.Looks.{IsLooking, LooksAt}
+use Rattle.port_events.specs.declared.PortEvent.TheVariants.{TaskFileError}
 use Rattle.request_queue.specs.Entries.{Held}
-use Rattle.request_queue.specs.declared.fate.Failed.{Failed}
-use Rattle.server_history.specs.Mended.{AreQueued, IsFailed, IsFoundOut, TellsMending}
+use Rattle.request_queue.specs.declared.disposition.FailedRequest.{FailedRequest}
+use Rattle.server_history.specs.ErrorHandling.{AreQueued, IsFailed, IsFoundOut, TellsErrorHandling}
 use Rattle.server_history.specs.Served.{IsMaskOf, is_used}
-use Rattle.server_history.specs.Server.{Server, IsKept, slots_at, state_of, used_for}
-use Rattle.port_look.specs.declared.Trouble.{Trouble}
-use Rattle.port_look.specs.declared.Trouble.TheVariants.{Failed as Fails}
-use Rattle.slots.specs.Uses.{Uses as PortSlots, IsTaken, use_at}
-use Rattle.slots.specs.declared.Use.{Use as SlotUse}
-use Rattle.block_server.specs.Ports.{AnswersAll, LendsDone, with_answers}
-use Rattle.block_server.specs.Recovery.{LendsTroubled, MendsRest}
+use Rattle.server_history.specs.Server.{ServerState, InCallInvariant, slots_at, state_of, used_for}
+use Rattle.port_events.specs.declared.PortError.{PortError}
+use Rattle.port_events.specs.declared.PortError.TheVariants.{TaskFileError}
+use Rattle.slots.specs.Uses.{PortSlots, IsTaken, use_at}
+use Rattle.slots.specs.declared.SlotUse.{SlotUse}
+use Rattle.block_server.specs.Ports.{AnswersDoneSlots, LendsDone, with_answers}
+use Rattle.block_server.specs.Recovery.{LendsInError, CompletesAndRecovers}
 use Rattle.block_server.proofs.Serving.{mask_of, ready_there}
 
 -- what laws say of a server of which a port failed
 pub record FailureLaws : Type 0 where
-  pub looking : (s : Server) (new : Device) (port : Port) → IsKept s → state_of (found_of s.ports port.0) ≡ ReadyState → IsFollowed (IsLooking port) AnyUse s.device new → IsKept (record s { device = new })
-  pub finding : (s : Server) (new : Device) (port : Port) (mask done : ℕ) → IsKept s → state_of (found_of s.ports port.0) ≡ ReadyState → ReadsDone port mask done s.device new → IsKept (record s { device = new })
-  pub over : (s : Server) (new : Device) (port : Port) (mask done slot : ℕ) → IsKept s → state_of (found_of s.ports port.0) ≡ ReadyState → IsMaskOf (slots_at s.slots port.0) mask → slot < 32
+  pub looking : (s : ServerState) (new : Device) (port : Port) → InCallInvariant s → state_of (probe_result_of s.ports port.0) ≡ ReadyState → IsSimulated (IsLooking port) AnyUse s.device new → InCallInvariant (record s { device = new })
+  pub finding : (s : ServerState) (new : Device) (port : Port) (mask done : ℕ) → InCallInvariant s → state_of (probe_result_of s.ports port.0) ≡ ReadyState → ReadsDone port mask done s.device new → InCallInvariant (record s { device = new })
+  pub over : (s : ServerState) (new : Device) (port : Port) (mask done slot : ℕ) → InCallInvariant s → state_of (probe_result_of s.ports port.0) ≡ ReadyState → IsMaskOf (slots_at s.slots port.0) mask → slot < 32
       → ReadsDone port mask done s.device new → bit done slot ≡ true → IsOver (new.port port.0) slot
-  pub may : (s : Server) (seen found : Device) (port : Port) (mask done : ℕ) → IsKept s → state_of (found_of s.ports port.0) ≡ ReadyState → LooksAt port TellsFailed s.device seen
-      → IsFollowed (IsLooking port) AnyUse s.device seen → ReadsDone port mask done seen found → MayRecover port.0 found
-  pub agreed : (s : Server) (port : Port) (queued : Bool) → IsKept s → state_of (found_of s.ports port.0) ≡ ReadyState → AreQueued queued (slots_at s.slots port.0) → AgreesWith (FitsFor queued port.0) s.device
-  pub alike : (s : Server) (port : Port) (slot : ℕ) (used : SlotUse) → IsKept s → used_for s.slots port.0 slot ≡ Some used → AreQueued used.queued (slots_at s.slots port.0)
-  pub alone : (s : Server) (port : Port) (queued : Bool) (outstanding : ℕ) → IsKept s → IsMaskOf (slots_at s.slots port.0) outstanding → AreQueued queued (slots_at s.slots port.0) → IsAloneIn queued outstanding
+  pub may : (s : ServerState) (seen found : Device) (port : Port) (mask done : ℕ) → InCallInvariant s → state_of (probe_result_of s.ports port.0) ≡ ReadyState → LooksAt port TaskFileError s.device seen
+      → IsSimulated (IsLooking port) AnyUse s.device seen → ReadsDone port mask done seen found → MayRecover port.0 found
+  pub agreed : (s : ServerState) (port : Port) (queued : Bool) → InCallInvariant s → state_of (probe_result_of s.ports port.0) ≡ ReadyState → AreQueued queued (slots_at s.slots port.0) → RelatesWith (FitsFor queued port.0) s.device
+  pub alike : (s : ServerState) (port : Port) (slot : ℕ) (used : SlotUse) → InCallInvariant s → used_for s.slots port.0 slot ≡ Some used → AreQueued used.queued (slots_at s.slots port.0)
+  pub alone : (s : ServerState) (port : Port) (queued : Bool) (outstanding : ℕ) → InCallInvariant s → IsMaskOf (slots_at s.slots port.0) outstanding → AreQueued queued (slots_at s.slots port.0) → IsAloneIn queued outstanding
 
 -- a slot that is used is used for something
 its_use : (o : Option SlotUse) → is_used o ≡ true → (used : SlotUse) × (o ≡ Some used)
@@ -50,7 +50,7 @@ its_use None is = absurd (false≢true is)
 its_use (Some used) is = (used, refl)
 
 -- whoever is named had its bit among those that were outstanding
-named_among : (queued : Bool) (port : Port) (outstanding : ℕ) (accesses : List Access) (old new : Device) (its : Failure) → Rests queued port outstanding accesses old new (Some its)
+named_among : (queued : Bool) (port : Port) (outstanding : ℕ) (accesses : List Access) (old new : Device) (its : FailedSlot) → Rests queued port outstanding accesses old new (Some its)
     → (its.slot.0 < 32) × (bit outstanding its.slot.0 ≡ true)
 named_among false port outstanding accesses old new its rests =
     (subst (λ (n : ℕ). n < 32) (sym rests.slot_is) (omega arith), subst (λ (n : ℕ). bit outstanding n ≡ true) (sym rests.slot_is) rests.among)
@@ -59,14 +59,14 @@ named_among true port outstanding accesses old new its rests = (rests.small, res
 -- a port in trouble, and what is lent of its server
 pub record Troubled : Type 0 where
   pub laws : FailureLaws
-  pub s : Server
+  pub s : ServerState
   pub device : Device
   pub table : Table
   pub book : List Held
   pub slots : PortSlots
   pub port : Port
-  pub trouble : Trouble
-  pub lends : LendsTroubled s device table book slots port trouble
+  pub port_error : PortError
+  pub lends : LendsInError s device table book slots port port_error
 
 -- what was found done of it
 pub record FoundDone (x : Troubled) : Type 0 where
@@ -76,7 +76,7 @@ pub record FoundDone (x : Troubled) : Type 0 where
   pub found : Device
   pub reads : ReadsDone x.port mask done x.device found
 
-abbrev from : (x : Troubled) → FoundDone x → Server
+abbrev from : (x : Troubled) → FoundDone x → ServerState
 from x f = record x.s { device = f.found }
 
 -- what was answered then
@@ -86,10 +86,10 @@ pub record Answered (x : Troubled) (f : FoundDone x) : Type 0 where
   pub t : Table
   pub b : List Held
   pub u : PortSlots
-  pub answers : AnswersAll x.port f.done before after (from x f) (with_answers (from x f) t b u x.port)
+  pub answers : AnswersDoneSlots x.port f.done before after (from x f) (with_answers (from x f) t b u x.port)
   pub lent : LendsDone (with_answers (from x f) t b u x.port) t b u x.port f.done
 
-abbrev mid : (x : Troubled) (f : FoundDone x) → Answered x f → Server
+abbrev mid : (x : Troubled) (f : FoundDone x) → Answered x f → ServerState
 mid x f a = with_answers (from x f) a.t a.b a.u x.port
 
 -- which commands are outstanding
@@ -100,10 +100,10 @@ pub record Waiting (x : Troubled) (f : FoundDone x) (a : Answered x f) : Type 0 
   pub kinds : AreQueued queued a.u
 
 module _ (x : Troubled) where
-  abbrev seen : Server
+  abbrev seen : ServerState
   seen = record x.s { device = x.device }
 
-  pub seen_kept : IsKept seen
+  pub seen_kept : InCallInvariant seen
   seen_kept = x.laws.looking x.s x.device x.port x.lends.sees.kept x.lends.sees.ready x.lends.sees.followed
 
   pub seen_there : HasPort x.device x.port.0
@@ -123,11 +123,11 @@ module _ (x : Troubled) where
       over = λ slot small its. x.laws.over seen f.found x.port f.mask f.done slot seen_kept x.lends.sees.ready its_mask small f.reads its;
     }
 
-    pub may : x.trouble ≡ Fails → MayRecover x.port.0 f.found
-    may fails = x.laws.may x.s x.device f.found x.port f.mask f.done x.lends.sees.kept x.lends.sees.ready (subst (λ (its : Trouble). IsFoundOut x.port its x.s.device x.device) fails x.lends.sees.finds) x.lends.sees.followed f.reads
+    pub may : x.port_error ≡ TaskFileError → MayRecover x.port.0 f.found
+    may fails = x.laws.may x.s x.device f.found x.port f.mask f.done x.lends.sees.kept x.lends.sees.ready (subst (λ (its : PortError). IsFoundOut x.port its x.s.device x.device) fails x.lends.sees.finds) x.lends.sees.followed f.reads
 
     module _ (a : Answered x f) where
-      pub mid_kept : IsKept (mid x f a)
+      pub mid_kept : InCallInvariant (mid x f a)
       mid_kept = a.lent.kept
 
       pub mid_there : HasPort f.found x.port.0
@@ -146,27 +146,27 @@ module _ (x : Troubled) where
         mid_kinds : AreQueued w.queued (slots_at (mid x f a).slots x.port.0)
         mid_kinds = subst (AreQueued w.queued) (sym a.lent.slots_are) w.kinds
 
-        pub agreed : AgreesWith (FitsFor w.queued x.port.0) f.found
+        pub agreed : RelatesWith (FitsFor w.queued x.port.0) f.found
         agreed = x.laws.agreed (mid x f a) x.port w.queued a.lent.kept a.lent.ready mid_kinds
 
         pub alone : IsAloneIn w.queued w.outstanding
         alone = x.laws.alone (mid x f a) x.port w.queued w.outstanding a.lent.kept mid_mask mid_kinds
 
-        module _ (result : Recovered) (new : Device) (its_end : (m : Mends x.port w.outstanding w.queued result f.found new) × TellsMending x.trouble x.port w.outstanding w.queued result m.accesses f.found new) where
-          abbrev mends : Mends x.port w.outstanding w.queued result f.found new
-          mends = its_end.0
+        module _ (result : Recovered) (new : Device) (its_end : (m : RecoversOrStops x.port w.outstanding w.queued result f.found new) × TellsErrorHandling x.port_error x.port w.outstanding w.queued result m.accesses f.found new) where
+          abbrev handling : RecoversOrStops x.port w.outstanding w.queued result f.found new
+          handling = its_end.0
 
-          pub named : (its : Failure) → result.failed ≡ Some its → (used : SlotUse) × (use_at a.u its.slot.0 ≡ Some used)
+          pub named : (its : FailedSlot) → result.failed ≡ Some its → (used : SlotUse) × (use_at a.u its.slot.0 ≡ Some used)
           named its is =
-              let among = named_among w.queued x.port w.outstanding mends.accesses f.found new its (subst (Rests w.queued x.port w.outstanding mends.accesses f.found new) is mends.tells.rests) in
+              let among = named_among w.queued x.port w.outstanding handling.accesses f.found new its (subst (Rests w.queued x.port w.outstanding handling.accesses f.found new) is handling.tells.rests) in
               its_use (use_at a.u its.slot.0) (sym (mask_of a.u w.outstanding w.left its.slot.0 among.0) ∙ among.1)
 
-          pub mends_rest : (failed : Option Failed) → IsFailed a.u result.failed failed → MendsRest x.port x.trouble a.before a.after failed result.next x.s a.t a.b a.u new
+          pub mends_rest : (failed : Option FailedRequest) → IsFailed a.u result.failed failed → CompletesAndRecovers x.port x.port_error a.before a.after failed result.next x.s a.t a.b a.u new
           mends_rest failed names = record {
             mid = mid x f a;
             kept = a.lent.kept;
-            mended = record {
-              trouble = x.trouble;
+            error_handled = record {
+              port_error = x.port_error;
               seen = x.device;
               finds = x.lends.sees.finds;
               mask = f.mask;
@@ -183,7 +183,7 @@ module _ (x : Troubled) where
               queued = w.queued;
               alike = mid_kinds;
               result = result;
-              mends = its_end.0;
+              handling = its_end.0;
               tells = its_end.1;
             };
             trouble_is = refl;

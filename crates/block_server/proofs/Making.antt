@@ -11,13 +11,13 @@ use Rattle.ata_types.specs.declared.memory.TheConstants.{DRIVER_FRAMES}
 use Rattle.block_machine.specs.Rules.{DifferInName}
 use Rattle.block_machine.specs.Left.{IsRow}
 use Rattle.dma_frames.specs.Loan.{Lending}
-use Rattle.dma_frames.specs.Table.{HasFrame, Run, owner_of, lent_to}
+use Rattle.dma_frames.specs.Table.{ExtentHasFrame, FrameExtent, owner_of, lent_to}
 use Rattle.grants.specs.Rows.{SameRows}
-use Rattle.host_boot.specs.Taken.{found_of}
+use Rattle.host_boot.specs.Taken.{probe_result_of}
 use Rattle.host_boot.specs.declared.Host.{Host}
 use Rattle.identify.specs.declared.DiskInfo.{DiskInfo}
 use Rattle.plan.specs.Plan.{HasClientFrames, IsClient, IsPlan, IsServedGrant, PlanView}
-use Rattle.server_history.specs.Server.{IsNewServer, Server, kept_at, mode_at, mode_found, no_slots, remembered_at, used_for}
+use Rattle.server_history.specs.Server.{IsNewServer, ServerState, kept_at, mode_at, mode_found, no_slots, remembered_at, used_for}
 
 -- a row of a plan is one that a configuration may give
 row_is : (plan : PlanView) (row : GrantRow) → IsServedGrant plan.wanted row → IsRow row
@@ -41,8 +41,8 @@ none_kept kept is = (ap length is, λ port. ap (λ (lists : List (List Lending))
     empty (suc (suc (suc zero))) = refl
     empty (suc (suc (suc (suc n)))) = refl
 
-module _ (s : Server) (host : Host) (plan : PlanView) (is : IsPlan plan) (rows : SameRows plan.grants s.grants)
-    (only : (f : Frame) (client : ClientId) → owner_of s.table f ≡ Some client → (run : Run) × Contains plan.owners run × HasFrame run f × (run.0 ≡ client))
+module _ (s : ServerState) (host : Host) (plan : PlanView) (is : IsPlan plan) (rows : SameRows plan.grants s.grants)
+    (only : (f : Frame) (client : ClientId) → owner_of s.table f ≡ Some client → (run : FrameExtent) × Contains plan.owners run × ExtentHasFrame run f × (run.0 ≡ client))
     (room : 4096 * plan.frames ≤ s.device.size) where
   planned : (row : GrantRow) → Contains s.grants row → IsRow row
   planned row here = row_is plan row (All-contains (IsServedGrant plan.wanted) plan.grants row is.grants (rows.1 row here))
@@ -51,12 +51,12 @@ module _ (s : Server) (host : Host) (plan : PlanView) (is : IsPlan plan) (rows :
   within frame client own =
       let run = only frame client own in
       let inside = All-contains (HasClientFrames plan.frames) plan.owners run.0 is.runs.within run.1 in
-      let its = All-contains (λ (r : Run). IsClient r.0) plan.owners run.0 is.runs.owners run.1 in
+      let its = All-contains (λ (r : FrameExtent). IsClient r.0) plan.owners run.0 is.runs.owners run.1 in
       (omega (arith, inside.0, run.2.0), omega (arith, inside.2, run.2.1), subst IsClient run.3 its)
 
   pub new_fits : AllPairs DifferInName s.grants → length s.grants ≤ 64 → ((frame : Frame) → lent_to s.table frame ≡ None) → s.ports ≡ host.ports → length host.ports ≡ 4
       → length s.remembered ≡ 4 → ((port : ℕ) → remembered_at s.remembered port ≡ None)
-      → length s.kept ≡ 4 → ((port : ℕ) → kept_at s.kept port ≡ []) → length s.slots ≡ 4 → length s.modes ≡ 4 → ((port : ℕ) → port < 4 → length (get_or s.slots port no_slots).places ≡ 32) → ((port : ℕ) → port < 4 → mode_at s.modes port ≡ mode_found s.device.cap (found_of s.ports port))
+      → length s.kept ≡ 4 → ((port : ℕ) → kept_at s.kept port ≡ []) → length s.slots ≡ 4 → length s.modes ≡ 4 → ((port : ℕ) → port < 4 → length (get_or s.slots port no_slots).places ≡ 32) → ((port : ℕ) → port < 4 → mode_at s.modes port ≡ mode_found s.device.cap (probe_result_of s.ports port))
       → ((port : ℕ) → port < 4 → (get_or s.slots port no_slots).usable ≡ (mode_at s.modes port).usable)
       → ((port slot : ℕ) → used_for s.slots port slot ≡ None) → s.book ≡ [] → s.last ≡ 0 → IsNewServer host s
   new_fits names few free ports four four_remembered forgotten four_kept unkept four_slots four_modes places modes usable unused book last = record {

@@ -8,8 +8,8 @@ use Rattle.std.proofs.lemmas.Nat.Bits.{bit_at_ones}
 use Rattle.std.proofs.lemmas.List.{drop_all, get_or_past, length-append, length-drop, length-take-le, take_all}
 use Rattle.std.proofs.lemmas.List.Sorted.{IsPermutation-sym, length_permutation}
 use Rattle.ata_types.specs.declared.request.Reply.{Reply}
-use Rattle.server_history.specs.Mended.{AreQueued}
-use Rattle.slots.specs.Uses.{Uses as PortSlots, use_at}
+use Rattle.server_history.specs.ErrorHandling.{AreQueued}
+use Rattle.slots.specs.Uses.{PortSlots, use_at}
 
 -- ---- slots
 

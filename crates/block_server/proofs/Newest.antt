@@ -8,9 +8,9 @@ use Rattle.std.proofs.lemmas.List.Sums.{sum_by-append, sum_by-cons}
 use Rattle.std.specs.List.{All, Contains, count_by, filter, list_any}
 use Rattle.std.specs.Prelude.{nat_lt}
 use Rattle.ata_types.specs.declared.Port.{Port}
-use Rattle.block_machine.specs.declared.due.Mode.{Mode}
+use Rattle.block_machine.specs.declared.due.QueueMode.{QueueMode}
 use Rattle.block_machine.specs.declared.due.Unanswered.{Unanswered}
-use Rattle.block_machine.specs.Due.{IsDue, NoneDue, ahead, conflict, due_of, free_slots, holds_back, is_clear, is_due, is_earlier, is_plain, issued_count}
+use Rattle.block_machine.specs.Due.{IsDue, NoneDue, ahead, must_keep_order, due_of, free_slots, waits_for, is_clear, is_due, is_earlier_on_port, is_plain, issued_count}
 use Rattle.request_queue.specs.Entries.{Held, asks, asks_of}
 
 -- ---- tests
@@ -79,7 +79,7 @@ All_each (x ∷ xs) each all = (each x all.0, All_each xs each all.1)
 
 -- ---- one more request, which waits, after all others
 
-module _ (mode : Mode) (book : List Unanswered) (r : Unanswered) (waits : r.issued ≡ false) where
+module _ (mode : QueueMode) (book : List Unanswered) (r : Unanswered) (waits : r.issued ≡ false) where
   abbrev Earlier : Unanswered → Type 0
   Earlier x = nat_lt r.id.0 x.id.0 ≡ false
 
@@ -87,19 +87,19 @@ module _ (mode : Mode) (book : List Unanswered) (r : Unanswered) (waits : r.issu
   longer = book ++ r ∷ []
 
   -- it stands in the way of no earlier one
-  free : (x : Unanswered) → Earlier x → holds_back mode x r ≡ false
-  free x late = held_no r.issued (nat_lt r.id.0 x.id.0) (r.port.0 == x.port.0) (is_plain mode x.op) (is_plain mode r.op) (is_plain mode r.op || conflict r x) waits late
+  free : (x : Unanswered) → Earlier x → waits_for mode x r ≡ false
+  free x late = held_no r.issued (nat_lt r.id.0 x.id.0) (r.port.0 == x.port.0) (is_plain mode x.op) (is_plain mode r.op) (is_plain mode r.op || must_keep_order r x) waits late
 
   clear_same : (x : Unanswered) → Earlier x → is_clear mode longer x ≡ is_clear mode book x
   clear_same x late =
-      ap (λ (b : Bool). not x.issued && not b) (list_any-append (holds_back mode x) book (r ∷ []) ∙ or_none (list_any (holds_back mode x) book) (holds_back mode x r) (free x late))
+      ap (λ (b : Bool). not x.issued && not b) (list_any-append (waits_for mode x) book (r ∷ []) ∙ or_none (list_any (waits_for mode x) book) (waits_for mode x r) (free x late))
 
   ahead_same : EachOf Earlier book → (x : Unanswered) → Earlier x → ahead mode longer x ≡ ahead mode book x
   ahead_same all x late =
-      count_last (λ other. is_earlier other x && is_clear mode longer other) book r
-      (none_and (is_earlier r x) (is_clear mode longer r) (and_none (r.port.0 == x.port.0) (nat_lt r.id.0 x.id.0) late))
-      ∙ count_same (λ other. is_earlier other x && is_clear mode longer other) (λ other. is_earlier other x && is_clear mode book other) book
-      (All_each book (λ other its. ap (λ (b : Bool). is_earlier other x && b) (clear_same other its)) all)
+      count_last (λ other. is_earlier_on_port other x && is_clear mode longer other) book r
+      (none_and (is_earlier_on_port r x) (is_clear mode longer r) (and_none (r.port.0 == x.port.0) (nat_lt r.id.0 x.id.0) late))
+      ∙ count_same (λ other. is_earlier_on_port other x && is_clear mode longer other) (λ other. is_earlier_on_port other x && is_clear mode book other) book
+      (All_each book (λ other its. ap (λ (b : Bool). is_earlier_on_port other x && b) (clear_same other its)) all)
 
   free_same : (port : Port) → free_slots mode longer port ≡ free_slots mode book port
   free_same port =
@@ -128,7 +128,7 @@ empty [] none = refl
 empty (x ∷ xs) none = absurd (none x (All-contains_itself (x ∷ xs) zero x (omega arith)))
 
 -- none is in the list of the due ones
-pub none_of_them : (mode : Mode) (port : Port) (book : List Unanswered) → ((x : Unanswered) → Contains (due_of mode port book) x → (x.port ≡ port) × IsDue mode book x) → NoneDue mode book port
+pub none_of_them : (mode : QueueMode) (port : Port) (book : List Unanswered) → ((x : Unanswered) → Contains (due_of mode port book) x → (x.port ≡ port) × IsDue mode book x) → NoneDue mode book port
     → due_of mode port book ≡ []
 none_of_them mode port book are none = empty (due_of mode port book) (λ x has. let is = are x has in none x is.0 is.1)
 

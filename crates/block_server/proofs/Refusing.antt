@@ -11,8 +11,8 @@ use Rattle.ata_types.specs.declared.request.Request.{Request}
 use Rattle.block_machine.specs.Refusals.{Applies, IsAcceptable, IsFirstRefusal}
 use Rattle.block_machine.specs.Rules.{IsNamed, BreaksNone}
 use Rattle.dma_frames.specs.Table.{owner_of, lent_to}
-use Rattle.request_queue.specs.Entries.{unanswered_of}
-use Rattle.server_history.specs.Server.{Server, ports_of, situation_of}
+use Rattle.request_queue.specs.Entries.{unanswered_entries}
+use Rattle.server_history.specs.Server.{ServerState, ports_of, server_situation}
 use Rattle.block_server.proofs.Ruling as ruling
 
 -- what is told of a trim that its port doesn't take tells of each other request that it isn't so
@@ -21,7 +21,7 @@ takes_trim true told trim lacks none asked = refl
 takes_trim false told trim lacks none asked = absurd (true≢false (sym (lacks (asked, refl)) ∙ none))
 
 -- the row is the only one that the request names
-module _ (s : Server) (r : Request) (none : BreaksNone s.grants (owner_of s.table) (lent_to s.table) r)
+module _ (s : ServerState) (r : Request) (none : BreaksNone s.grants (owner_of s.table) (lent_to s.table) r)
     (row : GrantRow) (found : Option GrantRow) (is : found ≡ Some row) (all : (other : GrantRow) → IsNamed s.grants r other → found ≡ Some other)
     (named : IsNamed s.grants r row) where
   the_same : (other : GrantRow) → IsNamed s.grants r other → other ≡ row
@@ -30,7 +30,7 @@ module _ (s : Server) (r : Request) (none : BreaksNone s.grants (owner_of s.tabl
   below : {B : Type 0} (n m : ℕ) → m ≤ n → n < m → B
   below n m le lt = absurd (omega (arith, le, lt))
 
-  none_nine : ruling.NoneBelow (situation_of s) r 9
+  none_nine : ruling.NoneBelow (server_situation s) r 9
   none_nine = record {
     rules = none;
     ready = λ h. below 9 9 (omega arith) h;
@@ -40,17 +40,17 @@ module _ (s : Server) (r : Request) (none : BreaksNone s.grants (owner_of s.tabl
     ids = λ h. below 13 9 (omega arith) h;
   }
 
-  pub not_ready : (state : PortState) → state ≡ (ports_of s).state row.port → (state ≡ Ready → ⊥) → IsFirstRefusal (situation_of s) r (PortNotReady state)
-  not_ready state state_is other = ruling.not_ready_first (situation_of s) r state (other, (row, named, sym state_is)) none_nine
+  pub not_ready : (state : PortState) → state ≡ (ports_of s).state row.port → (state ≡ Ready → ⊥) → IsFirstRefusal (server_situation s) r (PortNotReady state)
+  not_ready state state_is other = ruling.not_ready_first (server_situation s) r state (other, (row, named, sym state_is)) none_nine
 
   module _ (ready : (ports_of s).state row.port ≡ Ready) where
-    always_ready : (state : PortState) → Applies (situation_of s) r (PortNotReady state) → ⊥
+    always_ready : (state : PortState) → Applies (server_situation s) r (PortNotReady state) → ⊥
     always_ready state applies =
         let its = applies.1 in
         applies.0 (sym its.2 ∙ ap (λ (x : GrantRow). (ports_of s).state x.port) (the_same its.0 its.1) ∙ ready)
 
-    pub outside_disk : ((r.op ≢ Flush) × ((ports_of s).sectors row.port < r.first.0 + r.count)) → IsFirstRefusal (situation_of s) r OutsideDisk
-    outside_disk leaves = ruling.outside_disk_first (situation_of s) r (leaves.0, (row, named, leaves.1)) (record {
+    pub outside_disk : ((r.op ≢ Flush) × ((ports_of s).sectors row.port < r.first.0 + r.count)) → IsFirstRefusal (server_situation s) r OutsideDisk
+    outside_disk leaves = ruling.outside_disk_first (server_situation s) r (leaves.0, (row, named, leaves.1)) (record {
       rules = none;
       ready = λ _. always_ready;
       disk = λ h. below 10 10 (omega arith) h;
@@ -60,11 +60,11 @@ module _ (s : Server) (r : Request) (none : BreaksNone s.grants (owner_of s.tabl
     })
 
     module _ (inside : ((r.op ≢ Flush) × ((ports_of s).sectors row.port < r.first.0 + r.count)) → ⊥) where
-      never_outside : Applies (situation_of s) r OutsideDisk → ⊥
+      never_outside : Applies (server_situation s) r OutsideDisk → ⊥
       never_outside applies = inside (applies.0, subst (λ (x : GrantRow). (ports_of s).sectors x.port < r.first.0 + r.count) (the_same applies.1.0 applies.1.1) applies.1.2)
 
-      pub trim_unsupported : r.op ≡ Trim → (ports_of s).trims row.port ≡ false → IsFirstRefusal (situation_of s) r TrimUnsupported
-      trim_unsupported trims none_trims = ruling.trim_unsupported_first (situation_of s) r (trims, (row, named, λ (does : IsTrue ((ports_of s).trims row.port)). absurd (true≢false (sym does ∙ none_trims)))) (record {
+      pub trim_unsupported : r.op ≡ Trim → (ports_of s).trims row.port ≡ false → IsFirstRefusal (server_situation s) r TrimUnsupported
+      trim_unsupported trims none_trims = ruling.trim_unsupported_first (server_situation s) r (trims, (row, named, λ (does : IsTrue ((ports_of s).trims row.port)). absurd (true≢false (sym does ∙ none_trims)))) (record {
         rules = none;
         ready = λ _. always_ready;
         disk = λ _. never_outside;
@@ -74,11 +74,11 @@ module _ (s : Server) (r : Request) (none : BreaksNone s.grants (owner_of s.tabl
       })
 
       module _ (trims : r.op ≡ Trim → (ports_of s).trims row.port ≡ true) where
-        never_trim : Applies (situation_of s) r TrimUnsupported → ⊥
+        never_trim : Applies (server_situation s) r TrimUnsupported → ⊥
         never_trim applies = applies.1.2 (subst (λ (x : GrantRow). IsTrue ((ports_of s).trims x.port)) (sym (the_same applies.1.0 applies.1.1)) (trims applies.0))
 
-        pub client_full : 16 ≤ unanswered_of s.book r.client.0 → IsFirstRefusal (situation_of s) r ClientFull
-        client_full full = ruling.client_full_first (situation_of s) r full (record {
+        pub client_full : 16 ≤ unanswered_entries s.book r.client.0 → IsFirstRefusal (server_situation s) r ClientFull
+        client_full full = ruling.client_full_first (server_situation s) r full (record {
           rules = none;
           ready = λ _. always_ready;
           disk = λ _. never_outside;
@@ -87,9 +87,9 @@ module _ (s : Server) (r : Request) (none : BreaksNone s.grants (owner_of s.tabl
           ids = λ h. below 13 12 (omega arith) h;
         })
 
-        module _ (room : unanswered_of s.book r.client.0 < 16) where
-          pub ids_spent : 2 ^ 64 ≤ s.last + 1 → IsFirstRefusal (situation_of s) r IdsSpent
-          ids_spent spent = ruling.ids_spent_first (situation_of s) r spent (record {
+        module _ (room : unanswered_entries s.book r.client.0 < 16) where
+          pub ids_spent : 2 ^ 64 ≤ s.last + 1 → IsFirstRefusal (server_situation s) r IdsSpent
+          ids_spent spent = ruling.ids_spent_first (server_situation s) r spent (record {
             rules = none;
             ready = λ _. always_ready;
             disk = λ _. never_outside;
@@ -98,8 +98,8 @@ module _ (s : Server) (r : Request) (none : BreaksNone s.grants (owner_of s.tabl
             ids = λ h. below 13 13 (omega arith) h;
           })
 
-          pub none_applies : s.last + 1 < 2 ^ 64 → IsAcceptable (situation_of s) r
-          none_applies left = ruling.acceptable (situation_of s) r (record {
+          pub none_applies : s.last + 1 < 2 ^ 64 → IsAcceptable (server_situation s) r
+          none_applies left = ruling.acceptable (server_situation s) r (record {
             rules = none;
             ready = λ _. always_ready;
             disk = λ _. never_outside;

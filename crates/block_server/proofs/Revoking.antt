@@ -10,17 +10,17 @@ use Rattle.ata_types.specs.declared.request.Reply.{Reply}
 use Rattle.adapter.specs.Device.{Device}
 use Rattle.block_machine.specs.Left.{IsRow}
 use Rattle.block_machine.specs.Rules.{Names, without_row}
-use Rattle.block_machine.specs.declared.due.Mode.{Mode}
+use Rattle.block_machine.specs.declared.due.QueueMode.{QueueMode}
 use Rattle.dma_frames.specs.Loan.{Lending}
 use Rattle.dma_frames.specs.Table.{Table}
-use Rattle.host_boot.specs.declared.Found.TheVariants.{Unserved}
+use Rattle.host_boot.specs.declared.ProbeResult.TheVariants.{Unserved}
 use Rattle.request_queue.specs.Entries.{Held, all_marked_under, waits_under}
-use Rattle.request_queue.specs.Fates.{AnswersAll}
+use Rattle.request_queue.specs.Dispositions.{AnswersAlike}
 use Rattle.server_history.specs.Revoked.{RevokesGrant}
 use Rattle.server_history.specs.Served.{IssuesAll}
-use Rattle.server_history.specs.Server.{IsKept, Server, kept_at, mode_in, plain_mode}
-use Rattle.slots.specs.Uses.{Uses as PortSlots}
-use Rattle.block_server.specs.Fates.{holding}
+use Rattle.server_history.specs.Server.{InCallInvariant, ServerState, kept_at, mode_in, plain_mode}
+use Rattle.slots.specs.Uses.{PortSlots}
+use Rattle.block_server.specs.Dispositions.{holding}
 use Rattle.block_server.specs.Ports.{LendsFound, with_part}
 use Rattle.block_server.proofs.Sending.{slots_said}
 
@@ -31,24 +31,24 @@ TakesRow rows client number row left = Contains rows row × Names client number 
 -- the requests that wait in this book were told so, by replies that came after these
 abbrev pub AreTold : ClientId → ℕ → List Held → Table → List Reply → List Held → Table → List Reply → Type 0
 AreTold client number book table before later then replies = (kept : List Lending) → (its : List Reply) × (replies ≡ before ++ its)
-    × AnswersAll (waits_under client number) Revoked its (holding book table kept) (holding later then kept)
+    × AnswersAlike (waits_under client number) Revoked its (holding book table kept) (holding later then kept)
 
-module _ (s : Server) (client : ClientId) (number : ℕ) (row : GrantRow) (grants : List GrantRow) (takes : TakesRow s.grants client number row grants)
+module _ (s : ServerState) (client : ClientId) (number : ℕ) (row : GrantRow) (grants : List GrantRow) (takes : TakesRow s.grants client number row grants)
     (marked : List Held) (marked_is : marked ≡ all_marked_under client number s.book) (table : Table) (table_is : table ≡ s.table) (before : List Reply) (none : before ≡ [])
     (book : List Held) (then : Table) (replies : List Reply) (told : AreTold client number marked table before book then replies) where
   -- the server once they are
-  abbrev pub mid : Server
+  abbrev pub mid : ServerState
   mid = record s { grants = grants; table = then; book = book }
 
   abbrev kept : List Lending
   kept = kept_at s.kept row.port.0
 
-  pub answered : AnswersAll (waits_under client number) Revoked replies (holding (all_marked_under client number s.book) s.table kept) (holding book then kept)
+  pub answered : AnswersAlike (waits_under client number) Revoked replies (holding (all_marked_under client number s.book) s.table kept) (holding book then kept)
   answered =
       let its = told kept in
-      subst (λ (r : List Reply). AnswersAll (waits_under client number) Revoked r (holding (all_marked_under client number s.book) s.table kept) (holding book then kept)) (sym (its.1 ∙ ap (λ (b : List Reply). b ++ its.0) none))
-      (subst (λ (b : List Held). AnswersAll (waits_under client number) Revoked its.0 (holding b s.table kept) (holding book then kept)) marked_is
-      (subst (λ (t : Table). AnswersAll (waits_under client number) Revoked its.0 (holding marked t kept) (holding book then kept)) table_is its.2))
+      subst (λ (r : List Reply). AnswersAlike (waits_under client number) Revoked r (holding (all_marked_under client number s.book) s.table kept) (holding book then kept)) (sym (its.1 ∙ ap (λ (b : List Reply). b ++ its.0) none))
+      (subst (λ (b : List Held). AnswersAlike (waits_under client number) Revoked its.0 (holding b s.table kept) (holding book then kept)) marked_is
+      (subst (λ (t : Table). AnswersAlike (waits_under client number) Revoked its.0 (holding marked t kept) (holding book then kept)) table_is its.2))
 
   abbrev pub revokes : RevokesGrant client number replies s mid
   revokes = record {
@@ -57,18 +57,18 @@ module _ (s : Server) (client : ClientId) (number : ℕ) (row : GrantRow) (grant
     server = λ i. record s { grants = takes.2 i; table = then; book = book };
   }
 
-  module _ (k : IsKept s) (goes_on : IsKept mid) where
+  module _ (k : InCallInvariant s) (goes_on : InCallInvariant mid) where
     low : row.port.0 < 4
     low = let its = (All-contains IsRow s.grants row k.rows takes.0).port in omega (arith, its)
 
     -- the port's mode, wherever that is said to be
-    pub mode_said : (place : ℕ) → place ≡ row.port.0 → (default : Mode) → mode_in s row.port ≡ get_or s.modes place default
+    pub mode_said : (place : ℕ) → place ≡ row.port.0 → (default : QueueMode) → mode_in s row.port ≡ get_or s.modes place default
     mode_said place is default =
         let four = k.four_modes in let small = low in
         get_or_default s.modes row.port.0 plain_mode default (omega (arith, four, small)) ∙ ap (λ (n : ℕ). get_or s.modes n default) (sym is)
 
     -- it lends what issuing asks
-    pub lends : (place : ℕ) → place ≡ row.port.0 → (slots : PortSlots) (mode : Mode)
+    pub lends : (place : ℕ) → place ≡ row.port.0 → (slots : PortSlots) (mode : QueueMode)
         → LendsFound mid s.device book (get_or s.slots place slots) row.port (get_or s.modes place mode) (get_or s.ports place Unserved)
     lends place is slots mode = record {
       kept = goes_on;

@@ -10,41 +10,41 @@ use Rattle.ata_types.specs.declared.PortState.TheVariants.{Ready as ReadyState}
 use Rattle.hba_regs.specs.Bits.{bit}
 use Rattle.adapter.specs.Device.{Device}
 use Rattle.adapter.specs.Rules.{HasPort}
-use Rattle.host_boot.specs.Taken.{found_of}
-use Rattle.port_look.specs.Looks.{LooksAt}
-use Rattle.port_look.specs.declared.Look.{Look}
-use Rattle.port_look.specs.declared.Look.TheVariants as look
-use Rattle.server_history.specs.Mended.{IsFoundOut}
+use Rattle.host_boot.specs.Taken.{probe_result_of}
+use Rattle.port_events.specs.Looks.{LooksAt}
+use Rattle.port_events.specs.declared.PortEvent.{PortEvent}
+use Rattle.port_events.specs.declared.PortEvent.TheVariants as look
+use Rattle.server_history.specs.ErrorHandling.{IsFoundOut}
 use Rattle.server_history.specs.Served.{HasNone, IsMaskOf, is_used}
-use Rattle.server_history.specs.Server.{Server, IsKept, slots_at, state_of}
-use Rattle.port_look.specs.declared.Trouble.{Trouble}
-use Rattle.port_look.specs.declared.Trouble.TheVariants.{Broken, Failed, Hung, Lost}
-use Rattle.slots.specs.Uses.{Uses as PortSlots, IsTaken, use_at}
-use Rattle.slots.specs.declared.Use.{Use as SlotUse}
-use Rattle.block_server.specs.Recovery.{trouble_of}
+use Rattle.server_history.specs.Server.{ServerState, InCallInvariant, slots_at, state_of}
+use Rattle.port_events.specs.declared.PortError.{PortError}
+use Rattle.port_events.specs.declared.PortError.TheVariants.{BusError, TaskFileError, TimedOut, LinkChanged}
+use Rattle.slots.specs.Uses.{PortSlots, IsTaken, use_at}
+use Rattle.slots.specs.declared.SlotUse.{SlotUse}
+use Rattle.block_server.specs.Recovery.{error_of}
 use Rattle.block_server.proofs.Sending.{served_ready, slots_said}
 
-pub ready_there : (s : Server) (port : Port) → IsKept s → state_of (found_of s.ports port.0) ≡ ReadyState → HasPort s.device port.0
-ready_there s port k ready = k.there port.0 (served_ready (found_of s.ports port.0) ready)
+pub ready_there : (s : ServerState) (port : Port) → InCallInvariant s → state_of (probe_result_of s.ports port.0) ≡ ReadyState → HasPort s.device port.0
+ready_there s port k ready = k.there port.0 (served_ready (probe_result_of s.ports port.0) ready)
 
 -- what a look tells is found out by it, and isn't that a request is hung
-pub found_out : (told : Look) (trouble : Trouble) (port : Port) (old seen : Device) → trouble_of told ≡ Some trouble → LooksAt port told old seen
-    → IsFoundOut port trouble old seen × (trouble ≢ Hung)
-found_out look.Failed trouble port old seen is looks =
-    subst (λ (its : Trouble). IsFoundOut port its old seen × (its ≢ Hung)) (same_Some Failed trouble is) (looks, λ hung. let z : Failed ≡ Hung = hung in cc)
-found_out look.Broken trouble port old seen is looks =
-    subst (λ (its : Trouble). IsFoundOut port its old seen × (its ≢ Hung)) (same_Some Broken trouble is) (looks, λ hung. let z : Broken ≡ Hung = hung in cc)
-found_out look.Lost trouble port old seen is looks =
-    subst (λ (its : Trouble). IsFoundOut port its old seen × (its ≢ Hung)) (same_Some Lost trouble is) (looks, λ hung. let z : Lost ≡ Hung = hung in cc)
-found_out look.Undisturbed trouble port old seen is looks = let z : None ≡ Some trouble = is in absurd cc
+pub found_out : (told : PortEvent) (port_error : PortError) (port : Port) (old seen : Device) → error_of told ≡ Some port_error → LooksAt port told old seen
+    → IsFoundOut port port_error old seen × (port_error ≢ TimedOut)
+found_out look.TaskFileError port_error port old seen is looks =
+    subst (λ (its : PortError). IsFoundOut port its old seen × (its ≢ TimedOut)) (same_Some TaskFileError port_error is) (looks, λ hung. let z : TaskFileError ≡ TimedOut = hung in cc)
+found_out look.BusError port_error port old seen is looks =
+    subst (λ (its : PortError). IsFoundOut port its old seen × (its ≢ TimedOut)) (same_Some BusError port_error is) (looks, λ hung. let z : BusError ≡ TimedOut = hung in cc)
+found_out look.LinkChanged port_error port old seen is looks =
+    subst (λ (its : PortError). IsFoundOut port its old seen × (its ≢ TimedOut)) (same_Some LinkChanged port_error is) (looks, λ hung. let z : LinkChanged ≡ TimedOut = hung in cc)
+found_out look.NoEvent port_error port old seen is looks = let z : None ≡ Some port_error = is in absurd cc
 
 -- a look that tells no trouble tells that there is none
-pub undisturbed : (told : Look) (result : Option Trouble) (port : Port) (old seen : Device) → result ≡ trouble_of told → ((trouble : Trouble) → result ≡ Some trouble → ⊥)
-    → LooksAt port told old seen → LooksAt port look.Undisturbed old seen
-undisturbed look.Failed result port old seen is none looks = absurd (none Failed is)
-undisturbed look.Broken result port old seen is none looks = absurd (none Broken is)
-undisturbed look.Lost result port old seen is none looks = absurd (none Lost is)
-undisturbed look.Undisturbed result port old seen is none looks = looks
+pub undisturbed : (told : PortEvent) (result : Option PortError) (port : Port) (old seen : Device) → result ≡ error_of told → ((port_error : PortError) → result ≡ Some port_error → ⊥)
+    → LooksAt port told old seen → LooksAt port look.NoEvent old seen
+undisturbed look.TaskFileError result port old seen is none looks = absurd (none TaskFileError is)
+undisturbed look.BusError result port old seen is none looks = absurd (none BusError is)
+undisturbed look.LinkChanged result port old seen is none looks = absurd (none LinkChanged is)
+undisturbed look.NoEvent result port old seen is none looks = looks
 
 -- a mask that has the taken slots
 pub mask_of : (slots : PortSlots) (mask : ℕ) → ((slot : ℕ) → slot < 32 → (bit_at mask slot ≡ 1) ↔ IsTaken slots slot) → IsMaskOf slots mask
@@ -61,7 +61,7 @@ mask_of slots mask exact slot small = by (use_at slots slot) refl
             go (Some u) taken = refl
     by (Some u) is = eq-eqb (bit_at mask slot) 1 ((exact slot small).1 (subst IsSome (sym is) refl)) ∙ sym (ap is_used is)
 
-pub its_mask : (s : Server) (port : Port) → IsKept s → state_of (found_of s.ports port.0) ≡ ReadyState → (number : ℕ) → number ≡ port.0 → (default : PortSlots) (mask : ℕ)
+pub its_mask : (s : ServerState) (port : Port) → InCallInvariant s → state_of (probe_result_of s.ports port.0) ≡ ReadyState → (number : ℕ) → number ≡ port.0 → (default : PortSlots) (mask : ℕ)
     → ((slot : ℕ) → slot < 32 → (bit_at mask slot ≡ 1) ↔ IsTaken (get_or s.slots number default) slot) → IsMaskOf (slots_at s.slots port.0) mask
 its_mask s port k ready number is default mask exact =
     subst (λ (u : PortSlots). IsMaskOf u mask) (sym (slots_said s port.0 k (ready_there s port k ready).0 number is default)) (mask_of (get_or s.slots number default) mask exact)

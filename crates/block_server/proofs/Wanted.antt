@@ -9,66 +9,66 @@ use Rattle.ata_types.specs.declared.request.Reply.{Reply}
 use Rattle.ata_types.specs.declared.request.Request.{Request}
 use Rattle.ata_types.specs.declared.request.RequestId.{RequestId}
 use Rattle.adapter.specs.Device.{Device}
-use Rattle.agreement.specs.Agrees.{port_at}
-use Rattle.host_boot.specs.declared.Found.{Found}
-use Rattle.host_boot.specs.declared.Found.TheVariants.{Unserved, Ready, Unready}
+use Rattle.refinement.specs.Relation.{port_at}
+use Rattle.host_boot.specs.declared.ProbeResult.{ProbeResult}
+use Rattle.host_boot.specs.declared.ProbeResult.TheVariants.{Unserved, Ready, Unready}
 use Rattle.host_boot.specs.declared.resetting.AdapterStuck.{AdapterStuck}
 use Rattle.request_queue.specs.Entries.{Held}
 use Rattle.server_history.specs.Resets.{IssuePorts, SettlePorts}
 use Rattle.server_history.specs.Served.{IssuesEach}
-use Rattle.server_history.specs.Server.{Server}
-use Rattle.server_history.specs.Turns.{ServesPort, TakeTurns, TicksPort, TriesUnready, a_tick_older}
+use Rattle.server_history.specs.Server.{ServerState}
+use Rattle.server_history.specs.Turns.{ServesPort, TakeTurns, TicksPort, ProbesUnready, a_tick_older}
 use Rattle.block_server.specs.Calls.{ServicesBy, Services, Submits, TicksBy, TicksServer}
 use Rattle.block_server.specs.Resetting.{DoesReset}
 use Rattle.block_server.specs.Revoking.{Revokes, RevokesAndIssues}
 use Rattle.block_server.specs.View.{ServerView, server_of}
-use Rattle.block_server.specs.declared.types.NoRow.{NoRow}
+use Rattle.block_server.specs.declared.types.NoSuchGrant.{NoSuchGrant}
 
 -- both want the same disks
-abbrev SameWanted : Server → Server → Type 0
+abbrev SameWanted : ServerState → ServerState → Type 0
 SameWanted old new = new.wanted ≡ old.wanted
 
 -- turns of ports leave what is wanted, if each of them does
-turns : (Such : Port → List Reply → Server → Server → Type 0) (Other : Port → Server → Server → Type 0)
-    → ((port : Port) (replies : List Reply) (old new : Server) → Such port replies old new → SameWanted old new)
-    → ((port : Port) (old new : Server) → Other port old new → SameWanted old new)
-    → (port : ℕ) (found : List Found) (replies : List Reply) (old new : Server) → TakeTurns Such Other port found replies old new → SameWanted old new
-turns Such Other such other port [] replies old new t = ap (λ (s : Server). s.wanted) t.1
+turns : (Such : Port → List Reply → ServerState → ServerState → Type 0) (Other : Port → ServerState → ServerState → Type 0)
+    → ((port : Port) (replies : List Reply) (old new : ServerState) → Such port replies old new → SameWanted old new)
+    → ((port : Port) (old new : ServerState) → Other port old new → SameWanted old new)
+    → (port : ℕ) (found : List ProbeResult) (replies : List Reply) (old new : ServerState) → TakeTurns Such Other port found replies old new → SameWanted old new
+turns Such Other such other port [] replies old new t = ap (λ (s : ServerState). s.wanted) t.1
 turns Such Other such other port (Ready info ∷ rest) replies old new (mid, its, later, are, settled, does, more) =
     turns Such Other such other (port + 1) rest later mid new more ∙ such (port_at port) its old mid does
 turns Such Other such other port (Unready state ∷ rest) replies old new (mid, settled, does, more) =
     turns Such Other such other (port + 1) rest replies mid new more ∙ other (port_at port) old mid does
 turns Such Other such other port (Unserved ∷ rest) replies old new t = turns Such Other such other (port + 1) rest replies old new t
 
-settles : (port : ℕ) (found : List Found) (replies : List Reply) (old new : Server) → SettlePorts port found replies old new → SameWanted old new
-settles port [] replies old new s = ap (λ (s : Server). s.wanted) s.1
+settles : (port : ℕ) (found : List ProbeResult) (replies : List Reply) (old new : ServerState) → SettlePorts port found replies old new → SameWanted old new
+settles port [] replies old new s = ap (λ (s : ServerState). s.wanted) s.1
 settles port (found ∷ rest) replies old new (mid, its, later, are, does, more) =
-    settles (port + 1) rest later mid new more ∙ ap (λ (s : Server). s.wanted) does.server
+    settles (port + 1) rest later mid new more ∙ ap (λ (s : ServerState). s.wanted) does.server
 
-issues_each : (port : Port) (ids : List RequestId) (old new : Server) → IssuesEach port ids old new → SameWanted old new
-issues_each port [] old new same = ap (λ (s : Server). s.wanted) same
-issues_each port (id ∷ ids) old new (mid, one, more) = issues_each port ids mid new more ∙ ap (λ (s : Server). s.wanted) one.server
+issues_each : (port : Port) (ids : List RequestId) (old new : ServerState) → IssuesEach port ids old new → SameWanted old new
+issues_each port [] old new same = ap (λ (s : ServerState). s.wanted) same
+issues_each port (id ∷ ids) old new (mid, one, more) = issues_each port ids mid new more ∙ ap (λ (s : ServerState). s.wanted) one.server
 
-issues : (port : ℕ) (found : List Found) (old new : Server) → IssuePorts port found old new → SameWanted old new
-issues port [] old new same = ap (λ (s : Server). s.wanted) same
+issues : (port : ℕ) (found : List ProbeResult) (old new : ServerState) → IssuePorts port found old new → SameWanted old new
+issues port [] old new same = ap (λ (s : ServerState). s.wanted) same
 issues port (Ready info ∷ rest) old new (mid, one, more) = issues (port + 1) rest mid new more ∙ issues_each (port_at port) _ old mid one
 issues port (Unready state ∷ rest) old new more = issues (port + 1) rest old new more
 issues port (Unserved ∷ rest) old new more = issues (port + 1) rest old new more
 
-ticks_port : (book : List Held) (port : Port) (replies : List Reply) (old new : Server) → TicksPort book port replies old new → SameWanted old new
-ticks_port book port replies old new t = ⊎_elim (λ mended. mended.3.others.wanted) (λ rests. ap (λ (s : Server). s.wanted) rests.2) t
+ticks_port : (book : List Held) (port : Port) (replies : List Reply) (old new : ServerState) → TicksPort book port replies old new → SameWanted old new
+ticks_port book port replies old new t = ⊎_elim (λ error_handled. error_handled.3.others.wanted) (λ rests. ap (λ (s : ServerState). s.wanted) rests.2) t
 
-same_port : (port : Port) (old new : Server) → new ≡ old → SameWanted old new
-same_port port old new same = ap (λ (s : Server). s.wanted) same
+same_port : (port : Port) (old new : ServerState) → new ≡ old → SameWanted old new
+same_port port old new same = ap (λ (s : ServerState). s.wanted) same
 
-services_by : (stuck : Bool) (ports : List Found) (replies : List Reply) (old new : Server) → ServicesBy stuck ports replies old new → SameWanted old new
+services_by : (stuck : Bool) (ports : List ProbeResult) (replies : List Reply) (old new : ServerState) → ServicesBy stuck ports replies old new → SameWanted old new
 services_by false ports replies old new s =
-    turns ServesPort TriesUnready (λ port its one other served. served.part.others.wanted) (λ port one other tried. tried.part.others.wanted) 0 ports replies old new s
+    turns ServesPort ProbesUnready (λ port its one other served. served.part.others.wanted) (λ port one other tried. tried.part.others.wanted) 0 ports replies old new s
 services_by true ports replies old new s = settles 0 ports replies old new s
 
-ticks_by : (stuck : Bool) (replies : List Reply) (old new : Server) → TicksBy stuck replies old new → SameWanted old new
+ticks_by : (stuck : Bool) (replies : List Reply) (old new : ServerState) → TicksBy stuck replies old new → SameWanted old new
 ticks_by false replies old new t = turns (TicksPort (a_tick_older old).book) (λ port one other. other ≡ one) (ticks_port (a_tick_older old).book) same_port 0 old.ports replies (a_tick_older old) new t
-ticks_by true replies old new t = ap (λ (s : Server). s.wanted) t.1
+ticks_by true replies old new t = ap (λ (s : ServerState). s.wanted) t.1
 
 module _ {A : Type 0} (device : A → Device) (old new : ServerView A) where
   pub submit_wants : (r : Request) (result : Result RequestId Refusal) → Submits device old new r result → new.wanted ≡ old.wanted
@@ -85,16 +85,16 @@ module _ {A : Type 0} (device : A → Device) (old new : ServerView A) where
   reset_wants replies (Ok done) resets =
       issues 0 resets.0.taken.ports resets.0.settled (server_of device new) resets.0.issues
       ∙ settles 0 resets.0.taken.ports replies resets.0.taken resets.0.settled resets.0.settles
-      ∙ ap (λ (s : Server). s.wanted) resets.0.takes.server
-  reset_wants replies (Err why) stuck = ap (λ (s : Server). s.wanted) stuck.1.server
+      ∙ ap (λ (s : ServerState). s.wanted) resets.0.takes.server
+  reset_wants replies (Err why) stuck = ap (λ (s : ServerState). s.wanted) stuck.1.server
 
-  pub revoke_wants : (client : ClientId) (number : ℕ) (replies : List Reply) (result : Result (Unit {0}) NoRow) → Revokes device old new client number replies result → new.wanted ≡ old.wanted
+  pub revoke_wants : (client : ClientId) (number : ℕ) (replies : List Reply) (result : Result (Unit {0}) NoSuchGrant) → Revokes device old new client number replies result → new.wanted ≡ old.wanted
   revoke_wants client number replies (Ok done) revokes = by old.stuck refl
     where
       r : RevokesAndIssues device client number replies old new
       r = revokes.0
 
       by : (stuck : Bool) → old.stuck ≡ stuck → new.wanted ≡ old.wanted
-      by false on = issues_each r.revokes.has.0.port _ r.mid (server_of device new) (r.issues on) ∙ ap (λ (s : Server). s.wanted) r.revokes.server
-      by true off = ap (λ (s : Server). s.wanted) (r.stalled off ∙ r.revokes.server)
+      by false on = issues_each r.revokes.has.0.port _ r.mid (server_of device new) (r.issues on) ∙ ap (λ (s : ServerState). s.wanted) r.revokes.server
+      by true off = ap (λ (s : ServerState). s.wanted) (r.stalled off ∙ r.revokes.server)
   revoke_wants client number replies (Err none) refused = ap (λ (s : ServerView A). s.wanted) refused.2

@@ -20,13 +20,13 @@ use Rattle.block_machine.specs.Refusals.{IsAcceptable, IsFirstRefusal, IsOpen, I
 use Rattle.block_machine.specs.Rules.{IsNamed}
 use Rattle.block_server.specs.View.{ServerView, server_of}
 use Rattle.dma_frames.specs.Table.{owner_of, lent_to}
-use Rattle.host_boot.specs.declared.Found.{Found}
+use Rattle.host_boot.specs.declared.ProbeResult.{ProbeResult}
 use Rattle.block_machine.specs.Due.{due_of}
 use Rattle.request_queue.specs.Entries.{asks_of}
 use Rattle.server_history.specs.Served.{Accepts, accepting}
 use Rattle.server_history.specs.Turns.{ServePorts, Ticks}
 use Rattle.server_history.specs.Resets.{SettlePorts}
-use Rattle.server_history.specs.Server.{Server, mode_in, situation_of}
+use Rattle.server_history.specs.Server.{ServerState, mode_in, server_situation}
 
 -- only the adapter is another
 abbrev pub SameServer : {A : Type 0} → ServerView A → ServerView A → Type 0
@@ -40,7 +40,7 @@ IsFor rows r port = (row : GrantRow) × IsNamed rows r row × (row.port ≡ port
 -- no access was made. The adapter is on, as before.
 pub record AcceptsRequest {A : Type 0} (device : A → Device) (old new : ServerView A) (r : Request)
     (id : RequestId) : Type 0 where
-  pub acceptable : IsAcceptable (situation_of (server_of device old)) r
+  pub acceptable : IsAcceptable (server_situation (server_of device old)) r
   pub port : Port
   pub accepts : Accepts port r id (server_of device old) (server_of device new)
   pub stuck : new.stuck ≡ old.stuck
@@ -51,11 +51,12 @@ pub record AcceptsRequest {A : Type 0} (device : A → Device) (old new : Server
 abbrev pub Submits : {A : Type 0} → (A → Device) → ServerView A → ServerView A → Request → Result RequestId Refusal
     → Type 0
 Submits device old new r (Ok id) = AcceptsRequest device old new r id
-Submits device old new r (Err refusal) = IsFirstRefusal (situation_of (server_of device old)) r refusal × (new ≡ old)
+Submits device old new r (Err refusal) = IsFirstRefusal (server_situation (server_of device old)) r refusal
+    × (new ≡ old)
 
--- Each ready port was served, and each other one that is served was tried, in rising number. Since a reset that got
+-- Each ready port was served, and each other one that is served was probed, in rising number. Since a reset that got
 -- stuck, all requests were told what their ports are: dead.
-abbrev pub ServicesBy : Bool → List Found → List Reply → Server → Server → Type 0
+abbrev pub ServicesBy : Bool → List ProbeResult → List Reply → ServerState → ServerState → Type 0
 ServicesBy false ports replies old new = ServePorts 0 ports replies old new
 ServicesBy true ports replies old new = SettlePorts 0 ports replies old new
 
@@ -66,7 +67,7 @@ Services device old new replies = ServicesBy old.stuck old.ports replies (server
 
 -- Requests got older, and ready ports had their turns. Since a reset that got stuck there is none that is ready:
 -- nothing changed.
-abbrev pub TicksBy : Bool → List Reply → Server → Server → Type 0
+abbrev pub TicksBy : Bool → List Reply → ServerState → ServerState → Type 0
 TicksBy false replies old new = Ticks replies old new
 TicksBy true replies old new = (replies ≡ []) × (new ≡ old)
 

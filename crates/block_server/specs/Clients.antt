@@ -10,9 +10,9 @@ use Rattle.ata_types.specs.declared.request.RequestId.{RequestId}
 use Rattle.adapter.specs.Device.{Device}
 use Rattle.adapter.specs.Rules.{IsOn}
 use Rattle.adapter.specs.declared.access.DeviceStep.{DeviceStep}
-use Rattle.agreement.specs.Agrees.{IsDiskOf, SameMemory, SameSectors}
-use Rattle.block_machine.specs.Events.{Ask, Said, EveryReadHolds, IsRun, steps_of}
-use Rattle.block_machine.specs.Histories.{Happening, Instant, events_of, now}
+use Rattle.refinement.specs.Relation.{IsDiskOf, SameMemory, SameSectors}
+use Rattle.block_machine.specs.Events.{Ask, CallResult, EveryReadHolds, IsRun, steps_of}
+use Rattle.block_machine.specs.Histories.{Happening, JointState, events_of, now}
 use Rattle.durability.specs.Durable.{EveryPlugFinds}
 use Rattle.driver_history.specs.Holds.{NoneWaits, ShowsDiskInfo}
 use Rattle.driver_history.specs.Moves.{KeepsMoves}
@@ -30,7 +30,7 @@ EachAfter Is past (h ∷ added) = EachAfter Is past added × Is (added ++ past) 
 
 -- These calls, the newest first, asked that and said this, one after another.
 pub record AreCalls (added : List (Happening Device DeviceStep)) (asked : List (Ask DeviceStep))
-    (said : List Said) : Type 0 where
+    (said : List CallResult) : Type 0 where
   pub asks : map (λ h. h.event.ask) (reverse added) ≡ asked
   pub says : map (λ h. h.event.said) (reverse added) ≡ said
 
@@ -45,7 +45,7 @@ pub record Visible : Type 0 where
   pub state : Port → PortState
 
 -- so the server is seen at the instant
-pub record IsSeenAt (v : Visible) (i : Instant Device) : Type 0 where
+pub record IsSeenAt (v : Visible) (i : JointState Device) : Type 0 where
   pub device_is : i.device ≡ v.device
   pub rows : i.moment.machine.rows ≡ v.rows
   pub owner : (frame : Frame) → i.moment.machine.owner frame ≡ v.owner frame
@@ -59,7 +59,7 @@ pub record IsSeenAt (v : Visible) (i : Instant Device) : Type 0 where
 -- there are and what else requests are checked by. Absent, unfit and foreign ones are stopped, for what was read last
 -- or for that page. Of a dead one an engine was awaited in vain; or the adapter isn't on, since its last reset wasn't
 -- seen to end (PxSSTS, PxTFD, PxSIG, PxCMD: AHCI 1.3.1, 3.3; IDENTIFY DEVICE: ACS-3, 7.12).
-abbrev pub IsInState : Wanted → Instant Device → Port → Bool → PortState → Type 0
+abbrev pub IsInState : Wanted → JointState Device → Port → Bool → PortState → Type 0
 IsInState wanted i port false state = state ≡ Absent
 IsInState wanted i port true Ready = IsOn i.device
     × (info : DiskInfo) × HasFitDisk (serial_of wanted) port.0 i.device info
@@ -71,7 +71,7 @@ IsInState wanted i port true state = EndsAs (serial_of wanted) state port.0 i.de
 -- each is in its state for a reason; and on one that isn't ready no request waits, unless the adapter isn't on.
 -- Clients' frames hold what the machine's do. The disk of each port is the machine's; and where the adapter's disks
 -- tell their sectors, these hold the same.
-pub record HoldsBetween (wanted : List Wanted) (i : Instant Device) : Type 0 where
+pub record HoldsBetween (wanted : List Wanted) (i : JointState Device) : Type 0 where
   pub served : (port : Port) → port.0 < 4 → (i.moment.ports.served port ≡ true)
       ↔ IsServed (wanted_of wanted port.0) port.0 i.device
   pub state : (port : Port) → port.0 < 4
@@ -85,7 +85,7 @@ pub record HoldsBetween (wanted : List Wanted) (i : Instant Device) : Type 0 whe
 -- ---- the promise
 
 -- In a call moves and clears keep to their places, and after it there holds what holds between calls.
-pub record IsConfinedCall (wanted : List Wanted) (first : Instant Device) (past : List (Happening Device DeviceStep))
+pub record IsConfinedCall (wanted : List Wanted) (first : JointState Device) (past : List (Happening Device DeviceStep))
     (h : Happening Device DeviceStep) : Type 0 where
   pub moves : KeepsMoves first.moment.machine (steps_of (events_of past)) h.event.steps (now first past).device h.device
   pub holds : HoldsBetween wanted (now first (h ∷ past))
@@ -95,8 +95,9 @@ pub record IsConfinedCall (wanted : List Wanted) (first : Instant Device) (past 
 -- read that was answered Ok has what was left, where the adapter's disks tell their sectors. And in each of the calls
 -- moves and clears keep to their places, and before and after it there holds what holds between calls; the disks that
 -- are wanted stay so.
-pub record ServesClients (first : Instant Device) (past added : List (Happening Device DeviceStep)) (old new : Visible)
-    (asked : List (Ask DeviceStep)) (said : List Said) : Type 0 where
+pub record ServesClients (first : JointState Device) (past added : List (Happening Device DeviceStep))
+    (old new : Visible)
+    (asked : List (Ask DeviceStep)) (said : List CallResult) : Type 0 where
   pub calls : AreCalls added asked said
   pub wanted : new.wanted ≡ old.wanted
   pub from : IsSeenAt old (now first past)
@@ -106,9 +107,9 @@ pub record ServesClients (first : Instant Device) (past added : List (Happening 
   pub begins : HoldsBetween old.wanted (now first past)
   pub confined : EachAfter (IsConfinedCall new.wanted first) past added
 
--- What is promised to clients of disks that are pulled out. Of a write or trim that was answered Ok before a flush of its
--- port was accepted that was answered Ok, too, with its disk in from the acceptance of the write on and no other one
--- since: where that disk comes back it has, in each sector of it, the bytes that it put there, or those of a write or
--- trim accepted later, where the adapter's disks tell their sectors.
-pub record OutlivesUnplugs (first : Instant Device) (calls : List (Happening Device DeviceStep)) : Type 0 where
+-- What is promised to clients of disks that are pulled out. Of a write or trim that was answered Ok before a flush of
+-- its port was accepted that was answered Ok, too, with its disk in from the acceptance of the write to the answer of
+-- the flush, and no other one put in since: where that disk comes back it has, in each sector of it, the bytes that it
+-- put there, or those of a write or trim accepted later, where the adapter's disks tell their sectors.
+pub record OutlivesUnplugs (first : JointState Device) (calls : List (Happening Device DeviceStep)) : Type 0 where
   pub finds : first.device.telling ≡ true → EveryPlugFinds first.moment.machine (steps_of (events_of calls))

@@ -7,9 +7,9 @@ use Rattle.error_recovery.specs.Costs.{RECOVER_ACCESSES}
 use Rattle.host_boot.specs.Costs.{BOOT_AGAIN_ACCESSES, BOOT_IF_THERE_ACCESSES, RESET_ACCESSES, TAKE_OVER_ACCESSES}
 use Rattle.ncq.specs.Costs.{DONE_ACCESSES, ISSUE_ACCESSES}
 use Rattle.port_control.specs.Costs.{STOP_ACCESSES}
-use Rattle.port_look.specs.Costs.{LOOK_ACCESSES}
-use Rattle.port_look.specs.declared.Trouble.{Trouble}
-use Rattle.port_look.specs.declared.Trouble.TheVariants.{Failed, Hung, Lost}
+use Rattle.port_events.specs.Costs.{LOOK_ACCESSES}
+use Rattle.port_events.specs.declared.PortError.{PortError}
+use Rattle.port_events.specs.declared.PortError.TheVariants.{TaskFileError, TimedOut, LinkChanged}
 
 -- ---- the parts of calls
 
@@ -18,22 +18,23 @@ abbrev pub ISSUES_ACCESSES : ℕ
 ISSUES_ACCESSES = SLOTS * ISSUE_ACCESSES
 
 -- a port in such trouble is recovered where a command failed, and else stopped
-abbrev pub mending_accesses : Trouble → ℕ
-mending_accesses Failed = RECOVER_ACCESSES
-mending_accesses _ = STOP_ACCESSES
+abbrev pub handling_accesses : PortError → ℕ
+handling_accesses TaskFileError = RECOVER_ACCESSES
+handling_accesses _ = STOP_ACCESSES
 
 -- and then it is booted: one whose disk was lost only where a device shows
-abbrev pub booting_accesses : Trouble → ℕ
-booting_accesses Lost = BOOT_IF_THERE_ACCESSES
+abbrev pub booting_accesses : PortError → ℕ
+booting_accesses LinkChanged = BOOT_IF_THERE_ACCESSES
 booting_accesses _ = BOOT_AGAIN_ACCESSES
 
--- what is done is found out, the port is mended and booted, and what is due is issued
-abbrev pub trouble_accesses : Trouble → ℕ
-trouble_accesses trouble = DONE_ACCESSES + mending_accesses trouble + booting_accesses trouble + ISSUES_ACCESSES
+-- what is done is found out, its error is handled, it is booted, and what is due is issued
+abbrev pub port_error_accesses : PortError → ℕ
+port_error_accesses port_error =
+    DONE_ACCESSES + handling_accesses port_error + booting_accesses port_error + ISSUES_ACCESSES
 
 -- a port is looked at, and its trouble is a command that failed: no other turn of a port in a service has as many
 abbrev pub TURN_ACCESSES : ℕ
-TURN_ACCESSES = LOOK_ACCESSES + trouble_accesses Failed
+TURN_ACCESSES = LOOK_ACCESSES + port_error_accesses TaskFileError
 
 -- ---- the calls
 
@@ -49,9 +50,9 @@ MOST_OF_SUBMIT = ISSUE_ACCESSES
 abbrev pub MOST_OF_SERVICE : ℕ
 MOST_OF_SERVICE = PORTS * TURN_ACCESSES
 
--- a tick mends each port that hangs
+-- a tick handles each port that hangs
 abbrev pub MOST_OF_TICK : ℕ
-MOST_OF_TICK = PORTS * trouble_accesses Hung
+MOST_OF_TICK = PORTS * port_error_accesses TimedOut
 
 -- a reset ends, the adapter is taken over, and what is due on each port is issued
 abbrev pub MOST_OF_RESET : ℕ

@@ -7,7 +7,7 @@ pub mod Sayings
 pub mod Running
 pub mod Ports
 pub mod Promise
-pub mod Fates
+pub mod Dispositions
 pub mod Recovery
 pub mod Resetting
 pub mod Revoking

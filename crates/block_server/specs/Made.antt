@@ -7,35 +7,38 @@ use Rattle.ata_types.specs.declared.request.Frame.{Frame}
 use Rattle.adapter.specs.Device.{Device}
 use Rattle.adapter.specs.Idle.{IsIdle}
 use Rattle.block_server.specs.View.{ServerView, server_of}
-use Rattle.configuration.specs.Rules.{IsSound, IsFirstBroken}
+use Rattle.configuration.specs.Rules.{MeetsAll, IsFirstUnmet}
 use Rattle.configuration.specs.declared.Config.{Config}
-use Rattle.dma_frames.specs.Table.{Run, owner_of, lent_to, HasFrame}
+use Rattle.dma_frames.specs.Table.{FrameExtent, owner_of, lent_to, ExtentHasFrame}
 use Rattle.grants.specs.Rows.{SameRows}
 use Rattle.host_boot.specs.Taken.{TakesOver}
 use Rattle.host_boot.specs.declared.Host.{Host}
 use Rattle.plan.specs.Plan.{PlanView, IsPlan, IsPlanOf}
 use Rattle.server_history.specs.Histories.{HasBegun}
-use Rattle.server_history.specs.Server.{IsSettled, kept_at, remembered_at, used_for}
+use Rattle.server_history.specs.Server.{SettledInvariant, kept_at, remembered_at, used_for}
 use Rattle.block_server.specs.declared.types.ServerError.{ServerError}
 use Rattle.block_server.specs.declared.types.ServerError.TheVariants.{BadConfig, NoMemory}
 
 -- The adapter is idle; and where the configuration is sound, it has the frames.
 pub record IsReadyFor (config : Config) (d : Device) : Type 0 where
   pub idle : IsIdle d
-  pub room : IsSound config → FRAME_BYTES * config.frames ≤ d.size
+  pub room : MeetsAll config → FRAME_BYTES * config.frames ≤ d.size
 
 -- The server has what the configuration's plan says: its grants, its owners, and the disks that it asks for. The
 -- adapter was taken over. No disk is remembered but those that were found, nothing is asked, nothing lent, no loan
 -- kept, no slot used, no id handed out, and no reset got stuck. It keeps what a server keeps, and a history without
 -- calls leads to it.
-pub record IsNew {A : Type 0} (device : A → Device) (config : Config) (adapter : A) (s : ServerView A) : Type 0 where
+pub record IsInitialServer {A : Type 0} (device : A → Device) (config : Config) (adapter : A)
+    (s : ServerView A) : Type 0 where
   pub plan : PlanView
   pub is_plan : IsPlan plan
   pub planned : IsPlanOf config plan
   pub rows : SameRows plan.grants s.grants
-  pub owned : (run : Run) (f : Frame) → Contains plan.owners run → HasFrame run f → owner_of s.table f ≡ Some run.0
-  pub only : (f : Frame) (client : ClientId) → owner_of s.table f ≡ Some client → (run : Run) × Contains plan.owners run
-      × HasFrame run f × (run.0 ≡ client)
+  pub owned : (run : FrameExtent) (f : Frame) → Contains plan.owners run → ExtentHasFrame run f
+      → owner_of s.table f ≡ Some run.0
+  pub only : (f : Frame) (client : ClientId) → owner_of s.table f ≡ Some client → (run : FrameExtent)
+      × Contains plan.owners run
+      × ExtentHasFrame run f × (run.0 ≡ client)
   pub free : (f : Frame) → lent_to s.table f ≡ None
   pub wanted : s.wanted ≡ plan.wanted
   pub host : Host
@@ -47,10 +50,10 @@ pub record IsNew {A : Type 0} (device : A → Device) (config : Config) (adapter
   pub last : s.last ≡ 0
   pub stuck : s.stuck ≡ false
   pub unused : (port slot : ℕ) → used_for s.slots port slot ≡ None
-  pub settled : IsSettled (server_of device s)
+  pub settled : SettledInvariant (server_of device s)
   pub begun : HasBegun (server_of device s)
 
 -- why no server is made
 abbrev pub Refuses : Config → ServerError → Type 0
-Refuses config (BadConfig kind) = IsFirstBroken config kind
-Refuses config NoMemory = IsSound config
+Refuses config (BadConfig kind) = IsFirstUnmet config kind
+Refuses config NoMemory = MeetsAll config

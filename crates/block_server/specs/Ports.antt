@@ -8,60 +8,61 @@ use Rattle.ata_types.specs.declared.request.Op.TheVariants.{Read, Write, Trim, F
 use Rattle.ata_types.specs.declared.request.Reply.{Reply}
 use Rattle.hba_regs.specs.Bits.{bit}
 use Rattle.adapter.specs.Device.{Device}
-use Rattle.agreement.specs.Slots.{IsOver}
-use Rattle.block_machine.specs.declared.due.Mode.{Mode}
+use Rattle.refinement.specs.Slots.{IsOver}
+use Rattle.block_machine.specs.declared.due.QueueMode.{QueueMode}
 use Rattle.dma_frames.specs.Table.{Table}
-use Rattle.host_boot.specs.Taken.{found_of}
-use Rattle.host_boot.specs.declared.Found.{Found}
-use Rattle.ncq.specs.Tasks.{IsFit}
+use Rattle.host_boot.specs.Taken.{probe_result_of}
+use Rattle.host_boot.specs.declared.ProbeResult.{ProbeResult}
+use Rattle.ncq.specs.Tasks.{IsFitTransfer}
 use Rattle.ncq.specs.declared.Task.{Task}
 use Rattle.request_queue.specs.Entries.{Held, IsEarlier}
 use Rattle.server_history.specs.Served.{AnswersEach, AnswersOne, done_reply}
-use Rattle.server_history.specs.Server.{Server, IsKept, mode_in, slots_at, state_of, used_for}
-use Rattle.slots.specs.Uses.{Uses as PortSlots}
+use Rattle.server_history.specs.Server.{ServerState, InCallInvariant, mode_in, slots_at, state_of, used_for}
+use Rattle.slots.specs.Uses.{PortSlots}
 
 -- the server keeps what it keeps, and has this device, this book, and these slots of a port that is ready and has this
 -- mode
-pub record Lends (s : Server) (device : Device) (book : List Held) (slots : PortSlots) (port : Port)
-    (mode : Mode) : Type 0 where
-  pub kept : IsKept s
-  pub ready : state_of (found_of s.ports port.0) ≡ Ready
+pub record Lends (s : ServerState) (device : Device) (book : List Held) (slots : PortSlots) (port : Port)
+    (mode : QueueMode) : Type 0 where
+  pub kept : InCallInvariant s
+  pub ready : state_of (probe_result_of s.ports port.0) ≡ Ready
   pub device_is : s.device ≡ device
   pub book_is : s.book ≡ book
   pub slots_are : slots_at s.slots port.0 ≡ slots
   pub mode_is : mode_in s port ≡ mode
 
 -- the same of a port that was found so
-pub record LendsFound (s : Server) (device : Device) (book : List Held) (slots : PortSlots) (port : Port) (mode : Mode)
-    (found : Found) : Type 0 where
-  pub kept : IsKept s
-  pub found_is : found_of s.ports port.0 ≡ found
+pub record LendsFound (s : ServerState) (device : Device) (book : List Held) (slots : PortSlots) (port : Port)
+    (mode : QueueMode)
+    (found : ProbeResult) : Type 0 where
+  pub kept : InCallInvariant s
+  pub found_is : probe_result_of s.ports port.0 ≡ found
   pub device_is : s.device ≡ device
   pub book_is : s.book ≡ book
   pub slots_are : slots_at s.slots port.0 ≡ slots
   pub mode_is : mode_in s port ≡ mode
 
 -- the server, with these in their place
-abbrev pub with_part : Server → Device → List Held → PortSlots → Port → Server
+abbrev pub with_part : ServerState → Device → List Held → PortSlots → Port → ServerState
 with_part s device book slots port = record s { device = device; slots = slice_set s.slots port.0 slots; book = book }
 
 -- The server keeps what it keeps, and has these loans, this book, and these slots of a port that is ready. The commands
 -- of the slots that have their bits set here are over.
-pub record LendsDone (s : Server) (table : Table) (book : List Held) (slots : PortSlots) (port : Port)
+pub record LendsDone (s : ServerState) (table : Table) (book : List Held) (slots : PortSlots) (port : Port)
     (done : ℕ) : Type 0 where
-  pub kept : IsKept s
-  pub ready : state_of (found_of s.ports port.0) ≡ Ready
+  pub kept : InCallInvariant s
+  pub ready : state_of (probe_result_of s.ports port.0) ≡ Ready
   pub table_is : s.table ≡ table
   pub book_is : s.book ≡ book
   pub slots_are : slots_at s.slots port.0 ≡ slots
   pub over : (slot : ℕ) → slot < 32 → bit done slot ≡ true → IsOver (s.device.port port.0) slot
 
 -- the server, with these in their place
-abbrev pub with_answers : Server → Table → List Held → PortSlots → Port → Server
+abbrev pub with_answers : ServerState → Table → List Held → PortSlots → Port → ServerState
 with_answers s table book slots port = record s { table = table; slots = slice_set s.slots port.0 slots; book = book }
 
 -- the request of this slot was answered by this reply
-pub record AnswersSlot (port : Port) (slot : ℕ) (reply : Reply) (old new : Server) : Type 0 where
+pub record AnswersSlot (port : Port) (slot : ℕ) (reply : Reply) (old new : ServerState) : Type 0 where
   pub request : Held
   pub answers : AnswersOne port request old new
   pub slot_is : answers.slot ≡ slot
@@ -69,7 +70,7 @@ pub record AnswersSlot (port : Port) (slot : ℕ) (reply : Reply) (old new : Ser
 
 -- What was found done was answered, in order of acceptance, by replies that came after others; and no slot of it is in
 -- use any more.
-pub record AnswersAll (port : Port) (done : ℕ) (before after : List Reply) (old new : Server) : Type 0 where
+pub record AnswersDoneSlots (port : Port) (done : ℕ) (before after : List Reply) (old new : ServerState) : Type 0 where
   pub requests : List Held
   pub told : after ≡ before ++ map done_reply requests
   pub ordered : AllPairs IsEarlier requests
@@ -81,8 +82,8 @@ pub record AnswersAll (port : Port) (done : ℕ) (before after : List Reply) (ol
 -- A task of this operation may be issued in the slot: a transfer has its frames; a trim names 1 to 4,194,240 sectors,
 -- each below 2^48 (64 entries of 65,535 in its block); and a trim and a flush aren't queued, and go in slot 0.
 abbrev pub MayGoIn : Op → Task → List Frame → ℕ → Type 0
-MayGoIn Read r frames slot = IsFit r frames
-MayGoIn Write r frames slot = IsFit r frames
+MayGoIn Read r frames slot = IsFitTransfer r frames
+MayGoIn Write r frames slot = IsFitTransfer r frames
 MayGoIn Trim r frames slot = (slot ≡ 0) × (r.queued ≡ false) × (1 ≤ r.range.count) × (r.range.count ≤ 4194240)
     × (r.range.first.0 + r.range.count ≤ 2 ^ 48)
 MayGoIn Flush r frames slot = (slot ≡ 0) × (r.queued ≡ false)

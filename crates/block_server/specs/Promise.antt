@@ -7,18 +7,18 @@ use Rattle.ata_types.specs.declared.request.Outcome.TheVariants as outcome
 use Rattle.ata_types.specs.declared.request.RequestId.{RequestId}
 use Rattle.adapter.specs.Device.{Device}
 use Rattle.adapter.specs.declared.access.DeviceStep.{DeviceStep}
-use Rattle.agreement.specs.Facts.{RunsWell}
-use Rattle.agreement.specs.Slots.{ServesRequest}
-use Rattle.block_machine.specs.Events.{Event as Call, Ask, Moment, Reset, RevokeOf, Service, Tick, AnswersEnded, IsHung, WasIssued, moment_after}
-use Rattle.block_machine.specs.Histories.{Happening, Instant, now}
+use Rattle.refinement.specs.Facts.{RunsWell}
+use Rattle.refinement.specs.Slots.{ServesRequest}
+use Rattle.block_machine.specs.Events.{CallRecord, Ask, AbstractState, Reset, RevokeOf, Service, Tick, AnswersEnded, HasTimedOut, WasIssued, moment_after}
+use Rattle.block_machine.specs.Histories.{Happening, JointState, now}
 use Rattle.block_machine.specs.Ports.{SamePort}
 use Rattle.block_machine.specs.State.{Machine, Pending}
 use Rattle.block_machine.specs.Steps.{Answer, AllTouched}
 use Rattle.driver_history.specs.Claims.{GoesWellFor, IsHealthyFor}
 use Rattle.driver_history.specs.Evidence.{StaysHealthy}
 use Rattle.driver_history.specs.Histories.{Issues}
-use Rattle.host_boot.specs.Taken.{found_of}
-use Rattle.server_history.specs.Histories.{Leads}
+use Rattle.host_boot.specs.Taken.{probe_result_of}
+use Rattle.server_history.specs.Histories.{LeadsToServer}
 use Rattle.server_history.specs.Server.{state_of}
 use Rattle.block_server.specs.Clients.{EachAfter, OutlivesUnplugs, ServesClients}
 use Rattle.block_server.specs.Running.{ask_of, said_of}
@@ -38,7 +38,7 @@ IsToldWell ask old e told = (told ≡ outcome.Ok) × WasIssued old e.request.id 
 -- was, with the same disk. What is answered there is told as where nothing goes wrong (`IsToldWell`); a service answers
 -- each request that had ended when it began. And of the port's unanswered requests a submit, a service and a
 -- revocation issue exactly those that are due once all else is done.
-pub record ServesClientsOf (port : Port) (old : Moment) (call : Call DeviceStep) : Type 0 where
+pub record ServesClientsOf (port : Port) (old : AbstractState) (call : CallRecord DeviceStep) : Type 0 where
   pub same : SamePort old.ports call.ports port
   pub answers : (e : Pending) (told : Outcome) → Contains call.steps (Answer e told) → e.request.port ≡ port
       → IsToldWell call.ask old.machine e told
@@ -46,12 +46,12 @@ pub record ServesClientsOf (port : Port) (old : Moment) (call : Call DeviceStep)
   pub issues : Issues call.ask call.steps (moment_after old call).machine call.ports port
 
 -- The call goes well for the port, with its engine running all the time and after it, and serves the port's clients.
-abbrev pub IsServedWell : Port → Instant Device → Happening Device DeviceStep → Type 0
+abbrev pub IsServedWell : Port → JointState Device → Happening Device DeviceStep → Type 0
 IsServedWell port old h = GoesWellFor old h port × ServesClientsOf port old.moment h.event
 
 -- In a call after these ones, a service answers each request of a port that is ready when it begins of which the bits
 -- of PxCI and PxSACT were clear then; and each port is served well that the call is healthy for.
-pub record ServesPorts (first : Instant Device) (past : List (Happening Device DeviceStep))
+pub record ServesPorts (first : JointState Device) (past : List (Happening Device DeviceStep))
     (h : Happening Device DeviceStep) : Type 0 where
   pub seen : (port : Port) (slot : ℕ) (id : RequestId) → h.event.ask ≡ Service
       → (now first past).moment.ports.state port ≡ Ready
@@ -61,28 +61,29 @@ pub record ServesPorts (first : Instant Device) (past : List (Happening Device D
       → (done : Pending) × (done.request.id ≡ id) × Contains h.event.steps (Answer done outcome.Ok)
   pub served : (port : Port) → IsHealthyFor (now first past) h port → IsServedWell port (now first past) h
 
--- What is promised of the device. With these calls the history leads to the server after them: so `Ties` of
--- driver_history has of each of them which accesses were made, what stands behind the evidence, that what is due was
--- issued, and of each port, ready or not, that the call did its part, and heeded what the evidence names. Each call
--- serves the ports. And a port that is ready and runs well before the list, and on which nothing goes wrong until its
--- end (no fault, no fatal error, no disk that goes or comes), is served well by each of its calls, and is ready and
--- runs well after it, unless one of them is a reset, which boots each port, or a tick that brings a request of the port
--- to its age of three: that restarts the port, since nothing else tells that a request hangs.
-pub record DrivesDevice {A : Type 0} (device : A → Device) (first : Instant Device)
+-- What is promised of the device. With these calls the history leads to the server after them: so
+-- `CallCorresponds` of driver_history has of each of them which accesses were made, what stands behind the evidence,
+-- that what is due was issued, and of each port, ready or not, that the call did its part, and heeded what the evidence
+-- names. Each call serves the ports. And a port that is ready and runs well before the list, and on which nothing goes
+-- wrong until its end (no fault, no fatal error, no disk that goes or comes), is served well by each of its calls, and
+-- is ready and runs well after it, unless one of them is a reset, which boots each port, or a tick that brings a
+-- request of the port to its age of three: that restarts the port, since nothing else tells that a request hangs.
+pub record DrivesDevice {A : Type 0} (device : A → Device) (first : JointState Device)
     (past added : List (Happening Device DeviceStep))
     (old new : ServerView A) : Type 0 where
-  pub leads : Leads first (added ++ past) (server_of device new)
+  pub leads : LeadsToServer first (added ++ past) (server_of device new)
   pub serves : EachAfter (ServesPorts first) past added
-  pub healthy : (port : Port) → state_of (found_of old.ports port.0) ≡ Ready
+  pub healthy : (port : Port) → state_of (probe_result_of old.ports port.0) ≡ Ready
       → StaysHealthy port.0 (device old.adapter) (device new.adapter)
-      → EachAfter (λ before h. (h.event.ask ≢ Reset) × (h.event.ask ≡ Tick → IsHung (now first before).moment port → ⊥))
+      → EachAfter (λ before h. (h.event.ask ≢ Reset)
+      × (h.event.ask ≡ Tick → HasTimedOut (now first before).moment port → ⊥))
       past added
       → EachAfter (λ before h. IsServedWell port (now first before) h) past added
-      × (state_of (found_of new.ports port.0) ≡ Ready) × RunsWell ((device new.adapter).port port.0)
+      × (state_of (probe_result_of new.ports port.0) ≡ Ready) × RunsWell ((device new.adapter).port port.0)
 
 -- After a history that leads to the server before them, the calls of a list, which said this, add theirs: with what is
 -- promised to clients, of the calls and of disks that come back, and of the device.
-pub record KeepsPromise {A : Type 0} (device : A → Device) (first : Instant Device)
+pub record KeepsPromise {A : Type 0} (device : A → Device) (first : JointState Device)
     (past : List (Happening Device DeviceStep))
     (old new : ServerView A) (events : List Event) (said : List Said) : Type 0 where
   pub added : List (Happening Device DeviceStep)
@@ -91,11 +92,11 @@ pub record KeepsPromise {A : Type 0} (device : A → Device) (first : Instant De
   pub disks : OutlivesUnplugs first (added ++ past)
   pub driver : DrivesDevice device first past added old new
 
--- So it is after each such history. (There is one since the server was made: `begun` of `IsNew`; and with the calls it
--- leads to the server after them.)
+-- So it is after each such history. (There is one since the server was made: `begun` of `IsInitialServer`; and with the
+-- calls it leads to the server after them.)
 abbrev pub Simulates : {A : Type 0} → (A → Device) → ServerView A → ServerView A → List Event → List Said → Type 0
-Simulates device old new events said = (first : Instant Device) (past : List (Happening Device DeviceStep))
-    → Leads first past (server_of device old) → KeepsPromise device first past old new events said
+Simulates device old new events said = (first : JointState Device) (past : List (Happening Device DeviceStep))
+    → LeadsToServer first past (server_of device old) → KeepsPromise device first past old new events said
 
 -- What the calls of a list said, one thing each, stands at the end of what had been said; and they keep the promise.
 pub record RunsAsPromised {A : Type 0} (device : A → Device) (old new : ServerView A) (events : List Event)

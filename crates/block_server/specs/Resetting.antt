@@ -3,24 +3,24 @@ use Rattle.std.specs.Prelude.{true, false, ◌≡◌, List, [], Option, Some, No
 use Rattle.std.specs.declared.result.Result.{Result}
 use Rattle.ata_types.specs.declared.request.Reply.{Reply}
 use Rattle.adapter.specs.Device.{Device}
-use Rattle.block_machine.specs.Events.{Said, WasReset}
-use Rattle.block_machine.specs.declared.due.Mode.{Mode}
+use Rattle.block_machine.specs.Events.{CallResult, WasReset}
+use Rattle.block_machine.specs.declared.due.QueueMode.{QueueMode}
 use Rattle.dma_frames.specs.Loan.{Lending}
 use Rattle.dma_frames.specs.Table.{Table}
-use Rattle.host_boot.specs.declared.Found.{Found}
+use Rattle.host_boot.specs.declared.ProbeResult.{ProbeResult}
 use Rattle.host_boot.specs.declared.resetting.AdapterStuck.{AdapterStuck}
 use Rattle.identify.specs.declared.DiskInfo.{DiskInfo}
 use Rattle.request_queue.specs.Entries.{Held}
 use Rattle.server_history.specs.Resets.{MaySettle, ResetsServer}
-use Rattle.server_history.specs.Server.{Server, IsKept}
-use Rattle.server_history.specs.Stalled.{GetsStuck}
-use Rattle.slots.specs.Uses.{Uses as PortSlots}
+use Rattle.server_history.specs.Server.{ServerState, InCallInvariant}
+use Rattle.server_history.specs.Stalled.{ResetGetsStuck}
+use Rattle.slots.specs.Uses.{PortSlots}
 use Rattle.block_server.specs.View.{ServerView, server_of}
 
--- The requests of the server may meet their fates, and it has these loans, this book, these loans that are kept, these
+-- The requests of the server may be resolved, and it has these loans, this book, these loans that are kept, these
 -- disks remembered, and ports that were found so.
-pub record LendsBook (s : Server) (table : Table) (book : List Held) (kept : List (List Lending))
-    (remembered : List (Option DiskInfo)) (ports : List Found) : Type 0 where
+pub record LendsBook (s : ServerState) (table : Table) (book : List Held) (kept : List (List Lending))
+    (remembered : List (Option DiskInfo)) (ports : List ProbeResult) : Type 0 where
   pub may : MaySettle s
   pub table_is : s.table ≡ table
   pub book_is : s.book ≡ book
@@ -29,14 +29,15 @@ pub record LendsBook (s : Server) (table : Table) (book : List Held) (kept : Lis
   pub ports_are : s.ports ≡ ports
 
 -- the server, with these in their place
-abbrev pub with_book : Server → Table → List Held → List (List Lending) → Server
+abbrev pub with_book : ServerState → Table → List Held → List (List Lending) → ServerState
 with_book s table book kept = record s { table = table; book = book; kept = kept }
 
 -- the server keeps what it keeps, and has this device, this book, and of its ports these slots, these modes, and these
 -- finds
-pub record LendsPorts (s : Server) (device : Device) (book : List Held) (slots : List PortSlots) (modes : List Mode)
-    (ports : List Found) : Type 0 where
-  pub kept : IsKept s
+pub record LendsPorts (s : ServerState) (device : Device) (book : List Held) (slots : List PortSlots)
+    (modes : List QueueMode)
+    (ports : List ProbeResult) : Type 0 where
+  pub kept : InCallInvariant s
   pub device_is : s.device ≡ device
   pub book_is : s.book ≡ book
   pub slots_are : s.slots ≡ slots
@@ -44,11 +45,11 @@ pub record LendsPorts (s : Server) (device : Device) (book : List Held) (slots :
   pub ports_are : s.ports ≡ ports
 
 -- the server, with these in their place
-abbrev pub with_issues : Server → Device → List Held → List PortSlots → Server
+abbrev pub with_issues : ServerState → Device → List Held → List PortSlots → ServerState
 with_issues s device book slots = record s { device = device; book = book; slots = slots }
 
 -- what a reset says, by its replies
-abbrev pub reset_said : Result (Unit {0}) AdapterStuck → List Reply → Said
+abbrev pub reset_said : Result (Unit {0}) AdapterStuck → List Reply → CallResult
 reset_said (Ok done) replies = WasReset (Some replies)
 reset_said (Err why) replies = WasReset None
 
@@ -58,5 +59,6 @@ abbrev pub DoesReset : {A : Type 0} → (A → Device) → ServerView A → Serv
     → Result (Unit {0}) AdapterStuck → Type 0
 DoesReset device old new replies (Ok done) = ResetsServer replies (server_of device old) (server_of device new)
     × (new.stuck ≡ false)
-DoesReset device old new replies (Err why) = (replies ≡ []) × GetsStuck (server_of device old) (server_of device new)
+DoesReset device old new replies (Err why) = (replies ≡ [])
+    × ResetGetsStuck (server_of device old) (server_of device new)
     × (new.stuck ≡ true)

@@ -5,17 +5,17 @@ use Rattle.ata_types.specs.declared.request.ClientId.{ClientId}
 use Rattle.ata_types.specs.declared.request.Reply.{Reply}
 use Rattle.adapter.specs.Device.{Device}
 use Rattle.block_machine.specs.Due.{due_of}
-use Rattle.block_machine.specs.Events.{Said, WasRevoked}
+use Rattle.block_machine.specs.Events.{CallResult, WasRevoked}
 use Rattle.block_machine.specs.Rules.{HasRow}
 use Rattle.request_queue.specs.Entries.{asks_of}
 use Rattle.server_history.specs.Revoked.{RevokesGrant}
 use Rattle.server_history.specs.Served.{IssuesAll}
-use Rattle.server_history.specs.Server.{Server, mode_in}
+use Rattle.server_history.specs.Server.{ServerState, mode_in}
 use Rattle.block_server.specs.View.{ServerView, server_of}
-use Rattle.block_server.specs.declared.types.NoRow.{NoRow}
+use Rattle.block_server.specs.declared.types.NoSuchGrant.{NoSuchGrant}
 
 -- what a revocation says, by its replies
-abbrev pub revoke_said : Result (Unit {0}) NoRow → List Reply → Said
+abbrev pub revoke_said : Result (Unit {0}) NoSuchGrant → List Reply → CallResult
 revoke_said (Ok done) replies = WasRevoked (Some replies)
 revoke_said (Err none) replies = WasRevoked None
 
@@ -23,7 +23,7 @@ revoke_said (Err none) replies = WasRevoked None
 -- stuck nothing is. Where nothing was to be issued, no access was made.
 pub record RevokesAndIssues {A : Type 0} (device : A → Device) (client : ClientId) (number : ℕ) (replies : List Reply)
     (old new : ServerView A) : Type 0 where
-  pub mid : Server
+  pub mid : ServerState
   pub revokes : RevokesGrant client number replies (server_of device old) mid
   pub issues : old.stuck ≡ false → IssuesAll revokes.has.0.port mid (server_of device new)
   pub stalled : old.stuck ≡ true → server_of device new ≡ mid
@@ -34,7 +34,7 @@ pub record RevokesAndIssues {A : Type 0} (device : A → Device) (client : Clien
 -- What a revocation says, and did: the client's grant was revoked, with these replies; or the client has none of this
 -- number, there is no reply, and nothing changed: neither server nor adapter.
 abbrev pub Revokes : {A : Type 0} → (A → Device) → ServerView A → ServerView A → ClientId → ℕ → List Reply
-    → Result (Unit {0}) NoRow → Type 0
+    → Result (Unit {0}) NoSuchGrant → Type 0
 Revokes device old new client number replies (Ok done) = RevokesAndIssues device client number replies old new
     × (new.stuck ≡ old.stuck)
 Revokes device old new client number replies (Err none) = (HasRow client number old.grants → ⊥) × (replies ≡ [])

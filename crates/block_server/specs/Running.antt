@@ -22,7 +22,7 @@ ask_of (State port) = AskState port
 ask_of (Step step) = AskDevice step
 
 -- what it said
-abbrev pub said_of : Said → machine.Said
+abbrev pub said_of : Said → machine.CallResult
 said_of (said.Submitted result) = Submitted result
 said_of (said.Stored result) = store_said result
 said_of (said.Loaded (Ok bytes)) = Loaded (Ok bytes.items)

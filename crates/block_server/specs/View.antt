@@ -2,16 +2,16 @@
 use Rattle.std.specs.Prelude.{ℕ, Bool, List, Option}
 use Rattle.ata_types.specs.declared.grant.GrantRow.{GrantRow}
 use Rattle.adapter.specs.Device.{Device}
-use Rattle.block_machine.specs.declared.due.Mode.{Mode}
+use Rattle.block_machine.specs.declared.due.QueueMode.{QueueMode}
 use Rattle.dma_frames.specs.Loan.{Lending}
 use Rattle.dma_frames.specs.Table.{Table, lent_to, owner_of}
-use Rattle.host_boot.specs.Taken.{found_of}
-use Rattle.host_boot.specs.declared.Found.{Found}
+use Rattle.host_boot.specs.Taken.{probe_result_of}
+use Rattle.host_boot.specs.declared.ProbeResult.{ProbeResult}
 use Rattle.identify.specs.declared.DiskInfo.{DiskInfo}
 use Rattle.identify.specs.declared.wanted.Wanted.{Wanted}
 use Rattle.request_queue.specs.Entries.{Held}
-use Rattle.server_history.specs.Server.{Server, state_of}
-use Rattle.slots.specs.Uses.{Uses as PortSlots}
+use Rattle.server_history.specs.Server.{ServerState, state_of}
+use Rattle.slots.specs.Uses.{PortSlots}
 use Rattle.block_server.specs.Clients.{Visible}
 
 pub record ServerView (A : Type 0) : Type 0 where
@@ -22,9 +22,9 @@ pub record ServerView (A : Type 0) : Type 0 where
   -- by port, the disk that is wanted, what it was found to be, which disk it was ready with before that, how it takes
   -- commands, what its slots are used for, and what is still lent to requests of it that were answered
   pub wanted : List Wanted
-  pub ports : List Found
+  pub ports : List ProbeResult
   pub remembered : List (Option DiskInfo)
-  pub modes : List Mode
+  pub modes : List QueueMode
   pub slots : List PortSlots
   pub kept : List (List Lending)
   -- the unanswered requests of all ports, in order of acceptance
@@ -35,7 +35,7 @@ pub record ServerView (A : Type 0) : Type 0 where
   pub stuck : Bool
 
 -- what its histories see
-abbrev pub server_of : {A : Type 0} → (A → Device) → ServerView A → Server
+abbrev pub server_of : {A : Type 0} → (A → Device) → ServerView A → ServerState
 server_of device s = record {
   device = device s.adapter;
   grants = s.grants;
@@ -58,5 +58,5 @@ visible_of device s = record {
   rows = s.grants;
   owner = owner_of s.table;
   lent = lent_to s.table;
-  state = λ port. state_of (found_of s.ports port.0);
+  state = λ port. state_of (probe_result_of s.ports port.0);
 }

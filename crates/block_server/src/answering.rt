@@ -1,33 +1,33 @@
 // What is done on a port is answered.
 ghost use Rattle.std.specs.Prelude.{ℕ, ◌≡◌, ◌≤◌, ◌<◌, ◌+◌, length, None, Some, true};
 ghost use Rattle.ata_types.specs.declared.Port.{Port};
-ghost use Rattle.block_server.specs.Ports.{AnswersAll, AnswersSlot, LendsDone, with_answers};
+ghost use Rattle.block_server.specs.Ports.{AnswersDoneSlots, AnswersSlot, LendsDone, with_answers};
 ghost use Rattle.hba_regs.specs.Bits.{bit};
-ghost use Rattle.server_history.specs.Server.{Server};
+ghost use Rattle.server_history.specs.Server.{ServerState};
 ghost use Rattle.slots.specs.Uses.{use_at, with_use};
-ghost use Rattle.slots.specs.declared.Use.{Use as SlotUse};
+ghost use Rattle.slots.specs.declared.SlotUse.{SlotUse};
 
 use ata_types::{MOST_UNANSWERED, Outcome, Replies, Reply, Slot};
 use dma_frames::FrameTable;
 use request_queue::Book;
-use request_queue::laws::{an_id_is_one_request, operations_change_one_request};
-use server_history::laws::{a_used_slot_has_its_request, requests_keep};
+use request_queue::laws::{law_an_id_is_one_request, law_operations_change_one_request};
+use server_history::laws::{law_a_used_slot_has_its_request, law_requests_keep};
 use slots::Slots;
 
 /// Answers the request of a used slot, whose command is over: its slot is free then, it leaves the book, and its frames
 /// are given back.
 fn answer_one(book: &mut Book, table: &mut FrameTable, slots: &mut Slots, slot: Slot) -> Reply
-    requires lends { (s : Server) × (port : Port) × (done : ℕ) × LendsDone s table.old book.old slots.old port done
+    requires lends { (s : ServerState) × (port : Port) × (done : ℕ) × LendsDone s table.old book.old slots.old port done
         × (bit done slot.0 ≡ true) }
     requires small { slot.0 < 32 }
     requires used { (used : SlotUse) × (use_at slots.old slot.0 ≡ Some used) }
-    ensures answers { (s : Server) (port : Port) (done : ℕ) → LendsDone s table.old book.old slots.old port done
+    ensures answers { (s : ServerState) (port : Port) (done : ℕ) → LendsDone s table.old book.old slots.old port done
         → AnswersSlot port slot.0 result s (with_answers s table.new book.new slots.new port) }
     ensures freed { slots.new ≡ with_use slots.old slot.0 None }
     ensures fewer { length book.new < length book.old }
 {
-    a_used_slot_has_its_request();
-    an_id_is_one_request();
+    law_a_used_slot_has_its_request();
+    law_an_id_is_one_request();
     let Some(used) = slots.free(slot) else {
         unreachable!()
     };
@@ -48,18 +48,18 @@ pub(crate) fn answer_done(
     done: u32,
     replies: &mut Replies,
 )
-    requires lends { (s : Server) × (port : Port) × LendsDone s table.old book.old slots.old port done }
+    requires lends { (s : ServerState) × (port : Port) × LendsDone s table.old book.old slots.old port done }
     requires room { length replies.old.items + length book.old ≤ MOST_UNANSWERED }
-    ensures answers { (s : Server) (port : Port) → LendsDone s table.old book.old slots.old port done
-        → AnswersAll port done replies.old.items replies.new.items s
+    ensures answers { (s : ServerState) (port : Port) → LendsDone s table.old book.old slots.old port done
+        → AnswersDoneSlots port done replies.old.items replies.new.items s
         (with_answers s table.new book.new slots.new port) }
-    ensures lends { (s : Server) (port : Port) → LendsDone s table.old book.old slots.old port done
+    ensures lends { (s : ServerState) (port : Port) → LendsDone s table.old book.old slots.old port done
         → LendsDone (with_answers s table.new book.new slots.new port) table.new book.new slots.new port done }
     ensures room { length replies.new.items + length book.new ≤ MOST_UNANSWERED }
 {
-    a_used_slot_has_its_request();
-    requests_keep();
-    operations_change_one_request();
+    law_a_used_slot_has_its_request();
+    law_requests_keep();
+    law_operations_change_one_request();
     while let Some(slot) = slots.earliest(done) {
         replies.push(answer_one(book, table, slots, slot));
     }

@@ -11,11 +11,11 @@ use std::marker::Model;
 
 /// The loans of one port that are kept, 32 at most, in the order in which they came. They can't be dropped:
 /// `give_all_back` and `end_all` end them.
-pub(crate) struct KeptLoans {
+pub(crate) struct Quarantine {
     loans: Vec<Loan>,
 }
 
-impl Model for KeptLoans {
+impl Model for Quarantine {
     ghost use Rattle.std.specs.Prelude.{List, ◌≤◌, vec_capacity};
     ghost use Rattle.dma_frames.specs.Loan.{Lending};
 
@@ -26,13 +26,13 @@ impl Model for KeptLoans {
     ghost invariant = { λ k. 32 ≤ vec_capacity k.loans };
 }
 
-impl KeptLoans {
+impl Quarantine {
     /// No loans, with room for 32. Nothing else takes memory.
     pub(crate) fn new(alloc: Global) -> Result<Self, AllocError>
         ensures { IfOk result (λ kept. kept ≡ []) }
     {
         let loans = Vec::with_capacity(alloc, SLOTS)?;
-        Ok(KeptLoans { loans })
+        Ok(Quarantine { loans })
     }
 
     /// Keeps one more loan.
@@ -59,17 +59,17 @@ impl KeptLoans {
     fn end(self)
         requires { self ≡ [] }
     {
-        let KeptLoans { loans } = self;
+        let Quarantine { loans } = self;
         loans.destroy_empty();
     }
 }
 
 /// No loans of two ports.
-fn none_of_two(alloc: Global) -> Result<(KeptLoans, KeptLoans), AllocError>
+fn none_of_two(alloc: Global) -> Result<(Quarantine, Quarantine), AllocError>
     ensures { IfOk result (λ two. (two.0 ≡ []) × (two.1 ≡ [])) }
 {
-    let first = KeptLoans::new(alloc)?;
-    match KeptLoans::new(alloc) {
+    let first = Quarantine::new(alloc)?;
+    match Quarantine::new(alloc) {
         Ok(second) => Ok((first, second)),
         Err(error) => {
             first.end();
@@ -79,7 +79,7 @@ fn none_of_two(alloc: Global) -> Result<(KeptLoans, KeptLoans), AllocError>
 }
 
 /// No loans of any port. The only error is want of memory.
-pub(crate) fn none_kept(alloc: Global) -> Result<[KeptLoans; PORTS], AllocError>
+pub(crate) fn none_kept(alloc: Global) -> Result<[Quarantine; PORTS], AllocError>
     ensures { IfOk result (λ kept. kept ≡ [] ∷ [] ∷ [] ∷ [] ∷ []) }
 {
     let (first, second) = none_of_two(alloc)?;
@@ -94,7 +94,7 @@ pub(crate) fn none_kept(alloc: Global) -> Result<[KeptLoans; PORTS], AllocError>
 }
 
 /// Ends the loans of all ports: their frames are lent to none.
-pub(crate) fn give_all_back(kept: &mut [KeptLoans; PORTS], table: &mut FrameTable)
+pub(crate) fn give_all_back(kept: &mut [Quarantine; PORTS], table: &mut FrameTable)
     requires { MayGoBack table.old kept.old }
     ensures empty { (port : ℕ) → kept_at kept.new port ≡ [] }
     ensures four { length kept.new ≡ 4 }
@@ -106,7 +106,7 @@ pub(crate) fn give_all_back(kept: &mut [KeptLoans; PORTS], table: &mut FrameTabl
 }
 
 /// Ends the lists, which have no loans.
-pub(crate) fn end_all(kept: [KeptLoans; PORTS])
+pub(crate) fn end_all(kept: [Quarantine; PORTS])
     requires { (port : ℕ) → kept_at kept port ≡ [] }
 {
     let [first, second, third, fourth] = kept;

@@ -3,13 +3,13 @@ ghost use Rattle.std.specs.Prelude.{◌≡◌, ◌++◌, List, [], ◌∷◌};
 ghost use Rattle.ata_types.specs.declared.Port.{Port};
 ghost use Rattle.ata_types.specs.declared.PortState.TheVariants.{Ready};
 ghost use Rattle.adapter.specs.Idle.{IsIdle};
-ghost use Rattle.agreement.specs.Facts.{RunsWell, Undisturbed};
+ghost use Rattle.refinement.specs.Facts.{RunsWell, Undisturbed};
 ghost use Rattle.configuration.specs.declared.Config.{Config};
-ghost use Rattle.host_boot.specs.Taken.{found_of};
-ghost use Rattle.server_history.specs.Histories.{AddsEvent};
+ghost use Rattle.host_boot.specs.Taken.{probe_result_of};
+ghost use Rattle.server_history.specs.Histories.{ExtendsHistory};
 ghost use Rattle.server_history.specs.Server.{state_of};
 ghost use Rattle.block_server.specs.Promise.{Simulates};
-ghost use Rattle.block_server.specs.Made.{IsNew};
+ghost use Rattle.block_server.specs.Made.{IsInitialServer};
 ghost use Rattle.block_server.specs.Running.{ask_of, said_of};
 ghost use Rattle.block_server.specs.View.{ServerView, server_of};
 ghost use Rattle.block_server.specs.declared.types.Event.{Event};
@@ -18,10 +18,10 @@ ghost use Rattle.block_server.specs.Costs.{MOST_OF_NEW, MOST_OF_RESET, MOST_OF_R
 
 use adapter::Stepped;
 use driver_history::laws::{
-    answers_rest, healthy_calls_go_well, histories_are_runs, moves_keep_to_their_places,
-    plugs_find, reads_hold, seen_are_answered,
+    law_answers_rest, law_healthy_calls_go_well, law_histories_are_runs,
+    law_moves_keep_to_their_places, law_plugs_find, law_reads_hold, law_seen_are_answered,
 };
-use host_boot::laws::what_was_taken_over_may_be_served;
+use host_boot::laws::law_what_was_taken_over_may_be_served;
 
 /// Calls that add an event each to every history that leads to the server before them keep their promise: none at all,
 /// one, and calls after others. With them the history is a run of the block machine, in which each read that was
@@ -30,37 +30,37 @@ use host_boot::laws::what_was_taken_over_may_be_served;
 /// while it tells of no fault and no fatal error, and no disk of it goes or comes, each call issues exactly what is
 /// due, each service answers what has ended, with Ok, and nothing else, and the port stays as it is, unless a tick
 /// restarts it.
-pub fn runs_keep_their_promise<A: Stepped>()
+pub fn law_runs_keep_their_promise<A: Stepped>()
     ensures none { (s : ServerView A) → Simulates A.device s s [] [] }
     ensures one { (old new : ServerView A) (event : Event) (one : Said)
-        → AddsEvent (server_of A.device old) (server_of A.device new) (ask_of event) (said_of one)
+        → ExtendsHistory (server_of A.device old) (server_of A.device new) (ask_of event) (said_of one)
         → new.wanted ≡ old.wanted → Simulates A.device old new (event ∷ []) (one ∷ []) }
     ensures more { (old mid new : ServerView A) (events further : List Event) (said more : List Said)
         → Simulates A.device old mid events said → Simulates A.device mid new further more
         → Simulates A.device old new (events ++ further) (said ++ more) }
 {
-    seen_are_answered();
-    healthy_calls_go_well();
-    answers_rest();
-    moves_keep_to_their_places();
-    histories_are_runs();
-    reads_hold();
-    plugs_find();
+    law_seen_are_answered();
+    law_healthy_calls_go_well();
+    law_answers_rest();
+    law_moves_keep_to_their_places();
+    law_histories_are_runs();
+    law_reads_hold();
+    law_plugs_find();
 }
 
 /// A port that is ready when its server is made runs well then, where nothing went wrong on it since the adapter was
 /// idle.
-pub fn new_servers_run_well<A: Stepped>()
+pub fn law_new_servers_run_well<A: Stepped>()
     ensures { (config : Config) (adapter : A) (server : ServerView A) (port : Port) → IsIdle (A.device adapter)
-        → IsNew A.device config adapter server → state_of (found_of server.ports port.0) ≡ Ready
+        → IsInitialServer A.device config adapter server → state_of (probe_result_of server.ports port.0) ≡ Ready
         → Undisturbed port.0 (A.device adapter) (A.device server.adapter)
         → RunsWell ((A.device server.adapter).port port.0) }
 {
-    what_was_taken_over_may_be_served();
+    law_what_was_taken_over_may_be_served();
 }
 
 /// How many accesses the calls make at most, in numbers: by the 64 readings of a wait, 32 slots and four ports.
-pub fn most_accesses_are()
+pub fn law_most_accesses_are()
     ensures new { MOST_OF_NEW ≡ 1632 }
     ensures submit { MOST_OF_SUBMIT ≡ 4 }
     ensures service { MOST_OF_SERVICE ≡ 2728 }

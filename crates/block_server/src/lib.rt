@@ -2,8 +2,8 @@
 //!
 //! `run` has the theorem, `server` the calls (`server::revoking` that by which a grant is revoked),
 //! and `modes` how ports take commands. `port` issues what is due, `answering` answers what is
-//! done, `recovery` mends a port in trouble, `trying` tries one that isn't ready, `fates` has
-//! requests meet their fates, `kept` keeps loans of dead ports, and `resetting` has what a reset
+//! done, `recovery` handles a port's error, `probing` probes one that isn't ready, `dispositions`
+//! resolves requests, `kept` keeps loans of dead ports, and `resetting` has what a reset
 //! makes of all ports. Functions outside of `server` work on parts that are lent to them. Between
 //! the parts of a call the invariant of `Server` doesn't hold: `IsKept` of `server_history` does. A
 //! function that is a law is called for its clause, and does nothing. A caller must not expect that
@@ -13,21 +13,21 @@
 #![tactic(auto)]
 
 mod answering;
-mod fates;
+mod dispositions;
 mod kept;
 pub mod laws;
 mod limits;
 mod modes;
 mod port;
+mod probing;
 mod recovery;
 mod resetting;
 mod run;
 mod sayings;
 mod server;
-mod trying;
 mod types;
 
 pub use host_boot::AdapterStuck;
 pub use sayings::Sayings;
 pub use server::Server;
-pub use types::{Event, NoRow, RunStopped, Said, ServerError, Told};
+pub use types::{Event, NoSuchGrant, RunStopped, Said, ServerError, Told};

@@ -1,15 +1,15 @@
 // What is due on a port is issued.
 ghost use Rattle.std.specs.Prelude.{◌≡◌, ◌<◌, ◌≤◌, ◌*◌, ◌/◌, ◌%◌, [], length, map};
 ghost use Rattle.adapter.specs.Rules.{HasPort, IsOn};
-ghost use Rattle.agreement.specs.Driven.{AgreesWith};
-ghost use Rattle.agreement.specs.Readying.{IsStored};
+ghost use Rattle.refinement.specs.Driven.{RelatesWith};
+ghost use Rattle.refinement.specs.Readying.{IsStored};
 ghost use Rattle.block_machine.specs.Due.{IsDue, due_of};
 ghost use Rattle.block_server.specs.Ports.{Lends, LendsFound, MayGoIn, with_part};
 ghost use Rattle.command_table.specs.Written.{IsUnused};
 ghost use Rattle.ncq.specs.Tasks.{HasBlockOf, IssuesTask, RunsItsList, addresses_of, meaning_of};
 ghost use Rattle.request_queue.specs.Entries.{Held, asks, asks_of};
 ghost use Rattle.server_history.specs.Served.{IssuesAll, IssuesOne};
-ghost use Rattle.server_history.specs.Server.{Server};
+ghost use Rattle.server_history.specs.Server.{ServerState};
 ghost use Rattle.std.specs.List.{Contains};
 ghost use Rattle.adapter.specs.Counted.{MakesAtMost};
 ghost use Rattle.ncq.specs.Costs.{ISSUE_ACCESSES};
@@ -17,16 +17,18 @@ ghost use Rattle.block_server.specs.Costs.{ISSUES_ACCESSES};
 
 use adapter::Adapter;
 use ata_types::{DRIVER_BYTES, Frame, Op, Port, RequestId, Slot};
-use block_machine::laws::due_in_turn;
-use block_machine::{Mode, is_plain};
+use block_machine::laws::law_due_in_turn;
+use block_machine::{QueueMode, is_plain};
 use flush_trim::{issue_flush, issue_trim};
-use host_boot::Found;
+use host_boot::ProbeResult;
 use ncq::{Task, issue};
 use request_queue::laws::{
-    an_id_is_one_request, operations_change_what_is_due, the_book_stays_in_order,
+    law_an_id_is_one_request, law_operations_change_what_is_due, law_the_book_stays_in_order,
 };
 use request_queue::{Book, DueIds};
-use server_history::laws::{a_due_request_may_issue, a_mended_port_goes_on, requests_keep};
+use server_history::laws::{
+    law_a_due_request_may_issue, law_a_port_goes_on_after_its_errors, law_requests_keep,
+};
 use slots::Slots;
 
 /// Issues a task in a slot that it may go in: the slot's command then says the task.
@@ -36,7 +38,7 @@ fn issue_task<A: Adapter>(adapter: &mut A, port: Port, slot: Slot, task: &Task, 
     requires room { DRIVER_BYTES ≤ (A.device adapter.old).size }
     requires slot { slot.0 < 32 }
     requires usable { slot.0 ≤ (A.device adapter.old).cap / 256 % 32 }
-    requires agreed { AgreesWith (IsUnused port.0 slot.0) (A.device adapter.old) }
+    requires agreed { RelatesWith (IsUnused port.0 slot.0) (A.device adapter.old) }
     requires runs { RunsItsList port.0 (A.device adapter.old) }
     requires may { MayGoIn task.now.op task.now frames.now slot.0 }
     ensures issues { IssuesTask port slot.0 task.now frames.now (A.device adapter.old) (A.device adapter.new) }
@@ -59,18 +61,18 @@ fn issue_one<A: Adapter>(
     book: &mut Book,
     slots: &mut Slots,
     port: Port,
-    mode: Mode,
+    mode: QueueMode,
     id: RequestId,
 )
-    requires lends { (s : Server) × Lends s (A.device adapter.old) book.old slots.old port mode }
+    requires lends { (s : ServerState) × Lends s (A.device adapter.old) book.old slots.old port mode }
     requires due { (request : Held) × Contains book.old request × (request.entry.id ≡ id) × (request.entry.port ≡ port)
         × IsDue mode (asks_of book.old) (asks request.entry) }
-    ensures issues { (s : Server) → Lends s (A.device adapter.old) book.old slots.old port mode
+    ensures issues { (s : ServerState) → Lends s (A.device adapter.old) book.old slots.old port mode
         → IssuesOne port id s (with_part s (A.device adapter.new) book.new slots.new port) }
     ensures cost { MakesAtMost ISSUE_ACCESSES (A.access_count adapter.old) (A.access_count adapter.new) }
 {
-    a_due_request_may_issue();
-    an_id_is_one_request();
+    law_a_due_request_may_issue();
+    law_an_id_is_one_request();
     let entry = book.request(id);
     let task = Task {
         op: entry.op,
@@ -90,10 +92,10 @@ pub(crate) fn issue_due<A: Adapter>(
     book: &mut Book,
     slots: &mut Slots,
     port: Port,
-    mode: Mode,
+    mode: QueueMode,
 )
-    requires lends { (s : Server) × Lends s (A.device adapter.old) book.old slots.old port mode }
-    ensures issues { (s : Server) → Lends s (A.device adapter.old) book.old slots.old port mode
+    requires lends { (s : ServerState) × Lends s (A.device adapter.old) book.old slots.old port mode }
+    ensures issues { (s : ServerState) → Lends s (A.device adapter.old) book.old slots.old port mode
         → IssuesAll port s (with_part s (A.device adapter.new) book.new slots.new port) }
     ensures as_many { length book.new ≡ length book.old }
     ensures none { due_of mode port (asks_of book.old) ≡ [] → adapter.new ≡ adapter.old }
@@ -101,10 +103,10 @@ pub(crate) fn issue_due<A: Adapter>(
         (A.access_count adapter.old) (A.access_count adapter.new) }
     ensures cost { MakesAtMost ISSUES_ACCESSES (A.access_count adapter.old) (A.access_count adapter.new) }
 {
-    due_in_turn();
-    operations_change_what_is_due();
-    the_book_stays_in_order();
-    requests_keep();
+    law_due_in_turn();
+    law_operations_change_what_is_due();
+    law_the_book_stays_in_order();
+    law_requests_keep();
     let mut due = DueIds::new();
     book.issuable(mode, port, &mut due);
     for place in 0..due.len() {
@@ -119,18 +121,18 @@ pub(crate) fn issue_where_ready<A: Adapter>(
     book: &mut Book,
     slots: &mut Slots,
     port: Port,
-    mode: Mode,
-    found: &Found,
+    mode: QueueMode,
+    found: &ProbeResult,
 )
-    requires lends { (s : Server) × LendsFound s (A.device adapter.old) book.old slots.old port mode found.now }
-    ensures issues { (s : Server) → LendsFound s (A.device adapter.old) book.old slots.old port mode found.now
+    requires lends { (s : ServerState) × LendsFound s (A.device adapter.old) book.old slots.old port mode found.now }
+    ensures issues { (s : ServerState) → LendsFound s (A.device adapter.old) book.old slots.old port mode found.now
         → IssuesAll port s (with_part s (A.device adapter.new) book.new slots.new port) }
     ensures as_many { length book.new ≡ length book.old }
     ensures none { due_of mode port (asks_of book.old) ≡ [] → adapter.new ≡ adapter.old }
     ensures cost { MakesAtMost ISSUES_ACCESSES (A.access_count adapter.old) (A.access_count adapter.new) }
 {
-    a_mended_port_goes_on();
-    if let Found::Ready(_) = found {
+    law_a_port_goes_on_after_its_errors();
+    if let ProbeResult::Ready(_) = found {
         issue_due(adapter, book, slots, port, mode);
     }
 }

@@ -1,110 +1,117 @@
-// A port whose trouble was found out is mended: recovered, where a command had failed, else given up; and booted anew
-// where it has to be.
+// The error handler of a port: it is recovered, where a command had failed, else stopped; and booted anew where it has
+// to be.
 ghost use Rattle.std.specs.Prelude.{ℕ, ◌≡◌, ◌≤◌, ◌+◌, ◌++◌, IsTrue, ◌↔◌, Some, List, AllPairs, IsPermutation, drop, length, take};
 ghost use Rattle.ata_types.specs.declared.request.Reply.{Reply};
-ghost use Rattle.block_server.specs.Recovery.{LendsTroubled, MendsRest, trouble_of};
-ghost use Rattle.server_history.specs.Server.{Server};
+ghost use Rattle.block_server.specs.Recovery.{LendsInError, CompletesAndRecovers, error_of};
+ghost use Rattle.server_history.specs.Server.{ServerState};
 ghost use Rattle.ata_types.specs.declared.Port.{Port};
 ghost use Rattle.adapter.specs.Device.{Device};
 ghost use Rattle.adapter.specs.Rules.{HasPort, IsOn};
-ghost use Rattle.agreement.specs.Driven.{AgreesWith};
-ghost use Rattle.error_log.specs.declared.Failure.{Failure};
-ghost use Rattle.error_recovery.specs.Recovery.{FitsFor, IsAloneIn, MayRecover, Mends};
-ghost use Rattle.host_boot.specs.declared.Found.TheVariants.{Ready};
+ghost use Rattle.refinement.specs.Driven.{RelatesWith};
+ghost use Rattle.error_log.specs.declared.FailedSlot.{FailedSlot};
+ghost use Rattle.error_recovery.specs.Recovery.{FitsFor, IsAloneIn, MayRecover, RecoversOrStops};
+ghost use Rattle.host_boot.specs.declared.ProbeResult.TheVariants.{Ready};
 ghost use Rattle.port_boot.specs.States.{IsBootable};
 ghost use Rattle.port_control.specs.Ports.{IsStopped};
 ghost use Rattle.port_control.specs.declared.Stopped as stopped_token;
-ghost use Rattle.server_history.specs.Mended.{AreQueued, BootsAfter, IsFailed, IsFoundAfter, IsProspect, IsSameDisk, TellsMending};
+ghost use Rattle.server_history.specs.ErrorHandling.{AreQueued, BootsAfter, IsFailed, IsRevalidated, IsRevalidation, IsSameDisk, TellsErrorHandling};
 ghost use Rattle.server_history.specs.Server.{mode_found};
 ghost use Rattle.slots.specs.Uses.{use_at};
-ghost use Rattle.slots.specs.declared.Use.{Use as SlotUse};
+ghost use Rattle.slots.specs.declared.SlotUse.{SlotUse};
 ghost use Rattle.adapter.specs.Counted.{MakesAtMost};
 ghost use Rattle.ncq.specs.Costs.{DONE_ACCESSES};
-ghost use Rattle.block_server.specs.Costs.{booting_accesses, mending_accesses};
+ghost use Rattle.block_server.specs.Costs.{booting_accesses, handling_accesses};
 
 use super::answering::answer_done;
 use super::modes::{PLAIN, mode_of};
 use adapter::Adapter;
 use ata_types::{DRIVER_BYTES, MOST_UNANSWERED, Port, PortState, READINGS, Replies};
-use block_machine::Mode;
+use block_machine::QueueMode;
 use dma_frames::FrameTable;
-use error_recovery::{Failure, Next, Recovered, give_up, recover};
-use host_boot::{Booted, Found, boot_again, boot_if_there};
+use error_recovery::{FailedSlot, Next, Recovered, recover, stop_for_reset};
+use host_boot::{Booted, ProbeResult, reboot_if_present, reboot_port};
 use identify::{DiskInfo, Wanted};
 use ncq::done;
 use port_control::Stopped;
-use port_look::{Look, Trouble};
-use request_queue::{Book, Failed, Prospect};
-use server_history::laws::{a_troubled_port_may_be_mended, looks_keep};
+use port_events::{PortError, PortEvent};
+use request_queue::{Book, FailedRequest, Revalidation};
+use server_history::laws::{law_looks_keep, law_port_errors_may_be_handled};
 use slots::Slots;
 
 /// The trouble that a look tells, if it tells one. (That a request is hung no look tells.)
-pub(crate) fn trouble_of(look: Look) -> Option<Trouble>
-    ensures { result ≡ trouble_of look }
+pub(crate) fn error_of(look: PortEvent) -> Option<PortError>
+    ensures { result ≡ error_of look }
 {
     match look {
-        Look::Failed => Some(Trouble::Failed),
-        Look::Broken => Some(Trouble::Broken),
-        Look::Lost => Some(Trouble::Lost),
-        Look::Undisturbed => None,
+        PortEvent::TaskFileError => Some(PortError::TaskFileError),
+        PortEvent::BusError => Some(PortError::BusError),
+        PortEvent::LinkChanged => Some(PortError::LinkChanged),
+        PortEvent::NoEvent => None,
     }
 }
 
-/// Mends a port in trouble, of which the masks were read: recovers it where a command had failed (AHCI 1.3.1, 6.2.2),
-/// and stops it to be booted where its link or the host's bus had, its disk was lost, or a request is hung.
-fn mend<A: Adapter>(
+/// Handles the error of a port, of which the masks were read: recovers it where a command had failed (AHCI 1.3.1,
+/// 6.2.2), and stops it to be booted where its link or the host's bus had, its disk was lost, or a request is hung.
+fn recover_or_stop<A: Adapter>(
     adapter: &mut A,
     port: Port,
-    trouble: Trouble,
+    port_error: PortError,
     outstanding: u32,
     queued: bool,
 ) -> Recovered
     requires on { IsOn (A.device adapter.old) }
     requires there { HasPort (A.device adapter.old) port.0 }
     requires room { DRIVER_BYTES ≤ (A.device adapter.old).size }
-    requires agreed { AgreesWith (FitsFor queued port.0) (A.device adapter.old) }
+    requires agreed { RelatesWith (FitsFor queued port.0) (A.device adapter.old) }
     requires alone { IsAloneIn queued outstanding }
-    requires may { trouble ≡ Trouble.Failed → MayRecover port.0 (A.device adapter.old) }
+    requires may { port_error ≡ PortError.TaskFileError → MayRecover port.0 (A.device adapter.old) }
     ensures on { IsOn (A.device adapter.new) }
-    ensures mends { (m : Mends port outstanding queued result (A.device adapter.old) (A.device adapter.new))
-        × TellsMending trouble port outstanding queued result m.accesses (A.device adapter.old) (A.device adapter.new) }
-    ensures cost { MakesAtMost (mending_accesses trouble) (A.access_count adapter.old) (A.access_count adapter.new) }
+    ensures handling { (m : RecoversOrStops port outstanding queued result (A.device adapter.old)
+        (A.device adapter.new))
+        × TellsErrorHandling port_error port outstanding queued result m.accesses (A.device adapter.old)
+        (A.device adapter.new) }
+    ensures cost { MakesAtMost (handling_accesses port_error) (A.access_count adapter.old)
+        (A.access_count adapter.new) }
 {
-    match trouble {
-        Trouble::Failed => recover(adapter, port, outstanding, queued),
-        _ => give_up(adapter, port, outstanding),
+    match port_error {
+        PortError::TaskFileError => recover(adapter, port, outstanding, queued),
+        _ => stop_for_reset(adapter, port, outstanding),
     }
 }
 
-/// Answers what is done on a ready port in trouble, in order of acceptance, and mends the port: the request whose
-/// command failed, where it is known, and what the port has to go through. The replies come after those that there are.
-pub(crate) fn mend_rest<A: Adapter>(
+/// Answers what is done on a ready port in trouble, in order of acceptance, and handles the port's error: the request
+/// whose command failed, where it is known, and what the port has to go through. The replies come after those that
+/// there are.
+pub(crate) fn complete_and_recover<A: Adapter>(
     adapter: &mut A,
     book: &mut Book,
     table: &mut FrameTable,
     slots: &mut Slots,
     port: Port,
-    trouble: Trouble,
+    port_error: PortError,
     replies: &mut Replies,
-) -> (Option<Failed>, Next)
-    requires lends { (s : Server) × LendsTroubled s (A.device adapter.old) table.old book.old slots.old port trouble }
+) -> (Option<FailedRequest>, Next)
+    requires lends { (s : ServerState)
+        × LendsInError s (A.device adapter.old) table.old book.old slots.old port port_error }
     requires room { length replies.old.items + length book.old ≤ MOST_UNANSWERED }
     ensures on { IsOn (A.device adapter.new) }
-    ensures mends { (s : Server) → LendsTroubled s (A.device adapter.old) table.old book.old slots.old port trouble
-        → MendsRest port trouble replies.old.items replies.new.items result.0 result.1 s table.new book.new slots.new
+    ensures handling { (s : ServerState)
+        → LendsInError s (A.device adapter.old) table.old book.old slots.old port port_error
+        → CompletesAndRecovers port port_error replies.old.items replies.new.items result.0 result.1 s table.new
+        book.new slots.new
         (A.device adapter.new) }
     ensures room { length replies.new.items + length book.new ≤ MOST_UNANSWERED }
-    ensures cost { MakesAtMost (DONE_ACCESSES + mending_accesses trouble)
+    ensures cost { MakesAtMost (DONE_ACCESSES + handling_accesses port_error)
         (A.access_count adapter.old) (A.access_count adapter.new) }
 {
-    looks_keep();
-    a_troubled_port_may_be_mended();
+    law_looks_keep();
+    law_port_errors_may_be_handled();
     let used = slots.taken();
     let finished = done(adapter, port, used);
     answer_done(book, table, slots, finished, replies);
     let outstanding = slots.taken();
     let queued = are_queued(slots);
-    let recovered = mend(adapter, port, trouble, outstanding, queued);
+    let recovered = recover_or_stop(adapter, port, port_error, outstanding, queued);
     let failed = failed_in(slots, &recovered.failed);
     (failed, recovered.next)
 }
@@ -134,8 +141,9 @@ pub(crate) fn are_queued(slots: &Slots) -> bool
 }
 
 /// The request of the slot whose command is named, with the bytes that were told of it.
-pub(crate) fn failed_in(slots: &Slots, named: &Option<Failure>) -> Option<Failed>
-    requires { (its : Failure) → named.now ≡ Some its → (used : SlotUse) × (use_at slots.now its.slot.0 ≡ Some used) }
+pub(crate) fn failed_in(slots: &Slots, named: &Option<FailedSlot>) -> Option<FailedRequest>
+    requires { (its : FailedSlot) → named.now ≡ Some its → (used : SlotUse)
+        × (use_at slots.now its.slot.0 ≡ Some used) }
     ensures { IsFailed slots.now named.now result }
 {
     let Some(its) = named else {
@@ -144,7 +152,7 @@ pub(crate) fn failed_in(slots: &Slots, named: &Option<Failure>) -> Option<Failed
     let Some(used) = slots.used_for(its.slot) else {
         unreachable!()
     };
-    Some(Failed {
+    Some(FailedRequest {
         id: used.id,
         status: its.status,
         error: its.error,
@@ -154,7 +162,7 @@ pub(crate) fn failed_in(slots: &Slots, named: &Option<Failure>) -> Option<Failed
 /// Boots a port that was stopped; one whose disk was lost only where a device shows.
 fn boot_after<A: Adapter>(
     adapter: &mut A,
-    trouble: Trouble,
+    port_error: PortError,
     stopped: Stopped,
     wanted: &Wanted,
 ) -> Booted
@@ -162,25 +170,25 @@ fn boot_after<A: Adapter>(
     requires stopped { IsStopped ((A.device adapter.old).port stopped.port.0) }
     requires saw { ((A.device adapter.old).port stopped.port.0).notes.link_count ≡ READINGS }
     ensures on { IsOn (A.device adapter.new) }
-    ensures boots { BootsAfter trouble wanted.now stopped.port result (A.device adapter.old) (A.device adapter.new) }
-    ensures cost { MakesAtMost (booting_accesses trouble) (A.access_count adapter.old) (A.access_count adapter.new) }
+    ensures boots { BootsAfter port_error wanted.now stopped.port result (A.device adapter.old) (A.device adapter.new) }
+    ensures cost { MakesAtMost (booting_accesses port_error) (A.access_count adapter.old) (A.access_count adapter.new) }
 {
-    match trouble {
-        Trouble::Lost => boot_if_there(adapter, stopped, wanted),
-        _ => boot_again(adapter, stopped, wanted),
+    match port_error {
+        PortError::LinkChanged => reboot_if_present(adapter, stopped, wanted),
+        _ => reboot_port(adapter, stopped, wanted),
     }
 }
 
-/// What a port is once it was mended, and how it takes commands then: it runs on with its disk, or it is booted anew,
-/// or it is dead. One whose disk was lost is booted only where a device shows.
-pub(crate) fn find_after<A: Adapter>(
+/// What a port is once its error was handled, and how it takes commands then: it runs on with its disk, or it is booted
+/// anew, or it is dead. One whose disk was lost is booted only where a device shows.
+pub(crate) fn revalidate_port<A: Adapter>(
     adapter: &mut A,
-    trouble: Trouble,
+    port_error: PortError,
     next: Next,
     was: &DiskInfo,
-    mode: Mode,
+    mode: QueueMode,
     wanted: &Wanted,
-) -> (Found, Mode)
+) -> (ProbeResult, QueueMode)
     requires on { IsOn (A.device adapter.old) }
     requires mode { mode ≡ mode_found (A.device adapter.old).cap (Ready was.now) }
     requires bootable { (stopped : stopped_token.Stopped) → next ≡ Next.Restart stopped
@@ -189,19 +197,19 @@ pub(crate) fn find_after<A: Adapter>(
         × (((A.device adapter.old).port stopped.port.0).notes.link_count ≡ READINGS) }
     ensures on { IsOn (A.device adapter.new) }
     ensures found { (port : Port) → ((stopped : stopped_token.Stopped) → next ≡ Next.Restart stopped
-        → stopped.port ≡ port) → IsFoundAfter wanted.now port trouble was.now next (A.device adapter.old)
+        → stopped.port ≡ port) → IsRevalidated wanted.now port port_error was.now next (A.device adapter.old)
         (A.device adapter.new) result.0 }
     ensures mode { result.1 ≡ mode_found (A.device adapter.new).cap result.0 }
-    ensures cost { MakesAtMost (booting_accesses trouble) (A.access_count adapter.old) (A.access_count adapter.new) }
+    ensures cost { MakesAtMost (booting_accesses port_error) (A.access_count adapter.old) (A.access_count adapter.new) }
 {
     match next {
-        Next::Running(_) => (Found::Ready(*was), mode),
+        Next::Running(_) => (ProbeResult::Ready(*was), mode),
         Next::Restart(stopped) => {
-            let booted = boot_after(adapter, trouble, stopped, wanted);
+            let booted = boot_after(adapter, port_error, stopped, wanted);
             let mode = mode_of(booted.slots, booted.queued, &booted.found);
             (booted.found, mode)
         }
-        Next::Dead => (Found::Unready(PortState::Dead), PLAIN),
+        Next::Dead => (ProbeResult::Unready(PortState::Dead), PLAIN),
     }
 }
 
@@ -215,13 +223,17 @@ pub(crate) fn is_same_disk(was: &DiskInfo, info: &DiskInfo) -> bool
 /// What the requests of a port that was ready with a disk may expect, now that it was found to be this. Where the disk
 /// was lost, it doesn't count that the same one is there again: what it keeps of writes that weren't flushed nobody
 /// knows.
-pub(crate) fn prospect_of(trouble: Trouble, was: &DiskInfo, found: &Found) -> Prospect
-    ensures { IsProspect trouble was.now found.now result }
+pub(crate) fn revalidation_of(
+    port_error: PortError,
+    was: &DiskInfo,
+    found: &ProbeResult,
+) -> Revalidation
+    ensures { IsRevalidation port_error was.now found.now result }
 {
     match found {
-        Found::Unready(PortState::Dead) => Prospect::Dead,
-        _ if trouble == Trouble::Lost => Prospect::DiskLost,
-        Found::Ready(info) if is_same_disk(was, info) => Prospect::SameDisk,
-        _ => Prospect::DiskLost,
+        ProbeResult::Unready(PortState::Dead) => Revalidation::Dead,
+        _ if port_error == PortError::LinkChanged => Revalidation::DiskLost,
+        ProbeResult::Ready(info) if is_same_disk(was, info) => Revalidation::SameDisk,
+        _ => Revalidation::DiskLost,
     }
 }

@@ -3,7 +3,7 @@ ghost use Rattle.std.specs.Prelude.{◌≡◌, ◌<◌, ◌≤◌, ◌+◌, OnOk
 ghost use Rattle.std.specs.Vec.{vec_capacity};
 ghost use Rattle.block_server.specs.Sayings.{said_in, with_replies};
 
-use crate::laws::runs_keep_their_promise;
+use crate::laws::law_runs_keep_their_promise;
 use crate::{Event, RunStopped, Said, Sayings, Server, Told};
 use adapter::{Adapter, Stepped};
 use arrayvec::ArrayVec;
@@ -16,7 +16,7 @@ impl<A: Adapter> Server<A> {
     ghost use Rattle.block_machine.specs.Events.{LoadAt};
     ghost use Rattle.block_server.specs.Running.{said_of};
     ghost use Rattle.block_server.specs.View.{server_of};
-    ghost use Rattle.server_history.specs.Histories.{AddsEvent};
+    ghost use Rattle.server_history.specs.Histories.{ExtendsHistory};
     ghost use Rattle.adapter.specs.Counted.{MakesAtMost};
 
     /// At most 64 bytes of a frame. A function of its own, since its caller's frame would have room for them else.
@@ -28,7 +28,7 @@ impl<A: Adapter> Server<A> {
         offset: u32,
         count: u32,
     ) -> Result<ArrayVec<u8, 64>, MemFault>
-        ensures adds { AddsEvent (server_of A.device self.old) (server_of A.device self.new)
+        ensures adds { ExtendsHistory (server_of A.device self.old) (server_of A.device self.new)
             (LoadAt client frame offset (min count 64)) (said_of (Said.Loaded result)) }
         ensures wanted { self.new.wanted ≡ self.old.wanted }
         ensures cost { MakesAtMost 1 (A.access_count self.old.adapter) (A.access_count self.new.adapter) }
@@ -46,14 +46,14 @@ impl<A: Stepped> Server<A> {
     ghost use Rattle.block_server.specs.Promise.{RunsAsPromised};
     ghost use Rattle.block_server.specs.Running.{ask_of, said_of};
     ghost use Rattle.block_server.specs.View.{server_of};
-    ghost use Rattle.server_history.specs.Histories.{AddsEvent};
+    ghost use Rattle.server_history.specs.Histories.{ExtendsHistory};
     ghost use Rattle.adapter.specs.Counted.{MakesAtMost};
     ghost use Rattle.block_server.specs.Costs.{most_of, most_of_all};
 
     /// Makes the call. What a service, a tick, a reset that ends, or a revocation of a grant that is there answered is
     /// all that `replies` has then; of what it has after another call nothing is told.
     fn answer(&mut self, event: &Event, replies: &mut Replies) -> Told
-        ensures adds { AddsEvent (server_of A.device self.old) (server_of A.device self.new) (ask_of event.now)
+        ensures adds { ExtendsHistory (server_of A.device self.old) (server_of A.device self.new) (ask_of event.now)
             (said_of (with_replies result replies.new.items)) }
         ensures wanted { self.new.wanted ≡ self.old.wanted }
         ensures cost { MakesAtMost (most_of event.now)
@@ -104,7 +104,7 @@ impl<A: Stepped> Server<A> {
         ensures cost { MakesAtMost (most_of_all events.now)
             (A.access_count self.old.adapter) (A.access_count self.new.adapter) }
     {
-        runs_keep_their_promise::<A>();
+        law_runs_keep_their_promise::<A>();
         for (at, event) in events.iter().enumerate() {
             if out.reserve(1).is_err() {
                 return Err(RunStopped { at });

@@ -6,40 +6,42 @@ mod revoking;
 
 use crate::ServerError;
 use crate::answering::answer_done;
-use crate::fates::settle;
-use crate::kept::{KeptLoans, end_all, give_all_back, none_kept};
+use crate::dispositions::resolve;
+use crate::kept::{Quarantine, end_all, give_all_back, none_kept};
 use crate::limits::{CLIENT_PLACES, leaves_disk};
 use crate::modes::{PLAIN, modes_of, overdue_ports, ready_ports, unused_slots};
 use crate::port::{issue_due, issue_where_ready};
-use crate::recovery::{find_after, mend_rest, order_from, prospect_of, trouble_of};
-use crate::resetting::{disk_of, disks_of, issue_ports, settle_ports, stuck_ports};
-use crate::trying::{find_anew, finds_news};
+use crate::probing::{needs_probe, probe_anew};
+use crate::recovery::{
+    complete_and_recover, error_of, order_from, revalidate_port, revalidation_of,
+};
+use crate::resetting::{dead_ports, disks_of, issue_ports, last_disk_of, resolve_ports};
 use adapter::{Adapter, DeviceStep, Stepped};
 use ata_types::{
     MOST_UNANSWERED, Op, PORTS, Port, PortState, Range, Refusal, Replies, Request, RequestId,
 };
-use block_machine::Mode;
-use block_machine::laws::due_is_exact;
+use block_machine::QueueMode;
+use block_machine::laws::law_due_is_exact;
 use configuration::Config;
 use dma_frames::FrameTable;
 use grants::{Grants, decide};
-use host_boot::{AdapterStuck, Found, reset, take_over};
+use host_boot::{AdapterStuck, ProbeResult, reset, take_over};
 use identify::{DiskInfo, Wanted};
 use ncq::done;
 use plan::Plan;
-use port_look::{Trouble, look_at};
-use request_queue::laws::the_book_stays_in_order;
-use request_queue::{Book, Entry};
+use port_events::{PortError, take_event};
+use request_queue::laws::law_the_book_stays_in_order;
+use request_queue::{Book, PendingRequest};
 use server_history::laws::{
-    a_finished_port_settles, a_hung_port_is_restarted, a_mended_port_goes_on,
-    a_new_server_has_begun, a_port_is_served, acceptances_add, an_unready_port_is_tried,
-    device_steps_add, looks_keep, refusals_add, requests_get_older, requests_keep, services_add,
-    ticks_add,
+    law_a_finished_port_settles, law_a_new_server_has_begun, law_a_port_goes_on_after_its_errors,
+    law_a_port_is_served, law_a_timed_out_port_is_restarted, law_acceptances_add,
+    law_an_unready_port_is_probed, law_device_steps_add, law_looks_keep, law_refusals_add,
+    law_requests_get_older, law_requests_keep, law_services_add, law_ticks_add,
 };
-use server_history::resets::{a_reset_server_goes_on, resets_add};
+use server_history::resets::{law_a_reset_server_goes_on, law_resets_add};
 use server_history::stalled::{
-    a_server_is_booked, booked_loans_are_lent, stalled_servers_admit_none, stalled_services_add,
-    stalled_ticks_add, stuck_resets_add,
+    law_a_server_is_booked, law_booked_loans_are_lent, law_stalled_servers_admit_none,
+    law_stalled_services_add, law_stalled_ticks_add, law_stuck_resets_add,
 };
 use slots::Slots;
 use std::alloc::Global;
@@ -53,14 +55,15 @@ pub struct Server<A: Adapter> {
     /// On the heap, since it is large and a server is moved.
     table: Box<FrameTable>,
     wanted: [Wanted; PORTS],
-    ports: [Found; PORTS],
-    /// The disk that a port was last ready with, once it isn't ready, or was mended, or its adapter was reset.
+    ports: [ProbeResult; PORTS],
+    /// The disk that a port was last ready with, once it isn't ready, or its error was handled, or its adapter was
+    /// reset.
     remembered: [Option<DiskInfo>; PORTS],
-    modes: [Mode; PORTS],
+    modes: [QueueMode; PORTS],
     slots: [Slots; PORTS],
     /// Of a dead port, the loans of requests that were issued, and then answered: until a reset ends, since the device
     /// may still move their sectors.
-    kept: [KeptLoans; PORTS],
+    kept: [Quarantine; PORTS],
     book: Book,
     last: u64,
     /// Whether the last reset got stuck: the adapter isn't on, each port that is served is dead, and requests may wait
@@ -70,39 +73,39 @@ pub struct Server<A: Adapter> {
 
 impl<A: Adapter> Model for Server<A> {
     ghost use Rattle.block_server.specs.Seen.{seen};
-    ghost use Rattle.server_history.specs.Histories.{HoldsBy};
+    ghost use Rattle.server_history.specs.Histories.{InvariantBy};
     ghost use Rattle.block_server.specs.View.{ServerView, server_of};
 
     ghost Value = { ServerView A };
 
     ghost view = { seen };
 
-    ghost invariant = { λ s. HoldsBy s.stuck (server_of A.device (seen s)) };
+    ghost invariant = { λ s. InvariantBy s.stuck (server_of A.device (seen s)) };
 }
 
 impl<A: Adapter> Server<A> {
     ghost use Rattle.block_machine.specs.Events.{Reset, Service, Served, Submit, Submitted, State, Shown, Tick, WasReset};
     ghost use Rattle.block_machine.specs.Refusals.{IsAcceptable, IsFirstRefusal};
     ghost use Rattle.block_server.specs.Calls.{AcceptsRequest, IsFor, Submits, Services, TicksServer};
-    ghost use Rattle.block_server.specs.Made.{IsReadyFor, IsNew, Refuses};
+    ghost use Rattle.block_server.specs.Made.{IsReadyFor, IsInitialServer, Refuses};
     ghost use Rattle.block_server.specs.View.{server_of};
-    ghost use Rattle.configuration.specs.Rules.{IsSound};
-    ghost use Rattle.host_boot.specs.Taken.{found_of};
+    ghost use Rattle.configuration.specs.Rules.{MeetsAll};
+    ghost use Rattle.host_boot.specs.Taken.{probe_result_of};
     ghost use Rattle.request_queue.specs.Entries.{Held, IsOverdue};
-    ghost use Rattle.server_history.specs.Histories.{AddsEvent};
+    ghost use Rattle.server_history.specs.Histories.{ExtendsHistory};
     ghost use Rattle.ata_types.specs.declared.request.Reply.{Reply};
     ghost use Rattle.server_history.specs.Served.{AnswersDone};
-    ghost use Rattle.server_history.specs.Turns.{ServesPort, TicksPort, TriesUnready, a_tick_older};
-    ghost use Rattle.block_server.specs.Recovery.{MendsOf, SeesTrouble};
+    ghost use Rattle.server_history.specs.Turns.{ServesPort, TicksPort, ProbesUnready, a_tick_older};
+    ghost use Rattle.block_server.specs.Recovery.{HandlesPortErrorOf, SeesPortError};
     ghost use Rattle.block_server.specs.Resetting.{DoesReset, reset_said};
     ghost use Rattle.adapter.specs.Device.{Device};
-    ghost use Rattle.server_history.specs.Server.{IsSettled, disk_of, mode_at, remembered_at, situation_of, state_of, sectors_of, trims_of};
+    ghost use Rattle.server_history.specs.Server.{SettledInvariant, last_disk_of, mode_at, remembered_at, server_situation, state_of, last_sectors_of, last_trims_of};
     ghost use Rattle.hba_regs.specs.Bits.{bit};
-    ghost use Rattle.agreement.specs.Agrees.{port_at};
-    ghost use Rattle.agreement.specs.Slots.{IsOver};
+    ghost use Rattle.refinement.specs.Relation.{port_at};
+    ghost use Rattle.refinement.specs.Slots.{IsOver};
     ghost use Rattle.ata_types.specs.declared.PortState.TheVariants.{Ready};
     ghost use Rattle.adapter.specs.Counted.{MakesAtMost};
-    ghost use Rattle.block_server.specs.Costs.{ISSUES_ACCESSES, MOST_OF_NEW, MOST_OF_RESET, MOST_OF_SERVICE, MOST_OF_SUBMIT, MOST_OF_TICK, TURN_ACCESSES, trouble_accesses};
+    ghost use Rattle.block_server.specs.Costs.{ISSUES_ACCESSES, MOST_OF_NEW, MOST_OF_RESET, MOST_OF_SERVICE, MOST_OF_SUBMIT, MOST_OF_TICK, TURN_ACCESSES, port_error_accesses};
 
     /// A server of an idle adapter, by a configuration: who owns which frames, which grants there are, and which disks
     /// are wanted. Each port is booted in which a disk is wanted; nothing is asked yet.
@@ -112,8 +115,8 @@ impl<A: Adapter> Server<A> {
     #[inline(never)]
     pub fn new(alloc: Global, config: &Config, mut adapter: A) -> Result<Self, (ServerError, A)>
         requires ready { IsReadyFor config.now (A.device adapter) }
-        ensures made { IfOk result (IsNew A.device config.now adapter) }
-        ensures sound { OnOk result (IsSound config.now) }
+        ensures made { IfOk result (IsInitialServer A.device config.now adapter) }
+        ensures sound { OnOk result (MeetsAll config.now) }
         ensures refused { IfErr result (λ e. Refuses config.now e.0 × (e.1 ≡ adapter)) }
         ensures cost { IfOk result (λ server. MakesAtMost MOST_OF_NEW
             (A.access_count adapter) (A.access_count server.adapter)) }
@@ -139,7 +142,7 @@ impl<A: Adapter> Server<A> {
         let wanted = *plan.wanted();
         let host = take_over(&mut adapter, &wanted);
         let modes = modes_of(&host);
-        a_new_server_has_begun();
+        law_a_new_server_has_begun();
         Ok(Server {
             adapter,
             grants,
@@ -164,17 +167,17 @@ impl<A: Adapter> Server<A> {
     }
 
     /// What a port was found to be.
-    fn found(&self, port: Port) -> Found
-        ensures { result ≡ found_of self.now.ports port.0 }
+    fn found(&self, port: Port) -> ProbeResult
+        ensures { result ≡ probe_result_of self.now.ports port.0 }
     {
         self.ports
             .get(usize::from(port.0))
             .copied()
-            .unwrap_or(Found::Unserved)
+            .unwrap_or(ProbeResult::Unserved)
     }
 
     /// How a port takes commands.
-    fn mode(&self, port: Port) -> Mode
+    fn mode(&self, port: Port) -> QueueMode
         ensures { result ≡ mode_at self.now.modes port.0 }
     {
         self.modes
@@ -185,31 +188,33 @@ impl<A: Adapter> Server<A> {
 
     /// What a port is to its clients. One that isn't served is `Absent`.
     pub fn state(&self, port: Port) -> PortState
-        ensures state { result ≡ state_of (found_of self.now.ports port.0) }
-        ensures adds { AddsEvent (server_of A.device self.now) (server_of A.device self.now) (State port)
+        ensures state { result ≡ state_of (probe_result_of self.now.ports port.0) }
+        ensures adds { ExtendsHistory (server_of A.device self.now) (server_of A.device self.now) (State port)
             (Shown result) }
     {
-        refusals_add();
+        law_refusals_add();
         let _ = &self.adapter;
         match self.found(port) {
-            Found::Unserved => PortState::Absent,
-            Found::Ready(_) => PortState::Ready,
-            Found::Unready(state) => state,
+            ProbeResult::Unserved => PortState::Absent,
+            ProbeResult::Ready(_) => PortState::Ready,
+            ProbeResult::Unready(state) => state,
         }
     }
 
     /// The disk that a port is ready with, or was last ready with, if it ever was.
     fn disk(&self, port: Port) -> Option<DiskInfo>
-        ensures { result ≡ disk_of (found_of self.now.ports port.0) (remembered_at self.now.remembered port.0) }
+        ensures { result ≡ last_disk_of (probe_result_of self.now.ports port.0)
+            (remembered_at self.now.remembered port.0) }
     {
         let remembered = self.remembered.get(usize::from(port.0)).copied().flatten();
-        disk_of(&self.found(port), &remembered)
+        last_disk_of(&self.found(port), &remembered)
     }
 
     /// How many sectors that disk has; 0 where there is none.
     fn sectors(&self, port: Port) -> u64
         ensures { result
-            ≡ sectors_of (disk_of (found_of self.now.ports port.0) (remembered_at self.now.remembered port.0)) }
+            ≡ last_sectors_of (last_disk_of (probe_result_of self.now.ports port.0)
+            (remembered_at self.now.remembered port.0)) }
     {
         match self.disk(port) {
             Some(info) => info.sectors,
@@ -220,10 +225,11 @@ impl<A: Adapter> Server<A> {
     /// Whether a request is a trim, and the disk of its port doesn't take trims after which zeros are read. A port that
     /// isn't ready has none that does.
     fn lacks_trim(&self, r: &Request, port: Port) -> bool
-        ensures { IsTrue result ↔ ((r.now.op ≡ Op.Trim) × (trims_of (found_of self.now.ports port.0) ≡ false)) }
+        ensures { IsTrue result
+            ↔ ((r.now.op ≡ Op.Trim) × (last_trims_of (probe_result_of self.now.ports port.0) ≡ false)) }
     {
         let trims = match self.found(port) {
-            Found::Ready(info) => info.trim,
+            ProbeResult::Ready(info) => info.trim,
             _ => false,
         };
         r.op == Op::Trim && !trims
@@ -231,9 +237,9 @@ impl<A: Adapter> Server<A> {
 
     /// The first cause to refuse the request, if there is one; else the port that it is for.
     fn admit(&self, r: &Request) -> Result<Port, Refusal>
-        ensures admitted { IfOk result (λ port. IsAcceptable (situation_of (server_of A.device self.now)) r.now
+        ensures admitted { IfOk result (λ port. IsAcceptable (server_situation (server_of A.device self.now)) r.now
             × IsFor self.now.grants r.now port) }
-        ensures refused { IfErr result (λ refusal. IsFirstRefusal (situation_of (server_of A.device self.now)) r.now
+        ensures refused { IfErr result (λ refusal. IsFirstRefusal (server_situation (server_of A.device self.now)) r.now
             refusal) }
     {
         if let Err(rule) = decide(r, &self.grants, &self.table) {
@@ -264,21 +270,21 @@ impl<A: Adapter> Server<A> {
     /// Puts the request last into the book, lends it its frames, and issues what is due on its port then.
     fn accept(&mut self, r: &Request, port: Port) -> RequestId
         requires on { self.old.stuck ≡ false }
-        requires acceptable { IsAcceptable (situation_of (server_of A.device self.old)) r.now }
+        requires acceptable { IsAcceptable (server_situation (server_of A.device self.old)) r.now }
         requires port { IsFor self.old.grants r.now port }
         ensures on { self.new.stuck ≡ false }
         ensures accepts { AcceptsRequest A.device self.old self.new r.now result }
-        ensures adds { AddsEvent (server_of A.device self.old) (server_of A.device self.new) (Submit r.now)
+        ensures adds { ExtendsHistory (server_of A.device self.old) (server_of A.device self.new) (Submit r.now)
             (Submitted (Ok result)) }
         ensures cost { MakesAtMost MOST_OF_SUBMIT (A.access_count self.old.adapter) (A.access_count self.new.adapter) }
     {
-        requests_keep();
-        acceptances_add();
-        due_is_exact();
+        law_requests_keep();
+        law_acceptances_add();
+        law_due_is_exact();
         let mode = self.mode(port);
         let id = RequestId(self.last + 1);
         let loan = self.table.lend(r.client, r.frames.as_slice(), id);
-        let entry = Entry {
+        let entry = PendingRequest {
             id,
             client: r.client,
             grant: r.grant,
@@ -304,12 +310,12 @@ impl<A: Adapter> Server<A> {
     /// frames are lent until then. Where refusals apply, the first of them is told, and nothing changes.
     pub fn submit(&mut self, r: &Request) -> Result<RequestId, Refusal>
         ensures submits { Submits A.device self.old self.new r.now result }
-        ensures adds { AddsEvent (server_of A.device self.old) (server_of A.device self.new) (Submit r.now)
+        ensures adds { ExtendsHistory (server_of A.device self.old) (server_of A.device self.new) (Submit r.now)
             (Submitted result) }
         ensures cost { MakesAtMost MOST_OF_SUBMIT (A.access_count self.old.adapter) (A.access_count self.new.adapter) }
     {
-        refusals_add();
-        stalled_servers_admit_none();
+        law_refusals_add();
+        law_stalled_servers_admit_none();
         let _ = &self.adapter;
         let port = self.admit(r)?;
         Ok(self.accept(r, port))
@@ -319,82 +325,97 @@ impl<A: Adapter> Server<A> {
     /// back. Then what is due on the port is issued.
     fn finish(&mut self, port: Port, done: u32, replies: &mut Replies)
         requires on { self.old.stuck ≡ false }
-        requires ready { state_of (found_of self.old.ports port.0) ≡ Ready }
+        requires ready { state_of (probe_result_of self.old.ports port.0) ≡ Ready }
         requires over { (slot : ℕ) → slot < 32 → bit done slot ≡ true → IsOver ((A.device self.old.adapter).port port.0)
             slot }
         requires room { length replies.old.items + length self.old.book ≤ MOST_UNANSWERED }
         ensures on { self.new.stuck ≡ false }
         ensures finishes { (its : List Reply) × (replies.new.items ≡ replies.old.items ++ its)
             × AnswersDone port done its (server_of A.device self.old) (server_of A.device self.new) }
-        ensures settled { IsSettled (server_of A.device self.new) }
+        ensures settled { SettledInvariant (server_of A.device self.new) }
         ensures ports { self.new.ports ≡ self.old.ports }
         ensures room { length replies.new.items + length self.new.book ≤ MOST_UNANSWERED }
         ensures cost { MakesAtMost ISSUES_ACCESSES (A.access_count self.old.adapter) (A.access_count self.new.adapter) }
     {
-        a_finished_port_settles();
+        law_a_finished_port_settles();
         let mode = self.mode(port);
         let slots = &mut self.slots[usize::from(port.0)];
         answer_done(&mut self.book, &mut self.table, slots, done, replies);
         issue_due(&mut self.adapter, &mut self.book, slots, port, mode);
     }
 
-    /// Mends a ready port in trouble. What is done is answered. Where a command had failed, it is found out which one,
-    /// and the port is had to run again, by a boot where that is needed; where its link or the host's bus had, or a
-    /// request is hung, it is booted anew; where its disk was lost, if a device shows. The request whose command failed
-    /// is told so. The others wait again where their disk is there still, but are `Revoked` where their grant was, and
-    /// `Aborted` after the fourth issue; where it isn't they are `Unplugged`, and where the port is dead `PortDead`.
-    /// Then what is due is issued.
-    fn mend_port(&mut self, port: Port, was: DiskInfo, trouble: Trouble, replies: &mut Replies)
+    /// Handles the error of a ready port. What is done is answered. Where a command had failed, it is found out which
+    /// one, and the port is had to run again, by a boot where that is needed; where its link or the host's bus had, or
+    /// a request is hung, it is booted anew; where its disk was lost, if a device shows. The request whose command
+    /// failed is told so. The others wait again where their disk is there still, but are `Revoked` where their grant
+    /// was, and `Aborted` after the fourth issue; where it isn't they are `Unplugged`, and where the port is dead
+    /// `PortDead`. Then what is due is issued.
+    fn handle_port_error(
+        &mut self,
+        port: Port,
+        was: DiskInfo,
+        port_error: PortError,
+        replies: &mut Replies,
+    )
         requires on { self.old.stuck ≡ false }
-        requires ready { found_of self.old.ports port.0 ≡ Found.Ready was }
-        requires sees { (before : Device) × SeesTrouble (record (server_of A.device self.old) { device = before }) port
-            trouble (A.device self.old.adapter)
-            × IsSettled (record (server_of A.device self.old) { device = before }) }
+        requires ready { probe_result_of self.old.ports port.0 ≡ ProbeResult.Ready was }
+        requires sees { (before : Device)
+            × SeesPortError (record (server_of A.device self.old) { device = before }) port
+            port_error (A.device self.old.adapter)
+            × SettledInvariant (record (server_of A.device self.old) { device = before }) }
         requires room { length replies.old.items + length self.old.book ≤ MOST_UNANSWERED }
         ensures on { self.new.stuck ≡ false }
-        ensures mends { (before : Device) → SeesTrouble (record (server_of A.device self.old) { device = before }) port
-            trouble (A.device self.old.adapter)
-            → IsSettled (record (server_of A.device self.old) { device = before })
+        ensures handling { (before : Device)
+            → SeesPortError (record (server_of A.device self.old) { device = before }) port
+            port_error (A.device self.old.adapter)
+            → SettledInvariant (record (server_of A.device self.old) { device = before })
             → (its : List Reply) × (replies.new.items ≡ replies.old.items ++ its)
-            × MendsOf port trouble its (record (server_of A.device self.old) { device = before })
+            × HandlesPortErrorOf port port_error its (record (server_of A.device self.old) { device = before })
             (server_of A.device self.new) }
-        ensures settled { IsSettled (server_of A.device self.new) }
-        ensures ports { (q : ℕ) → q ≢ port.0 → found_of self.new.ports q ≡ found_of self.old.ports q }
+        ensures settled { SettledInvariant (server_of A.device self.new) }
+        ensures ports { (q : ℕ) → q ≢ port.0 → probe_result_of self.new.ports q ≡ probe_result_of self.old.ports q }
         ensures room { length replies.new.items + length self.new.book ≤ MOST_UNANSWERED }
-        ensures cost { MakesAtMost (trouble_accesses trouble)
+        ensures cost { MakesAtMost (port_error_accesses port_error)
             (A.access_count self.old.adapter) (A.access_count self.new.adapter) }
     {
-        a_mended_port_goes_on();
-        a_port_is_served();
-        a_hung_port_is_restarted();
+        law_a_port_goes_on_after_its_errors();
+        law_a_port_is_served();
+        law_a_timed_out_port_is_restarted();
         let place = usize::from(port.0);
         let first = replies.len();
         let wanted = self.wanted[place];
         let mode = self.mode(port);
         let slots = &mut self.slots[place];
-        let (failed, next) = mend_rest(
+        let (failed, next) = complete_and_recover(
             &mut self.adapter,
             &mut self.book,
             &mut self.table,
             slots,
             port,
-            trouble,
+            port_error,
             replies,
         );
-        let (found, mode) = find_after(&mut self.adapter, trouble, next, &was, mode, &wanted);
+        let (found, mode) = revalidate_port(
+            &mut self.adapter,
+            port_error,
+            next,
+            &was,
+            mode,
+            &wanted,
+        );
         self.ports[place] = found;
         self.remembered[place] = Some(was);
         self.modes[place] = mode;
         self.slots[place] = Slots::new(mode.usable);
-        let prospect = prospect_of(trouble, &was, &found);
+        let revalidation = revalidation_of(port_error, &was, &found);
         let kept = &mut self.kept[place];
-        settle(
+        resolve(
             &mut self.book,
             &mut self.table,
             kept,
             port,
             &failed,
-            prospect,
+            revalidation,
             replies,
         );
         order_from(replies, first);
@@ -403,27 +424,27 @@ impl<A: Adapter> Server<A> {
     }
 
     /// Looks at a ready port. Where commands of what it has issued are done, those requests are answered, and then what
-    /// is due is issued. Where the look tells trouble, the port is mended.
+    /// is due is issued. Where the look tells an error, it is handled.
     fn serve_port(&mut self, port: Port, replies: &mut Replies)
         requires on { self.old.stuck ≡ false }
-        requires ready { state_of (found_of self.old.ports port.0) ≡ Ready }
+        requires ready { state_of (probe_result_of self.old.ports port.0) ≡ Ready }
         requires room { length replies.old.items + length self.old.book ≤ MOST_UNANSWERED }
         ensures on { self.new.stuck ≡ false }
         ensures serves { (its : List Reply) × (replies.new.items ≡ replies.old.items ++ its)
             × ServesPort port its (server_of A.device self.old) (server_of A.device self.new) }
-        ensures settled { IsSettled (server_of A.device self.new) }
-        ensures ports { (q : ℕ) → q ≢ port.0 → found_of self.new.ports q ≡ found_of self.old.ports q }
+        ensures settled { SettledInvariant (server_of A.device self.new) }
+        ensures ports { (q : ℕ) → q ≢ port.0 → probe_result_of self.new.ports q ≡ probe_result_of self.old.ports q }
         ensures room { length replies.new.items + length self.new.book ≤ MOST_UNANSWERED }
         ensures cost { MakesAtMost TURN_ACCESSES (A.access_count self.old.adapter) (A.access_count self.new.adapter) }
     {
-        looks_keep();
-        a_port_is_served();
-        let Found::Ready(was) = self.found(port) else {
+        law_looks_keep();
+        law_a_port_is_served();
+        let ProbeResult::Ready(was) = self.found(port) else {
             unreachable!()
         };
-        let look = look_at(&mut self.adapter, port);
-        if let Some(trouble) = trouble_of(look) {
-            return self.mend_port(port, was, trouble, replies);
+        let look = take_event(&mut self.adapter, port);
+        if let Some(port_error) = error_of(look) {
+            return self.handle_port_error(port, was, port_error, replies);
         }
         let used = self.slots[usize::from(port.0)].taken();
         if used == 0 {
@@ -436,25 +457,25 @@ impl<A: Adapter> Server<A> {
     }
 
     /// Looks at a port that isn't ready. Where an absent one shows a device, or one whose disk isn't served shows that
-    /// it is another by now, or gone, the port is given up and booted. Nobody waits for it, so that nobody is answered.
+    /// it is another by now, or gone, the port is stopped and booted. Nobody waits for it, so that nobody is answered.
     /// A dead port isn't looked at.
-    fn try_port(&mut self, port: Port, state: PortState)
+    fn probe_port(&mut self, port: Port, state: PortState)
         requires on { self.old.stuck ≡ false }
-        requires unready { found_of self.old.ports port.0 ≡ Found.Unready state }
+        requires unready { probe_result_of self.old.ports port.0 ≡ ProbeResult.Unready state }
         ensures on { self.new.stuck ≡ false }
-        ensures tries { TriesUnready port (server_of A.device self.old) (server_of A.device self.new) }
-        ensures settled { IsSettled (server_of A.device self.new) }
-        ensures ports { (q : ℕ) → q ≢ port.0 → found_of self.new.ports q ≡ found_of self.old.ports q }
+        ensures probes { ProbesUnready port (server_of A.device self.old) (server_of A.device self.new) }
+        ensures settled { SettledInvariant (server_of A.device self.new) }
+        ensures ports { (q : ℕ) → q ≢ port.0 → probe_result_of self.new.ports q ≡ probe_result_of self.old.ports q }
         ensures book { self.new.book ≡ self.old.book }
         ensures cost { MakesAtMost TURN_ACCESSES (A.access_count self.old.adapter) (A.access_count self.new.adapter) }
     {
-        an_unready_port_is_tried();
-        if !finds_news(&mut self.adapter, port, state) {
+        law_an_unready_port_is_probed();
+        if !needs_probe(&mut self.adapter, port, state) {
             return;
         }
         let number = usize::from(port.0);
         let wanted = self.wanted[number];
-        let (found, mode) = find_anew(&mut self.adapter, port, &wanted);
+        let (found, mode) = probe_anew(&mut self.adapter, port, &wanted);
         self.ports[number] = found;
         self.modes[number] = mode;
         self.slots[number] = Slots::new(mode.usable);
@@ -479,7 +500,7 @@ impl<A: Adapter> Server<A> {
     /// and meanwhile for all ports. The replies stand port by port, each port's in order of acceptance.
     pub fn service(&mut self) -> Replies
         ensures services { Services A.device self.old self.new result.items }
-        ensures adds { AddsEvent (server_of A.device self.old) (server_of A.device self.new) Service
+        ensures adds { ExtendsHistory (server_of A.device self.old) (server_of A.device self.new) Service
             (Served result.items) }
         ensures cost { MakesAtMost MOST_OF_SERVICE (A.access_count self.old.adapter) (A.access_count self.new.adapter) }
     {
@@ -491,43 +512,43 @@ impl<A: Adapter> Server<A> {
     /// The same, where the replies stand in a list that the caller keeps, in place of what it had.
     pub fn service_into(&mut self, replies: &mut Replies)
         ensures services { Services A.device self.old self.new replies.new.items }
-        ensures adds { AddsEvent (server_of A.device self.old) (server_of A.device self.new) Service
+        ensures adds { ExtendsHistory (server_of A.device self.old) (server_of A.device self.new) Service
             (Served replies.new.items) }
         ensures cost { MakesAtMost MOST_OF_SERVICE (A.access_count self.old.adapter) (A.access_count self.new.adapter) }
     {
-        services_add();
-        the_book_stays_in_order();
+        law_services_add();
+        law_the_book_stays_in_order();
         replies.clear();
         if self.stuck {
-            return self.tell_dead(replies);
+            return self.fail_all(replies);
         }
         let ports = self.ports;
         for number in 0..PORTS {
             let port = Port(number as u8);
             match ports[number] {
-                Found::Ready(_) => self.serve_port(port, replies),
-                Found::Unready(state) => self.try_port(port, state),
-                Found::Unserved => {}
+                ProbeResult::Ready(_) => self.serve_port(port, replies),
+                ProbeResult::Unready(state) => self.probe_port(port, state),
+                ProbeResult::Unserved => {}
             }
         }
     }
 
     /// Tells the requests of dead ports so, since the last reset got stuck. Frames of those that had been issued stay
     /// lent.
-    fn tell_dead(&mut self, replies: &mut Replies)
+    fn fail_all(&mut self, replies: &mut Replies)
         requires stuck { self.old.stuck ≡ true }
         requires none { replies.old.items ≡ [] }
         ensures services { Services A.device self.old self.new replies.new.items }
-        ensures adds { AddsEvent (server_of A.device self.old) (server_of A.device self.new) Service
+        ensures adds { ExtendsHistory (server_of A.device self.old) (server_of A.device self.new) Service
             (Served replies.new.items) }
         ensures cost { MakesAtMost 0 (A.access_count self.old.adapter) (A.access_count self.new.adapter) }
     {
-        a_server_is_booked();
-        stalled_services_add();
-        the_book_stays_in_order();
+        law_a_server_is_booked();
+        law_stalled_services_add();
+        law_the_book_stays_in_order();
         let book = &mut self.book;
         let kept = &mut self.kept;
-        settle_ports(
+        resolve_ports(
             book,
             &mut self.table,
             kept,
@@ -542,37 +563,37 @@ impl<A: Adapter> Server<A> {
         requires on { self.old.stuck ≡ false }
         ensures on { self.new.stuck ≡ false }
         ensures older { server_of A.device self.new ≡ a_tick_older (server_of A.device self.old) }
-        ensures settled { IsSettled (server_of A.device self.new) }
+        ensures settled { SettledInvariant (server_of A.device self.new) }
         ensures overdue { (number : ℕ) → number < 4 → IsTrue (slice_index_or result number false)
             ↔ IsOverdue (port_at number) self.new.book }
         ensures cost { MakesAtMost 0 (A.access_count self.old.adapter) (A.access_count self.new.adapter) }
     {
-        requests_get_older();
+        law_requests_get_older();
         let is_one = self.book.tick(&ready_ports(&self.ports));
         overdue_ports(&self.book, is_one)
     }
 
-    /// Restarts a ready port of which a request is overdue: the port isn't looked at, and is mended as one that is
-    /// hung. Another rests.
+    /// Restarts a ready port of which a request is overdue: the port isn't looked at, and its error is a timeout.
+    /// Another rests.
     fn tick_port(&mut self, port: Port, was: DiskInfo, is_overdue: bool, replies: &mut Replies)
         requires on { self.old.stuck ≡ false }
-        requires ready { found_of self.old.ports port.0 ≡ Found.Ready was }
+        requires ready { probe_result_of self.old.ports port.0 ≡ ProbeResult.Ready was }
         requires room { length replies.old.items + length self.old.book ≤ MOST_UNANSWERED }
         ensures on { self.new.stuck ≡ false }
         ensures ticks { (book : List Held) → (IsTrue is_overdue ↔ IsOverdue port book) → (its : List Reply)
             × (replies.new.items ≡ replies.old.items ++ its) × TicksPort book port its (server_of A.device self.old)
             (server_of A.device self.new) }
-        ensures settled { IsSettled (server_of A.device self.new) }
-        ensures ports { (q : ℕ) → q ≢ port.0 → found_of self.new.ports q ≡ found_of self.old.ports q }
+        ensures settled { SettledInvariant (server_of A.device self.new) }
+        ensures ports { (q : ℕ) → q ≢ port.0 → probe_result_of self.new.ports q ≡ probe_result_of self.old.ports q }
         ensures room { length replies.new.items + length self.new.book ≤ MOST_UNANSWERED }
-        ensures cost { MakesAtMost (trouble_accesses Trouble.Hung)
+        ensures cost { MakesAtMost (port_error_accesses PortError.TimedOut)
             (A.access_count self.old.adapter) (A.access_count self.new.adapter) }
     {
-        looks_keep();
-        a_hung_port_is_restarted();
+        law_looks_keep();
+        law_a_timed_out_port_is_restarted();
         let _ = &self.adapter;
         if is_overdue {
-            self.mend_port(port, was, Trouble::Hung, replies);
+            self.handle_port_error(port, was, PortError::TimedOut, replies);
         }
     }
 
@@ -591,7 +612,7 @@ impl<A: Adapter> Server<A> {
     /// those of `service`.
     pub fn tick(&mut self) -> Replies
         ensures ticks { TicksServer A.device self.old self.new result.items }
-        ensures adds { AddsEvent (server_of A.device self.old) (server_of A.device self.new) Tick
+        ensures adds { ExtendsHistory (server_of A.device self.old) (server_of A.device self.new) Tick
             (Served result.items) }
         ensures cost { MakesAtMost MOST_OF_TICK (A.access_count self.old.adapter) (A.access_count self.new.adapter) }
     {
@@ -603,13 +624,13 @@ impl<A: Adapter> Server<A> {
     /// The same, where the replies stand in a list that the caller keeps, in place of what it had.
     pub fn tick_into(&mut self, replies: &mut Replies)
         ensures ticks { TicksServer A.device self.old self.new replies.new.items }
-        ensures adds { AddsEvent (server_of A.device self.old) (server_of A.device self.new) Tick
+        ensures adds { ExtendsHistory (server_of A.device self.old) (server_of A.device self.new) Tick
             (Served replies.new.items) }
         ensures cost { MakesAtMost MOST_OF_TICK (A.access_count self.old.adapter) (A.access_count self.new.adapter) }
     {
-        ticks_add();
-        stalled_ticks_add();
-        the_book_stays_in_order();
+        law_ticks_add();
+        law_stalled_ticks_add();
+        law_the_book_stays_in_order();
         replies.clear();
         if self.stuck {
             // No port is ready, so no request gets older.
@@ -618,7 +639,7 @@ impl<A: Adapter> Server<A> {
         let ports = self.ports;
         let overdue = self.grow_older();
         for place in 0..PORTS {
-            let Found::Ready(was) = ports[place] else {
+            let ProbeResult::Ready(was) = ports[place] else {
                 continue;
             };
             self.tick_port(Port(place as u8), was, overdue[place], replies);
@@ -642,9 +663,11 @@ impl<A: Adapter> Server<A> {
     pub fn reset(&mut self) -> Result<Replies, AdapterStuck>
         ensures done { IfOk result (λ replies. DoesReset A.device self.old self.new replies.items (Ok tt)) }
         ensures stuck { IfErr result (λ why. DoesReset A.device self.old self.new [] (Err why)) }
-        ensures adds { IfOk result (λ replies. AddsEvent (server_of A.device self.old) (server_of A.device self.new)
+        ensures adds { IfOk result
+            (λ replies. ExtendsHistory (server_of A.device self.old) (server_of A.device self.new)
             Reset (WasReset (Some replies.items))) }
-        ensures adds_stuck { IfErr result (λ why. AddsEvent (server_of A.device self.old) (server_of A.device self.new)
+        ensures adds_stuck { IfErr result
+            (λ why. ExtendsHistory (server_of A.device self.old) (server_of A.device self.new)
             Reset (WasReset None)) }
         ensures cost { MakesAtMost MOST_OF_RESET (A.access_count self.old.adapter) (A.access_count self.new.adapter) }
     {
@@ -656,20 +679,20 @@ impl<A: Adapter> Server<A> {
     /// The same, where the replies stand in a list that the caller keeps, in place of what it had.
     pub fn reset_into(&mut self, replies: &mut Replies) -> Result<(), AdapterStuck>
         ensures resets { DoesReset A.device self.old self.new replies.new.items result }
-        ensures adds { AddsEvent (server_of A.device self.old) (server_of A.device self.new) Reset
+        ensures adds { ExtendsHistory (server_of A.device self.old) (server_of A.device self.new) Reset
             (reset_said result replies.new.items) }
         ensures cost { MakesAtMost MOST_OF_RESET (A.access_count self.old.adapter) (A.access_count self.new.adapter) }
     {
-        a_server_is_booked();
-        booked_loans_are_lent();
-        a_reset_server_goes_on();
-        resets_add();
-        stuck_resets_add();
-        the_book_stays_in_order();
+        law_a_server_is_booked();
+        law_booked_loans_are_lent();
+        law_a_reset_server_goes_on();
+        law_resets_add();
+        law_stuck_resets_add();
+        law_the_book_stays_in_order();
         replies.clear();
         self.remembered = disks_of(&self.ports, &self.remembered);
         if let Err(stuck) = reset(&mut self.adapter) {
-            self.ports = stuck_ports(&self.ports);
+            self.ports = dead_ports(&self.ports);
             self.modes = [PLAIN; PORTS];
             self.slots = unused_slots(&self.modes);
             self.stuck = true;
@@ -681,7 +704,7 @@ impl<A: Adapter> Server<A> {
         self.modes = modes_of(&host);
         self.slots = unused_slots(&self.modes);
         self.stuck = false;
-        settle_ports(
+        resolve_ports(
             &mut self.book,
             &mut self.table,
             &mut self.kept,
@@ -703,8 +726,8 @@ impl<A: Adapter> Server<A> {
     pub fn close(self) -> A
         ensures { result ≡ self.adapter }
     {
-        a_server_is_booked();
-        booked_loans_are_lent();
+        law_a_server_is_booked();
+        law_booked_loans_are_lent();
         let Server {
             adapter,
             grants: _,
@@ -730,17 +753,17 @@ impl<A: Stepped> Server<A> {
     ghost use Rattle.block_machine.specs.Events.{Device as Told, Stepped};
     ghost use Rattle.block_server.specs.Calls.{StepsDevice};
     ghost use Rattle.block_server.specs.View.{server_of};
-    ghost use Rattle.server_history.specs.Histories.{AddsEvent};
+    ghost use Rattle.server_history.specs.Histories.{ExtendsHistory};
     ghost use Rattle.adapter.specs.Counted.{MakesAtMost};
 
     /// Has the device do a step, if that is possible.
     pub fn device(&mut self, step: &DeviceStep) -> bool
         ensures steps { StepsDevice A.device self.old self.new step.now result }
-        ensures adds { AddsEvent (server_of A.device self.old) (server_of A.device self.new) (Told step.now)
+        ensures adds { ExtendsHistory (server_of A.device self.old) (server_of A.device self.new) (Told step.now)
             (Stepped result) }
         ensures cost { MakesAtMost 0 (A.access_count self.old.adapter) (A.access_count self.new.adapter) }
     {
-        device_steps_add();
+        law_device_steps_add();
         self.adapter.step(step)
     }
 }

@@ -16,7 +16,7 @@ pub enum ServerError {
 
 /// The client has no grant of this number.
 #[derive(Clone, Copy, Debug, PartialEq, Eq)]
-pub struct NoRow;
+pub struct NoSuchGrant;
 
 /// A call of the server, for `run`.
 #[derive(Debug, Drop)]
@@ -59,7 +59,7 @@ pub enum Said {
     /// What a reset answered, if it ended.
     WasReset(Result<Replies, AdapterStuck>),
     /// What a revocation answered, if the grant was there.
-    WasRevoked(Result<Replies, NoRow>),
+    WasRevoked(Result<Replies, NoSuchGrant>),
     State(PortState),
     Stepped(bool),
 }
@@ -75,7 +75,7 @@ pub enum Told {
     /// So it has of a reset that ended.
     WasReset(Result<(), AdapterStuck>),
     /// And of a revocation of a grant that was there.
-    WasRevoked(Result<(), NoRow>),
+    WasRevoked(Result<(), NoSuchGrant>),
     State(PortState),
     Stepped(bool),
 }

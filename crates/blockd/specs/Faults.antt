@@ -2,13 +2,13 @@
 use Rattle.std.specs.Prelude.{ℕ, List, ◌++◌, codes, Ok, Err}
 use Rattle.std.specs.declared.result.Result.{Result}
 use Rattle.std.specs.Fmt.{decimal}
-use Rattle.configuration.specs.Rules.{number_of}
+use Rattle.configuration.specs.Rules.{kind_number}
 use Rattle.play.specs.declared.session.Ended.{Ended}
 use Rattle.play.specs.declared.session.Ended.TheVariants as ended
-use Rattle.blockd.specs.declared.fault.Fault.{Fault}
-use Rattle.blockd.specs.declared.fault.Fault.TheVariants.{CommandLine, Config, Image, Script, Line, NoMemory, Unwritten}
+use Rattle.blockd.specs.declared.fault.BlockdError.{BlockdError}
+use Rattle.blockd.specs.declared.fault.BlockdError.TheVariants.{CommandLine, Config, Image, Script, Line, NoMemory, Unwritten}
 
-abbrev pub fault_text : Fault → List ℕ
+abbrev pub fault_text : BlockdError → List ℕ
 fault_text CommandLine = codes "bad command line"
 fault_text (Config kind) = codes "config " ++ decimal kind
 fault_text Image = codes "image"
@@ -17,7 +17,7 @@ fault_text (Line number) = codes "line " ++ decimal number ++ codes ": bad"
 fault_text NoMemory = codes "no memory"
 fault_text Unwritten = codes "output"
 
-abbrev pub status_of : Fault → ℕ
+abbrev pub status_of : BlockdError → ℕ
 status_of CommandLine = 2
 status_of (Config kind) = 1
 status_of Image = 1
@@ -27,9 +27,9 @@ status_of NoMemory = 1
 status_of Unwritten = 1
 
 -- what the program makes of how a script's play ended
-abbrev pub outcome_of : Ended → Result (Unit {0}) Fault
+abbrev pub outcome_of : Ended → Result (Unit {0}) BlockdError
 outcome_of ended.Done = Ok tt
-outcome_of (ended.Config kind) = Err (Config (number_of kind))
+outcome_of (ended.Config kind) = Err (Config (kind_number kind))
 outcome_of (ended.Line number) = Err (Line number)
 outcome_of ended.NoMemory = Err NoMemory
 outcome_of ended.Unwritten = Err Unwritten

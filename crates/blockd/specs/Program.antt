@@ -3,8 +3,8 @@ use Rattle.std.specs.Prelude.{ℕ, ◌≡◌, ◌⊎◌, Bool, List, Option, Ok,
 use Rattle.std.specs.Global.{Vec}
 use Rattle.std.specs.declared.result.Result.{Result}
 use Rattle.std.specs.Io.KnownBytes.{Keeps}
-use Rattle.sector_store.specs.declared.disks.Disk.{Disk}
-use Rattle.sector_store.specs.declared.disks.Disk.TheVariants.{File, Memory}
+use Rattle.sector_store.specs.declared.disks.DiskStore.{DiskStore}
+use Rattle.sector_store.specs.declared.disks.DiskStore.TheVariants.{File, Memory}
 use Rattle.sector_store.specs.declared.file.FileStore.{FileStore}
 use Rattle.sector_store.specs.declared.store.MemStore.{MemStore}
 use Rattle.command_line.specs.declared.Args.{Args}
@@ -13,9 +13,9 @@ use Rattle.play.specs.Played.{Ends}
 use Rattle.play.specs.declared.session.Ended.{Ended}
 use Rattle.play.specs.declared.session.Ended.TheVariants.{Done}
 use Rattle.blockd.specs.Faults.{outcome_of}
-use Rattle.blockd.specs.declared.fault.Fault.{Fault}
-use Rattle.blockd.specs.declared.fault.Fault.TheVariants.{Config, Image, Script, Unwritten}
-use Rattle.blockd.specs.declared.fault.Fault.TheVariants as fault
+use Rattle.blockd.specs.declared.fault.BlockdError.{BlockdError}
+use Rattle.blockd.specs.declared.fault.BlockdError.TheVariants.{Config, Image, Script, Unwritten}
+use Rattle.blockd.specs.declared.fault.BlockdError.TheVariants as fault
 use Rattle.blockd.specs.declared.program.Inputs.{Inputs}
 use Rattle.blockd.specs.declared.program.Unread.{Unread}
 use Rattle.blockd.specs.declared.program.Unread.TheVariants.{NoMemory, Refused}
@@ -23,26 +23,26 @@ use Rattle.blockd.specs.declared.program.Unread.TheVariants.{NoMemory, Refused}
 -- ---- its files
 
 -- the fault that is told where a file can't be had: this one, unless memory was refused
-abbrev pub fault_of : Unread → Fault → Fault
+abbrev pub fault_of : Unread → BlockdError → BlockdError
 fault_of NoMemory _ = fault.NoMemory
 fault_of Refused told = told
 
 module _ {H : Type 0} (reads : H → H → List ℕ → Result (Vec ℕ) Unread → Type 0)
     (opens : H → H → List ℕ → Result FileStore Unread → Type 0) (args : Args) where
   -- what the run is made of, where the image could be opened
-  abbrev pub made : (config script : Vec ℕ) → Result FileStore Unread → Result Inputs Fault
+  abbrev pub made : (config script : Vec ℕ) → Result FileStore Unread → Result Inputs BlockdError
   made config script (Ok image) = Ok (record { config = config; script = script; image = image })
   made config script (Err why) = Err (fault_of why Image)
 
   -- once the script was read, the image is opened
-  abbrev pub LoadsImage : (old new : H) → Vec ℕ → Result (Vec ℕ) Unread → Result Inputs Fault → Type 0
+  abbrev pub LoadsImage : (old new : H) → Vec ℕ → Result (Vec ℕ) Unread → Result Inputs BlockdError → Type 0
   LoadsImage old new config (Ok script) result =
       (image : Result FileStore Unread) × opens old new (string_bytes args.image) image
       × (result ≡ made config script image)
   LoadsImage old new config (Err why) result = (new ≡ old) × (result ≡ Err (fault_of why Script))
 
   -- once the configuration was read, the script is
-  abbrev pub LoadsScript : (old new : H) → Result (Vec ℕ) Unread → Result Inputs Fault → Type 0
+  abbrev pub LoadsScript : (old new : H) → Result (Vec ℕ) Unread → Result Inputs BlockdError → Type 0
   LoadsScript old new (Ok config) result =
       (script : Result (Vec ℕ) Unread) × (read : H) × reads old read (string_bytes args.script) script
       × LoadsImage read new config script result
@@ -50,31 +50,31 @@ module _ {H : Type 0} (reads : H → H → List ℕ → Result (Vec ℕ) Unread 
 
   -- The host was asked for the files that the words name: the configuration, then the script, then the image, as far as
   -- each could be had.
-  abbrev pub Loads : (old new : H) → Result Inputs Fault → Type 0
+  abbrev pub Loads : (old new : H) → Result Inputs BlockdError → Type 0
   Loads old new result = (config : Result (Vec ℕ) Unread) × (read : H)
       × reads old read (string_bytes args.config) config × LoadsScript read new config result
 
 -- ---- its run
 
 -- the image, and a disk in memory with 2048 sectors of zeros
-pub record AreDisksOver (image : FileStore) (first second : Disk) : Type 0 where
+pub record AreDisksOver (image : FileStore) (first second : DiskStore) : Type 0 where
   pub first_is : first ≡ File image
   pub blank : MemStore
   pub second_is : second ≡ Memory blank
   pub zeros : blank.sectors.items ≡ replicate 2048 (replicate 512 0)
 
 -- What is told is how the play ended; or, where that was well, that the output failed to hand on what it had gathered.
-abbrev pub Tells : Ended → Result (Unit {0}) Fault → Type 0
-Tells ended result = (result ≡ outcome_of ended) ⊎ ((ended ≡ Done) × (result ≡ Err Unwritten))
+abbrev pub TellsEnd : Ended → Result (Unit {0}) BlockdError → Type 0
+TellsEnd ended result = (result ≡ outcome_of ended) ⊎ ((ended ≡ Done) × (result ≡ Err Unwritten))
 
 -- The script was played over both disks, as far as it could be, and the output keeps what it took then. What is told is
 -- how that ended.
 pub record RunsScript {S : Type 0} (size : S → ℕ) (told : S → Option (ℕ → List ℕ)) (config script : List ℕ)
     (image blank : S) (trace : Bool)
-    (old new : Option (List ℕ)) (result : Result (Unit {0}) Fault) : Type 0 where
+    (old new : Option (List ℕ)) (result : Result (Unit {0}) BlockdError) : Type 0 where
   pub ended : Ended
   pub model : Option (Model S)
   pub printed : Option (List ℕ)
   pub ends : Ends size told config script image blank trace old printed ended model
   pub keeps : Keeps printed new
-  pub tells : Tells ended result
+  pub tells : TellsEnd ended result

@@ -1,7 +1,7 @@
 // Why the program ends without having played a script, and how it says so.
 ghost use Rattle.std.specs.Prelude.{◌≡◌, Some};
 ghost use Rattle.blockd.specs.Faults.{fault_text, outcome_of, status_of};
-ghost use Rattle.blockd.specs.declared.fault.Fault.TheVariants.{NoMemory};
+ghost use Rattle.blockd.specs.declared.fault.BlockdError.TheVariants.{NoMemory};
 
 use play::Ended;
 use std::alloc::AllocError;
@@ -9,7 +9,7 @@ use std::{fmt, io};
 
 /// Why a run of the program doesn't end well.
 #[derive(Clone, Copy, Debug, PartialEq, Eq)]
-pub enum Fault {
+pub enum BlockdError {
     /// The words of the command line ask nothing.
     CommandLine,
     /// The configuration has a fault of the kind with this number, 1 to 8; or 0, where its file can't be read.
@@ -26,60 +26,63 @@ pub enum Fault {
     Unwritten,
 }
 
-impl From<AllocError> for Fault {
+impl From<AllocError> for BlockdError {
     ghost from_gives = { λ _ fault. fault ≡ NoMemory };
 
-    fn from(_error: AllocError) -> Fault {
-        Fault::NoMemory
+    fn from(_error: AllocError) -> BlockdError {
+        BlockdError::NoMemory
     }
 }
 
-impl fmt::Display for Fault {
+impl fmt::Display for BlockdError {
     ghost output = { λ fault. Some (fault_text fault) };
 
     fn fmt<W: fmt::Write>(&self, f: &mut fmt::Formatter<W>) -> fmt::Result {
         match self {
-            Fault::CommandLine => write!(f, "bad command line"),
-            Fault::Config(kind) => write!(f, "config {kind}"),
-            Fault::Image => write!(f, "image"),
-            Fault::Script => write!(f, "script"),
-            Fault::Line(number) => write!(f, "line {number}: bad"),
-            Fault::NoMemory => write!(f, "no memory"),
-            Fault::Unwritten => write!(f, "output"),
+            BlockdError::CommandLine => write!(f, "bad command line"),
+            BlockdError::Config(kind) => write!(f, "config {kind}"),
+            BlockdError::Image => write!(f, "image"),
+            BlockdError::Script => write!(f, "script"),
+            BlockdError::Line(number) => write!(f, "line {number}: bad"),
+            BlockdError::NoMemory => write!(f, "no memory"),
+            BlockdError::Unwritten => write!(f, "output"),
         }
     }
 }
 
-impl Fault {
+impl BlockdError {
     /// The status with which the program ends: 2 for a bad command line, 3 for a script that can't be read, and else 1.
     pub fn status(self) -> u8
         ensures { result ≡ status_of self }
     {
         match self {
-            Fault::CommandLine => 2,
-            Fault::Script | Fault::Line(_) => 3,
-            Fault::Config(_) | Fault::Image | Fault::NoMemory | Fault::Unwritten => 1,
+            BlockdError::CommandLine => 2,
+            BlockdError::Script | BlockdError::Line(_) => 3,
+            BlockdError::Config(_)
+            | BlockdError::Image
+            | BlockdError::NoMemory
+            | BlockdError::Unwritten => 1,
         }
     }
 
     /// Tells the fault in one line on standard error. Of an output that fails nothing is told.
     pub fn tell(self, rt: &impl Eprint) -> io::Result<()> {
         match self {
-            Fault::Unwritten => Ok(()),
+            BlockdError::Unwritten => Ok(()),
             _ => eprintln!(rt; "blockd: {self}"),
         }
     }
 }
 
 /// What the program makes of how a script's play ended.
-pub fn outcome(ended: Ended) -> Result<(), Fault>
+pub fn outcome(ended: Ended) -> Result<(), BlockdError>
     ensures { result ≡ outcome_of ended }
 {
     match ended {
         Ended::Done => Ok(()),
-        Ended::Config(kind) => Err(Fault::Config(kind.number())),
-        Ended::Line(number) => Err(Fault::Line(number)),
-        Ended::NoMemory => Err(Fault::NoMemory),
-        Ended::Unwritten => Err(Fault::Unwritten),
+        Ended::Config(kind) => Err(BlockdError::Config(kind.number())),
+        Ended::Line(number) => Err(BlockdError::Line(number)),
+        Ended::NoMemory => Err(BlockdError::NoMemory),
+        Ended::Unwritten => Err(BlockdError::Unwritten),
     }
 }

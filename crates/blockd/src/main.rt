@@ -7,8 +7,8 @@
 #![tactic(auto)]
 
 use command_line::{Args, ArgsFault};
-use fault::Fault;
-use program::{Host, Inputs, Unread, disks_over, load, run_script};
+use fault::BlockdError;
+use program::{FileSource, Inputs, Unread, disks_over, load, run_script};
 use sector_store::FileStore;
 use std::fs::{self, File, Files};
 use std::io::{self, BufWriter, IsTerminal, Read};
@@ -23,9 +23,9 @@ mod program;
 const GATHERED: usize = 8192;
 
 /// Want of memory, where that is the error, or else this fault.
-fn unless_memory(error: &io::Error, fault: Fault) -> Fault {
+fn unless_memory(error: &io::Error, fault: BlockdError) -> BlockdError {
     if error.kind() == io::ErrorKind::OutOfMemory {
-        Fault::NoMemory
+        BlockdError::NoMemory
     } else {
         fault
     }
@@ -33,21 +33,23 @@ fn unless_memory(error: &io::Error, fault: Fault) -> Fault {
 
 /// What the words of the command line ask.
 #[inline(never)]
-fn words(rt: &(impl Env + AllocGlobal)) -> Result<Args, Fault> {
+fn words(rt: &(impl Env + AllocGlobal)) -> Result<Args, BlockdError> {
     // Words that are no text aren't a command line either.
-    let given = env::args(rt).map_err(|error| unless_memory(&error, Fault::CommandLine))?;
+    let given = env::args(rt).map_err(|error| unless_memory(&error, BlockdError::CommandLine))?;
     // One by one: `collect` asks for less where it is refused the room for all, and so goes on without memory.
     let mut words: Vec<String> = Vec::new(rt.alloc());
     for word in given {
-        words.push(word).map_err(|_full| Fault::NoMemory)?;
+        words.push(word).map_err(|_full| BlockdError::NoMemory)?;
     }
     let mut texts: Vec<&str> = Vec::new(rt.alloc());
     for word in words.iter() {
-        texts.push(word.as_str()).map_err(|_full| Fault::NoMemory)?;
+        texts
+            .push(word.as_str())
+            .map_err(|_full| BlockdError::NoMemory)?;
     }
     Args::read(rt.alloc(), texts.as_slice()).map_err(|fault| match fault {
-        ArgsFault::Refused => Fault::CommandLine,
-        ArgsFault::NoMemory => Fault::NoMemory,
+        ArgsFault::Refused => BlockdError::CommandLine,
+        ArgsFault::NoMemory => BlockdError::NoMemory,
     })
 }
 
@@ -78,7 +80,7 @@ impl<R> System<'_, R> {
     }
 }
 
-impl<R: AllocGlobal + Files<File = File>> Host for System<'_, R> {
+impl<R: AllocGlobal + Files<File = File>> FileSource for System<'_, R> {
     ghost reads = { λ _ _ _ _. Unit {0} };
 
     ghost opens = { λ _ _ _ _. Unit {0} };
@@ -108,11 +110,11 @@ fn print_played(
     image: FileStore,
     trace: bool,
     is_watched: bool,
-) -> Result<(), Fault> {
+) -> Result<(), BlockdError> {
     let (image, blank) = disks_over(rt.alloc(), image)?;
     let gathered = if is_watched { 0 } else { GATHERED };
     let mut out = BufWriter::with_capacity(rt.alloc(), gathered, io::writer(rt)).map_err(
-        |error| unless_memory(&error, Fault::Unwritten),
+        |error| unless_memory(&error, BlockdError::Unwritten),
     )?;
     let ran = run_script(rt.alloc(), config, script, image, blank, trace, &mut out);
     // What couldn't be written isn't tried again.
@@ -125,7 +127,7 @@ fn print_played(
 fn run(
     rt: &(impl Env + AllocGlobal + Files<File = File> + Print),
     is_watched: bool,
-) -> Result<(), Fault> {
+) -> Result<(), BlockdError> {
     let args = words(rt)?;
     let mut system = System {
         rt,

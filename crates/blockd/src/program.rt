@@ -4,13 +4,13 @@ ghost use Rattle.std.specs.Global.{Vec as VecOf};
 ghost use Rattle.std.specs.Io.KnownBytes.{Keeps};
 ghost use Rattle.std.specs.declared.result.Result.{Result as ResultOf};
 ghost use Rattle.sector_store.specs.declared.file.FileStore.{FileStore as FileStoreOf};
-ghost use Rattle.blockd.specs.Program.{AreDisksOver, Loads, RunsScript, Tells, fault_of};
+ghost use Rattle.blockd.specs.Program.{AreDisksOver, Loads, RunsScript, TellsEnd, fault_of};
 ghost use Rattle.blockd.specs.declared.program.Unread.{Unread as UnreadOf};
 
-use crate::fault::{Fault, outcome};
+use crate::fault::{BlockdError, outcome};
 use command_line::Args;
 use play::{Ended, play};
-use sector_store::{Disk, FileStore, MemStore, SectorStore};
+use sector_store::{DiskStore, FileStore, MemStore, SectorStore};
 use std::alloc::{AllocError, Global};
 use std::io;
 
@@ -28,18 +28,18 @@ pub enum Unread {
 
 impl Unread {
     /// The fault that is told of it: this one, unless memory was refused.
-    fn fault(self, fault: Fault) -> Fault
+    fn fault(self, fault: BlockdError) -> BlockdError
         ensures { result ≡ fault_of self fault }
     {
         match self {
-            Unread::NoMemory => Fault::NoMemory,
+            Unread::NoMemory => BlockdError::NoMemory,
             Unread::Refused => fault,
         }
     }
 }
 
 /// Who has the files: a system.
-pub trait Host {
+pub trait FileSource {
     /// From one state to the next, a file of this name was read, with this result; or opened as an image.
     ghost reads: { Self → Self → List ℕ → ResultOf (VecOf ℕ) UnreadOf → Type 0 };
 
@@ -64,16 +64,16 @@ pub struct Inputs {
 
 /// Reads the configuration and the script, and opens the image, in this order. The first that can't be had is told, and
 /// nothing is asked after it.
-pub fn load<H: Host>(host: &mut H, args: &Args) -> Result<Inputs, Fault>
+pub fn load<H: FileSource>(host: &mut H, args: &Args) -> Result<Inputs, BlockdError>
     ensures { Loads H.reads H.opens args.now host.old host.new result }
 {
     let config = match host.read(args.config.as_str()) {
         Ok(config) => config,
-        Err(why) => return Err(why.fault(Fault::Config(0))),
+        Err(why) => return Err(why.fault(BlockdError::Config(0))),
     };
     let script = match host.read(args.script.as_str()) {
         Ok(script) => script,
-        Err(why) => return Err(why.fault(Fault::Script)),
+        Err(why) => return Err(why.fault(BlockdError::Script)),
     };
     match host.open(args.image.as_str()) {
         Ok(image) => Ok(Inputs {
@@ -81,27 +81,27 @@ pub fn load<H: Host>(host: &mut H, args: &Args) -> Result<Inputs, Fault>
             script,
             image,
         }),
-        Err(why) => Err(why.fault(Fault::Image)),
+        Err(why) => Err(why.fault(BlockdError::Image)),
     }
 }
 
 /// The two disks of a run: the image, which is in at first, and the blank one, in memory.
-pub fn disks_over(alloc: Global, image: FileStore) -> Result<(Disk, Disk), AllocError>
+pub fn disks_over(alloc: Global, image: FileStore) -> Result<(DiskStore, DiskStore), AllocError>
     ensures { IfOk result (λ disks. AreDisksOver image disks.0 disks.1) }
 {
     let blank = MemStore::new(alloc, BLANK_SECTORS)?;
-    Ok((Disk::File(image), Disk::Memory(blank)))
+    Ok((DiskStore::File(image), DiskStore::Memory(blank)))
 }
 
 /// What is told of how a play ended, once the output was asked to hand on what it gathered. One that failed isn't asked
 /// again; where all was played, and it fails now, it is that which is told.
-fn hand_on<W: io::Write>(ended: Ended, out: &mut W) -> Result<(), Fault>
+fn hand_on<W: io::Write>(ended: Ended, out: &mut W) -> Result<(), BlockdError>
     ensures keeps { Keeps (W.contents out.old) (W.contents out.new) }
-    ensures tells { Tells ended result }
+    ensures tells { TellsEnd ended result }
 {
     match ended {
-        Ended::Unwritten => Err(Fault::Unwritten),
-        Ended::Done => out.flush().map_err(|_error| Fault::Unwritten),
+        Ended::Unwritten => Err(BlockdError::Unwritten),
+        Ended::Done => out.flush().map_err(|_error| BlockdError::Unwritten),
         _ => {
             let _flushed = out.flush();
             outcome(ended)
@@ -118,7 +118,7 @@ pub fn run_script<S: SectorStore, W: io::Write>(
     blank: S,
     trace: bool,
     out: &mut W,
-) -> Result<(), Fault>
+) -> Result<(), BlockdError>
     ensures { RunsScript S.size S.told config.now script.now image blank trace (W.contents out.old) (W.contents out.new)
         result }
 {

@@ -6,8 +6,8 @@ use Rattle.std.proofs.lemmas.List.{append-nil, map-append, get_or-drop, length-d
 use Rattle.std.proofs.lemmas.List.Elements.{All-cons, All-nil}
 use Rattle.ata_types.specs.declared.request.Frame.{Frame}
 use Rattle.adapter.specs.declared.command.Prd.{Prd}
-use Rattle.adapter.specs.Says.{pieces, cut, IsWhole}
-use Rattle.adapter.specs.Spelling.{IsAllowed}
+use Rattle.adapter.specs.Decoding.{pieces, piece_addresses, IsWholePieces}
+use Rattle.adapter.specs.Encoding.{IsAllowedPrd}
 use Rattle.command_table.specs.Places.{place_of, places_of, frame_number}
 use Rattle.command_table.specs.Runs.{IsLongestRun, CoversRun, AreJoined, frames_in}
 
@@ -33,12 +33,12 @@ module _ (frames : List Frame) (bytes : ℕ) (e : Prd) (fits : Fits frames bytes
       let d : length (drop (frames_in e) frames) ≡ length frames - frames_in e = length-drop (frames_in e) frames in
       record { within = omega (arith, s, w, l, h, d); last = omega (arith, s, w, l, h, d) }
 
-pub all_allowed : (es : List Prd) (frames : List Frame) (bytes : ℕ) → Fits frames bytes → bytes % 2 ≡ 0 → length frames ≤ 1024 → AreJoined frames bytes es → All IsAllowed es
-all_allowed [] frames bytes fits even few j = All-nil IsAllowed
+pub all_allowed : (es : List Prd) (frames : List Frame) (bytes : ℕ) → Fits frames bytes → bytes % 2 ≡ 0 → length frames ≤ 1024 → AreJoined frames bytes es → All IsAllowedPrd es
+all_allowed [] frames bytes fits even few j = All-nil IsAllowedPrd
 all_allowed (e ∷ es) frames bytes fits even few j =
     let s = j.0.size in
     let d : length (drop (frames_in e) frames) ≡ length frames - frames_in e = length-drop (frames_in e) frames in
-    All-cons IsAllowed e es
+    All-cons IsAllowedPrd e es
     (record {
       even_address = let a = j.0.address in omega (arith, a);
       even_bytes = omega (arith, s, even);
@@ -47,11 +47,11 @@ all_allowed (e ∷ es) frames bytes fits even few j =
     })
     (all_allowed es _ _ (fits_on frames bytes e fits j.0) (omega (arith, s, even)) (omega (arith, d, few)) j.1)
 
-pub all_whole : (es : List Prd) (frames : List Frame) (bytes : ℕ) → bytes % 512 ≡ 0 → AreJoined frames bytes es → All IsWhole es
-all_whole [] frames bytes whole j = All-nil IsWhole
+pub all_whole : (es : List Prd) (frames : List Frame) (bytes : ℕ) → bytes % 512 ≡ 0 → AreJoined frames bytes es → All IsWholePieces es
+all_whole [] frames bytes whole j = All-nil IsWholePieces
 all_whole (e ∷ es) frames bytes whole j =
     let s = j.0.size in
-    All-cons IsWhole e es (omega (arith, s, whole)) (all_whole es _ _ (omega (arith, s, whole)) j.1)
+    All-cons IsWholePieces e es (omega (arith, s, whole)) (all_whole es _ _ (omega (arith, s, whole)) j.1)
 
 range_with_len-add : (m n a : ℕ) → range_with_len a (m + n) ≡ range_with_len a m ++ range_with_len (a + m) n
 range_with_len-add zero n a =
@@ -72,7 +72,7 @@ split_at a b m n k e (inr next) = rw (next, ← e) (sym (range_with_len-add m n 
 
 -- the pieces of a run of frames, from the j-th on
 run_pieces : (frames : List Frame) (a s n m j : ℕ) → a ≡ 4096 * frame_number frames s → ((k : ℕ) → k < n → frame_number frames (s + k) ≡ frame_number frames s + k)
-    → j + m ≤ 8 * n → cut (a + 512 * j) m ≡ map (place_of frames) (range_with_len (8 * s + j) m)
+    → j + m ≤ 8 * n → piece_addresses (a + 512 * j) m ≡ map (place_of frames) (range_with_len (8 * s + j) m)
 run_pieces frames a s n zero j a-is rising fits = refl
 run_pieces frames a s n (suc m) j a-is rising fits =
     let frame : (8 * s + j) / 8 ≡ s + j / 8 = omega arith in
@@ -103,12 +103,12 @@ module _ (frames : List Frame) where
       cover_from es (s + n) (left - e.bytes) (omega (arith, size, whole)) (subst (λ (fs : List Frame). Fits fs (left - e.bytes)) (drop-drop n s frames) (fits_on (drop s frames) left e fits j.0)) (subst (λ (fs : List Frame). AreJoined fs (left - e.bytes) es) (drop-drop n s frames) j.1) in
       let first : e.address + 512 * 0 ≡ e.address = omega arith in
       let front_at : 8 * s + 0 ≡ 8 * s = omega arith in
-      let front : cut e.address (e.bytes / 512) ≡ map (place_of frames) (range_with_len (8 * s) (e.bytes / 512)) =
+      let front : piece_addresses e.address (e.bytes / 512) ≡ map (place_of frames) (range_with_len (8 * s) (e.bytes / 512)) =
       rw (first, front_at) at (run_pieces frames e.address s n (e.bytes / 512) 0 address rising (omega (arith, size))) in
       let rest : ((left - e.bytes) / 512 ≡ 0) ⊎ (8 * (s + n) ≡ 8 * s + e.bytes / 512) =
       elim (cases_lt e.bytes left) [ inl more ↦ inr (omega (arith, size)) | inr done ↦ inl (omega (arith, done)) ] in
       let whole_run = split_at (8 * s) (8 * (s + n)) (e.bytes / 512) ((left - e.bytes) / 512) (left / 512) (omega (arith, size, whole)) rest in
-      ap (λ (ps : List ℕ). cut e.address (e.bytes / 512) ++ ps) later
+      ap (λ (ps : List ℕ). piece_addresses e.address (e.bytes / 512) ++ ps) later
       ∙ (ap (λ (ps : List ℕ). ps ++ map (place_of frames) (range_with_len (8 * (s + n)) ((left - e.bytes) / 512))) front
       ∙ (sym (map-append (place_of frames) (range_with_len (8 * s) (e.bytes / 512)) (range_with_len (8 * (s + n)) ((left - e.bytes) / 512)))
       ∙ ap (map (place_of frames)) whole_run))

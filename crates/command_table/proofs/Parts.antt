@@ -1,7 +1,7 @@
 -- Parts of a buffer that was written to.
 use Rattle.std.proofs.Common.{◌≡◌, ℕ, ◌+◌, ◌<◌, ◌≤◌, List, length, slice_index, get_or, drop, sym, ◌∙◌, arith, length-drop}
 use Rattle.std.proofs.lemmas.List.{same_lists, get_or-take, get_or-drop, get_or_default, length-take}
-use Rattle.command_table.specs.Bytes.{Stores, part}
+use Rattle.command_table.specs.Bytes.{StoresBytes, part}
 
 -- two lists of numbers of one length that agree at each place are one
 pub numbers_alike : (xs ys : List ℕ) → length xs ≡ length ys → ((k : ℕ) → k < length xs → get_or xs k 0 ≡ get_or ys k 0) → xs ≡ ys
@@ -18,12 +18,12 @@ part_agrees n i j xs ys fits fits' h =
     get_or-take n (drop i xs) k 0 small ∙ get_or-drop i xs k 0 ∙ h k small ∙ sym (get_or-drop j ys k 0) ∙ sym (get_or-take n (drop j ys) k 0 small))
 
 -- a part before what was written
-pub part_before : (old new : List ℕ) (at : ℕ) (bytes : List ℕ) → Stores old new at bytes → at + length bytes ≤ length old → (i n : ℕ) → i + n ≤ at → part new i n ≡ part old i n
+pub part_before : (old new : List ℕ) (at : ℕ) (bytes : List ℕ) → StoresBytes old new at bytes → at + length bytes ≤ length old → (i n : ℕ) → i + n ≤ at → part new i n ≡ part old i n
 part_before old new at bytes s room i n fits =
     part_agrees n i i new old (omega (arith, s.size)) (omega arith) (λ m lt. s.before (i + m) (omega arith))
 
 -- what was written, whole
-pub part_whole : (old new : List ℕ) (at : ℕ) (bytes : List ℕ) → Stores old new at bytes → at + length bytes ≤ length old → part new at (length bytes) ≡ bytes
+pub part_whole : (old new : List ℕ) (at : ℕ) (bytes : List ℕ) → StoresBytes old new at bytes → at + length bytes ≤ length old → part new at (length bytes) ≡ bytes
 part_whole old new at bytes s room =
     numbers_alike (part new at (length bytes)) bytes (part_length (length bytes) at new (omega (arith, s.size))) (λ k lt.
     let small : k < length bytes = omega (arith, length-take (length bytes) (drop at new)) in

@@ -5,8 +5,8 @@ use Rattle.std.proofs.Common.{ℕ, suc, ◌≡◌, ◌+◌, ◌*◌, ◌<◌, �
 use Rattle.std.proofs.lemmas.List.{get_or-take, get_or-drop, length-take}
 use Rattle.adapter.specs.Commands.{Meaning, command_of, reads_memory}
 use Rattle.adapter.specs.Memory.{bytes_at}
-use Rattle.adapter.specs.Says.{Says, HasPrds}
-use Rattle.adapter.specs.Spelling.{SpellsCommand, SpellsHeader, SpellsPrd}
+use Rattle.adapter.specs.Decoding.{DecodesTo, HasPrds}
+use Rattle.adapter.specs.Encoding.{EncodesCommand, EncodesHeader, EncodesPrd}
 use Rattle.adapter.specs.declared.command.Command.{Command}
 use Rattle.adapter.specs.declared.command.Operation.{Operation}
 use Rattle.adapter.specs.declared.command.Prd.{Prd}
@@ -31,7 +31,7 @@ part_at memory at n bs i k e fits le =
     ∙ sym (get_or-take k (drop i bs) j 0 small))
 
 -- PRDs that stand one by one stand in a row
-pub prds_stand : (memory : ℕ → ℕ) (es : List Prd) (at : ℕ) → ((i : ℕ) (d : Prd) → i < length es → SpellsPrd (bytes_at memory (at + 16 * i) 16) (slice_index_or es i d)) → HasPrds memory at es
+pub prds_stand : (memory : ℕ → ℕ) (es : List Prd) (at : ℕ) → ((i : ℕ) (d : Prd) → i < length es → EncodesPrd (bytes_at memory (at + 16 * i) 16) (slice_index_or es i d)) → HasPrds memory at es
 prds_stand memory [] at each = tt
 prds_stand memory (e ∷ es) at each =
     let first : at + 16 * 0 ≡ at = omega arith in (
@@ -44,9 +44,9 @@ prds_stand memory (e ∷ es) at each =
 -- a table at the head of some bytes, which memory holds with FIS and PRDs, and a header
 module _ (memory : ℕ → ℕ) (list slot at : ℕ) (prds : List Prd) (table header : List ℕ) (few : length prds ≤ MOST_REQUEST_FRAMES) (size : TABLE_HEAD + PRD_BYTES * length prds ≤ length table)
     (here : bytes_at memory at (TABLE_HEAD + PRD_BYTES * length prds) ≡ take (TABLE_HEAD + PRD_BYTES * length prds) table) (head : bytes_at memory (list + 32 * slot) 32 ≡ header)
-    (writes : Bool) (command : Command) (direction : (o : Operation) (s first count : ℕ) → command ≡ command_of o s first count → writes ≡ reads_memory o) (fis : SpellsCommand (part table 0 20) command)
-    (each : (i : ℕ) (d : Prd) → i < length prds → SpellsPrd (part table (TABLE_HEAD + PRD_BYTES * i) 16) (slice_index_or prds i d))
-    (heads : SpellsHeader header writes (length prds) at) where
+    (writes : Bool) (command : Command) (direction : (o : Operation) (s first count : ℕ) → command ≡ command_of o s first count → writes ≡ reads_memory o) (fis : EncodesCommand (part table 0 20) command)
+    (each : (i : ℕ) (d : Prd) → i < length prds → EncodesPrd (part table (TABLE_HEAD + PRD_BYTES * i) 16) (slice_index_or prds i d))
+    (heads : EncodesHeader header writes (length prds) at) where
   part_here : (i k : ℕ) → i + k ≤ TABLE_HEAD + PRD_BYTES * length prds → bytes_at memory (at + i) k ≡ part table i k
   part_here i k fits = part_at memory at (TABLE_HEAD + PRD_BYTES * length prds) table i k here size fits
 
@@ -54,12 +54,12 @@ module _ (memory : ℕ → ℕ) (list slot at : ℕ) (prds : List Prd) (table he
   fis_here = let same : at + 0 ≡ at = omega arith in ap (λ (a : ℕ). bytes_at memory a 20) (sym same) ∙ part_here 0 20 (omega arith)
 
   pub table_says : (m : Meaning) (places : List ℕ) → IsTableFor slot command prds m places →
-      (s : Says memory list slot m places) × (s.table ≡ at) × (s.prds ≡ prds)
+      (s : DecodesTo memory list slot m places) × (s.table ≡ at) × (s.prds ≡ prds)
   table_says m places is =
-      let H : List ℕ → Type 0 = λ bytes. SpellsHeader bytes writes (length prds) at in
-      let W : Bool → Type 0 = λ w. SpellsHeader (bytes_at memory (list + 32 * slot) 32) w (length prds) at in
-      let F : List ℕ → Type 0 = λ bytes. SpellsCommand bytes command in
-      let C : Command → Type 0 = λ c. SpellsCommand (bytes_at memory at 20) c in (
+      let H : List ℕ → Type 0 = λ bytes. EncodesHeader bytes writes (length prds) at in
+      let W : Bool → Type 0 = λ w. EncodesHeader (bytes_at memory (list + 32 * slot) 32) w (length prds) at in
+      let F : List ℕ → Type 0 = λ bytes. EncodesCommand bytes command in
+      let C : Command → Type 0 = λ c. EncodesCommand (bytes_at memory at 20) c in (
         record {
           table = at;
           prds = prds;
@@ -67,7 +67,7 @@ module _ (memory : ℕ → ℕ) (list slot at : ℕ) (prds : List Prd) (table he
           fis = subst C is.fields (subst F (sym fis_here) fis);
           meaning = is.meaning;
           stand = prds_stand memory prds (at + 128) (λ i d lt.
-              let P : List ℕ → Type 0 = λ bytes. SpellsPrd bytes (slice_index_or prds i d) in
+              let P : List ℕ → Type 0 = λ bytes. EncodesPrd bytes (slice_index_or prds i d) in
               let place : at + (TABLE_HEAD + PRD_BYTES * i) ≡ at + TABLE_HEAD + PRD_BYTES * i = omega arith in
               subst P (sym (part_here (TABLE_HEAD + PRD_BYTES * i) 16 (omega arith)) ∙ ap (λ (a : ℕ). bytes_at memory a 16) place) (each i d lt));
           few = omega arith;

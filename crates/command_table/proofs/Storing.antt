@@ -9,33 +9,33 @@ use Rattle.hba_regs.specs.declared.reg.Reg.{Reg}
 use Rattle.adapter.specs.Access.{Access, Stores}
 use Rattle.adapter.specs.Access.Access.{Reading, Writing, Loading, Storing}
 use Rattle.adapter.specs.Commands.{IsMeaning, Meaning, command_of, pieces_moved, reads_memory}
-use Rattle.adapter.specs.Says.{IsWhole, pieces}
+use Rattle.adapter.specs.Decoding.{IsWholePieces, pieces}
 use Rattle.adapter.specs.Device.{Device}
 use Rattle.adapter.specs.Memory.{patched, bytes_at}
-use Rattle.adapter.specs.Rules.{IsOn, IsFree, Stays}
-use Rattle.adapter.specs.Spelling.{SpellsCommand, SpellsHeader, SpellsPrd}
+use Rattle.adapter.specs.Rules.{IsOn, IsFree, IsStable}
+use Rattle.adapter.specs.Encoding.{EncodesCommand, EncodesHeader, EncodesPrd}
 use Rattle.adapter.specs.declared.command.Command.{Command}
 use Rattle.adapter.specs.declared.command.Operation.{Operation}
 use Rattle.adapter.specs.declared.command.Prd.{Prd}
 use Rattle.adapter.proofs.MemoryLemmas.{bytes_same, patched_apart, patched_bytes}
-use Rattle.agreement.specs.Driven.{AnyAccess, IsAgreed, IsDrivenBy, IsFollowed, IsOf, NoneWrites}
-use Rattle.agreement.specs.Links.{SameAdapter}
-use Rattle.agreement.specs.Driver.{LeavesFree, MayStore, MissesTable}
-use Rattle.agreement.specs.Places.{list_of, scratch_of, table_of}
-use Rattle.agreement.specs.Slots.{Uses, Told}
-use Rattle.agreement.proofs.driver.PortAccesses.{agreed_on}
-use Rattle.agreement.proofs.driver.Stretches.{driven_as, followed_as, followed_store, followed_then}
-use Rattle.agreement.proofs.steps.UnusedSlots.{told_is_left}
-use Rattle.agreement.proofs.device.AdapterOverAccesses.{access_on, access_same}
-use Rattle.agreement.proofs.driver.UnusedOverCalls.{stores_leave, told_beside}
-use Rattle.agreement.proofs.driver.PermittedAccesses.{stores_are_free}
+use Rattle.refinement.specs.Driven.{AnyAccess, IsRelated, IsDrivenBy, IsSimulated, IsOf, NoneWrites}
+use Rattle.refinement.specs.Links.{SameAdapter}
+use Rattle.refinement.specs.Driver.{LeavesFree, MayStore, MissesTable}
+use Rattle.refinement.specs.Places.{list_of, scratch_of, table_of}
+use Rattle.refinement.specs.Slots.{SlotStates, SlotDecodesTo}
+use Rattle.refinement.proofs.driver.PortAccesses.{agreed_on}
+use Rattle.refinement.proofs.driver.Stretches.{driven_as, followed_as, followed_store, followed_then}
+use Rattle.refinement.proofs.steps.UnusedSlots.{told_is_left}
+use Rattle.refinement.proofs.device.AdapterOverAccesses.{access_on, access_same}
+use Rattle.refinement.proofs.driver.UnusedOverCalls.{stores_leave, told_beside}
+use Rattle.refinement.proofs.driver.PermittedAccesses.{stores_are_free}
 use Rattle.command_table.specs.Bytes.{part}
 use Rattle.command_table.specs.Written.{IsTableFor, IsHeader, IsInTable, IsStoreWithBlock, IsTableStore, IsUnused}
 use Rattle.command_table.specs.Places.{places_of}
 use Rattle.command_table.proofs.Saying.{table_says}
 
 -- the driver may store them
-may_store : (uses : Uses) (port slot at : ℕ) (bytes : List ℕ) → port < 4 → slot < 32 → IsUnused port slot uses → IsTableStore port slot (Storing at bytes) → MayStore uses at (length bytes)
+may_store : (uses : SlotStates) (port slot at : ℕ) (bytes : List ℕ) → port < 4 → slot < 32 → IsUnused port slot uses → IsTableStore port slot (Storing at bytes) → MayStore uses at (length bytes)
 may_store uses port slot at bytes below small free here = inl (record { port = port; slot = slot; below = below; slot_below = small; free = free; here = of here })
   where
     of : IsHeader port slot at bytes ⊎ IsInTable port slot at bytes →
@@ -44,8 +44,8 @@ may_store uses port slot at bytes below small free here = inl (record { port = p
     of (inr t) = inr t
 
 -- whatever the device does first
-pub store_free : (uses : Uses) (d : Device) (port slot at : ℕ) (bytes : List ℕ) → IsAgreed uses d → DRIVER_BYTES ≤ d.size → port < 4 → slot < 32 → IsUnused port slot uses → IsTableStore port slot (Storing at bytes) →
-    Stays (IsFree at (length bytes)) d
+pub store_free : (uses : SlotStates) (d : Device) (port slot at : ℕ) (bytes : List ℕ) → IsRelated uses d → DRIVER_BYTES ≤ d.size → port < 4 → slot < 32 → IsUnused port slot uses → IsTableStore port slot (Storing at bytes) →
+    IsStable (IsFree at (length bytes)) d
 store_free uses d port slot at bytes a room below small free here =
     stores_are_free uses a.machine d a.reached a.knows.agrees at (length bytes)
     (elim here [ inl h ↦ let place = h.0 in let size = h.1 in omega (arith, room, place, size, below, small) | inr table ↦ let t = table.1 in omega (arith, room, t) ])
@@ -67,7 +67,7 @@ table_spares port slot r (Writing s v) here = absurd here
 -- ---- one store
 
 module _ (port slot : ℕ) (below : port < 4) (small : slot < 32) (at : ℕ) (bytes : List ℕ) (old new : Device) (here : IsTableStore port slot (Storing at bytes)) (call : Stores at bytes old new) where
-  pub store_followed : IsFollowed (IsTableStore port slot) (IsUnused port slot) old new
+  pub store_followed : IsSimulated (IsTableStore port slot) (IsUnused port slot) old new
   store_followed = followed_store (IsTableStore port slot) (IsUnused port slot) at bytes old new here (λ uses free. may_store uses port slot at bytes below small free here) call
 
   pub store_on : IsOn old → IsOn new
@@ -79,21 +79,21 @@ module _ (port slot : ℕ) (below : port < 4) (small : slot < 32) (at : ℕ) (by
   pub store_size : new.size ≡ old.size
   store_size = (access_same (Storing at bytes) old new call).size
 
-  module _ (on : IsOn old) (uses : Uses) (free : IsUnused port slot uses) (a : IsAgreed uses old) where
+  module _ (on : IsOn old) (uses : SlotStates) (free : IsUnused port slot uses) (a : IsRelated uses old) where
     pub store_left : LeavesFree uses (record old { memory = patched old.memory at bytes }) new
     store_left = stores_leave uses a.machine old new a.reached a.knows.agrees on.no_reset at bytes call
 
-    pub store_agrees : IsAgreed uses new
+    pub store_agrees : IsRelated uses new
     store_agrees = agreed_on (IsTableStore port slot) (IsUnused port slot) uses old new free store_followed a
 
 -- ---- the table, and then the header
 
-module _ (port slot : ℕ) (below : port < 4) (small : slot < 32) (uses : Uses) (free : IsUnused port slot uses) (old mid new : Device) (on : IsOn old) (a : IsAgreed uses old)
+module _ (port slot : ℕ) (below : port < 4) (small : slot < 32) (uses : SlotStates) (free : IsUnused port slot uses) (old mid new : Device) (on : IsOn old) (a : IsRelated uses old)
     (prds : List Prd) (table header : List ℕ) (few : length prds ≤ MOST_REQUEST_FRAMES) (size : TABLE_HEAD + PRD_BYTES * length prds ≤ length table) (front : length (take (TABLE_HEAD + PRD_BYTES * length prds) table) ≡ TABLE_HEAD + PRD_BYTES * length prds)
     (first : Stores (table_of port slot) (take (TABLE_HEAD + PRD_BYTES * length prds) table) old mid) (second : Stores (list_of port + 32 * slot) header mid new)
-    (writes : Bool) (command : Command) (direction : (o : Operation) (s first count : ℕ) → command ≡ command_of o s first count → writes ≡ reads_memory o) (fis : SpellsCommand (part table 0 20) command)
-    (each : (i : ℕ) (d : Prd) → i < length prds → SpellsPrd (part table (TABLE_HEAD + PRD_BYTES * i) 16) (slice_index_or prds i d))
-    (heads : SpellsHeader header writes (length prds) (table_of port slot)) (none_moved : little_from 4 4 header ≡ 0) where
+    (writes : Bool) (command : Command) (direction : (o : Operation) (s first count : ℕ) → command ≡ command_of o s first count → writes ≡ reads_memory o) (fis : EncodesCommand (part table 0 20) command)
+    (each : (i : ℕ) (d : Prd) → i < length prds → EncodesPrd (part table (TABLE_HEAD + PRD_BYTES * i) 16) (slice_index_or prds i d))
+    (heads : EncodesHeader header writes (length prds) (table_of port slot)) (none_moved : little_from 4 4 header ≡ 0) where
   in_table : IsTableStore port slot (Storing (table_of port slot) (take (TABLE_HEAD + PRD_BYTES * length prds) table))
   in_table = inr (omega arith, omega (arith, front, few))
 
@@ -103,7 +103,7 @@ module _ (port slot : ℕ) (below : port < 4) (small : slot < 32) (uses : Uses) 
   mid_on : IsOn mid
   mid_on = store_on port slot below small (table_of port slot) _ old mid in_table first on
 
-  mid_agrees : IsAgreed uses mid
+  mid_agrees : IsRelated uses mid
   mid_agrees = store_agrees port slot below small (table_of port slot) _ old mid in_table first on uses free a
 
   -- the memory that the second store leaves at once
@@ -125,7 +125,7 @@ module _ (port slot : ℕ) (below : port < 4) (small : slot < 32) (uses : Uses) 
   header_there : bytes_at stored (list_of port + 32 * slot) 32 ≡ header
   header_there = ap (bytes_at stored (list_of port + 32 * slot)) (sym heads.size) ∙ patched_bytes mid.memory (list_of port + 32 * slot) header
 
-  pub stored_says : (m : Meaning) (places : List ℕ) → IsTableFor slot command prds m places → Told new.memory (list_of port) port slot m places
+  pub stored_says : (m : Meaning) (places : List ℕ) → IsTableFor slot command prds m places → SlotDecodesTo new.memory (list_of port) port slot m places
   stored_says m places is =
       let x = table_says stored (list_of port) slot (table_of port slot) prds table header few size table_there header_there writes command direction fis each heads m places is in
       told_is_left uses (record mid { memory = stored }) new
@@ -141,16 +141,16 @@ block_misses port at n is place (inl header) from to = let h = header.1 in omega
 block_misses port at n is place (inr (inl header)) from to = let h = header.1 in omega (arith, is, h, from)
 block_misses port at n is place (inr (inr table)) from to = let t = table.1 in omega (arith, is, t, from)
 
-may_store_block : (uses : Uses) (port at : ℕ) (block : List ℕ) → port < 4 → at ≡ scratch_of port → length block ≡ 512 → IsUnused port 0 uses → MayStore uses at (length block)
+may_store_block : (uses : SlotStates) (port at : ℕ) (block : List ℕ) → port < 4 → at ≡ scratch_of port → length block ≡ 512 → IsUnused port 0 uses → MayStore uses at (length block)
 may_store_block uses port at block below is size free = inr (record { port = port; below = below; free = free; from = omega (arith, is); to = omega (arith, is, size) })
 
-pub block_free : (uses : Uses) (d : Device) (port at : ℕ) (block : List ℕ) → IsAgreed uses d → DRIVER_BYTES ≤ d.size → port < 4 → at ≡ scratch_of port → length block ≡ 512 → IsUnused port 0 uses →
-    Stays (IsFree at (length block)) d
+pub block_free : (uses : SlotStates) (d : Device) (port at : ℕ) (block : List ℕ) → IsRelated uses d → DRIVER_BYTES ≤ d.size → port < 4 → at ≡ scratch_of port → length block ≡ 512 → IsUnused port 0 uses →
+    IsStable (IsFree at (length block)) d
 block_free uses d port at block a room below is size free =
     stores_are_free uses a.machine d a.reached a.knows.agrees at (length block) (omega (arith, room, below, is, size)) (may_store_block uses port at block below is size free)
 
 module _ (port at : ℕ) (below : port < 4) (is : at ≡ scratch_of port) (block : List ℕ) (size : length block ≡ 512) (old new : Device) (call : Stores at block old new) where
-  pub block_followed : IsFollowed (IsStoreWithBlock port 0) (IsUnused port 0) old new
+  pub block_followed : IsSimulated (IsStoreWithBlock port 0) (IsUnused port 0) old new
   block_followed =
       followed_store (IsStoreWithBlock port 0) (IsUnused port 0) at block old new (inr (refl, is, size)) (λ uses free. may_store_block uses port at block below is size free) call
 
@@ -162,27 +162,27 @@ module _ (port at : ℕ) (below : port < 4) (is : at ≡ scratch_of port) (block
       ap (λ (place : ℕ). bytes_at new.memory place 512) (sym is)
       ∙ (ap (bytes_at new.memory at) (sym size) ∙ (ap (λ (d : Device). bytes_at d.memory at (length block)) call.effect ∙ patched_bytes call.mid.memory at block))
 
-  pub block_told : (uses : Uses) → IsAgreed uses old → IsOn old → (m : Meaning) (places : List ℕ) → Told old.memory (list_of port) port 0 m places → Told new.memory (list_of port) port 0 m places
+  pub block_told : (uses : SlotStates) → IsRelated uses old → IsOn old → (m : Meaning) (places : List ℕ) → SlotDecodesTo old.memory (list_of port) port 0 m places → SlotDecodesTo new.memory (list_of port) port 0 m places
   block_told uses a on m places told =
       told_beside uses at block old new (stores_leave uses a.machine old new a.reached a.knows.agrees on.no_reset at block call) port 0 m places below (omega arith) (block_misses port at (length block) is) told
 
 -- after header and table, the slot is unused still, and the memory as large
-pub table_agrees : (port : ℕ) (uses : Uses) (old mid : Device) → IsUnused port 0 uses → IsFollowed (IsTableStore port 0) (IsUnused port 0) old mid → IsAgreed uses old → IsAgreed uses mid
+pub table_agrees : (port : ℕ) (uses : SlotStates) (old mid : Device) → IsUnused port 0 uses → IsSimulated (IsTableStore port 0) (IsUnused port 0) old mid → IsRelated uses old → IsRelated uses mid
 table_agrees port uses old mid = agreed_on (IsTableStore port 0) (IsUnused port 0) uses old mid
 
-pub table_size : ((old new : Device) → IsDrivenBy AnyAccess old new → SameAdapter old new) → (port : ℕ) (old mid : Device) → IsFollowed (IsTableStore port 0) (IsUnused port 0) old mid → mid.size ≡ old.size
+pub table_size : ((old new : Device) → IsDrivenBy AnyAccess old new → SameAdapter old new) → (port : ℕ) (old mid : Device) → IsSimulated (IsTableStore port 0) (IsUnused port 0) old mid → mid.size ≡ old.size
 table_size same port old mid table = (same old mid (driven_as (IsTableStore port 0) AnyAccess old mid (λ access here. tt) table.driven)).size
 
 -- header and table, and then a block
-pub with_block : (port : ℕ) (old mid new : Device) → IsFollowed (IsTableStore port 0) (IsUnused port 0) old mid → IsFollowed (IsStoreWithBlock port 0) (IsUnused port 0) mid new →
-    IsFollowed (IsStoreWithBlock port 0) (IsUnused port 0) old new
+pub with_block : (port : ℕ) (old mid new : Device) → IsSimulated (IsTableStore port 0) (IsUnused port 0) old mid → IsSimulated (IsStoreWithBlock port 0) (IsUnused port 0) mid new →
+    IsSimulated (IsStoreWithBlock port 0) (IsUnused port 0) old new
 with_block port old mid new table block =
     followed_then (IsStoreWithBlock port 0) (IsUnused port 0) old mid new
     (followed_as (IsTableStore port 0) (IsStoreWithBlock port 0) (IsUnused port 0) (IsUnused port 0) old mid (λ access here. inl here) (λ uses free. free) table) block
 
 -- the table of a command to which one block goes, from the port's scratch frame
 pub table_for_block : (m : Meaning) (command : Command) (prds : List Prd) (port frame : ℕ) → frame ≡ PORT_FRAMES * port + SCRATCH_FRAME → IsMeaning m → command ≡ command_of m.operation 0 m.first m.count →
-    pieces_moved m.operation m.count ≡ 1 → All IsWhole prds → pieces prds ≡ places_of (record { 0 = frame } ∷ []) 1 → IsTableFor 0 command prds m (scratch_of port ∷ [])
+    pieces_moved m.operation m.count ≡ 1 → All IsWholePieces prds → pieces prds ≡ places_of (record { 0 = frame } ∷ []) 1 → IsTableFor 0 command prds m (scratch_of port ∷ [])
 table_for_block m command prds port frame same meaning fields one whole places = record {
   meaning = meaning;
   fields = fields;

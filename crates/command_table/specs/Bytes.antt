@@ -2,7 +2,7 @@
 use Rattle.std.specs.Prelude.{◌≡◌, ℕ, ◌+◌, ◌<◌, ◌≤◌, List, length, slice_index, take, drop}
 
 -- new is old with the bytes written from a place on, and nothing else changed
-pub record Stores (old new : List ℕ) (at : ℕ) (bytes : List ℕ) : Type 0 where
+pub record StoresBytes (old new : List ℕ) (at : ℕ) (bytes : List ℕ) : Type 0 where
   pub size : length new ≡ length old
   pub inside : (i : ℕ) → i < length bytes → slice_index new (at + i) ≡ slice_index bytes i
   pub before : (i : ℕ) → i < at → slice_index new i ≡ slice_index old i

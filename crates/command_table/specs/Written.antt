@@ -8,23 +8,23 @@ use Rattle.adapter.specs.Access.Access.{Storing}
 use Rattle.adapter.specs.Device.{Device}
 use Rattle.adapter.specs.Commands.{Meaning, IsMeaning, command_of, pieces_moved}
 use Rattle.adapter.specs.Rules.{IsOn}
-use Rattle.adapter.specs.Says.{pieces, IsWhole}
-use Rattle.adapter.specs.Spelling.{AreZero, IsAllowed, SpellsCommand, SpellsPrd}
+use Rattle.adapter.specs.Decoding.{pieces, IsWholePieces}
+use Rattle.adapter.specs.Encoding.{AreZero, IsAllowedPrd, EncodesCommand, EncodesPrd}
 use Rattle.adapter.specs.declared.command.Command.{Command}
 use Rattle.adapter.specs.declared.command.Prd.{Prd}
-use Rattle.agreement.specs.Driven.{AgreesWith}
-use Rattle.agreement.specs.Places.{list_of, scratch_of, table_of}
-use Rattle.agreement.specs.Slots.{Free, Uses}
+use Rattle.refinement.specs.Driven.{RelatesWith}
+use Rattle.refinement.specs.Places.{list_of, scratch_of, table_of}
+use Rattle.refinement.specs.Slots.{Free, SlotStates}
 use Rattle.command_table.specs.Bytes.{part}
 
 -- A command table (AHCI 1.3.1, 4.2.3) at the head of some bytes: the FIS at 00h, the PRDs from 80h on, and zeros
 -- between them, where ACMD stands at 40h.
 pub record IsTable (bytes : List ℕ) (command : Command) (prds : List Prd) : Type 0 where
   pub size : TABLE_HEAD + PRD_BYTES * length prds ≤ length bytes
-  pub fis : SpellsCommand (part bytes 0 20) command
+  pub fis : EncodesCommand (part bytes 0 20) command
   pub between : AreZero bytes 20 TABLE_HEAD
   pub entries : (i : ℕ) (d : Prd) → i < length prds
-      → SpellsPrd (part bytes (TABLE_HEAD + PRD_BYTES * i) 16) (slice_index_or prds i d)
+      → EncodesPrd (part bytes (TABLE_HEAD + PRD_BYTES * i) 16) (slice_index_or prds i d)
 
 -- The slot is one of 32, and its table has room for the PRDs, which are allowed, as is the command's address (AHCI
 -- 1.3.1, 4.2.3.3).
@@ -32,7 +32,7 @@ pub record FitsTable (slot : ℕ) (command : Command) (prds : List Prd) : Type 0
   pub small : slot < 32
   pub lba : command.lba < 2 ^ 48
   pub few : length prds ≤ MOST_REQUEST_FRAMES
-  pub allowed : All IsAllowed prds
+  pub allowed : All IsAllowedPrd prds
 
 -- such a table was stored here at once, without what is behind its last PRD
 pub record StoresTable (at : ℕ) (command : Command) (prds : List Prd) (old new : Device) : Type 0 where
@@ -45,7 +45,7 @@ pub record StoresTable (at : ℕ) (command : Command) (prds : List Prd) (old new
 pub record IsTableFor (slot : ℕ) (command : Command) (prds : List Prd) (m : Meaning) (places : List ℕ) : Type 0 where
   pub meaning : IsMeaning m
   pub fields : command ≡ command_of m.operation slot m.first m.count
-  pub whole : All IsWhole prds
+  pub whole : All IsWholePieces prds
   pub in_order : places ≡ pieces prds
   pub as_many : length places ≡ pieces_moved m.operation m.count
 
@@ -75,13 +75,13 @@ abbrev pub IsStoreWithBlock : ℕ → ℕ → Access → Type 0
 IsStoreWithBlock port slot access = IsTableStore port slot access ⊎ IsBlockStore port slot access
 
 -- the slot isn't used
-abbrev pub IsUnused : ℕ → ℕ → Uses → Type 0
+abbrev pub IsUnused : ℕ → ℕ → SlotStates → Type 0
 IsUnused port slot uses = uses port slot ≡ Free
 
 -- Header and table of a port's slot may be written: the slot is unused in a machine that agrees, and memory has the
 -- driver's areas.
 pub record MayWriteTable (port slot : ℕ) (d : Device) : Type 0 where
   pub on : IsOn d
-  pub agreed : AgreesWith (IsUnused port slot) d
+  pub agreed : RelatesWith (IsUnused port slot) d
   pub room : DRIVER_BYTES ≤ d.size
   pub small : port < 4

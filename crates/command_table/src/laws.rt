@@ -3,12 +3,12 @@ ghost use Rattle.std.specs.Prelude.{ℕ};
 ghost use Rattle.ata_types.specs.declared.Port.{Port};
 ghost use Rattle.hba_regs.specs.declared.reg.Reg.{Reg};
 ghost use Rattle.adapter.specs.Access.{Access};
-ghost use Rattle.agreement.specs.Driven.{IsOf, NoneWrites};
+ghost use Rattle.refinement.specs.Driven.{IsOf, NoneWrites};
 ghost use Rattle.command_table.specs.Written.{IsTableStore};
 
 /// The stores of a table touch no register; so what is said of accesses that touch none of another port (`IsOf`) is so
 /// of them, whichever port that is.
-pub fn stores_are_of_one_port()
+pub fn law_stores_are_of_one_port()
     ensures of { (port : Port) (slot : ℕ) (access : Access) → IsTableStore port.0 slot access → IsOf port access }
     ensures any { (port : Port) (at slot : ℕ) (access : Access) → IsTableStore at slot access → IsOf port access }
     ensures spares { (port slot : ℕ) (r : Reg) → NoneWrites (IsTableStore port slot) r }

@@ -1,33 +1,32 @@
 //! Makes command headers and tables, and writes them into a slot of a port.
 //!
-//! (AHCI 1.3.1, 4.2.2 and 4.2.3.) What stands there is said as the device reads it (`Told`).
+//! (AHCI 1.3.1, 4.2.2 and 4.2.3.) What stands there is said as the device reads it (`SlotDecodesTo`).
 //! Callers use that clause, and that nothing else is stored; what the bytes are is for tests. The
-//! slot has to be unused in a machine that agrees with the device in all slots (`AgreesWith`).
+//! slot has to be unused in a machine that agrees with the device in all slots (`RelatesWith`).
 #![tactic(auto)]
 
 ghost use Rattle.std.specs.Prelude.{◌≡◌, ℕ, List, [], ◌∷◌, ◌+◌, ◌*◌, ◌/◌, ◌%◌, ◌^◌, ◌<◌, ◌≤◌, length, drop, All};
 ghost use Rattle.byteorder.specs.Endian.{little_from};
-ghost use Rattle.adapter.specs.Says.{pieces, IsWhole};
-ghost use Rattle.adapter.specs.Spelling.{AreZero, SpellsHeader, SpellsPrd, IsAllowed};
+ghost use Rattle.adapter.specs.Decoding.{pieces, IsWholePieces};
+ghost use Rattle.adapter.specs.Encoding.{AreZero, EncodesHeader, EncodesPrd, IsAllowedPrd};
 ghost use Rattle.adapter.specs.Commands.{IsMeaning, Meaning, command_of, pieces_moved, reads_memory};
 ghost use Rattle.adapter.specs.Memory.{bytes_at};
-ghost use Rattle.adapter.specs.Rules.{IsFree, IsOn, Stays};
+ghost use Rattle.adapter.specs.Rules.{IsFree, IsOn, IsStable};
 ghost use Rattle.adapter.specs.declared.command.Operation.{Operation};
 ghost use Rattle.adapter.specs.declared.command.Prd.{Prd};
-ghost use Rattle.agreement.specs.Driven.{IsFollowed};
-ghost use Rattle.agreement.specs.Places.{list_of, scratch_of};
-ghost use Rattle.agreement.specs.Slots.{Told};
+ghost use Rattle.refinement.specs.Driven.{IsSimulated};
+ghost use Rattle.refinement.specs.Places.{list_of, scratch_of};
+ghost use Rattle.refinement.specs.Slots.{SlotDecodesTo};
 ghost use Rattle.command_table.specs.Written.{FitsTable, IsStoreWithBlock, IsTable, IsTableFor, IsTableStore, IsUnused, MayWriteTable, StoresTable};
 ghost use Rattle.command_table.specs.Places.{places_of};
 ghost use Rattle.command_table.specs.Runs.{AreJoined, IsLongestRun};
-ghost use Rattle.command_table.specs.Bytes.{Stores};
+ghost use Rattle.command_table.specs.Bytes.{StoresBytes};
 ghost use Rattle.adapter.specs.Counted.{MakesAtMost};
 ghost use Rattle.command_table.specs.Costs.{BLOCK_ACCESSES, TABLE_ACCESSES};
 
 pub mod laws;
 
 use adapter::{Adapter, Command, Prd};
-use agreement::stretches::other_ports_are_left;
 use arrayvec::ArrayVec;
 use ata_types::{
     DATA_SET_MANAGEMENT, DRIVER_BYTES, FRAME_BYTES, Frame, HEADER_BYTES, LONGEST_TABLE,
@@ -35,6 +34,7 @@ use ata_types::{
     TABLE_ALIGNMENT, TABLE_BYTES, TABLE_HEAD, TABLES, WRITE_DMA_EXT, WRITE_FPDMA_QUEUED,
 };
 use fis::encode_h2d;
+use refinement::fragments::law_other_ports_are_left;
 
 const FIS_DWORDS: u32 = 5;
 
@@ -48,7 +48,7 @@ const SHORT_TABLE: usize = TABLE_HEAD as usize + 8 * PRD_BYTES as usize;
 /// Writes the bytes into the buffer, from a place on.
 fn store_at(buffer: &mut [u8], at: usize, bytes: &[u8])
     requires { at + length bytes.now ≤ length buffer.old }
-    ensures { Stores buffer.old buffer.new at bytes.now }
+    ensures { StoresBytes buffer.old buffer.new at bytes.now }
 {
     for (i, byte) in bytes.iter().enumerate() {
         buffer[at + i] = *byte;
@@ -58,7 +58,7 @@ fn store_at(buffer: &mut [u8], at: usize, bytes: &[u8])
 /// The header of a command with so many PRDs in the table at this address. `writes` says that the device reads memory.
 pub fn header(writes: bool, entries: u16, table: u32) -> [u8; 32]
     requires { table % TABLE_ALIGNMENT ≡ 0 }
-    ensures says { SpellsHeader result writes entries table }
+    ensures says { EncodesHeader result writes entries table }
     ensures none_moved { little_from 4 4 result ≡ 0 }
 {
     let first = FIS_DWORDS + if writes { WRITE_BIT } else { 0 } + (u32::from(entries) << 16);
@@ -72,8 +72,8 @@ pub fn header(writes: bool, entries: u16, table: u32) -> [u8; 32]
 
 /// A PRD as its 16 bytes.
 fn prd_bytes(prd: &Prd) -> [u8; 16]
-    requires { IsAllowed prd.now }
-    ensures { SpellsPrd result prd.now }
+    requires { IsAllowedPrd prd.now }
+    ensures { EncodesPrd result prd.now }
 {
     let address = prd.address.to_le_bytes();
     let count = (prd.bytes - 1).to_le_bytes();
@@ -92,8 +92,8 @@ pub fn prds(frames: &[Frame], bytes: u32) -> ArrayVec<Prd, MOST_REQUEST_FRAMES>
     requires last { FRAME_BYTES * length frames.now < bytes + FRAME_BYTES }
     ensures joined { AreJoined frames.now bytes result.items }
     ensures number { length result.items ≤ length frames.now }
-    ensures allowed { All IsAllowed result.items }
-    ensures whole { bytes % 512 ≡ 0 → All IsWhole result.items }
+    ensures allowed { All IsAllowedPrd result.items }
+    ensures whole { bytes % 512 ≡ 0 → All IsWholePieces result.items }
     ensures places { bytes % 512 ≡ 0 → pieces result.items ≡ places_of frames.now (bytes / 512) }
 {
     let mut entries = ArrayVec::new();
@@ -132,7 +132,7 @@ fn fill_table(bytes: &mut [u8], command: &Command, prds: &[Prd])
     requires zeros { AreZero bytes.old 0 TABLE_HEAD }
     requires room { TABLE_HEAD + PRD_BYTES * length prds.now ≤ length bytes.old }
     requires lba { command.now.lba < 2 ^ 48 }
-    requires allowed { All IsAllowed prds.now }
+    requires allowed { All IsAllowedPrd prds.now }
     ensures { IsTable bytes.new command.now prds.now }
 {
     store_at(bytes, 0, &encode_h2d(command));
@@ -159,10 +159,10 @@ fn is_write(command: &Command) -> bool
 /// Stores a command table at a place that is free, in one store: what follows its last PRD isn't stored. Most tables
 /// have few PRDs, and for those no buffer is cleared that has room for as many as a request can have frames.
 fn store_table<A: Adapter>(adapter: &mut A, at: u32, command: &Command, prds: &[Prd])
-    requires free { Stays (IsFree at (TABLE_HEAD + PRD_BYTES * length prds.now)) (A.device adapter.old) }
+    requires free { IsStable (IsFree at (TABLE_HEAD + PRD_BYTES * length prds.now)) (A.device adapter.old) }
     requires lba { command.now.lba < 2 ^ 48 }
     requires few { length prds.now ≤ MOST_REQUEST_FRAMES }
-    requires allowed { All IsAllowed prds.now }
+    requires allowed { All IsAllowedPrd prds.now }
     ensures stores { StoresTable at command.now prds.now (A.device adapter.old) (A.device adapter.new) }
     ensures cost { MakesAtMost 1 (A.access_count adapter.old) (A.access_count adapter.new) }
 {
@@ -191,12 +191,12 @@ pub fn write_table<A: Adapter>(
     requires may { MayWriteTable port.0 slot.0 (A.device adapter.old) }
     requires fits { FitsTable slot.0 command.now prds.now }
     ensures on { IsOn (A.device adapter.new) }
-    ensures followed { IsFollowed (IsTableStore port.0 slot.0) (IsUnused port.0 slot.0) (A.device adapter.old)
+    ensures followed { IsSimulated (IsTableStore port.0 slot.0) (IsUnused port.0 slot.0) (A.device adapter.old)
         (A.device adapter.new) }
     ensures none_moved { little_from 4 4
         (bytes_at (A.device adapter.new).memory (list_of port.0 + HEADER_BYTES * slot.0) HEADER_BYTES) ≡ 0 }
     ensures says { (m : Meaning) (places : List ℕ) → IsTableFor slot.0 command.now prds.now m places
-        → Told (A.device adapter.new).memory (list_of port.0) port.0 slot.0 m places }
+        → SlotDecodesTo (A.device adapter.new).memory (list_of port.0) port.0 slot.0 m places }
     ensures cost { MakesAtMost TABLE_ACCESSES (A.access_count adapter.old) (A.access_count adapter.new) }
 {
     let list = PORT_BYTES * u32::from(port.0);
@@ -218,15 +218,15 @@ pub fn write_table_with_block<A: Adapter>(
     requires may { MayWriteTable port.0 0 (A.device adapter.old) }
     requires lba { command.now.lba < 2 ^ 48 }
     ensures on { IsOn (A.device adapter.new) }
-    ensures followed { IsFollowed (IsStoreWithBlock port.0 0) (IsUnused port.0 0) (A.device adapter.old)
+    ensures followed { IsSimulated (IsStoreWithBlock port.0 0) (IsUnused port.0 0) (A.device adapter.old)
         (A.device adapter.new) }
     ensures says { (m : Meaning) → IsMeaning m → command.now ≡ command_of m.operation 0 m.first m.count
-        → pieces_moved m.operation m.count ≡ 1 → Told (A.device adapter.new).memory (list_of port.0) port.0 0 m
+        → pieces_moved m.operation m.count ≡ 1 → SlotDecodesTo (A.device adapter.new).memory (list_of port.0) port.0 0 m
         (scratch_of port.0 ∷ []) }
     ensures block { bytes_at (A.device adapter.new).memory (scratch_of port.0) 512 ≡ block.now }
     ensures cost { MakesAtMost BLOCK_ACCESSES (A.access_count adapter.old) (A.access_count adapter.new) }
 {
-    other_ports_are_left();
+    law_other_ports_are_left();
     let scratch = Frame(PORT_FRAMES * u16::from(port.0) + SCRATCH_FRAME);
     let prds = prds(&[scratch], BLOCK_BYTES);
     write_table(adapter, port, Slot(0), command, prds.as_slice());

@@ -10,8 +10,8 @@ use Rattle.configuration.specs.declared.GrantConfig.{GrantConfig}
 use Rattle.configuration.specs.declared.Kind.{Kind}
 use Rattle.configuration.specs.declared.Kind.TheVariants.{NotToml, WrongKeys, WrongTypes, OutOfRange, Duplicate, SharedFrames, UnknownClient, UnknownPort}
 use Rattle.configuration.specs.declared.PortConfig.{PortConfig}
-use Rattle.configuration.specs.Ranges.{IsClient, IsGrant, IsPort, IsRights, IsSerial}
-use Rattle.configuration.specs.Rules.{AreApart, DifferInId, DifferInName, DifferInNumber, HasClient, HasPort, IsTrim, Meets}
+use Rattle.configuration.specs.Ranges.{IsClientConfig, IsGrant, IsPort, IsRights, IsSerialText}
+use Rattle.configuration.specs.Rules.{FramesApart, DifferInId, DifferInGrant, DifferInNumber, HasClient, ConfiguresPort, IsTrim, Meets}
 use Rattle.configuration.specs.Tables.{HasNumber, HasText, MayHaveText, Spells, SpellsClient, SpellsGrant, SpellsPort, tables_at}
 use Rattle.configuration.proofs.Zips.{All-alike, AllPairs-alike, Any-alike, same-length, same-list, zips-alike}
 
@@ -94,10 +94,10 @@ same-values m c d a b = record {
 }
 
 serial-alike : (s t : Option (String Global)) → option_map string_bytes s ≡ option_map string_bytes t
-    → IfSome s (λ x. IsSerial (string_bytes x)) → IfSome t (λ x. IsSerial (string_bytes x))
+    → IfSome s (λ x. IsSerialText (string_bytes x)) → IfSome t (λ x. IsSerialText (string_bytes x))
 serial-alike s None is h = tt
 serial-alike None (Some t) is h = let none : ⊥ = cc in absurd none
-serial-alike (Some s) (Some t) is h = let same : string_bytes s ≡ string_bytes t = cc in subst IsSerial same h
+serial-alike (Some s) (Some t) is h = let same : string_bytes s ≡ string_bytes t = cc in subst IsSerialText same h
 
 port-alike : (p q : PortConfig) → SamePort p q → IsPort p → IsPort q
 port-alike p q same h = record {
@@ -118,7 +118,7 @@ grant-alike g h same is = record {
 
 -- the same values meet the same rules
 pub meets-alike : (c d : Config) (kind : Kind) → Same c d → Meets c kind → Meets d kind
-unfolding HasPort
+unfolding ConfiguresPort
 meets-alike c d NotToml same h = tt
 meets-alike c d WrongKeys same h = tt
 meets-alike c d WrongTypes same h = tt
@@ -133,8 +133,8 @@ meets-alike c d OutOfRange same h = record {
   trim = subst IsTrim same.trim h.trim;
   parts = record {
     ports = All-alike SamePort IsPort IsPort port-alike c.port.items d.port.items same.ports h.parts.ports;
-    clients = subst (λ n. All (IsClient n) d.client.items) same.frames
-        (subst (All (IsClient c.frames)) same.clients h.parts.clients);
+    clients = subst (λ n. All (IsClientConfig n) d.client.items) same.frames
+        (subst (All (IsClientConfig c.frames)) same.clients h.parts.clients);
     grants = All-alike SameGrant IsGrant IsGrant grant-alike c.grant.items d.grant.items same.grants h.parts.grants;
   };
 }
@@ -142,18 +142,18 @@ meets-alike c d Duplicate same h = record {
   ports = AllPairs-alike SamePort DifferInNumber (λ x y u v a b differ is. differ (a.number ∙ is ∙ sym b.number))
       c.port.items d.port.items same.ports h.ports;
   clients = subst (AllPairs DifferInId) same.clients h.clients;
-  grants = AllPairs-alike SameGrant DifferInName
+  grants = AllPairs-alike SameGrant DifferInGrant
       (λ x y u v a b differ is too. differ (a.client ∙ is ∙ sym b.client) (a.number ∙ too ∙ sym b.number))
       c.grant.items d.grant.items same.grants h.grants;
 }
-meets-alike c d SharedFrames same h = subst (AllPairs AreApart) same.clients h
+meets-alike c d SharedFrames same h = subst (AllPairs FramesApart) same.clients h
 meets-alike c d UnknownClient same h =
     All-alike SameGrant (λ g. HasClient c.client.items g.client) (λ g. HasClient d.client.items g.client)
     (λ x y r there. subst (HasClient d.client.items) r.client (subst (λ cs. HasClient cs x.client) same.clients there))
     c.grant.items d.grant.items same.grants h
 meets-alike c d UnknownPort same h =
-    All-alike SameGrant (λ g. HasPort c.port.items g.port) (λ g. HasPort d.port.items g.port)
-    (λ x y r there. subst (HasPort d.port.items) r.port
+    All-alike SameGrant (λ g. ConfiguresPort c.port.items g.port) (λ g. ConfiguresPort d.port.items g.port)
+    (λ x y r there. subst (ConfiguresPort d.port.items) r.port
     (Any-alike SamePort (λ p. p.number ≡ x.port) (λ p q s is. sym s.number ∙ is) c.port.items d.port.items
     same.ports there))
     c.grant.items d.grant.items same.grants h

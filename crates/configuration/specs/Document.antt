@@ -9,7 +9,7 @@ use Rattle.configuration.specs.declared.ConfigFault.TheVariants.{Refused, NoMemo
 use Rattle.configuration.specs.declared.Kind.{Kind}
 use Rattle.configuration.specs.declared.Kind.TheVariants.{NotToml, WrongKeys, WrongTypes, OutOfRange}
 use Rattle.configuration.specs.Schema.{HasAllKeys, HasAllTypes}
-use Rattle.configuration.specs.Rules.{IsSound, IsFirstBroken}
+use Rattle.configuration.specs.Rules.{MeetsAll, IsFirstUnmet}
 use Rattle.configuration.specs.Tables.{Spells}
 
 -- the document has the right keys and types, and these values, which meet every rule
@@ -17,17 +17,17 @@ pub record IsRead (document : Members) (c : Config) : Type 0 where
   pub keys : HasAllKeys document
   pub types : HasAllTypes document
   pub values : Spells document c
-  pub sound : IsSound c
+  pub sound : MeetsAll c
 
 -- The least kind of fault that a document has. Where its keys and types are right, and it has the values of no
 -- `Config`, whose numbers aren't negative, one of its numbers is negative, and so out of range.
-pub data IsFaultOf (document : Members) : Kind → Type 0 where
-  keys : (HasAllKeys document → ⊥) → IsFaultOf document WrongKeys
-  types : HasAllKeys document → (HasAllTypes document → ⊥) → IsFaultOf document WrongTypes
+pub data IsDocumentFault (document : Members) : Kind → Type 0 where
+  keys : (HasAllKeys document → ⊥) → IsDocumentFault document WrongKeys
+  types : HasAllKeys document → (HasAllTypes document → ⊥) → IsDocumentFault document WrongTypes
   negative : HasAllKeys document → HasAllTypes document → ((c : Config) → Spells document c → ⊥)
-      → IsFaultOf document OutOfRange
+      → IsDocumentFault document OutOfRange
   rule : (kind : Kind) (c : Config) → HasAllKeys document → HasAllTypes document → Spells document c
-      → IsFirstBroken c kind → IsFaultOf document kind
+      → IsFirstUnmet c kind → IsDocumentFault document kind
 
 -- the text is UTF-8 and a TOML document, which is this one
 pub record IsDocument (text : List ℕ) (document : Members) : Type 0 where
@@ -41,7 +41,7 @@ IsReadFrom text c = (document : Members) × IsDocument text document × IsRead d
 -- the least kind of fault that a text has
 pub data IsToldOf (text : List ℕ) : Kind → Type 0 where
   unreadable : ((document : Members) → IsDocument text document → ⊥) → IsToldOf text NotToml
-  document : (kind : Kind) (document : Members) → IsDocument text document → IsFaultOf document kind
+  document : (kind : Kind) (document : Members) → IsDocument text document → IsDocumentFault document kind
       → IsToldOf text kind
 
 -- memory ran out, or the kind is so

@@ -7,17 +7,17 @@ use Rattle.configuration.specs.declared.ClientConfig.{ClientConfig}
 use Rattle.configuration.specs.declared.GrantConfig.{GrantConfig}
 
 -- 1 to 20 printable ASCII characters, of which the space is one
-pub record IsSerial (text : List ℕ) : Type 0 where
+pub record IsSerialText (text : List ℕ) : Type 0 where
   pub some : 1 ≤ length text
   pub few : length text ≤ 20
   pub printable : All (λ c. (32 ≤ c) × (c ≤ 126)) text
 
 pub record IsPort (p : PortConfig) : Type 0 where
   pub number : p.number ≤ 3
-  pub serial : IfSome p.serial (λ s. IsSerial (string_bytes s))
+  pub serial : IfSome p.serial (λ s. IsSerialText (string_bytes s))
 
 -- The client's frames begin behind the driver's and end within the memory's.
-pub record IsClient (memory_frames : ℕ) (c : ClientConfig) : Type 0 where
+pub record IsClientConfig (memory_frames : ℕ) (c : ClientConfig) : Type 0 where
   pub least : 1 ≤ c.id
   pub most : c.id ≤ CLIENTS
   pub first_frame : DRIVER_FRAMES ≤ c.first_frame

@@ -10,7 +10,7 @@ use Rattle.configuration.specs.declared.ClientConfig.{ClientConfig}
 use Rattle.configuration.specs.declared.GrantConfig.{GrantConfig}
 use Rattle.configuration.specs.declared.Kind.{Kind}
 use Rattle.configuration.specs.declared.Kind.TheVariants.{NotToml, WrongKeys, WrongTypes, OutOfRange, Duplicate, SharedFrames, UnknownClient, UnknownPort}
-use Rattle.configuration.specs.Ranges.{IsPort, IsClient, IsGrant}
+use Rattle.configuration.specs.Ranges.{IsPort, IsClientConfig, IsGrant}
 
 pub record HasNumbersInRange (c : Config) : Type 0 where
   pub frames : (FEWEST_FRAMES ≤ c.frames) × (c.frames ≤ MOST_FRAMES)
@@ -23,7 +23,7 @@ IsTrim text = (text ≡ codes "full") ⊎ ((text ≡ codes "weak") ⊎ (text ≡
 
 pub record HasPartsInRange (c : Config) : Type 0 where
   pub ports : All IsPort c.port.items
-  pub clients : All (IsClient c.frames) c.client.items
+  pub clients : All (IsClientConfig c.frames) c.client.items
   pub grants : All IsGrant c.grant.items
 
 -- every number and text is in its range, and there are at most 64 grants
@@ -39,28 +39,28 @@ abbrev pub DifferInId : ClientConfig → ClientConfig → Type 0
 DifferInId c d = c.id ≢ d.id
 
 -- they aren't grants of one client under one number
-abbrev pub DifferInName : GrantConfig → GrantConfig → Type 0
-DifferInName g h = g.client ≡ h.client → g.number ≢ h.number
+abbrev pub DifferInGrant : GrantConfig → GrantConfig → Type 0
+DifferInGrant g h = g.client ≡ h.client → g.number ≢ h.number
 
 -- no port, client, or number of a client's grant stands twice
 pub record NamesOnce (c : Config) : Type 0 where
   pub ports : AllPairs DifferInNumber c.port.items
   pub clients : AllPairs DifferInId c.client.items
-  pub grants : AllPairs DifferInName c.grant.items
+  pub grants : AllPairs DifferInGrant c.grant.items
 
-abbrev pub HasFrame : ClientConfig → ℕ → Type 0
-HasFrame c frame = (c.first_frame ≤ frame) × (frame < c.first_frame + c.frames)
+abbrev pub ClientHasFrame : ClientConfig → ℕ → Type 0
+ClientHasFrame c frame = (c.first_frame ≤ frame) × (frame < c.first_frame + c.frames)
 
 -- no frame belongs to both
-pub record AreApart (c d : ClientConfig) : Type 0 where
-  pub none : (frame : ℕ) → HasFrame c frame → HasFrame d frame → ⊥
+pub record FramesApart (c d : ClientConfig) : Type 0 where
+  pub none : (frame : ℕ) → ClientHasFrame c frame → ClientHasFrame d frame → ⊥
 
 -- the client, or the port, is there
 unfoldable pub HasClient : List ClientConfig → ℕ → Type 0
 HasClient clients id = Any (λ c. c.id ≡ id) clients
 
-unfoldable pub HasPort : List PortConfig → ℕ → Type 0
-HasPort ports number = Any (λ p. p.number ≡ number) ports
+unfoldable pub ConfiguresPort : List PortConfig → ℕ → Type 0
+ConfiguresPort ports number = Any (λ p. p.number ≡ number) ports
 
 -- What the values have to meet, by the kind of fault that it is else. The first three kinds are of texts alone.
 abbrev pub Meets : Config → Kind → Type 0
@@ -69,25 +69,25 @@ Meets c WrongKeys = Unit {0}
 Meets c WrongTypes = Unit {0}
 Meets c OutOfRange = IsInRange c
 Meets c Duplicate = NamesOnce c
-Meets c SharedFrames = AllPairs AreApart c.client.items
+Meets c SharedFrames = AllPairs FramesApart c.client.items
 Meets c UnknownClient = All (λ g. HasClient c.client.items g.client) c.grant.items
-Meets c UnknownPort = All (λ g. HasPort c.port.items g.port) c.grant.items
+Meets c UnknownPort = All (λ g. ConfiguresPort c.port.items g.port) c.grant.items
 
 -- the kinds' numbers say which is told first
-abbrev pub number_of : Kind → ℕ
-number_of NotToml = 1
-number_of WrongKeys = 2
-number_of WrongTypes = 3
-number_of OutOfRange = 4
-number_of Duplicate = 5
-number_of SharedFrames = 6
-number_of UnknownClient = 7
-number_of UnknownPort = 8
+abbrev pub kind_number : Kind → ℕ
+kind_number NotToml = 1
+kind_number WrongKeys = 2
+kind_number WrongTypes = 3
+kind_number OutOfRange = 4
+kind_number Duplicate = 5
+kind_number SharedFrames = 6
+kind_number UnknownClient = 7
+kind_number UnknownPort = 8
 
 -- the values meet every rule
-abbrev pub IsSound : Config → Type 0
-IsSound c = (kind : Kind) → Meets c kind
+abbrev pub MeetsAll : Config → Type 0
+MeetsAll c = (kind : Kind) → Meets c kind
 
 -- the values don't meet this rule, and meet those before it
-abbrev pub IsFirstBroken : Config → Kind → Type 0
-IsFirstBroken c kind = (Meets c kind → ⊥) × ((k : Kind) → number_of k < number_of kind → Meets c k)
+abbrev pub IsFirstUnmet : Config → Kind → Type 0
+IsFirstUnmet c kind = (Meets c kind → ⊥) × ((k : Kind) → kind_number k < kind_number kind → Meets c k)

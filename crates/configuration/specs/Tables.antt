@@ -18,13 +18,13 @@ tables_of no_items = []
 tables_of (item value rest) = cons_option (as_table value) (tables_of rest)
 
 -- the items of an array
-abbrev pub items_of : Option Data → Items
-items_of (Some (array items)) = items
-items_of _ = no_items
+abbrev pub array_items : Option Data → Items
+array_items (Some (array items)) = items
+array_items _ = no_items
 
 -- the tables in the array at a key, none where there is no such key
 abbrev pub tables_at : List ℕ → Members → List Members
-tables_at name members = tables_of (items_of (get_member name members))
+tables_at name members = tables_of (array_items (get_member name members))
 
 -- the key has this number
 abbrev pub HasNumber : Members → List ℕ → ℕ → Type 0

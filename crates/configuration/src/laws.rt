@@ -6,11 +6,11 @@ ghost use Rattle.configuration.specs.declared.Config.{Config};
 ghost use Rattle.configuration.specs.declared.Kind.{Kind};
 
 /// A text has one least kind of fault at most.
-pub fn told_kind_is_one()
+pub fn law_told_kind_is_one()
     ensures { (text : List ℕ) (one other : Kind) → IsToldOf text one → IsToldOf text other → one ≡ other }
 {}
 
 /// A text from which a configuration is read has no fault.
-pub fn read_text_has_no_fault()
+pub fn law_read_text_has_no_fault()
     ensures { (text : List ℕ) (c : Config) (kind : Kind) → IsReadFrom text c → IsToldOf text kind → ⊥ }
 {}

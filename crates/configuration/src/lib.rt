@@ -6,7 +6,7 @@
 #![tactic(auto)]
 
 ghost use Rattle.std.specs.Prelude.{◌≡◌};
-ghost use Rattle.configuration.specs.Rules.{number_of};
+ghost use Rattle.configuration.specs.Rules.{kind_number};
 
 mod laws;
 mod parse;
@@ -15,7 +15,7 @@ mod rules;
 mod schema;
 mod table;
 
-pub use laws::{read_text_has_no_fault, told_kind_is_one};
+pub use laws::{law_read_text_has_no_fault, law_told_kind_is_one};
 pub use schema::{Key, ValueType};
 use thiserror::Error;
 
@@ -111,7 +111,7 @@ pub enum Kind {
 impl Kind {
     /// The kind's number, 1 to 8: the least that applies is told.
     pub fn number(self) -> u8
-        ensures { result ≡ number_of self }
+        ensures { result ≡ kind_number self }
     {
         match self {
             Kind::NotToml => 1,

@@ -193,12 +193,12 @@ fn has_all_types(table: &Table) -> bool
 }
 
 impl Config {
-    ghost use Rattle.configuration.specs.Document.{IsFault, IsFaultOf, IsRead, IsReadFrom, IsToldOf};
+    ghost use Rattle.configuration.specs.Document.{IsFault, IsDocumentFault, IsRead, IsReadFrom, IsToldOf};
 
     /// The values of a document, or the least kind of fault that it has.
     fn from_document(alloc: Global, table: &Table) -> Result<Config, ConfigFault>
         ensures ok { IfOk result (IsRead (table_view table.now)) }
-        ensures refused { IfErr result (IsFault (IsFaultOf (table_view table.now))) }
+        ensures refused { IfErr result (IsFault (IsDocumentFault (table_view table.now))) }
         ensures memory { result ≡ Err ConfigFault.NoMemory
             → HasAllKeys (table_view table.now) × HasAllTypes (table_view table.now) }
     {

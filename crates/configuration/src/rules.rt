@@ -1,8 +1,8 @@
 //! The rules that the values of a configuration have to meet.
 
 ghost use Rattle.std.specs.Prelude.{◌≡◌, ◌↔◌, IsTrue, IfErr, OnOk, All, AllPairs, string_bytes};
-ghost use Rattle.configuration.specs.Ranges.{IsClient, IsGrant, IsPort, IsRights, IsSerial, without_first};
-ghost use Rattle.configuration.specs.Rules.{AreApart, DifferInId, DifferInName, DifferInNumber, HasClient, HasPort};
+ghost use Rattle.configuration.specs.Ranges.{IsClientConfig, IsGrant, IsPort, IsRights, IsSerialText, without_first};
+ghost use Rattle.configuration.specs.Rules.{FramesApart, DifferInId, DifferInGrant, DifferInNumber, HasClient, ConfiguresPort};
 
 use super::{ClientConfig, Config, GrantConfig, Kind, PortConfig};
 use ata_types::{CLIENTS, DRIVER_FRAMES, FEWEST_FRAMES, MOST_FRAMES, MOST_GRANTS, PORTS, SLOTS};
@@ -42,7 +42,7 @@ fn are_rights(text: &str) -> bool
 
 /// Whether a text may be a disk's serial number.
 fn is_serial(text: &str) -> bool
-    ensures { IsTrue result ↔ IsSerial text.now }
+    ensures { IsTrue result ↔ IsSerialText text.now }
 {
     let bytes = text.as_bytes();
     !bytes.is_empty()
@@ -64,7 +64,7 @@ impl PortConfig {
 
 impl ClientConfig {
     fn is_in_range(&self, memory_frames: u64) -> bool
-        ensures { IsTrue result ↔ IsClient memory_frames self.now }
+        ensures { IsTrue result ↔ IsClientConfig memory_frames self.now }
     {
         (1..=LAST_CLIENT).contains(&self.id)
             && u64::from(DRIVER_FRAMES) <= self.first_frame
@@ -95,7 +95,7 @@ fn are_ports(ports: &[PortConfig]) -> bool
 }
 
 fn are_clients(clients: &[ClientConfig], memory_frames: u64) -> bool
-    ensures { IsTrue result ↔ All (IsClient memory_frames) clients.now }
+    ensures { IsTrue result ↔ All (IsClientConfig memory_frames) clients.now }
 {
     clients
         .iter()
@@ -142,7 +142,7 @@ impl Apart<ClientConfig> for ClientIds {
 pub struct GrantNames;
 
 impl Apart<GrantConfig> for GrantNames {
-    ghost apart = { DifferInName };
+    ghost apart = { DifferInGrant };
 
     fn are_apart(first: &GrantConfig, second: &GrantConfig) -> bool {
         first.client != second.client || first.number != second.number
@@ -153,7 +153,7 @@ impl Apart<GrantConfig> for GrantNames {
 pub struct ClientFrames;
 
 impl Apart<ClientConfig> for ClientFrames {
-    ghost apart = { AreApart };
+    ghost apart = { FramesApart };
 
     fn are_apart(first: &ClientConfig, second: &ClientConfig) -> bool {
         let first_end = u128::from(first.first_frame) + u128::from(first.frames);
@@ -184,9 +184,9 @@ fn all_apart<T, A: Apart<T>>(parts: &[T]) -> bool
     true
 }
 
-#[tactic(auto, unfolding(crate::specs::Rules::HasPort))]
+#[tactic(auto, unfolding(crate::specs::Rules::ConfiguresPort))]
 fn has_port(ports: &[PortConfig], number: u64) -> bool
-    ensures { IsTrue result ↔ HasPort ports.now number }
+    ensures { IsTrue result ↔ ConfiguresPort ports.now number }
 {
     ports.iter().any(|port| port.number == number)
 }
@@ -200,7 +200,7 @@ fn have_clients(grants: &[GrantConfig], clients: &[ClientConfig]) -> bool
 
 /// Whether the port of each grant is there.
 fn have_ports(grants: &[GrantConfig], ports: &[PortConfig]) -> bool
-    ensures { IsTrue result ↔ All (λ g. HasPort ports.now g.port) grants.now }
+    ensures { IsTrue result ↔ All (λ g. ConfiguresPort ports.now g.port) grants.now }
 {
     grants.iter().all(|grant| has_port(ports, grant.port))
 }
@@ -213,7 +213,7 @@ fn has_client(clients: &[ClientConfig], id: u64) -> bool
 }
 
 impl Config {
-    ghost use Rattle.configuration.specs.Rules.{IsInRange, HasNumbersInRange, HasPartsInRange, IsFirstBroken, IsSound, IsTrim, NamesOnce};
+    ghost use Rattle.configuration.specs.Rules.{IsInRange, HasNumbersInRange, HasPartsInRange, IsFirstUnmet, MeetsAll, IsTrim, NamesOnce};
 
     fn has_numbers_in_range(&self) -> bool
         ensures { IsTrue result ↔ HasNumbersInRange self.now }
@@ -254,7 +254,7 @@ impl Config {
     }
 
     fn has_frames_apart(&self) -> bool
-        ensures { IsTrue result ↔ AllPairs AreApart self.now.client.items }
+        ensures { IsTrue result ↔ AllPairs FramesApart self.now.client.items }
     {
         all_apart::<ClientConfig, ClientFrames>(self.client.as_slice())
     }
@@ -266,7 +266,7 @@ impl Config {
     }
 
     fn has_ports(&self) -> bool
-        ensures { IsTrue result ↔ All (λ g. HasPort self.now.port.items g.port) self.now.grant.items }
+        ensures { IsTrue result ↔ All (λ g. ConfiguresPort self.now.port.items g.port) self.now.grant.items }
     {
         have_ports(self.grant.as_slice(), self.port.as_slice())
     }
@@ -274,8 +274,8 @@ impl Config {
     /// Says whether these values may configure a server, and else which kind of fault they have: of the kinds 4 to 8
     /// the least that applies (this project's own). What `parse` gives has none.
     pub fn check(&self) -> Result<(), Kind>
-        ensures sound { OnOk result (IsSound self.now) }
-        ensures broken { IfErr result (IsFirstBroken self.now) }
+        ensures sound { OnOk result (MeetsAll self.now) }
+        ensures broken { IfErr result (IsFirstUnmet self.now) }
     {
         if !self.is_in_range() {
             return Err(Kind::OutOfRange);

@@ -3,7 +3,7 @@
 ghost use Rattle.std.specs.Prelude.{◌≡◌, option_map};
 ghost use Rattle.toml.specs.Data.{get_member};
 ghost use Rattle.toml.specs.View.{view, table_view, items_view};
-ghost use Rattle.configuration.specs.Tables.{items_of};
+ghost use Rattle.configuration.specs.Tables.{array_items};
 
 use toml::{Table, Value};
 
@@ -16,7 +16,7 @@ pub fn find<'a>(table: &'a Table, name: &str) -> Option<&'a Value>
 
 /// The items of the array at a key, or none.
 pub fn items_at<'a>(table: &'a Table, name: &str) -> &'a [Value]
-    ensures { items_view result.now ≡ items_of (get_member name.now (table_view table.now)) }
+    ensures { items_view result.now ≡ array_items (get_member name.now (table_view table.now)) }
 {
     match find(table, name).and_then(Value::as_array) {
         Some(items) => items.as_slice(),

@@ -11,7 +11,7 @@ use Rattle.hba_regs.specs.Bits.{bit}
 use Rattle.adapter.specs.Memory.{changed}
 use Rattle.device_model.proofs.Absurd.{true-false}
 use Rattle.device_model.proofs.Places.{fun_ext, changed_same, changed_other}
-use Rattle.device_model.specs.Bits.{bits_of}
+use Rattle.device_model.specs.Bits.{word_bits}
 
 -- a bit is nought or one
 nought_or_one : (n k : ℕ) → (bit_at n k ≡ 0) ⊎ (bit_at n k ≡ 1)
@@ -29,7 +29,7 @@ bit-or a b k =
       | inr x ↦ elim (nought_or_one b k) [ inl y ↦ rw (x, y) refl | inr y ↦ rw (x, y) refl ]
     ])
 
-pub bits_of-or : (a b : ℕ) → bits_of (bit_or a b) ≡ (λ k. bits_of a k || bits_of b k)
+pub bits_of-or : (a b : ℕ) → word_bits (bit_or a b) ≡ (λ k. word_bits a k || word_bits b k)
 bits_of-or a b = fun_ext (λ k. bit-or a b k)
 
 kept_low : (a b k : ℕ) → b < 2 ^ 32 → k < 32 → bit (bit_and a (bit_not w32 b)) k ≡ bit a k && not (bit b k)
@@ -49,7 +49,7 @@ kept_high a b k small high =
     let e : bit_at a k ≡ 0 = bit_at_above a 32 k small high in
     rw (bit_at_and a (bit_not w32 b) k, e) (rw (min_zero (bit_at (bit_not w32 b) k)) refl)
 
-pub bits_of-and_not : (a b : ℕ) → a < 2 ^ 32 → b < 2 ^ 32 → bits_of (bit_and a (bit_not w32 b)) ≡ (λ k. bits_of a k && not (bits_of b k))
+pub bits_of-and_not : (a b : ℕ) → a < 2 ^ 32 → b < 2 ^ 32 → word_bits (bit_and a (bit_not w32 b)) ≡ (λ k. word_bits a k && not (word_bits b k))
 bits_of-and_not a b small other =
     fun_ext (λ k. elim (cases_lt k 32) [ inl low ↦ kept_low a b k other low | inr high ↦ kept_high a b k small high ])
 
@@ -65,12 +65,12 @@ none_set value fits none =
 
 -- a value of 32 bits with one bit as said, and the others as they were
 pub one_bit : (value new place : ℕ) (set : Bool) → value < 2 ^ 32 → new < 2 ^ 32 → bit new place ≡ set →
-    ((k : ℕ) → k < 32 → k ≢ place → bit new k ≡ bit value k) → bits_of new ≡ changed (bits_of value) place set
+    ((k : ℕ) → k < 32 → k ≢ place → bit new k ≡ bit value k) → word_bits new ≡ changed (word_bits value) place set
 one_bit value new place set fits new_fits here others =
     fun_ext (λ k.
     elim (eqb_tells k place) [
-      | inl same ↦ rw same.1 (here ∙ sym (changed_same (bits_of value) place set))
-      | inr differ ↦ other_bit k differ.1 ∙ sym (changed_other (bits_of value) place set k differ.1)
+      | inl same ↦ rw same.1 (here ∙ sym (changed_same (word_bits value) place set))
+      | inr differ ↦ other_bit k differ.1 ∙ sym (changed_other (word_bits value) place set k differ.1)
     ])
   where
     other_bit : (k : ℕ) → k ≢ place → bit new k ≡ bit value k

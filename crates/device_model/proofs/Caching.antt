@@ -9,7 +9,7 @@ use Rattle.sector_store.specs.declared.store.Failures.{Failures}
 use Rattle.device_model.proofs.Absurd.{fun_ext, some-none}
 use Rattle.device_model.specs.Cached.{HasOldRoom, TurnsBack, WritesFail, lasting_in, sector_told}
 use Rattle.device_model.specs.declared.cache.Cache.{Cache}
-use Rattle.device_model.specs.OldSectors.{AreRising, KeepsOnly, number_at, old_of, with_old}
+use Rattle.device_model.specs.OldSectors.{AreRising, KeepsOnly, old_number_at, old_of, with_old}
 use Rattle.device_model.specs.declared.old_sectors.OldSector.{OldSector}
 
 below_or : (a b : ℕ) → (a < b) ⊎ (b ≤ a)
@@ -113,10 +113,10 @@ rest_rises o olds rising i j lt inside = rising (suc i) (suc j) (omega (arith, l
 
 -- all have this number at least
 abbrev AreFrom : ℕ → List OldSector → Type 0
-AreFrom low olds = (k : ℕ) → k < length olds → low ≤ number_at olds k
+AreFrom low olds = (k : ℕ) → k < length olds → low ≤ old_number_at olds k
 
 rest_higher : (o : OldSector) (olds : List OldSector) → AreRising (o ∷ olds) → AreFrom (o.sector + 1) olds
-rest_higher o olds rising k inside = let up : o.sector < number_at olds k = rising 0 (suc k) (omega arith) (omega (arith, inside)) in omega (arith, up)
+rest_higher o olds rising k inside = let up : o.sector < old_number_at olds k = rising 0 (suc k) (omega arith) (omega (arith, inside)) in omega (arith, up)
 
 -- what is lower has no old bytes
 lower_none : (olds : List OldSector) (low k : ℕ) → AreFrom low olds → k < low → old_of olds k ≡ None

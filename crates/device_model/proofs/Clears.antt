@@ -4,17 +4,17 @@ use Rattle.std.proofs.lemmas.Bool.{cases_lt}
 use Rattle.std.specs.Prelude.{if◌then◌else◌, option_map, slice_set}
 use Rattle.adapter.specs.Asked.{DoesClear}
 use Rattle.adapter.specs.Commands.{is_queued}
-use Rattle.adapter.specs.Device.{Disk, PortState, Taken, Device}
-use Rattle.adapter.specs.Steps.{Can, IsWorking, MayClear, after, clear_entry, disk_cleared, with_clear}
-use Rattle.adapter.specs.Steps.Step.{Clear, Fault}
+use Rattle.adapter.specs.Device.{Disk, DevicePort, FetchedCommand, Device}
+use Rattle.adapter.specs.Steps.{Can, IsWorking, MayClear, device_after, clear_entry, disk_cleared, with_clear}
+use Rattle.adapter.specs.Steps.DeviceTransition.{Clear, Fault}
 use Rattle.adapter.specs.Trim.{consecutive}
 use Rattle.adapter.specs.declared.access.DeviceStep.TheVariants as asked
 use Rattle.adapter.specs.declared.command.Operation.TheVariants.{Trim}
 use Rattle.ata_types.specs.declared.Port.{Port}
 use Rattle.ata_types.specs.declared.Slot.{Slot}
 use Rattle.sector_store.specs.declared.store.Failures.{Failures}
-use Rattle.device_model.specs.Disks.{bay_of, caches, disk_over, failing, failures_of, has_cache, lasting_of, says_of}
-use Rattle.device_model.specs.Does.{ClearsFewer, HasCleared, HasFailed, IsCause}
+use Rattle.device_model.specs.Disks.{bay_of, caches, disk_over, failing, disk_failures, has_cache, lasting_of, says_of}
+use Rattle.device_model.specs.Does.{ClearsFewer, HasCleared, CommandFails, IsCause}
 use Rattle.device_model.specs.Modelled.{device_at, media_of, outside_at}
 use Rattle.device_model.specs.Paged.{GainsPages, naming}
 use Rattle.device_model.specs.Sent.{SendsFault}
@@ -23,7 +23,7 @@ use Rattle.device_model.specs.Trims.{HasClear, next_uncleared, span, uncleared}
 use Rattle.device_model.specs.View.{taken_of}
 use Rattle.device_model.specs.Whole.{HasDisks, Outside, device_of, outside_cleared}
 use Rattle.device_model.specs.declared.bay.Bay.{Bay}
-use Rattle.device_model.specs.declared.clearing.Run.{Run}
+use Rattle.device_model.specs.declared.clearing.SectorExtent.{SectorExtent}
 use Rattle.device_model.specs.declared.hardware.Hardware.{Hardware}
 use Rattle.device_model.specs.declared.model.Model.{Model}
 use Rattle.device_model.specs.declared.port.TakenCommand.{TakenCommand}
@@ -34,7 +34,7 @@ use Rattle.device_model.proofs.Trimming.{next_on, next_one, span_most, span_sect
 use Rattle.device_model.proofs.TwoDisks.{has_disks, outside_kept, outside_zeros, store_says, with_store}
 
 -- where sectors can be cleared, each number of them that can be cleared at once, and is on the disk, may be
-pub may_clear : (d : Device) (port slot most first count : ℕ) (t : Taken) → HasClear d port slot most t → first ≡ next_uncleared t →
+pub may_clear : (d : Device) (port slot most first count : ℕ) (t : FetchedCommand) → HasClear d port slot most t → first ≡ next_uncleared t →
     count ≤ span most t → first + count ≤ (d.port port).disk.size → MayClear d port slot t first count
 may_clear d port slot most first count t has start few on_disk =
     let some = has.some in
@@ -49,7 +49,7 @@ may_clear d port slot most first count t has start few on_disk =
     }
 
 -- and where a clear may be made, sectors can be cleared
-pub can_clear : (d : Device) (port slot first count : ℕ) (t : Taken) → ((sector : ℕ) → sector < (d.port port).disk.size → HasDisks d port) → 1 ≤ count →
+pub can_clear : (d : Device) (port slot first count : ℕ) (t : FetchedCommand) → ((sector : ℕ) → sector < (d.port port).disk.size → HasDisks d port) → 1 ≤ count →
     MayClear d port slot t first count → HasClear d port slot count t
 can_clear d port slot first count t sized some can = record {
   has_disks = elim can.inside [
@@ -68,19 +68,19 @@ can_clear d port slot first count t sized some can = record {
     by (suc n) [] a same = absurd (cc same)
     by (suc n) (x ∷ xs) a same = let rest = by n xs (suc a) (ap (λ (l : List ℕ). drop 1 l) same) in omega (arith, rest)
 
-module _ (old new : Device) (port slot most first count : ℕ) (t : Taken) (has : HasClear old port slot most t)
-    (effect : new ≡ after (Clear port slot t first count) old) where
-  abbrev further : Taken
+module _ (old new : Device) (port slot most first count : ℕ) (t : FetchedCommand) (has : HasClear old port slot most t)
+    (effect : new ≡ device_after (Clear port slot t first count) old) where
+  abbrev further : FetchedCommand
   further = record t { cleared = t.cleared + count }
 
   cleared_port : new.port port ≡ with_clear (old.port port) slot t first count
   cleared_port = ap (λ (d : Device). d.port port) effect ∙ here_after old port (with_clear (old.port port) slot t first count)
 
   cleared_taken : (new.port port).taken slot ≡ Some further
-  cleared_taken = ap (λ (p : PortState). p.taken slot) cleared_port ∙ taken_after (old.port port) slot (Some further)
+  cleared_taken = ap (λ (p : DevicePort). p.taken slot) cleared_port ∙ taken_after (old.port port) slot (Some further)
 
   disks : HasDisks old port → HasDisks new port
-  disks has none = has (sym (ap (λ (p : PortState). p.plugged) cleared_port) ∙ none)
+  disks has none = has (sym (ap (λ (p : DevicePort). p.plugged) cleared_port) ∙ none)
 
   -- all that could be is cleared
   pub all_cleared : count ≡ span most t → HasCleared old new port slot most
@@ -94,7 +94,7 @@ module _ (old new : Device) (port slot most first count : ℕ) (t : Taken) (has 
   pub more_clear : count < span most t → HasClear new port slot 1 further
   more_clear more =
       let next = next_on most count t more has.enough in
-      let P : PortState → Type 0 = λ p. IsWorking p Trim in
+      let P : DevicePort → Type 0 = λ p. IsWorking p Trim in
       record {
         has_disks = disks has.has_disks;
         works = record {
@@ -108,15 +108,15 @@ module _ (old new : Device) (port slot most first count : ℕ) (t : Taken) (has 
       }
 
   pub cleared_size : (new.port port).disk.size ≡ (old.port port).disk.size
-  cleared_size = ap (λ (p : PortState). p.disk.size) cleared_port
+  cleared_size = ap (λ (p : DevicePort). p.disk.size) cleared_port
 
 -- what the hardware has found to clear can be, on a port that has disks
-pub found_clear : (h : Hardware) (o : Outside) (d : Device) (port slot most : ℕ) (run : Run) (r : TakenCommand) → HasDisks d port → device_of h o ≡ d →
+pub found_clear : (h : Hardware) (o : Outside) (d : Device) (port slot most : ℕ) (run : SectorExtent) (r : TakenCommand) → HasDisks d port → device_of h o ≡ d →
     IsNextRun h port slot most run r → HasClear d port slot most (taken_of r)
 found_clear h o d port slot most run r has same is = next_has_clear h o d port slot most r has same is.holds is.can
 
 -- So many of the next sectors of a trim are cleared, or none: the rest is as it was, and the next one, if there is one, can be cleared.
-pub record IsPart {S : Type 0} (size : S → ℕ) (told : S → Option (ℕ → List ℕ)) (p : Port) (slot : Slot) (most first count : ℕ) (t : Taken) (old new : Model S) : Type 0 where
+pub record IsPart {S : Type 0} (size : S → ℕ) (told : S → Option (ℕ → List ℕ)) (p : Port) (slot : Slot) (most first count : ℕ) (t : FetchedCommand) (old new : Model S) : Type 0 where
   pub before : count < span most t → (device_at size told new ≡ device_at size told old) ⊎ ClearsFewer p.0 slot.0 most (device_at size told old) (device_at size told new)
   pub whole : 1 ≤ count → DoesClear p.0 slot.0 most (device_at size told old) (device_at size told new)
   pub all : 1 ≤ count → count ≡ span most t → HasCleared (device_at size told old) (device_at size told new) p.0 slot.0 most
@@ -139,13 +139,13 @@ module _ {S : Type 0} (size : S → ℕ) (told : S → Option (ℕ → List ℕ)
   pub size_is : (old_device.port p.0).disk.size ≡ size a.disk.store
   size_is = ap (λ x. (media_of size told x).disk.size) was
 
-  module _ (cleared : (o : Outside) → device_of then_model.hardware (outside_cleared o p.0 first count) ≡ after (Clear p.0 slot.0 (taken_of r) first count) (device_of h o))
+  module _ (cleared : (o : Outside) → device_of then_model.hardware (outside_cleared o p.0 first count) ≡ device_after (Clear p.0 slot.0 (taken_of r) first count) (device_of h o))
       (zeros : new_disk ≡ disk_cleared old_disk first count) where
-    clear_effect : device_at size told then_model ≡ after (Clear p.0 slot.0 (taken_of r) first count) old_device
+    clear_effect : device_at size told then_model ≡ device_after (Clear p.0 slot.0 (taken_of r) first count) old_device
     clear_effect =
         let o : Outside = outside_at size told m in
         ap (λ (x : Outside). device_of then_model.hardware x) (outside_zeros m then_model p.0 a b was items rest size told first count lasts zeros)
-        ∙ (cleared o ∙ ap (λ (d : Device). after (Clear p.0 slot.0 (taken_of r) first count) d) (same o))
+        ∙ (cleared o ∙ ap (λ (d : Device). device_after (Clear p.0 slot.0 (taken_of r) first count) d) (same o))
 
     some_part : HasClear old_device p.0 slot.0 most (taken_of r) → first ≡ next_uncleared (taken_of r) → 1 ≤ count → count ≤ span most (taken_of r) →
         first + count ≤ size a.disk.store → IsPart size told p slot most first count (taken_of r) m then_model
@@ -176,7 +176,7 @@ module _ {S : Type 0} (size : S → ℕ) (told : S → Option (ℕ → List ℕ)
   none_part none left tells sizes has =
       let around : outside_at size told then_model ≡ outside_at size told m = outside_kept m then_model p.0 a b was items rest size told sizes tells lasts in
       let kept : device_at size told then_model ≡ old_device = (λ i. device_of (left i) (around i)) ∙ same (outside_at size told m) in
-      let t : Taken = taken_of r in
+      let t : FetchedCommand = taken_of r in
       let here : t ≡ record t { cleared = t.cleared + count } =
       let number : t.cleared ≡ t.cleared + count = omega (arith, none) in ap (λ (n : ℕ). record t { cleared = n }) number in
       let some = has.some in
@@ -187,7 +187,7 @@ module _ {S : Type 0} (size : S → ℕ) (told : S → Option (ℕ → List ℕ)
         whole = λ some. absurd (omega (arith, some, none));
         all = λ some. absurd (omega (arith, some, none));
         more = λ fewer.
-            subst (λ (x : Taken). HasClear (device_at size told then_model) p.0 slot.0 1 x) here
+            subst (λ (x : FetchedCommand). HasClear (device_at size told then_model) p.0 slot.0 1 x) here
             (subst P (sym kept)
             (record { has_disks = has.has_disks; works = has.works; trim = has.trim; moved = has.moved; some = omega arith; enough = omega (arith, some, enough) }));
         disk_size = ap (λ (d : Device). (d.port p.0).disk.size) kept;
@@ -198,7 +198,7 @@ module _ {S : Type 0} (size : S → ℕ) (told : S → Option (ℕ → List ℕ)
   pub is_part : HasClear old_device p.0 slot.0 most (taken_of r) → first ≡ next_uncleared (taken_of r) → count ≤ span most (taken_of r) →
       (1 ≤ count → first + count ≤ size a.disk.store) → (count ≡ 0 → then_model.hardware ≡ h) → (count ≡ 0 → told b.disk.store ≡ told a.disk.store) →
       size b.disk.store ≡ size a.disk.store →
-      (1 ≤ count → (o : Outside) → device_of then_model.hardware (outside_cleared o p.0 first count) ≡ after (Clear p.0 slot.0 (taken_of r) first count) (device_of h o)) →
+      (1 ≤ count → (o : Outside) → device_of then_model.hardware (outside_cleared o p.0 first count) ≡ device_after (Clear p.0 slot.0 (taken_of r) first count) (device_of h o)) →
       (1 ≤ count → new_disk ≡ disk_cleared old_disk first count) → IsPart size told p slot most first count (taken_of r) m then_model
   is_part has start few on_disk left tells sizes cleared zeros =
       elim (cases_lt 0 count) [
@@ -207,11 +207,11 @@ module _ {S : Type 0} (size : S → ℕ) (told : S → Option (ℕ → List ℕ)
       ]
 
   -- of a run that the hardware has found, as far as it is on the disk
-  pub cut_part : (run on : Run) (sectors : ℕ) → first ≡ run.first → IsNextRun h p.0 slot.0 most run r → sectors ≡ size a.disk.store → on.first + on.count ≤ sectors →
+  pub cut_part : (run on : SectorExtent) (sectors : ℕ) → first ≡ run.first → IsNextRun h p.0 slot.0 most run r → sectors ≡ size a.disk.store → on.first + on.count ≤ sectors →
       on.count ≡ min run.count (sectors - run.first) → (1 ≤ on.count → on.first ≡ run.first) → count ≤ on.count →
       new_disk ≡ disk_cleared old_disk on.first count → (count ≡ 0 → told b.disk.store ≡ told a.disk.store) → size b.disk.store ≡ size a.disk.store →
       (count ≡ 0 → then_model.hardware ≡ h) →
-      (1 ≤ count → (o : Outside) → device_of then_model.hardware (outside_cleared o p.0 first count) ≡ after (Clear p.0 slot.0 (taken_of r) first count) (device_of h o)) →
+      (1 ≤ count → (o : Outside) → device_of then_model.hardware (outside_cleared o p.0 first count) ≡ device_after (Clear p.0 slot.0 (taken_of r) first count) (device_of h o)) →
       IsPart size told p slot most first count (taken_of r) m then_model
   cut_part run on sectors at is listed inside cut begins few zeros tells sizes left cleared =
       let whole : run.count ≡ span most (taken_of r) = is.count_is in
@@ -223,12 +223,12 @@ module _ {S : Type 0} (size : S → ℕ) (told : S → Option (ℕ → List ℕ)
 
   -- the next one can't be: its command fails on it
   pub part_fails : (small : slot.0 < 32) → HasClear old_device p.0 slot.0 most (taken_of r) → IsPart size told p slot most first count (taken_of r) m then_model →
-      count < span most (taken_of r) → (error : ℕ) → (last : Model S) → failures_of failures last p.0 ≡ failures b.disk.store →
+      count < span most (taken_of r) → (error : ℕ) → (last : Model S) → disk_failures failures last p.0 ≡ failures b.disk.store →
       IsCause a.cache.is_on true (first + count) (size a.disk.store) error (failures a.disk.store) (failures b.disk.store) → first ≡ next_uncleared (taken_of r) →
       IsFailed size told failures p slot error (record (taken_of r) { cleared = r.cleared + count }) then_model last →
-      HasFailed size told failures (asked.Clear p slot most) m last
+      CommandFails size told failures (asked.Clear p slot most) m last
   part_fails small has part fewer error last fine cause start failed =
-      let t : Taken = record (taken_of r) { cleared = r.cleared + count } in
+      let t : FetchedCommand = record (taken_of r) { cleared = r.cleared + count } in
       let more = part.more fewer in
       let next : next_uncleared t ≡ next_uncleared (taken_of r) + count = (next_on most count (taken_of r) fewer has.enough).1 in
       let sector : first + count ≡ next_uncleared t = (let same : first + count ≡ next_uncleared (taken_of r) + count = ap (λ (k : ℕ). k + count) start in same) ∙ sym next in
@@ -238,20 +238,20 @@ module _ {S : Type 0} (size : S → ℕ) (told : S → Option (ℕ → List ℕ)
       let Q : ℕ → Type 0 = λ n. IsCause (caches m p.0) true (next_uncleared t) n error (failures a.disk.store) (failures b.disk.store) in
       let R : ℕ → Type 0 = λ k. IsCause (caches m p.0) true k (size a.disk.store) error (failures a.disk.store) (failures b.disk.store) in
       let O : Bool → Type 0 = λ on. IsCause on true (first + count) (size a.disk.store) error (failures a.disk.store) (failures b.disk.store) in
-      let before : failures a.disk.store ≡ failures_of failures m p.0 = sym (ap (failing failures) was) in
+      let before : failures a.disk.store ≡ disk_failures failures m p.0 = sym (ap (failing failures) was) in
       let plain : is_queued t.meaning.operation ≡ false = ap is_queued has.trim in
       let one : failed.fails.fault.t ≡ t = failed.same in
-      let T : Taken → Device → Type 0 = λ x d. SendsFault (is_queued x.meaning.operation) p.0 d (device_at size told last) in (
+      let T : FetchedCommand → Device → Type 0 = λ x d. SendsFault (is_queued x.meaning.operation) p.0 d (device_at size told last) in (
         device_at size told then_model,
         part.before fewer,
         record {
           t = t;
           clear = more;
           error = error;
-          cause = subst (λ x. P x (failures_of failures last p.0)) before (subst (P (failures a.disk.store)) (sym fine) (subst Q sizes (subst R sector (subst O (sym (ap has_cache was)) cause))));
-          can = subst (λ (x : Taken). Can (Fault p.0 slot.0 error 0 x) (device_at size told then_model)) one failed.fails.fault.can;
-          sends = subst (T t) (failed.fails.fault.effect ∙ ap (λ (x : Taken). after (Fault p.0 slot.0 error 0 x) (device_at size told then_model)) one)
-              (subst (λ (x : Taken). T x failed.fails.mid) one failed.fails.posts);
+          cause = subst (λ x. P x (disk_failures failures last p.0)) before (subst (P (failures a.disk.store)) (sym fine) (subst Q sizes (subst R sector (subst O (sym (ap has_cache was)) cause))));
+          can = subst (λ (x : FetchedCommand). Can (Fault p.0 slot.0 error 0 x) (device_at size told then_model)) one failed.fails.fault.can;
+          sends = subst (T t) (failed.fails.fault.effect ∙ ap (λ (x : FetchedCommand). device_after (Fault p.0 slot.0 error 0 x) (device_at size told then_model)) one)
+              (subst (λ (x : FetchedCommand). T x failed.fails.mid) one failed.fails.posts);
           log = failed.says
               ∙ (ap (λ (x : Bool). if x then option_map (naming (record { tag = slot.0; error = error })) (says_of then_model p.0) else says_of then_model p.0) plain
               ∙ store_says m then_model p.0 a b was items rest p.0);

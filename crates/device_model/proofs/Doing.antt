@@ -1,30 +1,30 @@
 -- What a model makes of a step that it is told.
 use Rattle.std.proofs.Common.{ℕ, Bool, true, false, ◌≡◌, ◌≢◌, ◌<◌, ◌≤◌, ◌^◌, ◌⊎◌, ◌∙◌, List, Option, Some, ⊎_elim, refl, sym, ap, subst, inl, inr}
 use Rattle.std.specs.Prelude.{option_map}
-use Rattle.adapter.specs.Asked.{Fails, GoesOn}
+use Rattle.adapter.specs.Asked.{Fails, SlotGoesOn}
 use Rattle.adapter.specs.declared.access.DeviceStep.TheVariants as asked
 use Rattle.ata_types.specs.declared.Port.{Port}
 use Rattle.ata_types.specs.declared.Slot.{Slot}
-use Rattle.adapter.specs.Device.{Device, Taken}
+use Rattle.adapter.specs.Device.{Device, FetchedCommand}
 use Rattle.adapter.specs.declared.access.DeviceStep.{DeviceStep}
 use Rattle.adapter.proofs.Going.{asked_steps, goes_next}
 use Rattle.adapter.proofs.Runs.{Steps-refl}
 use Rattle.adapter.specs.Steps.{Can, Steps}
-use Rattle.adapter.specs.Steps.Step.{Fault}
+use Rattle.adapter.specs.Steps.DeviceTransition.{Fault}
 use Rattle.sector_store.specs.declared.store.Failures.{Failures}
-use Rattle.device_model.specs.Does.{AnswersStep, AsksStore, ClearsFewer, Completes, Did, FailsToClear, FailsToMove, GoesOnSo, HasFailed, IsLeftOut, LacksMemory, NeedsAddresses, NoneFails, StepKeeps, Possible, asked_port, says_failed}
-use Rattle.device_model.specs.Disks.{bay_of, caches, disk_in_bay, disk_of, failures_of, identity_of, says_of, which_of}
+use Rattle.device_model.specs.Does.{AnswersStep, AsksStore, ClearsFewer, Completes, Did, FailsToClear, FailsToMove, GoesOnSo, CommandFails, IsLeftOut, LacksMemory, NeedsAddresses, NoCallFailed, StepKeeps, Possible, asked_port, says_failed}
+use Rattle.device_model.specs.Disks.{bay_of, caches, disk_in_bay, numbered_disk, disk_failures, identity_of, says_of, which_of}
 use Rattle.device_model.specs.Modelled.{device_at}
 use Rattle.device_model.specs.Paged.{GainsPages}
 use Rattle.device_model.proofs.TwoDisks.{each_port, failures_kept, identity_kept}
 use Rattle.device_model.specs.Sent.{SendsEnd, SendsFailed}
 use Rattle.device_model.proofs.Posting.{did_may}
 use Rattle.device_model.proofs.Absurd.{some_one, true-false}
-use Rattle.device_model.specs.Finishing.{HasRoom}
+use Rattle.device_model.specs.Finishing.{TapeHasRoom}
 use Rattle.device_model.proofs.Telling.{gains_none, gains_on}
 use Rattle.device_model.specs.declared.bay.Bay.{Bay}
 use Rattle.device_model.specs.declared.disks.ModelDisk.{ModelDisk}
-use Rattle.device_model.specs.declared.disks.Which.{Which}
+use Rattle.device_model.specs.declared.disks.DiskIndex.{DiskIndex}
 use Rattle.device_model.specs.declared.model.Model.{Model}
 use Rattle.device_model.specs.declared.model.Queued.{Queued}
 use Rattle.std.specs.Global.{Vec}
@@ -164,11 +164,11 @@ module _ {S : Type 0} (size : S → ℕ) (told : S → Option (ℕ → List ℕ)
 
   -- A Finish came to a step that was left, for which there was room, and which was possible. So it has no address.
   pub cut_short : (s : DeviceStep) (p : Port) (slot : Slot) (did : Bool) (old mid new : Model S) → Possible (asked.Finish p slot) (device_at size told old) →
-      (did ≡ true → GoesOn (SendsEnd slot.0) p.0 slot.0 (device_at size told old) (device_at size told mid)) → (did ≡ false → device_at size told mid ≡ device_at size told old) →
-      Meanwhile size p.0 old mid → ((AsksStore (asked.Finish p slot) (device_at size told old) → ⊥) → (which : Which) → disk_of mid p.0 which ≡ disk_of old p.0 which) →
-      (did ≡ false → (which : Which) → disk_of mid p.0 which ≡ disk_of old p.0 which) → NoneFails failures old mid → asked_port s ≡ p.0 → IsLeftOut size told failures s mid new →
+      (did ≡ true → SlotGoesOn (SendsEnd slot.0) p.0 slot.0 (device_at size told old) (device_at size told mid)) → (did ≡ false → device_at size told mid ≡ device_at size told old) →
+      Meanwhile size p.0 old mid → ((AsksStore (asked.Finish p slot) (device_at size told old) → ⊥) → (which : DiskIndex) → numbered_disk mid p.0 which ≡ numbered_disk old p.0 which) →
+      (did ≡ false → (which : DiskIndex) → numbered_disk mid p.0 which ≡ numbered_disk old p.0 which) → NoCallFailed failures old mid → asked_port s ≡ p.0 → IsLeftOut size told failures s mid new →
       ((device_at size told old).size ≤ 2 ^ 32 → NeedsAddresses s (device_at size told mid)) → Possible s (device_at size told mid) →
-      (LacksMemory s (device_at size told mid) mid.hardware mid.bays.items → ⊥) → (t : Taken) → ((device_at size told mid).port p.0).taken slot.0 ≡ Some t →
+      (LacksMemory s (device_at size told mid) mid.hardware mid.bays.items → ⊥) → (t : FetchedCommand) → ((device_at size told mid).port p.0).taken slot.0 ≡ Some t →
       AnswersStep size told failures (asked.Finish p slot) did old new
   cut_short s p slot did old mid new may went stayed meanwhile same untouched none at step needs possible room t taken = by did went stayed untouched
     where
@@ -179,8 +179,8 @@ module _ {S : Type 0} (size : S → ℕ) (told : S → Option (ℕ → List ℕ)
       others : (q : ℕ) → q ≢ p.0 → bay_of new q ≡ bay_of mid q
       others q ne = step.others q (λ is. ne (is ∙ at))
 
-      disks : (q : ℕ) (which : Which) → disk_of new q which ≡ disk_of mid q which
-      disks q which = each_port (option_map (λ (x : Bay S). disk_in_bay x which)) mid new p.0 (of_port (λ m k. disk_of m k which) (step.disks which)) others q
+      disks : (q : ℕ) (which : DiskIndex) → numbered_disk new q which ≡ numbered_disk mid q which
+      disks q which = each_port (option_map (λ (x : Bay S). disk_in_bay x which)) mid new p.0 (of_port (λ m k. numbered_disk m k which) (step.disks which)) others q
 
       unserved : (device_at size told old).size ≤ 2 ^ 32 → ⊥
       unserved small_enough = room (step.why (needs small_enough) possible).0
@@ -199,14 +199,14 @@ module _ {S : Type 0} (size : S → ℕ) (told : S → Option (ℕ → List ℕ)
         starved = same_flag mid.hardware.starved new.hardware.starved step.starved_on told_before;
       })
 
-      by : (b : Bool) → (b ≡ true → GoesOn (SendsEnd slot.0) p.0 slot.0 (device_at size told old) (device_at size told mid)) →
-          (b ≡ false → device_at size told mid ≡ device_at size told old) → (b ≡ false → (which : Which) → disk_of mid p.0 which ≡ disk_of old p.0 which) →
+      by : (b : Bool) → (b ≡ true → SlotGoesOn (SendsEnd slot.0) p.0 slot.0 (device_at size told old) (device_at size told mid)) →
+          (b ≡ false → device_at size told mid ≡ device_at size told old) → (b ≡ false → (which : DiskIndex) → numbered_disk mid p.0 which ≡ numbered_disk old p.0 which) →
           AnswersStep size told failures (asked.Finish p slot) b old new
       by true on stays first = (
         may,
         record {
           came = inl (record {
-            asked = subst (λ (d : Device). GoesOn (SendsEnd slot.0) p.0 slot.0 (device_at size told old) d) (sym step.device) (on refl);
+            asked = subst (λ (d : Device). SlotGoesOn (SendsEnd slot.0) p.0 slot.0 (device_at size told old) d) (sym step.device) (on refl);
             fine = λ _ q which. ap (option_map (λ (x : ModelDisk S). failures x.store)) (disks q which) ∙ none q which;
             says = all.says;
             ends = λ small_enough. absurd (unserved small_enough);
@@ -237,22 +237,22 @@ module _ {S : Type 0} (size : S → ℕ) (told : S → Option (ℕ → List ℕ)
       }
 
   -- what is before a fault of a Finish
-  before_it : (p : Port) (slot : Slot) (did : Bool) (old mid : Device) → (did ≡ true → GoesOn (SendsEnd slot.0) p.0 slot.0 old mid) → (did ≡ false → mid ≡ old) →
-      (mid ≡ old) ⊎ GoesOn (SendsEnd slot.0) p.0 slot.0 old mid
+  before_it : (p : Port) (slot : Slot) (did : Bool) (old mid : Device) → (did ≡ true → SlotGoesOn (SendsEnd slot.0) p.0 slot.0 old mid) → (did ≡ false → mid ≡ old) →
+      (mid ≡ old) ⊎ SlotGoesOn (SendsEnd slot.0) p.0 slot.0 old mid
   before_it p slot true old mid went stayed = inr (went refl)
   before_it p slot false old mid went stayed = inl (stayed refl)
 
   module _ (p : Port) (slot : Slot) (did : Bool) (old mid new : Model S) (may : Possible (asked.Finish p slot) (device_at size told old))
-      (went : did ≡ true → GoesOn (SendsEnd slot.0) p.0 slot.0 (device_at size told old) (device_at size told mid))
+      (went : did ≡ true → SlotGoesOn (SendsEnd slot.0) p.0 slot.0 (device_at size told old) (device_at size told mid))
       (stayed : did ≡ false → device_at size told mid ≡ device_at size told old) (meanwhile : Meanwhile size p.0 old mid)
-      (asks : AsksStore (asked.Finish p slot) (device_at size told old)) (none : NoneFails failures old mid) where
-    fine : failures_of failures mid p.0 ≡ failures_of failures old p.0
+      (asks : AsksStore (asked.Finish p slot) (device_at size told old)) (none : NoCallFailed failures old mid) where
+    fine : disk_failures failures mid p.0 ≡ disk_failures failures old p.0
     fine = failures_kept failures old mid p.0 meanwhile.which (none p.0)
 
     -- a Finish came to a sector on which its command failed
     fails_finish : new.held ≡ mid.held → which_of new p.0 ≡ which_of mid p.0 → ((q : ℕ) → q ≢ p.0 → bay_of new q ≡ bay_of mid q) → GainsPages size mid new →
         StepKeeps size mid new → new.hardware.starved ≡ mid.hardware.starved →
-        HasFailed size told failures (asked.Finish p slot) old new → AnswersStep size told failures (asked.Finish p slot) true old new
+        CommandFails size told failures (asked.Finish p slot) old new → AnswersStep size told failures (asked.Finish p slot) true old new
     fails_finish held which others pages keeps starved failed = (
       may,
       record {
@@ -267,39 +267,39 @@ module _ {S : Type 0} (size : S → ℕ) (told : S → Option (ℕ → List ℕ)
       },
     )
 
-    pub move_fails : Did size told failures (asked.Move p slot) mid new → HasFailed size told failures (asked.Move p slot) mid new →
+    pub move_fails : Did size told failures (asked.Move p slot) mid new → CommandFails size told failures (asked.Move p slot) mid new →
         AnswersStep size told failures (asked.Finish p slot) true old new
     move_fails step f =
         fails_finish step.held step.which step.others step.pages step.keeps step.starved (
           device_at size told mid,
           before_it p slot did _ _ went stayed,
-          inl (subst (λ on. FailsToMove on p.0 slot.0 (failures_of failures old p.0) (failures_of failures new p.0) (says_of old p.0) (says_of new p.0) (device_at size told mid) (device_at size told new)) (meanwhile.keeps.caches p.0)
-              (subst (λ was. FailsToMove (caches mid p.0) p.0 slot.0 was (failures_of failures new p.0) (says_of old p.0) (says_of new p.0) (device_at size told mid) (device_at size told new)) fine
-              (subst (λ says. FailsToMove (caches mid p.0) p.0 slot.0 (failures_of failures mid p.0) (failures_of failures new p.0) says (says_of new p.0) (device_at size told mid) (device_at size told new)) meanwhile.says f))),
+          inl (subst (λ on. FailsToMove on p.0 slot.0 (disk_failures failures old p.0) (disk_failures failures new p.0) (says_of old p.0) (says_of new p.0) (device_at size told mid) (device_at size told new)) (meanwhile.keeps.caches p.0)
+              (subst (λ was. FailsToMove (caches mid p.0) p.0 slot.0 was (disk_failures failures new p.0) (says_of old p.0) (says_of new p.0) (device_at size told mid) (device_at size told new)) fine
+              (subst (λ says. FailsToMove (caches mid p.0) p.0 slot.0 (disk_failures failures mid p.0) (disk_failures failures new p.0) says (says_of new p.0) (device_at size told mid) (device_at size told new)) meanwhile.says f))),
         )
 
-    pub clear_fails : (most : ℕ) → Did size told failures (asked.Clear p slot most) mid new → HasFailed size told failures (asked.Clear p slot most) mid new →
+    pub clear_fails : (most : ℕ) → Did size told failures (asked.Clear p slot most) mid new → CommandFails size told failures (asked.Clear p slot most) mid new →
         AnswersStep size told failures (asked.Finish p slot) true old new
     clear_fails most step (last, cleared, f) =
         fails_finish step.held step.which step.others step.pages step.keeps step.starved (
           last,
           on cleared,
-          inr (subst (λ on. FailsToClear on p.0 slot.0 (failures_of failures old p.0) (failures_of failures new p.0) (says_of old p.0) (says_of new p.0) last (device_at size told new)) (meanwhile.keeps.caches p.0)
-              (subst (λ was. FailsToClear (caches mid p.0) p.0 slot.0 was (failures_of failures new p.0) (says_of old p.0) (says_of new p.0) last (device_at size told new)) fine
-              (subst (λ says. FailsToClear (caches mid p.0) p.0 slot.0 (failures_of failures mid p.0) (failures_of failures new p.0) says (says_of new p.0) last (device_at size told new)) meanwhile.says f))),
+          inr (subst (λ on. FailsToClear on p.0 slot.0 (disk_failures failures old p.0) (disk_failures failures new p.0) (says_of old p.0) (says_of new p.0) last (device_at size told new)) (meanwhile.keeps.caches p.0)
+              (subst (λ was. FailsToClear (caches mid p.0) p.0 slot.0 was (disk_failures failures new p.0) (says_of old p.0) (says_of new p.0) last (device_at size told new)) fine
+              (subst (λ says. FailsToClear (caches mid p.0) p.0 slot.0 (disk_failures failures mid p.0) (disk_failures failures new p.0) says (says_of new p.0) last (device_at size told new)) meanwhile.says f))),
         )
       where
         on : (last ≡ device_at size told mid) ⊎ ClearsFewer p.0 slot.0 most (device_at size told mid) last →
-            (last ≡ device_at size told old) ⊎ GoesOn (SendsEnd slot.0) p.0 slot.0 (device_at size told old) last
+            (last ≡ device_at size told old) ⊎ SlotGoesOn (SendsEnd slot.0) p.0 slot.0 (device_at size told old) last
         on (inl same) =
-            subst (λ (d : Device). (d ≡ device_at size told old) ⊎ GoesOn (SendsEnd slot.0) p.0 slot.0 (device_at size told old) d) (sym same)
+            subst (λ (d : Device). (d ≡ device_at size told old) ⊎ SlotGoesOn (SendsEnd slot.0) p.0 slot.0 (device_at size told old) d) (sym same)
             (before_it p slot did _ _ went stayed)
         on (inr more) = inr (goes_next (SendsEnd slot.0) p.0 slot.0 _ _ last did went stayed (inr (inr (inr (most, more.0)))))
 
   -- ---- a command that is taken fails
 
   -- it is done, where the tape has memory for it
-  pub record IsFailed (p : Port) (slot : Slot) (error : ℕ) (t : Taken) (old new : Model S) : Type 0 where
+  pub record IsFailed (p : Port) (slot : Slot) (error : ℕ) (t : FetchedCommand) (old new : Model S) : Type 0 where
     pub fails : Fails SendsFailed p.0 slot.0 error 0 (device_at size told old) (device_at size told new)
     pub same : fails.fault.t ≡ t
     pub says : says_of new p.0 ≡ says_failed (Some t) slot.0 error (says_of old p.0)
@@ -307,12 +307,12 @@ module _ {S : Type 0} (size : S → ℕ) (told : S → Option (ℕ → List ℕ)
     pub which : which_of new p.0 ≡ which_of old p.0
     pub others : (q : ℕ) → q ≢ p.0 → bay_of new q ≡ bay_of old q
     pub pages : GainsPages size old new
-    pub disks : (which : Which) → disk_of new p.0 which ≡ disk_of old p.0 which
+    pub disks : (which : DiskIndex) → numbered_disk new p.0 which ≡ numbered_disk old p.0 which
     pub keeps : StepKeeps size old new
     pub starved : new.hardware.starved ≡ old.hardware.starved
 
-  pub is_failed : (p : Port) (slot : Slot) (error : ℕ) (t : Taken) (answer : Bool) (old new : Model S) → AnswersStep size told failures (asked.Fault p slot error) answer old new →
-      p.0 < 4 → slot.0 < 32 → Can (Fault p.0 slot.0 error 0 t) (device_at size told old) → HasRoom old.hardware 1 → IsFailed p slot error t old new
+  pub is_failed : (p : Port) (slot : Slot) (error : ℕ) (t : FetchedCommand) (answer : Bool) (old new : Model S) → AnswersStep size told failures (asked.Fault p slot error) answer old new →
+      p.0 < 4 → slot.0 < 32 → Can (Fault p.0 slot.0 error 0 t) (device_at size told old) → TapeHasRoom old.hardware 1 → IsFailed p slot error t old new
   is_failed p slot error t true old new a port small can room =
       elim a.1.came [
         | inr never ↦ absurd never
@@ -321,7 +321,7 @@ module _ {S : Type 0} (size : S → ℕ) (told : S → Option (ℕ → List ℕ)
             record {
               fails = whole.asked;
               same = one;
-              says = whole.says ∙ ap (λ (x : Option Taken). says_failed x slot.0 error (says_of old p.0)) can.taken;
+              says = whole.says ∙ ap (λ (x : Option FetchedCommand). says_failed x slot.0 error (says_of old p.0)) can.taken;
               held = a.1.held;
               which = a.1.which;
               others = a.1.others;

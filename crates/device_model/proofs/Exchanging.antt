@@ -9,18 +9,18 @@ use Rattle.std.proofs.lemmas.List.{drop-drop, take-append-drop, with_items_is}
 use Rattle.adapter.specs.Commands.{direction_of, is_ranged, reads_memory}
 use Rattle.adapter.specs.Device.{Device}
 use Rattle.adapter.specs.Memory.{patched}
-use Rattle.adapter.specs.Says.{pieces}
-use Rattle.adapter.specs.Steps.{IsWorking, after, next_sector, with_move}
-use Rattle.adapter.specs.Steps.Step.{Move}
+use Rattle.adapter.specs.Decoding.{pieces}
+use Rattle.adapter.specs.Steps.{IsWorking, device_after, next_sector, with_move}
+use Rattle.adapter.specs.Steps.DeviceTransition.{Move}
 use Rattle.adapter.specs.declared.command.Direction.{Direction}
 use Rattle.adapter.specs.declared.command.Operation.{Operation}
 use Rattle.adapter.specs.declared.tape.Entry.{Entry}
 use Rattle.adapter.specs.declared.tape.Entry.TheVariants as entry
 use Rattle.device_model.specs.Exchanged.{IsExchanged, piece_of}
 use Rattle.device_model.specs.Fetched.{bytes_of}
-use Rattle.device_model.specs.Finishing.{HasRoom}
-use Rattle.device_model.specs.Slots.{HoldsAt, IsNext}
-use Rattle.device_model.specs.View.{blank, held_in, media_after, operation_of, port_of, taken_of}
+use Rattle.device_model.specs.Finishing.{TapeHasRoom}
+use Rattle.device_model.specs.Slots.{WorksOnIn, IsNext}
+use Rattle.device_model.specs.View.{blank_port, held_in, media_after, transfer_operation, port_of, taken_of}
 use Rattle.device_model.specs.Whole.{Outside, device_of, outside_after}
 use Rattle.device_model.specs.declared.hardware.Hardware.{Hardware}
 use Rattle.device_model.specs.declared.port.PortModel.{PortModel}
@@ -86,13 +86,13 @@ piece_is h next k d b is whole small size =
 
 pub exchanged : (h : Hardware) (next : NextMove) (k : ℕ) (d b : List ℕ) → d ≡ h.memory.items → k ≡ 512 →
     next.address + 512 ≤ length h.memory.items → length b ≡ 512 →
-    (reads_memory (operation_of next.transfer) ≡ true → b ≡ take k (drop next.address d)) →
+    (reads_memory (transfer_operation next.transfer) ≡ true → b ≡ take k (drop next.address d)) →
     IsExchanged h (with_piece h next.address k d b) next
 exchanged h next k d b is whole small size takes =
     record {
       rest = λ _. with_piece h next.address k d b;
       size = ap length items ∙ (long ∙ all);
-      put = by (reads_memory (operation_of next.transfer)) takes;
+      put = by (reads_memory (transfer_operation next.transfer)) takes;
     }
   where
     all : length d ≡ length h.memory.items
@@ -140,22 +140,22 @@ pub port_moves_over : (old h : Hardware) (o : Outside) (p port slot : ℕ) (next
     (t : TakenCommand) (tape : Vec Entry) (operation : Operation) (direction : Direction) →
     IsExchanged old h next → p ≡ port → p < length h.ports → IsNext old port slot next t →
     port_of new (media_after (o.media p) (taken_of t) (piece_of h next))
-    ≡ with_move (port_of (slice_index_or h.ports p blank) (o.media p)) slot (taken_of t) (piece_of h next) →
-    operation ≡ operation_of next.transfer → direction ≡ direction_of (operation_of next.transfer) →
+    ≡ with_move (port_of (slice_index_or h.ports p blank_port) (o.media p)) slot (taken_of t) (piece_of h next) →
+    operation ≡ transfer_operation next.transfer → direction ≡ direction_of (transfer_operation next.transfer) →
     tape.items
     ≡ h.tape.items
     ++ entry.Move (moved_by port slot operation next.sector next.address direction (piece_of h next)) ∷ [] →
     device_of (record h { ports = slice_set h.ports p new; tape = tape })
     (outside_after o port (taken_of t) (piece_of h next))
-    ≡ after (Move port slot (taken_of t) (piece_of h next)) (device_of old o)
+    ≡ device_after (Move port slot (taken_of t) (piece_of h next)) (device_of old o)
 port_moves_over old h o p port slot next new t tape operation direction is e small at moves named way more =
     let noted : Vec Entry = tape in
     let bytes : List ℕ = piece_of h next in
-    let effect : Device = after (Move port slot (taken_of t) bytes) (device_of old o) in
+    let effect : Device = device_after (Move port slot (taken_of t) bytes) (device_of old o) in
     let moved = port_moves old o p port slot next new t tape h.memory bytes operation direction e
     (subst (λ (x : Hardware). p < length x.ports) is.rest small) at
     (subst (λ (x : Hardware). port_of new (media_after (o.media p) (taken_of t) bytes)
-    ≡ with_move (port_of (slice_index_or x.ports p blank) (o.media p)) slot (taken_of t) bytes) is.rest moves)
+    ≡ with_move (port_of (slice_index_or x.ports p blank_port) (o.media p)) slot (taken_of t) bytes) is.rest moves)
     named way
     (subst (λ (x : Hardware). noted.items ≡ x.tape.items ++ entry.Move
     (moved_by port slot operation next.sector next.address direction bytes) ∷ []) is.rest more)
@@ -167,7 +167,7 @@ port_moves_over old h o p port slot next new t tape operation direction is e sma
 pub next_over : {old h : Hardware} {next : NextMove} {t : TakenCommand} → (port slot : ℕ) → IsExchanged old h next →
     IsNext old port slot next t → IsNext h port slot next t
 next_over {old} {h} {next} {t} port slot is at = record {
-  holds = subst (λ (x : Hardware). HoldsAt (slice_index_or x.ports port blank) slot t) (sym is.rest) at.holds;
+  holds = subst (λ (x : Hardware). WorksOnIn (slice_index_or x.ports port blank_port) slot t) (sym is.rest) at.holds;
   left = at.left;
   room = at.room;
   transfer_is = at.transfer_is;
@@ -188,7 +188,7 @@ pub next_grown : {old h : Hardware} {next : NextMove} {t : TakenCommand} → (po
 next_grown {old} {h} {next} {t} port slot is at =
     let size : length h.memory.items ≡ length old.memory.items = ap (λ (x : Hardware). length x.memory.items) is in
     record {
-      holds = subst (λ (x : Hardware). HoldsAt (slice_index_or x.ports port blank) slot t) (sym is) at.holds;
+      holds = subst (λ (x : Hardware). WorksOnIn (slice_index_or x.ports port blank_port) slot t) (sym is) at.holds;
       left = at.left;
       room = at.room;
       transfer_is = at.transfer_is;
@@ -204,7 +204,7 @@ next_grown {old} {h} {next} {t} port slot is at =
     }
 
 -- the sector that a command names next, once one more piece is moved
-one_further : (t : TakenCommand) (sector : ℕ) → is_ranged (operation_of t.transfer) ≡ true → sector ≡ next_sector (taken_of t) →
+one_further : (t : TakenCommand) (sector : ℕ) → is_ranged (transfer_operation t.transfer) ≡ true → sector ≡ next_sector (taken_of t) →
     sector + 1 ≡ next_sector (taken_of (record t { moved = t.moved + 1 }))
 one_further t sector ranged is =
     let was : next_sector (taken_of t) ≡ t.first + t.moved = ap (λ (b : Bool). if b then t.first + t.moved else 0) ranged in
@@ -215,27 +215,27 @@ one_further t sector ranged is =
 -- once the next piece of a command is noted, the one behind it is next
 pub next_after : (old : Hardware) (p port slot : ℕ) (next : NextMove) (t : TakenCommand) (new : PortModel) (tape : Vec Entry) (starved : Bool) →
     IsNext old port slot next t → 1 ≤ next.behind → p ≡ port → p < length old.ports →
-    new ≡ record (slice_index_or old.ports p blank) { taken = new.taken } →
+    new ≡ record (slice_index_or old.ports p blank_port) { taken = new.taken } →
     held_in new.taken slot ≡ Some (record t { moved = t.moved + 1 }) →
     IsNext (record old { ports = slice_set old.ports p new; tape = tape; starved = starved }) port slot
     (record next { sector = next.sector + 1; address = next.address + 512; behind = next.behind - 1 })
     (record t { moved = t.moved + 1 })
 next_after old p port slot next t new tape starved at some e small same held =
     let u : TakenCommand = record t { moved = t.moved + 1 } in
-    let there : slice_index_or (slice_set old.ports p new) port blank ≡ new =
-    ap (λ k. slice_index_or (slice_set old.ports p new) k blank) (sym e) ∙ get_or-set_same old.ports p new blank small in
+    let there : slice_index_or (slice_set old.ports p new) port blank_port ≡ new =
+    ap (λ k. slice_index_or (slice_set old.ports p new) k blank_port) (sym e) ∙ get_or-set_same old.ports p new blank_port small in
     let inside = at.behind.inside in
     let one = at.behind.places 1 some in
     record {
-      holds = subst (λ (x : PortModel). HoldsAt x slot u) (sym there)
+      holds = subst (λ (x : PortModel). WorksOnIn x slot u) (sym there)
           (record {
             held = held;
             works = λ m.
                 let was = (at.holds.works m).working in
-                let P : PortModel → Type 0 = λ x. IsWorking (port_of x m) (operation_of t.transfer) in
-                let here : PortModel = slice_index_or old.ports port blank in
+                let P : PortModel → Type 0 = λ x. IsWorking (port_of x m) (transfer_operation t.transfer) in
+                let here : PortModel = slice_index_or old.ports port blank_port in
                 let is : new ≡ record here { taken = new.taken } =
-                same ∙ ap (λ k. record (slice_index_or old.ports k blank) { taken = new.taken }) e in
+                same ∙ ap (λ k. record (slice_index_or old.ports k blank_port) { taken = new.taken }) e in
                 record {
                   taken = slot_taken (held_in new.taken) u slot held;
                   working = subst P (sym is)
@@ -261,8 +261,8 @@ next_after old p port slot next t new tape starved at some e small same held =
     }
 
 -- the tape has the memory that it had
-pub room_over : {old h : Hardware} {next : NextMove} → (n : ℕ) → IsExchanged old h next → HasRoom old n → HasRoom h n
-room_over {old} {h} {next} n is room = subst (λ (x : Hardware). HasRoom x n) (sym is.rest) room
+pub room_over : {old h : Hardware} {next : NextMove} → (n : ℕ) → IsExchanged old h next → TapeHasRoom old n → TapeHasRoom h n
+room_over {old} {h} {next} n is room = subst (λ (x : Hardware). TapeHasRoom x n) (sym is.rest) room
 
 pub starved_over : {old h : Hardware} {next : NextMove} → IsExchanged old h next → h.starved ≡ old.starved
 starved_over is = ap (λ (x : Hardware). x.starved) is.rest

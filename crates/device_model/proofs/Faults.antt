@@ -2,16 +2,16 @@
 use Rattle.std.specs.Prelude.{option_map}
 use Rattle.std.proofs.Common.{ℕ, true, ◌≡◌, ◌≢◌, ◌∙◌, List, Option, Some, sym, ap, subst, inr}
 use Rattle.adapter.specs.Commands.{is_queued, is_ranged, reads_memory}
-use Rattle.adapter.specs.Device.{Device, Taken}
-use Rattle.adapter.specs.Steps.{Can, after, next_sector}
-use Rattle.adapter.specs.Steps.Step.{Fault}
+use Rattle.adapter.specs.Device.{Device, FetchedCommand}
+use Rattle.adapter.specs.Steps.{Can, device_after, next_sector}
+use Rattle.adapter.specs.Steps.DeviceTransition.{Fault}
 use Rattle.adapter.specs.declared.access.DeviceStep.{DeviceStep}
 use Rattle.adapter.specs.declared.access.DeviceStep.TheVariants as asked
 use Rattle.ata_types.specs.declared.Port.{Port}
 use Rattle.ata_types.specs.declared.Slot.{Slot}
 use Rattle.sector_store.specs.declared.store.Failures.{Failures}
-use Rattle.device_model.specs.Disks.{bay_of, caches, failures_of, says_of, which_of}
-use Rattle.device_model.specs.Does.{AsksStore, Did, HasFailed, IsCause, StepKeeps, asked_port, says_failed, which_after}
+use Rattle.device_model.specs.Disks.{bay_of, caches, disk_failures, says_of, which_of}
+use Rattle.device_model.specs.Does.{AsksStore, Did, CommandFails, IsCause, StepKeeps, asked_port, says_failed, which_after}
 use Rattle.device_model.specs.Finishing.{HasMove}
 use Rattle.device_model.specs.Held.{held_after}
 use Rattle.device_model.specs.Modelled.{device_at}
@@ -24,36 +24,36 @@ use Rattle.device_model.proofs.TwoDisks.{failures_kept}
 
 -- a disk that is in, and the store that it has failed on, are as the fault has found them
 pub fine_on : {S : Type 0} (size : S → ℕ) (told : S → Option (ℕ → List ℕ)) (failures : S → Option Failures) (p : Port) (slot : Slot)
-    (error : ℕ) (t : Taken) (mid last : Model S) → IsFailed size told failures p slot error t mid last → failures_of failures last p.0 ≡ failures_of failures mid p.0
+    (error : ℕ) (t : FetchedCommand) (mid last : Model S) → IsFailed size told failures p slot error t mid last → disk_failures failures last p.0 ≡ disk_failures failures mid p.0
 fine_on {S} size told failures p slot error t mid last failed =
     failures_kept failures mid last p.0 failed.which (λ w. ap (option_map (λ (x : ModelDisk S). failures x.store)) (failed.disks w))
 
-module _ {S : Type 0} (size : S → ℕ) (told : S → Option (ℕ → List ℕ)) (failures : S → Option Failures) (p : Port) (slot : Slot) (error : ℕ) (t : Taken)
+module _ {S : Type 0} (size : S → ℕ) (told : S → Option (ℕ → List ℕ)) (failures : S → Option Failures) (p : Port) (slot : Slot) (error : ℕ) (t : FetchedCommand)
     (m mid last : Model S) (failed : IsFailed size told failures p slot error t mid last) where
   -- as the next sector was to be moved
   pub fails_to_move : device_at size told mid ≡ device_at size told m → says_of mid p.0 ≡ says_of m p.0 → HasMove (device_at size told m) p.0 slot.0 t →
       is_ranged t.meaning.operation ≡ true →
-      IsCause (caches m p.0) (reads_memory t.meaning.operation) (next_sector t) ((device_at size told m).port p.0).disk.size error (failures_of failures m p.0) (failures_of failures mid p.0) →
-      HasFailed size told failures (asked.Move p slot) m last
+      IsCause (caches m p.0) (reads_memory t.meaning.operation) (next_sector t) ((device_at size told m).port p.0).disk.size error (disk_failures failures m p.0) (disk_failures failures mid p.0) →
+      CommandFails size told failures (asked.Move p slot) m last
   fails_to_move same says move ranged cause =
       let P : Option Failures → Type 0 = λ now.
-      IsCause (caches m p.0) (reads_memory t.meaning.operation) (next_sector t) ((device_at size told m).port p.0).disk.size error (failures_of failures m p.0) now in
-      let Q : Taken → Device → Type 0 = λ x d. Can (Fault p.0 slot.0 error 0 x) d in
-      let R : Taken → Device → Type 0 = λ x d. SendsFault (is_queued x.meaning.operation) p.0 d (device_at size told last) in
+      IsCause (caches m p.0) (reads_memory t.meaning.operation) (next_sector t) ((device_at size told m).port p.0).disk.size error (disk_failures failures m p.0) now in
+      let Q : FetchedCommand → Device → Type 0 = λ x d. Can (Fault p.0 slot.0 error 0 x) d in
+      let R : FetchedCommand → Device → Type 0 = λ x d. SendsFault (is_queued x.meaning.operation) p.0 d (device_at size told last) in
       record {
         t = t;
         move = move;
         ranged = ranged;
         error = error;
         cause = subst P (sym (fine_on size told failures p slot error t mid last failed)) cause;
-        can = subst (λ (d : Device). Q t d) same (subst (λ (x : Taken). Q x (device_at size told mid)) failed.same failed.fails.fault.can);
-        sends = subst (R t) (failed.fails.fault.effect ∙ (λ i. after (Fault p.0 slot.0 error 0 (failed.same i)) (same i)))
-            (subst (λ (x : Taken). R x failed.fails.mid) failed.same failed.fails.posts);
+        can = subst (λ (d : Device). Q t d) same (subst (λ (x : FetchedCommand). Q x (device_at size told mid)) failed.same failed.fails.fault.can);
+        sends = subst (R t) (failed.fails.fault.effect ∙ (λ i. device_after (Fault p.0 slot.0 error 0 (failed.same i)) (same i)))
+            (subst (λ (x : FetchedCommand). R x failed.fails.mid) failed.same failed.fails.posts);
         log = failed.says ∙ ap (λ says. says_failed (Some t) slot.0 error says) says;
       }
 
   -- the step is done, as far as that
-  pub did_fail : (s : DeviceStep) → asked_port s ≡ p.0 → HasFailed size told failures s m last → held_after s m.held ≡ m.held →
+  pub did_fail : (s : DeviceStep) → asked_port s ≡ p.0 → CommandFails size told failures s m last → held_after s m.held ≡ m.held →
       which_after s (which_of m (asked_port s)) ≡ which_of m (asked_port s) → mid.held ≡ m.held → says_of mid p.0 ≡ says_of m p.0 → which_of mid p.0 ≡ which_of m p.0 →
       ((q : ℕ) → q ≢ p.0 → bay_of mid q ≡ bay_of m q) → GainsPages size m mid → StepKeeps size m mid → mid.hardware.starved ≡ m.hardware.starved →
       AsksStore s (device_at size told m) → Did size told failures s m last

@@ -3,17 +3,17 @@ use Rattle.std.proofs.Common.{ℕ, Bool, zero, suc, ◌≡◌, ◌<◌, ◌≤�
 use Rattle.std.proofs.lemmas.List.{drop_all, get_or_append_left, get_or-append_right}
 use Rattle.adapter.specs.Memory.{bytes_at}
 use Rattle.adapter.specs.Commands.{IsMeaning, Meaning, command_of, reads_memory, pieces_moved}
-use Rattle.adapter.specs.Spelling.{SpellsPrd, SpellsHeader, SpellsCommand}
-use Rattle.adapter.specs.Says.{HasPrds, IsWhole, Says, pieces, cut}
+use Rattle.adapter.specs.Encoding.{EncodesPrd, EncodesHeader, EncodesCommand}
+use Rattle.adapter.specs.Decoding.{HasPrds, IsWholePieces, DecodesTo, pieces, piece_addresses}
 use Rattle.adapter.specs.declared.command.Operation.{Operation}
 use Rattle.adapter.specs.declared.command.Prd.{Prd}
 use Rattle.adapter.proofs.SaysLemmas.{cut_length, cut_index}
 use Rattle.device_model.specs.Fetched.{no_prd}
-use Rattle.device_model.specs.View.{operation_of}
+use Rattle.device_model.specs.View.{transfer_operation}
 use Rattle.device_model.specs.declared.port.Transfer.{Transfer}
 
 abbrev Here : (ℕ → ℕ) → ℕ → Prd → Type 0
-Here memory at e = SpellsPrd (bytes_at memory at 16) e
+Here memory at e = EncodesPrd (bytes_at memory at 16) e
 
 pub has_more : (memory : ℕ → ℕ) (at : ℕ) (xs : List Prd) (e : Prd) → HasPrds memory at xs → Here memory (at + 16 * length xs) e →
     HasPrds memory at (xs ++ e ∷ [])
@@ -34,7 +34,7 @@ has_at memory at (x ∷ xs) (suc i) s small =
 abbrev prd : ℕ → ℕ → Prd
 prd a b = record { address = a; bytes = b }
 
-prd_once : (bytes : List ℕ) (e f : Prd) → SpellsPrd bytes e → SpellsPrd bytes f → e ≡ f
+prd_once : (bytes : List ℕ) (e f : Prd) → EncodesPrd bytes e → EncodesPrd bytes f → e ≡ f
 prd_once bytes e f x y = ap (λ a. prd a e.bytes) (sym x.address ∙ y.address) ∙ ap (prd f.address) (sym x.count ∙ y.count)
 
 -- so many stand there in one way alone
@@ -57,7 +57,7 @@ pieces_suc (x ∷ xs) zero small =
     simp (length-append, cut_length x.address (x.bytes / 512)) (omega arith)
 pieces_suc (x ∷ xs) (suc i) small =
     let rest = pieces_suc xs i (omega arith) in
-    let front = cut x.address (x.bytes / 512) in
+    let front = piece_addresses x.address (x.bytes / 512) in
     omega (arith, length-append front (pieces (take (suc i) xs)), length-append front (pieces (take i xs)), rest)
 
 pub pieces_next : (xs : List Prd) (i : ℕ) → i < length xs →
@@ -85,7 +85,7 @@ drop_next xs i e small is = let next : i + 1 ≡ suc i = omega arith in rw next 
 pub before_more : (xs : List Prd) (i number left : ℕ) (e : Prd) → i < length xs → e ≡ slice_index_or xs i no_prd → e.bytes / 512 ≤ left →
     e.bytes / 512 ≤ 8388608 → IsBefore xs i number left → IsBefore xs (i + 1) number (left - e.bytes / 512)
 before_more xs i number left e small is past most b =
-    let front = cut e.address (e.bytes / 512) in
+    let front = piece_addresses e.address (e.bytes / 512) in
     let rest : drop i xs ≡ e ∷ drop (i + 1) xs = drop_next xs i e small is in
     record {
       front = b.front ++ front;
@@ -102,7 +102,7 @@ before_on xs i number left k b = record { front = b.front; split = b.split; sum 
 pub before_here : (xs : List Prd) (i number left : ℕ) (e : Prd) → i < length xs → e ≡ slice_index_or xs i no_prd → left < e.bytes / 512 →
     IsBefore xs i number left → (number < length (pieces xs)) × (e.address + 512 * left ≡ slice_index (pieces xs) number)
 before_here xs i number left e small is here b =
-    let front = cut e.address (e.bytes / 512) in
+    let front = piece_addresses e.address (e.bytes / 512) in
     let after : List ℕ = pieces (drop (i + 1) xs) in
     let all : pieces xs ≡ b.front ++ (front ++ after) = b.split ∙ ap (λ (es : List Prd). b.front ++ pieces es) (drop_next xs i e small is) in
     let n : length front ≡ e.bytes / 512 = cut_length e.address (e.bytes / 512) in
@@ -123,22 +123,22 @@ before_all xs i number left past b =
     let all : length (pieces xs) ≡ length (b.front ++ []) = ap length b.split ∙ ap (λ (l : List ℕ). length (b.front ++ l)) none in
     omega (arith, all, b.sum, length-append {A = ℕ} b.front [])
 
-pub only_one : (e : Prd) → IsWhole e → All IsWhole (e ∷ [])
+pub only_one : (e : Prd) → IsWholePieces e → All IsWholePieces (e ∷ [])
 only_one e here zero d lt = here
 only_one e here (suc k) d lt = absurd (omega arith)
 
 -- ---- what a command of this kind says
 
-module _ (k : Transfer) (memory : ℕ → ℕ) (list slot : ℕ) (m : Meaning) (places : List ℕ) (is : m.operation ≡ operation_of k)
-    (s : Says memory list slot m places) where
-  pub said_header : SpellsHeader (bytes_at memory (list + 32 * slot) 32) (reads_memory (operation_of k)) (length s.prds) s.table
-  said_header = subst (λ (w : Bool). SpellsHeader (bytes_at memory (list + 32 * slot) 32) w (length s.prds) s.table) (ap reads_memory is) s.header
+module _ (k : Transfer) (memory : ℕ → ℕ) (list slot : ℕ) (m : Meaning) (places : List ℕ) (is : m.operation ≡ transfer_operation k)
+    (s : DecodesTo memory list slot m places) where
+  pub said_header : EncodesHeader (bytes_at memory (list + 32 * slot) 32) (reads_memory (transfer_operation k)) (length s.prds) s.table
+  said_header = subst (λ (w : Bool). EncodesHeader (bytes_at memory (list + 32 * slot) 32) w (length s.prds) s.table) (ap reads_memory is) s.header
 
-  pub said_command : SpellsCommand (bytes_at memory s.table 20) (command_of (operation_of k) slot m.first m.count)
-  said_command = subst (λ (o : Operation). SpellsCommand (bytes_at memory s.table 20) (command_of o slot m.first m.count)) is s.fis
+  pub said_command : EncodesCommand (bytes_at memory s.table 20) (command_of (transfer_operation k) slot m.first m.count)
+  said_command = subst (λ (o : Operation). EncodesCommand (bytes_at memory s.table 20) (command_of o slot m.first m.count)) is s.fis
 
-  pub said_meaning : IsMeaning (record { operation = operation_of k; first = m.first; count = m.count })
+  pub said_meaning : IsMeaning (record { operation = transfer_operation k; first = m.first; count = m.count })
   said_meaning = subst (λ (o : Operation). IsMeaning (record { operation = o; first = m.first; count = m.count })) is s.meaning
 
-  pub said_count : length (pieces s.prds) ≡ pieces_moved (operation_of k) m.count
+  pub said_count : length (pieces s.prds) ≡ pieces_moved (transfer_operation k) m.count
   said_count = ap length (sym s.in_order) ∙ (s.as_many ∙ ap (λ (o : Operation). pieces_moved o m.count) is)

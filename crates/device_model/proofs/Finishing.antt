@@ -1,14 +1,14 @@
 -- A command that may be done is taken, goes on piece by piece and clear by clear, and ends.
 use Rattle.std.proofs.Common.{[], ◌∷◌, ℕ, Bool, true, false, zero, suc, ◌≡◌, ◌<◌, ◌≤◌, ◌+◌, ◌⊎◌, List, length, slice_index, slice_index_or, Option, None, Some, refl, sym, ◌∙◌, ap, subst, inl, inr, arith}
 use Rattle.std.specs.Prelude.{if◌then◌else◌}
-use Rattle.adapter.specs.Asked.{DoesClear, DoesFetch, DoesMove, DoesDone, DoesOne, DoesSome, Ends, GoesOn}
+use Rattle.adapter.specs.Asked.{DoesClear, DoesFetch, DoesMove, DoesDone, DoesOne, DoesSome, EndsAndPosts, SlotGoesOn}
 use Rattle.adapter.specs.Commands.{Meaning, is_queued, is_ranged}
-use Rattle.adapter.specs.Device.{Disk, Taken, Halt, PortState, Device}
+use Rattle.adapter.specs.Device.{Disk, FetchedCommand, Halt, DevicePort, Device}
 use Rattle.adapter.specs.Memory.{changed}
 use Rattle.adapter.specs.OneCommand.{IsFreeSlot}
-use Rattle.adapter.specs.Says.{pieces}
+use Rattle.adapter.specs.Decoding.{pieces}
 use Rattle.adapter.specs.Steps.{Can, IsWorking, WorksOn, admits, begun, Brings, next_place, next_sector, with_fetch, with_move, with_clear, with_done, with_flush, block_after}
-use Rattle.adapter.specs.Steps.Step.{Fetch, Move, Done}
+use Rattle.adapter.specs.Steps.DeviceTransition.{Fetch, Move, Done}
 use Rattle.adapter.specs.declared.command.Operation.{Operation}
 use Rattle.adapter.specs.declared.command.Operation.TheVariants.{Trim}
 use Rattle.device_model.proofs.Absurd.{some-none, some_one, true-false}
@@ -17,9 +17,9 @@ use Rattle.adapter.proofs.SaysLemmas.{says_meaning, says_places}
 use Rattle.device_model.specs.Does.{HasCleared, HasEndedSlot}
 use Rattle.device_model.specs.Finishing.{HasDisk, HasMove, IsCovered, IsGoing, MayFinish}
 use Rattle.device_model.specs.Sent.{SendsEnd}
-use Rattle.device_model.specs.Slots.{CanClear, HoldsAt, IsNext}
+use Rattle.device_model.specs.Slots.{CanClear, WorksOnIn, IsNext}
 use Rattle.device_model.specs.Trims.{HasClear, WillClear, span, uncleared}
-use Rattle.device_model.specs.View.{halt_of, held_in, operation_of, taken_of, blank}
+use Rattle.device_model.specs.View.{halt_of, held_in, transfer_operation, taken_of, blank_port}
 use Rattle.device_model.specs.Whole.{HasDisks, Outside, device_of}
 use Rattle.device_model.specs.declared.port.PortModel.{PortModel}
 use Rattle.device_model.specs.declared.hardware.Hardware.{Hardware}
@@ -32,7 +32,7 @@ use Rattle.device_model.proofs.Trimming.{is_a_trim, moved_clears, none_left, som
 use Rattle.device_model.proofs.SlotLemmas.{slot_taken, taken_slot}
 use Rattle.device_model.proofs.Transfers.{is_trim, transfer_of}
 
-cleared : (queued : Bool) (p : PortState) (slot : ℕ) →
+cleared : (queued : Bool) (p : DevicePort) (slot : ℕ) →
     (if queued then (if queued then changed p.sact slot false else p.sact) slot else (if queued then p.ci else changed p.ci slot false) slot) ≡ false
 cleared true p slot = changed_same p.sact slot false
 cleared false p slot = changed_same p.ci slot false
@@ -40,14 +40,14 @@ cleared false p slot = changed_same p.ci slot false
 -- ---- a command goes on
 
 -- a port that was changed, and a slot of one
-pub here_after : (d : Device) (port : ℕ) (p : PortState) → changed d.port port p port ≡ p
+pub here_after : (d : Device) (port : ℕ) (p : DevicePort) → changed d.port port p port ≡ p
 here_after d port p = changed_same d.port port p
 
-pub taken_after : (p : PortState) (slot : ℕ) (t : Option Taken) → changed p.taken slot t slot ≡ t
+pub taken_after : (p : DevicePort) (slot : ℕ) (t : Option FetchedCommand) → changed p.taken slot t slot ≡ t
 taken_after p slot t = changed_same p.taken slot t
 
 -- a port goes on to work where none of what that rests on changed
-pub still_works : (p new : PortState) (o : Operation) → IsWorking p o → new.cr ≡ p.cr → new.present ≡ p.present → new.fresh ≡ p.fresh → new.halt ≡ p.halt →
+pub still_works : (p new : DevicePort) (o : Operation) → IsWorking p o → new.cr ≡ p.cr → new.present ≡ p.present → new.fresh ≡ p.fresh → new.halt ≡ p.halt →
     new.broken ≡ p.broken → IsWorking new o
 still_works p new o w cr present fresh halt broken = record {
   running = cr ∙ w.running;
@@ -63,14 +63,14 @@ module _ (port slot : ℕ) where
       WillClear m.operation old.memory (begun m places) clears → Can (Fetch port slot m places) old → DoesFetch port slot old new →
       IsGoing new port slot left clears
   just_fetched left clears old new m places covered clearing can f =
-      let p : PortState = old.port port in
-      let state : PortState = with_fetch p slot f.meaning f.places in
+      let p : DevicePort = old.port port in
+      let state : DevicePort = with_fetch p slot f.meaning f.places in
       let meaning : f.meaning ≡ m = says_meaning old.memory p.bases.clb slot f.meaning m f.places places f.can.says can.says in
       let same : f.places ≡ places = says_places old.memory p.bases.clb slot f.meaning m f.places places f.can.says can.says in
       let there : new.port port ≡ state = ap (λ (d : Device). d.port port) f.effect ∙ changed_same old.port port state in
       let taken : state.taken slot ≡ Some (begun m places) =
       changed_same p.taken slot (Some (begun f.meaning f.places)) ∙ (λ i. Some (begun (meaning i) (same i))) in
-      let P : PortState → Type 0 = λ x. WorksOn x slot (begun m places) m.operation in
+      let P : DevicePort → Type 0 = λ x. WorksOn x slot (begun m places) m.operation in
       let Q : ℕ → Type 0 = λ size. IsCovered (begun m places) size left in
       record {
         t = begun m places;
@@ -91,8 +91,8 @@ module _ (port slot : ℕ) where
           ⊎ (Can (Fetch port slot ready.t.meaning ready.t.places) old × (ready.t ≡ begun ready.t.meaning ready.t.places)) → IsGoing new port slot left clears
       by true e (inl works) = some-none works.taken (fetched e).can.fetchable.free
       by true e (inr (can, is)) =
-          let P : Taken → Type 0 = λ t. IsCovered t old.size left in
-          let Q : Taken → Type 0 = λ t. WillClear t.meaning.operation old.memory t clears in
+          let P : FetchedCommand → Type 0 = λ t. IsCovered t old.size left in
+          let Q : FetchedCommand → Type 0 = λ t. WillClear t.meaning.operation old.memory t clears in
           just_fetched left clears old new ready.t.meaning ready.t.places (subst P is ready.covered) (subst Q is ready.clearing) can (fetched e)
       by false e (inl works) =
           let P : Device → Type 0 = λ d. IsGoing d port slot left clears in
@@ -103,21 +103,21 @@ module _ (port slot : ℕ) where
   pub moved_goes : (left clears : ℕ) (old new : Device) → IsGoing old port slot (suc left) clears → DoesMove port slot old new →
       IsGoing new port slot left clears
   moved_goes left clears old new going m =
-      let p : PortState = old.port port in
-      let t : Taken = going.t in
-      let u : Taken = record m.t { moved = m.t.moved + 1; block = block_after m.t.meaning.operation m.bytes m.t.block } in
-      let state : PortState = with_move p slot m.t m.bytes in
+      let p : DevicePort = old.port port in
+      let t : FetchedCommand = going.t in
+      let u : FetchedCommand = record m.t { moved = m.t.moved + 1; block = block_after m.t.meaning.operation m.bytes m.t.block } in
+      let state : DevicePort = with_move p slot m.t m.bytes in
       let same : m.t ≡ t = some_one (sym m.can.works.taken ∙ going.works.taken) in
       let there : new.port port ≡ state = ap (λ (d : Device). d.port port) m.effect ∙ changed_same old.port port state in
       let size : new.size ≡ old.size = ap (λ (d : Device). d.size) m.effect in
-      let P : PortState → Type 0 = λ x. WorksOn x slot u m.t.meaning.operation in
-      let Q : Taken → Type 0 = λ x. IsCovered x old.size (suc left) in
+      let P : DevicePort → Type 0 = λ x. WorksOn x slot u m.t.meaning.operation in
+      let Q : FetchedCommand → Type 0 = λ x. IsCovered x old.size (suc left) in
       let covered : IsCovered m.t old.size (suc left) = subst Q (sym same) going.covered in
       record {
         t = u;
         clearing = subst (λ (memory : ℕ → ℕ). WillClear m.t.meaning.operation memory u clears) (sym (ap (λ (d : Device). d.memory) m.effect))
             (moved_clears m.t.meaning.operation p.disk old.memory m.t m.bytes clears m.can.left m.can.brings
-            (subst (λ (x : Taken). WillClear x.meaning.operation old.memory x clears) (sym same) going.clearing));
+            (subst (λ (x : FetchedCommand). WillClear x.meaning.operation old.memory x clears) (sym same) going.clearing));
         covered = record {
           left_is = omega (arith, covered.left_is);
           inside = λ k small. omega (arith, size, covered.inside k small);
@@ -133,10 +133,10 @@ module _ (port slot : ℕ) where
   pub cleared_goes : (clears : ℕ) (old new : Device) → (going : IsGoing old port slot 0 (suc clears)) → (most : ℕ) →
       most ≡ length (uncleared going.t) → (c : DoesClear port slot most old new) → HasCleared old new port slot most → IsGoing new port slot 0 clears
   cleared_goes clears old new going most whole c has =
-      let p : PortState = old.port port in
-      let t : Taken = going.t in
-      let u : Taken = record t { cleared = t.cleared + span (length (uncleared t)) t } in
-      let state : PortState = with_clear p slot c.t c.first c.count in
+      let p : DevicePort = old.port port in
+      let t : FetchedCommand = going.t in
+      let u : FetchedCommand = record t { cleared = t.cleared + span (length (uncleared t)) t } in
+      let state : DevicePort = with_clear p slot c.t c.first c.count in
       let there : new.port port ≡ state = ap (λ (d : Device). d.port port) c.effect ∙ changed_same old.port port state in
       let same : has.t ≡ t = some_one (sym has.was ∙ going.works.taken) in
       let taken : (new.port port).taken slot ≡ Some u =
@@ -154,25 +154,25 @@ module _ (port slot : ℕ) where
         works = record {
           taken = taken;
           working =
-              let P : PortState → Type 0 = λ x. IsWorking x t.meaning.operation in
+              let P : DevicePort → Type 0 = λ x. IsWorking x t.meaning.operation in
               subst P (sym there) (still_works p state t.meaning.operation going.works.working refl refl refl refl refl);
         };
       }
 
   -- and it has ended
-  pub done_port : (old new : Device) (e : Ends (SendsEnd slot) port slot old new) → new.port port ≡ with_flush (with_done (old.port port) slot e.done.flag e.done.t.meaning.operation) e.done.t.meaning.operation (length old.tape)
+  pub done_port : (old new : Device) (e : EndsAndPosts (SendsEnd slot) port slot old new) → new.port port ≡ with_flush (with_done (old.port port) slot e.done.flag e.done.t.meaning.operation) e.done.t.meaning.operation (length old.tape)
   done_port old new e =
       let f : DoesDone port slot old e.mid = e.done in
       ap (λ (d : Device). d.port port) (end_rest port slot f.flag f.t.meaning.operation e.mid new e.posts)
       ∙ (ap (λ (d : Device). d.port port) f.effect ∙ changed_same old.port port (with_flush (with_done (old.port port) slot f.flag f.t.meaning.operation) f.t.meaning.operation (length old.tape)))
 
-  done_gone : (old new : Device) → Ends (SendsEnd slot) port slot old new → (new.port port).taken slot ≡ None
-  done_gone old new e = ap (λ (p : PortState). p.taken slot) (done_port old new e) ∙ changed_same (old.port port).taken slot None
+  done_gone : (old new : Device) → EndsAndPosts (SendsEnd slot) port slot old new → (new.port port).taken slot ≡ None
+  done_gone old new e = ap (λ (p : DevicePort). p.taken slot) (done_port old new e) ∙ changed_same (old.port port).taken slot None
 
   -- A queued command that is taken has its bit of PxCI clear, if it was taken since this state, or had it clear then.
   abbrev pub IsIssuedNoMore : Device → Device → Type 0
   IsIssuedNoMore since d =
-      (t : Taken) → (d.port port).taken slot ≡ Some t → is_queued t.meaning.operation ≡ true →
+      (t : FetchedCommand) → (d.port port).taken slot ≡ Some t → is_queued t.meaning.operation ≡ true →
       ((since.port port).taken slot ≡ None) ⊎ ((since.port port).ci slot ≡ false) → (d.port port).ci slot ≡ false
 
   no_more_yet : (since : Device) → IsIssuedNoMore since since
@@ -181,69 +181,69 @@ module _ (port slot : ℕ) where
 
   no_more_on : (since mid new : Device) → IsIssuedNoMore since mid → DoesOne (SendsEnd slot) port slot mid new → IsIssuedNoMore since new
   no_more_on since mid new was (inl f) t taken queued before =
-      let p : PortState = mid.port port in
-      let state : PortState = with_fetch p slot f.meaning f.places in
+      let p : DevicePort = mid.port port in
+      let state : DevicePort = with_fetch p slot f.meaning f.places in
       let there : new.port port ≡ state = ap (λ (d : Device). d.port port) f.effect ∙ changed_same mid.port port state in
       let same : begun f.meaning f.places ≡ t =
-      some_one (sym (changed_same p.taken slot (Some (begun f.meaning f.places))) ∙ (sym (ap (λ (x : PortState). x.taken slot) there) ∙ taken)) in
-      let kind : is_queued f.meaning.operation ≡ true = ap (λ (x : Taken). is_queued x.meaning.operation) same ∙ queued in
-      ap (λ (x : PortState). x.ci slot) there
+      some_one (sym (changed_same p.taken slot (Some (begun f.meaning f.places))) ∙ (sym (ap (λ (x : DevicePort). x.taken slot) there) ∙ taken)) in
+      let kind : is_queued f.meaning.operation ≡ true = ap (λ (x : FetchedCommand). is_queued x.meaning.operation) same ∙ queued in
+      ap (λ (x : DevicePort). x.ci slot) there
       ∙ (ap (λ (b : Bool). (if b then changed p.ci slot false else p.ci) slot) kind ∙ changed_same p.ci slot false)
   no_more_on since mid new was (inr (inl m)) t taken queued before =
-      let p : PortState = mid.port port in
-      let u : Taken = record m.t { moved = m.t.moved + 1; block = block_after m.t.meaning.operation m.bytes m.t.block } in
-      let state : PortState = with_move p slot m.t m.bytes in
+      let p : DevicePort = mid.port port in
+      let u : FetchedCommand = record m.t { moved = m.t.moved + 1; block = block_after m.t.meaning.operation m.bytes m.t.block } in
+      let state : DevicePort = with_move p slot m.t m.bytes in
       let there : new.port port ≡ state = ap (λ (d : Device). d.port port) m.effect ∙ changed_same mid.port port state in
-      let same : u ≡ t = some_one (sym (changed_same p.taken slot (Some u)) ∙ (sym (ap (λ (x : PortState). x.taken slot) there) ∙ taken)) in
-      let kind : is_queued m.t.meaning.operation ≡ true = ap (λ (x : Taken). is_queued x.meaning.operation) same ∙ queued in
-      ap (λ (x : PortState). x.ci slot) there ∙ was m.t m.can.works.taken kind before
+      let same : u ≡ t = some_one (sym (changed_same p.taken slot (Some u)) ∙ (sym (ap (λ (x : DevicePort). x.taken slot) there) ∙ taken)) in
+      let kind : is_queued m.t.meaning.operation ≡ true = ap (λ (x : FetchedCommand). is_queued x.meaning.operation) same ∙ queued in
+      ap (λ (x : DevicePort). x.ci slot) there ∙ was m.t m.can.works.taken kind before
   no_more_on since mid new was (inr (inr (inl e))) t taken queued before = some-none taken (done_gone mid new e)
   no_more_on since mid new was (inr (inr (inr (most, c)))) t taken queued before =
-      let p : PortState = mid.port port in
-      let u : Taken = record c.t { cleared = c.t.cleared + c.count } in
-      let state : PortState = with_clear p slot c.t c.first c.count in
+      let p : DevicePort = mid.port port in
+      let u : FetchedCommand = record c.t { cleared = c.t.cleared + c.count } in
+      let state : DevicePort = with_clear p slot c.t c.first c.count in
       let there : new.port port ≡ state = ap (λ (d : Device). d.port port) c.effect ∙ changed_same mid.port port state in
-      let same : u ≡ t = some_one (sym (changed_same p.taken slot (Some u)) ∙ (sym (ap (λ (x : PortState). x.taken slot) there) ∙ taken)) in
-      let kind : is_queued c.t.meaning.operation ≡ true = ap (λ (x : Taken). is_queued x.meaning.operation) same ∙ queued in
-      ap (λ (x : PortState). x.ci slot) there ∙ was c.t c.can.works.taken kind before
+      let same : u ≡ t = some_one (sym (changed_same p.taken slot (Some u)) ∙ (sym (ap (λ (x : DevicePort). x.taken slot) there) ∙ taken)) in
+      let kind : is_queued c.t.meaning.operation ≡ true = ap (λ (x : FetchedCommand). is_queued x.meaning.operation) same ∙ queued in
+      ap (λ (x : DevicePort). x.ci slot) there ∙ was c.t c.can.works.taken kind before
 
   no_more_after : (n : ℕ) (since new : Device) → DoesSome (SendsEnd slot) n port slot since new → IsIssuedNoMore since new
   no_more_after zero since new same = subst (IsIssuedNoMore since) (sym same) (no_more_yet since)
   no_more_after (suc n) since new s = no_more_on since s.0 new (no_more_after n since s.0 s.1) s.2
 
-  pub no_more_going : (did : Bool) (since new : Device) → (did ≡ true → GoesOn (SendsEnd slot) port slot since new) → (did ≡ false → new ≡ since) →
+  pub no_more_going : (did : Bool) (since new : Device) → (did ≡ true → SlotGoesOn (SendsEnd slot) port slot since new) → (did ≡ false → new ≡ since) →
       IsIssuedNoMore since new
   no_more_going true since new goes same = let g = goes refl in no_more_after (suc g.0) since new g.1
   no_more_going false since new goes same = subst (IsIssuedNoMore since) (sym (same refl)) (no_more_yet since)
 
-  pub done_ended : (since old new : Device) → IsIssuedNoMore since old → Ends (SendsEnd slot) port slot old new → HasEndedSlot since new port slot
+  pub done_ended : (since old new : Device) → IsIssuedNoMore since old → EndsAndPosts (SendsEnd slot) port slot old new → HasEndedSlot since new port slot
   done_ended since old new was e =
       let f : DoesDone port slot old e.mid = e.done in
       let o : Operation = f.t.meaning.operation in
-      let p : PortState = old.port port in
+      let p : DevicePort = old.port port in
       record {
         operation = o;
         before = old.tape;
         last = ap (λ (d : Device). d.tape) (end_rest port slot f.flag o e.mid new e.posts) ∙ ap (λ (d : Device). d.tape) f.effect;
         taken = done_gone old new e;
-        clear = ap (λ (p : PortState). if is_queued o then p.sact slot else p.ci slot) (done_port old new e) ∙ cleared (is_queued o) (old.port port) slot;
+        clear = ap (λ (p : DevicePort). if is_queued o then p.sact slot else p.ci slot) (done_port old new e) ∙ cleared (is_queued o) (old.port port) slot;
         issued_no_more = λ queued before.
-            ap (λ (x : PortState). x.ci slot) (done_port old new e)
+            ap (λ (x : DevicePort). x.ci slot) (done_port old new e)
             ∙ (ap (λ (b : Bool). (if b then p.ci else changed p.ci slot false) slot) queued ∙ was f.t f.can.works.taken queued before);
       }
 
   -- a plain one is issued no more
-  pub done_frees : (old new : Device) (going : IsGoing old port slot 0 0) → is_queued going.t.meaning.operation ≡ false → Ends (SendsEnd slot) port slot old new →
+  pub done_frees : (old new : Device) (going : IsGoing old port slot 0 0) → is_queued going.t.meaning.operation ≡ false → EndsAndPosts (SendsEnd slot) port slot old new →
       IsFreeSlot (new.port port) slot
   done_frees old new going plain e =
       let f : DoesDone port slot old e.mid = e.done in
-      let p : PortState = old.port port in
-      let state : PortState = with_flush (with_done p slot f.flag f.t.meaning.operation) f.t.meaning.operation (length old.tape) in
+      let p : DevicePort = old.port port in
+      let state : DevicePort = with_flush (with_done p slot f.flag f.t.meaning.operation) f.t.meaning.operation (length old.tape) in
       let same : f.t ≡ going.t = some_one (sym f.can.works.taken ∙ going.works.taken) in
       let issued : state.ci ≡ changed p.ci slot false =
-      ap (λ b. if b then p.ci else changed p.ci slot false) (ap (λ (x : Taken). is_queued x.meaning.operation) same ∙ plain) in
+      ap (λ b. if b then p.ci else changed p.ci slot false) (ap (λ (x : FetchedCommand). is_queued x.meaning.operation) same ∙ plain) in
       record {
-        ci = ap (λ (x : PortState). x.ci slot) (done_port old new e) ∙ (ap (λ (f : ℕ → Bool). f slot) issued ∙ changed_same p.ci slot false);
+        ci = ap (λ (x : DevicePort). x.ci slot) (done_port old new e) ∙ (ap (λ (f : ℕ → Bool). f slot) issued ∙ changed_same p.ci slot false);
         taken = done_gone old new e;
       }
 
@@ -261,10 +261,10 @@ module _ (port slot : ℕ) where
 -- ---- what a move and an end find
 
 -- a command that a port works on is one that its slot holds
-pub holds : (h : Hardware) (o : Outside) (port slot : ℕ) (t : Taken) → WorksOn ((device_of h o).port port) slot t t.meaning.operation →
-    (r : TakenCommand) × HoldsAt (slice_index_or h.ports port blank) slot r × (t ≡ taken_of r)
+pub holds : (h : Hardware) (o : Outside) (port slot : ℕ) (t : FetchedCommand) → WorksOn ((device_of h o).port port) slot t t.meaning.operation →
+    (r : TakenCommand) × WorksOnIn (slice_index_or h.ports port blank_port) slot r × (t ≡ taken_of r)
 holds h o port slot t works =
-    let p : PortModel = slice_index_or h.ports port blank in
+    let p : PortModel = slice_index_or h.ports port blank_port in
     let w = taken_slot (held_in p.taken) slot t works.taken in (
       w.0,
       record {
@@ -275,7 +275,7 @@ holds h o port slot t works =
             running = works.working.running;
             present = works.working.present;
             fresh = works.working.fresh;
-            admitted = subst (λ (x : Taken). admits (halt_of p.halting) x.meaning.operation ≡ true) w.2 works.working.admitted;
+            admitted = subst (λ (x : FetchedCommand). admits (halt_of p.halting) x.meaning.operation ≡ true) w.2 works.working.admitted;
             whole = works.working.whole;
           };
         };
@@ -286,16 +286,16 @@ holds h o port slot t works =
 -- what a move that is possible says of the command
 pub record MoveFits (h : Hardware) (port slot : ℕ) : Type 0 where
   pub r : TakenCommand
-  pub holds : HoldsAt (slice_index_or h.ports port blank) slot r
+  pub holds : WorksOnIn (slice_index_or h.ports port blank_port) slot r
   pub left : r.moved < length (pieces r.prds)
   pub inside : slice_index (pieces r.prds) r.moved + 512 ≤ length h.memory.items
 
-pub move_fits : (h : Hardware) (o : Outside) (d : Device) (port slot : ℕ) (t : Taken) → device_of h o ≡ d → HasMove d port slot t → MoveFits h port slot
+pub move_fits : (h : Hardware) (o : Outside) (d : Device) (port slot : ℕ) (t : FetchedCommand) → device_of h o ≡ d → HasMove d port slot t → MoveFits h port slot
 move_fits h o d port slot t same move =
     let P : Device → Type 0 = λ x. HasMove x port slot t in
     let on_port : HasMove (device_of h o) port slot t = subst P (sym same) move in
     let w = holds h o port slot t on_port.works in
-    let Q : Taken → Type 0 = λ x. HasMove (device_of h o) port slot x in
+    let Q : FetchedCommand → Type 0 = λ x. HasMove (device_of h o) port slot x in
     let here : HasMove (device_of h o) port slot (taken_of w.0) = subst Q w.2 on_port in
     record { r = w.0; holds = w.1; left = here.left; inside = here.inside }
 
@@ -310,8 +310,8 @@ next_has_move h o d port slot next r has same is =
     subst P same (record { works = is.holds.works (o.media port); left = is.left; inside = omega (arith, place, there); has_disks = subst Q (sym same) has })
 
 -- a move of a device is of a sector on its disk, if it is of one
-brings_on_disk : (disk : Disk) (memory : ℕ → ℕ) (t : Taken) (k : Transfer) (bytes : List ℕ) → is_ranged (operation_of k) ≡ true →
-    Brings disk memory t (operation_of k) bytes → next_sector t < disk.size
+brings_on_disk : (disk : Disk) (memory : ℕ → ℕ) (t : FetchedCommand) (k : Transfer) (bytes : List ℕ) → is_ranged (transfer_operation k) ≡ true →
+    Brings disk memory t (transfer_operation k) bytes → next_sector t < disk.size
 brings_on_disk disk memory t transfer.Read bytes ranged brings = brings.0
 brings_on_disk disk memory t transfer.Write bytes ranged brings = brings.0
 brings_on_disk disk memory t transfer.ReadQueued bytes ranged brings = brings.0
@@ -322,7 +322,7 @@ brings_on_disk disk memory t transfer.Trim bytes ranged brings = absurd (cc rang
 brings_on_disk disk memory t transfer.ReadLog bytes ranged brings = absurd (cc ranged)
 
 -- where a move may be made on a port that has disks, and its piece is in the memory, it is possible
-pub has_move : (d : Device) (port slot : ℕ) (t : Taken) (bytes : List ℕ) → ((sector : ℕ) → sector < (d.port port).disk.size → HasDisks d port) →
+pub has_move : (d : Device) (port slot : ℕ) (t : FetchedCommand) (bytes : List ℕ) → ((sector : ℕ) → sector < (d.port port).disk.size → HasDisks d port) →
     HasDisk d port t.meaning.operation → next_place t + 512 ≤ d.size → Can (Move port slot t bytes) d → HasMove d port slot t
 has_move d port slot t bytes sized has inside can =
     record { works = can.works; left = can.left; inside = inside; has_disks = elim has [ inl here ↦ here | inr ranged ↦ on ranged ] }
@@ -336,7 +336,7 @@ has_move d port slot t bytes sized has inside can =
 -- where a move is left, one is possible
 pub going_has_move : (d : Device) (port slot left clears : ℕ) → HasDisks d port → (going : IsGoing d port slot (suc left) clears) → HasMove d port slot going.t
 going_has_move d port slot left clears has going =
-    let t : Taken = going.t in
+    let t : FetchedCommand = going.t in
     record {
       works = going.works;
       left = omega (arith, going.covered.left_is);
@@ -348,7 +348,7 @@ going_has_move d port slot left clears has going =
 pub going_has_clear : (d : Device) (port slot clears : ℕ) → HasDisks d port → (going : IsGoing d port slot 0 (suc clears)) →
     HasClear d port slot (length (uncleared going.t)) going.t
 going_has_clear d port slot clears has going =
-    let t : Taken = going.t in
+    let t : FetchedCommand = going.t in
     let all : t.moved ≡ length t.places = omega (arith, going.covered.left_is) in
     let trim = is_a_trim d.memory t clears all going.clearing in
     record {
@@ -361,22 +361,22 @@ going_has_clear d port slot clears has going =
     }
 
 -- what a clear that is possible says of the command
-pub clear_fits : (h : Hardware) (o : Outside) (d : Device) (port slot most : ℕ) (t : Taken) → device_of h o ≡ d → HasClear d port slot most t →
-    (r : TakenCommand) × HoldsAt (slice_index_or h.ports port blank) slot r × CanClear r most × (t ≡ taken_of r)
+pub clear_fits : (h : Hardware) (o : Outside) (d : Device) (port slot most : ℕ) (t : FetchedCommand) → device_of h o ≡ d → HasClear d port slot most t →
+    (r : TakenCommand) × WorksOnIn (slice_index_or h.ports port blank_port) slot r × CanClear r most × (t ≡ taken_of r)
 clear_fits h o d port slot most t same clear =
     let P : Device → Type 0 = λ x. HasClear x port slot most t in
     let on_port : HasClear (device_of h o) port slot most t = subst P (sym same) clear in
     let w = holds h o port slot t (subst (λ (x : Operation). WorksOn ((device_of h o).port port) slot t x) (sym on_port.trim) on_port.works) in
-    let Q : Taken → Type 0 = λ x. HasClear (device_of h o) port slot most x in
+    let Q : FetchedCommand → Type 0 = λ x. HasClear (device_of h o) port slot most x in
     let here : HasClear (device_of h o) port slot most (taken_of w.0) = subst Q w.2 on_port in
     (w.0, w.1, record { trim = is_trim w.0.transfer here.trim; moved = here.moved; some = here.some; enough = here.enough }, w.2)
 
 -- and where the hardware finds one, it is possible on a port that has disks
 pub next_has_clear : (h : Hardware) (o : Outside) (d : Device) (port slot most : ℕ) (r : TakenCommand) → HasDisks d port → device_of h o ≡ d →
-    HoldsAt (slice_index_or h.ports port blank) slot r → CanClear r most → HasClear d port slot most (taken_of r)
+    WorksOnIn (slice_index_or h.ports port blank_port) slot r → CanClear r most → HasClear d port slot most (taken_of r)
 next_has_clear h o d port slot most r has same holds can =
     let P : Device → Type 0 = λ x. HasClear x port slot most (taken_of r) in
-    let trim : operation_of r.transfer ≡ Trim = ap operation_of can.trim in
+    let trim : transfer_operation r.transfer ≡ Trim = ap transfer_operation can.trim in
     subst P same (record {
       has_disks = subst (λ (x : Device). HasDisks x port) (sym same) has;
       works = subst (λ (x : Operation). WorksOn ((device_of h o).port port) slot (taken_of r) x) trim (holds.works (o.media port));
@@ -407,7 +407,7 @@ never_past h o port slot left clears past may = by may.begins
     d = device_of h o
 
     stopped : ((device_of h o).port port).cr ≡ true → ⊥
-    stopped runs = let off : (slice_index_or h.ports port blank).cr ≡ false = ap (λ (p : PortModel). p.cr) (past_last h.ports port blank past) in true-false runs off
+    stopped runs = let off : (slice_index_or h.ports port blank_port).cr ≡ false = ap (λ (p : PortModel). p.cr) (past_last h.ports port blank_port past) in true-false runs off
 
     by : WorksOn (d.port port) slot may.t may.t.meaning.operation ⊎ (Can (Fetch port slot may.t.meaning may.t.places) d × (may.t ≡ begun may.t.meaning may.t.places)) → ⊥
     by (inl works) = stopped works.working.running

@@ -1,30 +1,30 @@
 -- What a port does by itself is steps, which compose.
 use Rattle.std.proofs.Common.{ℕ, length, Bool, zero, suc, true, false, ◌≡◌, ◌%◌, List, None, refl, sym, ◌∙◌, ap, subst, inl, inr}
 use Rattle.std.proofs.lemmas.Bool.Decides.{eqb_tells}
-use Rattle.adapter.specs.Device.{PortState, Device}
+use Rattle.adapter.specs.Device.{DevicePort, Device}
 use Rattle.adapter.specs.Memory.{changed}
-use Rattle.adapter.specs.Asked.{DoesOne, DoesSome, GoesOn}
+use Rattle.adapter.specs.Asked.{DoesOne, DoesSome, SlotGoesOn}
 use Rattle.adapter.specs.Steps.{MayLinkUp, with_clear, with_done, with_flush, with_fetch, with_link, with_move, with_port, with_reset}
-use Rattle.adapter.specs.Steps.Step.{Fall, FrFall, LinkUp}
+use Rattle.adapter.specs.Steps.DeviceTransition.{Fall, FrFall, LinkUp}
 use Rattle.device_model.proofs.Places.{fun_ext, changed_same, changed_other, changed_each}
 use Rattle.device_model.proofs.Own.{own_none, own_on, own_one}
-use Rattle.device_model.specs.Bits.{bits_of}
+use Rattle.device_model.specs.Bits.{word_bits}
 use Rattle.device_model.specs.Held.{IsPortHeld, IsPortLoose}
 use Rattle.device_model.specs.Sent.{SendsEnd, SendsRegisters, signature_of}
 use Rattle.device_model.proofs.Posting.{end_rest}
 use Rattle.device_model.specs.Settled.{LeadsOwn, Settles, GoesTo, IsSettled, IsSettledPort}
-use Rattle.device_model.specs.View.{Media, port_of, blank}
+use Rattle.device_model.specs.View.{Media, port_of, blank_port}
 use Rattle.device_model.specs.declared.port.PortModel.{PortModel}
 use Rattle.device_model.proofs.NewModel.{zero_bit}
 
-pub with_same : (d : Device) (port : ℕ) (p : PortState) → d.port port ≡ p → with_port d port p ≡ d
+pub with_same : (d : Device) (port : ℕ) (p : DevicePort) → d.port port ≡ p → with_port d port p ≡ d
 with_same d port p is =
-    ap (λ (f : ℕ → PortState). record d { port = f })
+    ap (λ (f : ℕ → DevicePort). record d { port = f })
     (fun_ext (changed_each d.port port p (λ k v. v ≡ d.port k) (sym is) (λ k. refl)))
 
-with_twice : (d : Device) (port : ℕ) (a b : PortState) → with_port (with_port d port a) port b ≡ with_port d port b
+with_twice : (d : Device) (port : ℕ) (a b : DevicePort) → with_port (with_port d port a) port b ≡ with_port d port b
 with_twice d port a b =
-    ap (λ (f : ℕ → PortState). record d { port = f })
+    ap (λ (f : ℕ → DevicePort). record d { port = f })
     (fun_ext
     (λ k.
     elim (eqb_tells k port) [
@@ -34,39 +34,39 @@ with_twice d port a b =
           ∙ (changed_other d.port port a k differ.1 ∙ sym (changed_other d.port port b k differ.1))
     ]))
 
-pub goes_nowhere : (p : PortState) → GoesTo p p
+pub goes_nowhere : (p : DevicePort) → GoesTo p p
 goes_nowhere p held d port loose is = let P : Device → Type 0 = λ x. LeadsOwn (Settles held) d x in subst P (sym (with_same d port p is)) (own_none (Settles held) d)
 
-pub goes_on : (a b c : PortState) → GoesTo a b → GoesTo b c → GoesTo a c
+pub goes_on : (a b c : DevicePort) → GoesTo a b → GoesTo b c → GoesTo a c
 goes_on a b c first then held d port loose is =
     let P : Device → Type 0 = λ x. LeadsOwn (Settles held) (with_port d port b) x in
     own_on (Settles held) d (with_port d port b) (with_port d port c) (first held d port loose is)
     (subst P (with_twice d port b c) (then held (with_port d port b) port loose (changed_same d.port port b)))
 
-abbrev fallen : PortState → PortState
+abbrev fallen : DevicePort → DevicePort
 fallen p = record p { cr = false; taken = λ _. None }
 
-pub goes_fallen : (old new : PortState) → old.st ≡ false → old.cr ≡ true → new ≡ fallen old → GoesTo old new
+pub goes_fallen : (old new : DevicePort) → old.st ≡ false → old.cr ≡ true → new ≡ fallen old → GoesTo old new
 goes_fallen old new st cr is held d port loose here =
-    own_one (Settles held) (Fall port) d _ (loose, tt) (ap (λ (p : PortState). p.st) here ∙ st, ap (λ (p : PortState). p.cr) here ∙ cr)
-    (ap (λ (p : PortState). with_port d port p) (is ∙ ap fallen (sym here)))
+    own_one (Settles held) (Fall port) d _ (loose, tt) (ap (λ (p : DevicePort). p.st) here ∙ st, ap (λ (p : DevicePort). p.cr) here ∙ cr)
+    (ap (λ (p : DevicePort). with_port d port p) (is ∙ ap fallen (sym here)))
 
-abbrev area_fallen : PortState → PortState
+abbrev area_fallen : DevicePort → DevicePort
 area_fallen p = record p { fr = false }
 
-pub goes_area_fallen : (old new : PortState) → old.fre ≡ false → old.cr ≡ false → old.fr ≡ true → new ≡ area_fallen old → GoesTo old new
+pub goes_area_fallen : (old new : DevicePort) → old.fre ≡ false → old.cr ≡ false → old.fr ≡ true → new ≡ area_fallen old → GoesTo old new
 goes_area_fallen old new fre cr fr is held d port loose here =
     own_one (Settles held) (FrFall port) d _ (loose, tt)
-    (ap (λ (p : PortState). p.fre) here ∙ fre, ap (λ (p : PortState). p.cr) here ∙ cr, ap (λ (p : PortState). p.fr) here ∙ fr)
-    (ap (λ (p : PortState). with_port d port p) (is ∙ ap area_fallen (sym here)))
+    (ap (λ (p : DevicePort). p.fre) here ∙ fre, ap (λ (p : DevicePort). p.cr) here ∙ cr, ap (λ (p : DevicePort). p.fr) here ∙ fr)
+    (ap (λ (p : DevicePort). with_port d port p) (is ∙ ap area_fallen (sym here)))
 
 -- the link of a port in this state comes up, and the disk's first FIS is sent
-pub own_linked : (held : List Bool) (d linked new : Device) (port : ℕ) (p : PortState) → IsPortLoose held port → d.port port ≡ p → MayLinkUp p 0x101 →
+pub own_linked : (held : List Bool) (d linked new : Device) (port : ℕ) (p : DevicePort) → IsPortLoose held port → d.port port ≡ p → MayLinkUp p 0x101 →
     linked ≡ with_port d port (with_link p 0x101 true) → SendsRegisters port (signature_of (linked.port port)) linked new → LeadsOwn (Settles held) d new
 own_linked held d linked new port p loose here may is sends =
     let P : Device → Type 0 = λ x. SendsRegisters port (signature_of (x.port port)) x new in
-    let same : linked ≡ with_port d port (with_link (d.port port) 0x101 true) = is ∙ ap (λ (x : PortState). with_port d port (with_link x 0x101 true)) (sym here) in
-    own_one (Settles held) (LinkUp port 0x101 true) d new ((loose, refl, refl), tt) (subst (λ (x : PortState). MayLinkUp x 0x101) (sym here) may) (subst P same sends)
+    let same : linked ≡ with_port d port (with_link (d.port port) 0x101 true) = is ∙ ap (λ (x : DevicePort). with_port d port (with_link x 0x101 true)) (sym here) in
+    own_one (Settles held) (LinkUp port 0x101 true) d new ((loose, refl, refl), tt) (subst (λ (x : DevicePort). MayLinkUp x 0x101) (sym here) may) (subst P same sends)
 
 -- a port is settled after its link may have come up, where CR and FR had fallen before
 pub linked_settled : (settled was linked : PortModel) (m : Media) → was ≡ settled → (settled.st ≡ false → settled.cr ≡ true → false ≡ true) →
@@ -84,18 +84,18 @@ linked_settled settled was linked m same fallen area due engine received =
       link = λ sig may. let e : false ≡ true = due may.present may.det may.due in cc;
     }
 
-pub no_bits : bits_of 0 ≡ (λ _. false)
+pub no_bits : word_bits 0 ≡ (λ _. false)
 no_bits = fun_ext zero_bit
 
-pub blank_reset : (m : Media) → with_reset (port_of blank m) ≡ port_of blank m
-blank_reset m = λ i. record (port_of blank m) { ci = sym no_bits i; sact = sym no_bits i; is = sym no_bits i }
+pub blank_reset : (m : Media) → with_reset (port_of blank_port m) ≡ port_of blank_port m
+blank_reset m = λ i. record (port_of blank_port m) { ci = sym no_bits i; sact = sym no_bits i; is = sym no_bits i }
 
-pub blank_settled : (m : Media) → IsSettledPort (port_of blank m)
+pub blank_settled : (m : Media) → IsSettledPort (port_of blank_port m)
 blank_settled m = record { engine = λ _ cr. cc; area = λ _ _ fr. cc; link = λ sig may. let e : false ≡ true = may.present in cc }
 
 -- ---- a command goes on, and what the model does by itself stays done
 
-record SameControls (p new : PortState) : Type 0 where
+record SameControls (p new : DevicePort) : Type 0 where
   st : new.st ≡ p.st
   cr : new.cr ≡ p.cr
   fre : new.fre ≡ p.fre
@@ -104,12 +104,12 @@ record SameControls (p new : PortState) : Type 0 where
   det : new.sctl_det ≡ p.sctl_det
   due : new.link_due ≡ p.link_due
 
-settled_with : (old new : Device) (port : ℕ) (p : PortState) → new.hr ≡ old.hr → new.port ≡ changed old.port port p → SameControls (old.port port) p →
+settled_with : (old new : Device) (port : ℕ) (p : DevicePort) → new.hr ≡ old.hr → new.port ≡ changed old.port port p → SameControls (old.port port) p →
     (held : List Bool) → IsSettled held old → IsSettled held new
 settled_with old new port p hr is same held settled =
-    let ports : (P : ℕ → PortState → Type 0) → P port p → ((k : ℕ) → P k (old.port k)) → (k : ℕ) → P k (new.port k) =
-    λ (P : ℕ → PortState → Type 0) (here : P port p) (others : (k : ℕ) → P k (old.port k)) (k : ℕ).
-    subst (λ (f : ℕ → PortState). P k (f k)) (sym is) (changed_each old.port port p P here others k) in
+    let ports : (P : ℕ → DevicePort → Type 0) → P port p → ((k : ℕ) → P k (old.port k)) → (k : ℕ) → P k (new.port k) =
+    λ (P : ℕ → DevicePort → Type 0) (here : P port p) (others : (k : ℕ) → P k (old.port k)) (k : ℕ).
+    subst (λ (f : ℕ → DevicePort). P k (f k)) (sym is) (changed_each old.port port p P here others k) in
     record {
       reset = λ on. settled.reset (sym hr ∙ on);
       engines = ports (λ k x. (x.st ≡ false) × (x.cr ≡ true) → IsPortHeld held k) (λ may. settled.engines port (sym same.st ∙ may.0, sym same.cr ∙ may.1)) settled.engines;
@@ -128,7 +128,7 @@ settled_with old new port p hr is same held settled =
     }
 
 -- what a step of a command changes is none of these
-abbrev same : (p new : PortState) → new.st ≡ p.st → new.cr ≡ p.cr → new.fre ≡ p.fre → new.fr ≡ p.fr → new.present ≡ p.present →
+abbrev same : (p new : DevicePort) → new.st ≡ p.st → new.cr ≡ p.cr → new.fre ≡ p.fre → new.fr ≡ p.fr → new.present ≡ p.present →
     new.sctl_det ≡ p.sctl_det → new.link_due ≡ p.link_due → SameControls p new
 same p new st cr fre fr present det due = record { st = st; cr = cr; fre = fre; fr = fr; present = present; det = det; due = due }
 
@@ -153,7 +153,7 @@ some_settled zero port slot old new e held settled = let P : Device → Type 0 =
 some_settled (suc n) port slot old new s held settled = one_settled port slot s.0 new s.2 held (some_settled n port slot old s.0 s.1 held settled)
 
 -- a command went on, or didn't
-pub gone_settled : (port slot : ℕ) (did : Bool) (old new : Device) → (did ≡ true → GoesOn (SendsEnd slot) port slot old new) → (did ≡ false → new ≡ old) →
+pub gone_settled : (port slot : ℕ) (did : Bool) (old new : Device) → (did ≡ true → SlotGoesOn (SendsEnd slot) port slot old new) → (did ≡ false → new ≡ old) →
     (held : List Bool) → IsSettled held old → IsSettled held new
 gone_settled port slot true old new went stayed held settled = let g = went refl in some_settled (suc g.0) port slot old new g.1 held settled
 gone_settled port slot false old new went stayed held settled = let P : Device → Type 0 = λ d. IsSettled held d in subst P (sym (stayed refl)) settled

@@ -2,7 +2,7 @@
 use Rattle.std.proofs.Common.{ℕ, suc, true, ◌≡◌, ◌≤◌, ◌+◌, ◌-◌, min, arith, slice_index_or, ◌⊎◌, ◌∙◌, List, length, Option, None, Some, refl, sym, ap, subst}
 use Rattle.std.specs.Prelude.{if◌then◌else◌, option_map, slice_set}
 use Rattle.adapter.specs.Asked.{DoesClear, DoesMove}
-use Rattle.adapter.specs.Device.{Device, PortState, Taken}
+use Rattle.adapter.specs.Device.{Device, DevicePort, FetchedCommand}
 use Rattle.adapter.specs.Steps.{WorksOn, block_after, with_move}
 use Rattle.adapter.specs.declared.command.Operation.{Operation}
 use Rattle.adapter.specs.declared.command.Operation.TheVariants.{Trim}
@@ -10,7 +10,7 @@ use Rattle.adapter.specs.declared.command.Operation.TheVariants as operation
 use Rattle.adapter.specs.declared.access.DeviceStep.{DeviceStep}
 use Rattle.sector_store.specs.declared.store.Failures.{Failures}
 use Rattle.device_model.specs.Cached.{HasOldRoom, KeepsTheSame}
-use Rattle.device_model.specs.Disks.{HasOldRoomAt, HasOldRoomIn, HasOldRoomOf, bay_of, disk_in_bay, disk_of, lasting_of}
+use Rattle.device_model.specs.Disks.{HasOldRoomAt, HasOldRoomIn, HasOldRoomOf, bay_of, disk_in_bay, numbered_disk, lasting_of}
 use Rattle.device_model.specs.Does.{HasCleared, IsLeftOut, LacksMemory, NeedsAddresses, Possible, StepKeeps, asked_port, cleared_on_disk}
 use Rattle.device_model.specs.Modelled.{device_at, outside_at}
 use Rattle.device_model.specs.OldSectors.{with_old}
@@ -18,7 +18,7 @@ use Rattle.device_model.specs.Trims.{HasClear, changes_ahead, next_uncleared, sp
 use Rattle.device_model.specs.Whole.{Outside, device_of}
 use Rattle.device_model.specs.declared.bay.Bay.{Bay}
 use Rattle.device_model.specs.declared.cache.Cache.{Cache}
-use Rattle.device_model.specs.declared.disks.Which.{Which}
+use Rattle.device_model.specs.declared.disks.DiskIndex.{DiskIndex}
 use Rattle.device_model.specs.declared.model.Model.{Model}
 use Rattle.device_model.proofs.Absurd.{some_one}
 use Rattle.device_model.proofs.Caching.{less_room}
@@ -46,9 +46,9 @@ module _ {S : Type 0} (size : S → ℕ) (told : S → Option (ℕ → List ℕ)
   pub grown_outside : outside_at size told new ≡ outside_at size told m
   grown_outside = outside_kept m new port a grown was items refl size told refl refl (grown_lasts told a cache same)
 
-  pub grown_disks : (q : ℕ) (w : Which) → q ≡ port → disk_of new q w ≡ disk_of m q w
+  pub grown_disks : (q : ℕ) (w : DiskIndex) → q ≡ port → numbered_disk new q w ≡ numbered_disk m q w
   grown_disks q w at =
-      subst (λ k. disk_of new k w ≡ disk_of m k w) (sym at)
+      subst (λ k. numbered_disk new k w ≡ numbered_disk m k w) (sym at)
       (ap (option_map (λ (x : Bay S). disk_in_bay x w)) (seated_here m new port a grown was items) ∙ sym (ap (option_map (λ (x : Bay S). disk_in_bay x w)) was))
 
   pub grown_keeps : new.queue ≡ m.queue → new.accesses ≡ m.accesses → StepKeeps size m new
@@ -84,46 +84,46 @@ less_room_at {S} m port more less le = by (bay_of m port)
 
 -- there is room for the old bytes of what the command that is taken in a slot is going to change, of so many moves
 abbrev pub RoomAhead : {S : Type 0} → (S → ℕ) → (S → Option (ℕ → List ℕ)) → Model S → (port slot left : ℕ) → Type 0
-RoomAhead size told m port slot left = (t : Taken) → ((device_at size told m).port port).taken slot ≡ Some t →
+RoomAhead size told m port slot left = (t : FetchedCommand) → ((device_at size told m).port port).taken slot ≡ Some t →
     HasOldRoomAt m port (changes_ahead t.meaning.operation (device_at size told m).memory t left)
 
 module _ {S : Type 0} (size : S → ℕ) (told : S → Option (ℕ → List ℕ)) (port slot : ℕ) (old new : Model S) where
   -- a piece was moved
   pub moved_room : (left : ℕ) → DoesMove port slot (device_at size told old) (device_at size told new) → RoomAhead size told old port slot (suc left) →
-      ((t : Taken) → ((device_at size told old).port port).taken slot ≡ Some t → (n : ℕ) → HasOldRoomAt old port (written_ahead t.meaning.operation 1 + n) → HasOldRoomAt new port n) →
+      ((t : FetchedCommand) → ((device_at size told old).port port).taken slot ≡ Some t → (n : ℕ) → HasOldRoomAt old port (written_ahead t.meaning.operation 1 + n) → HasOldRoomAt new port n) →
       RoomAhead size told new port slot left
   moved_room left m ahead takes t taken =
       let d : Device = device_at size told old in
-      let p : PortState = d.port port in
-      let u : Taken = record m.t { moved = m.t.moved + 1; block = block_after m.t.meaning.operation m.bytes m.t.block } in
-      let state : PortState = with_move p slot m.t m.bytes in
+      let p : DevicePort = d.port port in
+      let u : FetchedCommand = record m.t { moved = m.t.moved + 1; block = block_after m.t.meaning.operation m.bytes m.t.block } in
+      let state : DevicePort = with_move p slot m.t m.bytes in
       let there : (device_at size told new).port port ≡ state = ap (λ (x : Device). x.port port) m.effect ∙ here_after d port state in
-      let same : u ≡ t = some_one (sym (ap (λ (x : PortState). x.taken slot) there ∙ taken_after p slot (Some u)) ∙ taken) in
+      let same : u ≡ t = some_one (sym (ap (λ (x : DevicePort). x.taken slot) there ∙ taken_after p slot (Some u)) ∙ taken) in
       let memory = ap (λ (x : Device). x.memory) m.effect in
       let is = moved_changes m.t.meaning.operation p.disk d.memory m.t m.bytes left m.can.left m.can.brings in
       let P : ℕ → Type 0 = λ n. HasOldRoomAt old port n in
-      let Q : (ℕ → ℕ) → Taken → Type 0 = λ f x. HasOldRoomAt new port (changes_ahead x.meaning.operation f x left) in
+      let Q : (ℕ → ℕ) → FetchedCommand → Type 0 = λ f x. HasOldRoomAt new port (changes_ahead x.meaning.operation f x left) in
       let now = takes m.t m.can.works.taken _ (subst P is (ahead m.t m.can.works.taken)) in
       subst (Q (device_at size told new).memory) same (subst (λ f. Q f u) (sym memory) now)
 
   -- a run was cleared
   pub cleared_room : (most : ℕ) → DoesClear port slot most (device_at size told old) (device_at size told new) →
       HasCleared (device_at size told old) (device_at size told new) port slot most → RoomAhead size told old port slot 0 →
-      ((t : Taken) → ((device_at size told old).port port).taken slot ≡ Some t → (n : ℕ) → HasOldRoomAt old port (span most t + n) → HasOldRoomAt new port n) →
+      ((t : FetchedCommand) → ((device_at size told old).port port).taken slot ≡ Some t → (n : ℕ) → HasOldRoomAt old port (span most t + n) → HasOldRoomAt new port n) →
       RoomAhead size told new port slot 0
   cleared_room most c has ahead takes t taken =
       let d : Device = device_at size told old in
-      let u : Taken = record has.t { cleared = has.t.cleared + span most has.t } in
+      let u : FetchedCommand = record has.t { cleared = has.t.cleared + span most has.t } in
       let same : u ≡ t = some_one (sym has.is ∙ taken) in
       let one : c.t ≡ has.t = some_one (sym c.can.works.taken ∙ has.was) in
       let memory = ap (λ (x : Device). x.memory) c.effect in
-      let less = cleared_changes d.memory has.t most (subst (λ (x : Taken). x.moved ≡ length x.places) one c.can.moved) (subst (λ (x : Taken). x.meaning.operation ≡ Trim) one c.can.trim) in
-      let Q : (ℕ → ℕ) → Taken → Type 0 = λ f x. HasOldRoomAt new port (changes_ahead x.meaning.operation f x 0) in
+      let less = cleared_changes d.memory has.t most (subst (λ (x : FetchedCommand). x.moved ≡ length x.places) one c.can.moved) (subst (λ (x : FetchedCommand). x.meaning.operation ≡ Trim) one c.can.trim) in
+      let Q : (ℕ → ℕ) → FetchedCommand → Type 0 = λ f x. HasOldRoomAt new port (changes_ahead x.meaning.operation f x 0) in
       let now = takes has.t has.was (changes_ahead u.meaning.operation d.memory u 0) (less_room_at old port _ _ less (ahead has.t has.was)) in
       subst (Q (device_at size told new).memory) same (subst (λ f. Q f u) (sym memory) now)
 
 -- there is room for the next piece
-pub one_room : {S : Type 0} (bays : List (Option (Bay S))) (port : ℕ) (t : Taken) (memory : ℕ → ℕ) (left : ℕ) →
+pub one_room : {S : Type 0} (bays : List (Option (Bay S))) (port : ℕ) (t : FetchedCommand) (memory : ℕ → ℕ) (left : ℕ) →
     HasOldRoomOf bays port (changes_ahead t.meaning.operation memory t (suc left)) → HasOldRoomOf bays port (written_ahead t.meaning.operation 1)
 one_room {S} bays port t memory left = by (slice_index_or bays port None)
   where
@@ -142,7 +142,7 @@ one_room {S} bays port t memory left = by (slice_index_or bays port None)
     by (Some b) room = less_room b.cache _ _ (few t.meaning.operation) room
 
 -- and for the next run
-pub run_room : {S : Type 0} (size : S → ℕ) (told : S → Option (ℕ → List ℕ)) (m : Model S) (port slot most : ℕ) (t : Taken) → HasClear (device_at size told m) port slot most t →
+pub run_room : {S : Type 0} (size : S → ℕ) (told : S → Option (ℕ → List ℕ)) (m : Model S) (port slot most : ℕ) (t : FetchedCommand) → HasClear (device_at size told m) port slot most t →
     RoomAhead size told m port slot 0 → HasOldRoomAt m port (cleared_on_disk ((device_at size told m).port port).disk.size most t)
 run_room size told m port slot most t has ahead =
     let d : Device = device_at size told m in

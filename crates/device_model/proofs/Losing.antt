@@ -3,8 +3,8 @@ use Rattle.std.proofs.Common.{ℕ, Bool, true, false, Option, Some, List, [], �
 use Rattle.std.specs.Prelude.{Contains, if◌then◌else◌, is_some, nat_eq, option_map, slice_set}
 use Rattle.adapter.specs.Asked.{DoesPlug}
 use Rattle.adapter.specs.Device.{Device, Disk}
-use Rattle.adapter.specs.Steps.{after}
-use Rattle.adapter.specs.Steps.Step.{Plug}
+use Rattle.adapter.specs.Steps.{device_after}
+use Rattle.adapter.specs.Steps.DeviceTransition.{Plug}
 use Rattle.adapter.specs.declared.access.DeviceStep.TheVariants as asked
 use Rattle.ata_types.specs.declared.Port.{Port}
 use Rattle.sector_store.specs.Stores.{AreSectors}
@@ -18,7 +18,7 @@ use Rattle.device_model.specs.OldSectors.{with_old}
 use Rattle.device_model.specs.Whole.{Outside, device_of, outside_plugged}
 use Rattle.device_model.specs.declared.bay.Bay.{Bay}
 use Rattle.device_model.specs.declared.disks.ModelDisk.{ModelDisk}
-use Rattle.device_model.specs.declared.disks.Which.{Which}
+use Rattle.device_model.specs.declared.disks.DiskIndex.{DiskIndex}
 use Rattle.device_model.specs.declared.model.Model.{Model}
 use Rattle.device_model.specs.declared.old_sectors.OldSector.{OldSector}
 use Rattle.device_model.proofs.Absurd.{true-false}
@@ -128,7 +128,7 @@ module _ {S : Type 0} (size : S → ℕ) (told : S → Option (ℕ → List ℕ)
   pub lose_left : b ≡ a → ((o : Outside) → device_of new.hardware o ≡ device_of m.hardware o) → Possible (asked.LosePlug p) (device_at size told m) →
       LacksMemory (asked.LosePlug p) (device_at size told m) m.hardware m.bays.items → new.hardware.starved ≡ true → IsLeftOut size told failures (asked.LosePlug p) m new
   lose_left rest same may lacks starved =
-      let kept : (w : Which) → disk_in_bay b w ≡ disk_in_bay a w = λ (w : Which). ap (λ (x : Bay S). disk_in_bay x w) rest in
+      let kept : (w : DiskIndex) → disk_in_bay b w ≡ disk_in_bay a w = λ (w : DiskIndex). ap (λ (x : Bay S). disk_in_bay x w) rest in
       record {
         device = ap (λ (o : Outside). device_of new.hardware o) (seated_behind m new p.0 a b was items size told (ap (λ (x : Bay S). media_of size told (Some x)) rest)
             (ap (λ (x : Bay S). tells told (Some x)) rest))
@@ -145,7 +145,7 @@ module _ {S : Type 0} (size : S → ℕ) (told : S → Option (ℕ → List ℕ)
       }
 
   module _ (lost : LosesCache size told failures a b) (rest : b ≡ record (with_back a b.disk.store) { later = b.later })
-      (later : (disk : Which → S → Disk) → plugged_as disk b.later ≡ plugged_as disk a.later ++ disk a.which b.disk.store ∷ []) where
+      (later : (disk : DiskIndex → S → Disk) → plugged_as disk b.later ≡ plugged_as disk a.later ++ disk a.which b.disk.store ∷ []) where
     which_is : b.which ≡ a.which
     which_is = ap (λ (x : Bay S). x.which) rest
 
@@ -156,10 +156,10 @@ module _ {S : Type 0} (size : S → ℕ) (told : S → Option (ℕ → List ℕ)
     lasts =
         ap (λ (x : Bay S). lasting_in x.cache (told b.disk.store) (told x.lasting.value)) rest
         ∙ (lost_lasts size told failures a b lost a.cache.is_on refl
-        ∙ ap (λ x. if x then lasting_of told a else told b.disk.store) (sym (ap (λ (w : Which). is_same w a.which) which_is ∙ same_self a.which)))
+        ∙ ap (λ x. if x then lasting_of told a else told b.disk.store) (sym (ap (λ (w : DiskIndex). is_same w a.which) which_is ∙ same_self a.which)))
 
-    later_so : (disk : Which → S → Disk) → plugged_as disk b.later ≡ plugged_as disk a.later ++ disk b.which b.disk.store ∷ []
-    later_so disk = later disk ∙ ap (λ (w : Which). plugged_as disk a.later ++ disk w b.disk.store ∷ []) (sym which_is)
+    later_so : (disk : DiskIndex → S → Disk) → plugged_as disk b.later ≡ plugged_as disk a.later ++ disk b.which b.disk.store ∷ []
+    later_so disk = later disk ∙ ap (λ (w : DiskIndex). plugged_as disk a.later ++ disk w b.disk.store ∷ []) (sym which_is)
 
     that : b.which ≡ a.which → (size b.disk.store ≡ size a.disk.store)
         × ((last comes : ℕ → List ℕ) → told a.disk.store ≡ Some last → told b.disk.store ≡ Some comes → (k : ℕ) →
@@ -169,22 +169,22 @@ module _ {S : Type 0} (size : S → ℕ) (told : S → Option (ℕ → List ℕ)
     first : b.first ≡ a.first
     first = ap (λ (x : Bay S). x.first) rest
 
-    lost_out : (w : Which) → w ≢ a.which → disk_in_bay b w ≡ disk_in_bay a w
+    lost_out : (w : DiskIndex) → w ≢ a.which → disk_in_bay b w ≡ disk_in_bay a w
     lost_out w ne = ap (λ (x : Bay S). disk_in_bay x w) rest ∙ kept_out (is_same w a.which) (record a.disk { store = b.disk.store }) a.disk a.other (not_same w a.which ne)
 
-    lost_kept : {X : Type 0} (f : ModelDisk S → X) → f (record a.disk { store = b.disk.store }) ≡ f a.disk → (w : Which) → f (disk_in_bay b w) ≡ f (disk_in_bay a w)
+    lost_kept : {X : Type 0} (f : ModelDisk S → X) → f (record a.disk { store = b.disk.store }) ≡ f a.disk → (w : DiskIndex) → f (disk_in_bay b w) ≡ f (disk_in_bay a w)
     lost_kept f same w = ap (λ (x : Bay S). f (disk_in_bay x w)) rest ∙ kept_in f (is_same w a.which) (record a.disk { store = b.disk.store }) a.disk a.other same
 
     pub did_lose : p.0 < 4 → ((d : Device) → d ≡ device_at size told m → ((d.port p.0).present ≡ false)) → ((s : S) → AreSectors (size s) (told s)) →
-        ((o : Outside) (disk : Disk) → disk.name ≡ disk_number a.which → true ≡ nat_eq disk.name (o.media p.0).disk.name → device_of new.hardware (outside_plugged o p.0 disk) ≡ after (Plug p.0 disk) (device_of m.hardware o)) →
+        ((o : Outside) (disk : Disk) → disk.name ≡ disk_number a.which → true ≡ nat_eq disk.name (o.media p.0).disk.name → device_of new.hardware (outside_plugged o p.0 disk) ≡ device_after (Plug p.0 disk) (device_of m.hardware o)) →
         new.hardware.starved ≡ m.hardware.starved →
         Possible (asked.LosePlug p) (device_at size told m) × Did size told failures (asked.LosePlug p) m new
     did_lose small free are did starved =
         let may : Possible (asked.LosePlug p) (device_at size told m) = (small, has_disks size told m p.0 a was, free _ refl) in
         let name : disk_number a.which ≡ ((device_at size told m).port p.0).disk.name = sym (ap (λ x. (media_of size told x).disk.name) was) in
         let so : (o : Outside) (disk : Disk) → disk.name ≡ disk_number a.which → is_same b.which a.which ≡ nat_eq disk.name (o.media p.0).disk.name →
-        device_of new.hardware (outside_plugged o p.0 disk) ≡ after (Plug p.0 disk) (device_of m.hardware o) =
-        λ o disk named same. did o disk named (sym (ap (λ (w : Which). is_same w a.which) which_is ∙ same_self a.which) ∙ same) in
+        device_of new.hardware (outside_plugged o p.0 disk) ≡ device_after (Plug p.0 disk) (device_of m.hardware o) =
+        λ o disk named same. did o disk named (sym (ap (λ (w : DiskIndex). is_same w a.which) which_is ∙ same_self a.which) ∙ same) in
         let P : ℕ → Type 0 = λ n. DoesPlug p.0 n (device_at size told m) (device_at size told new) in
         let both : Option (Bay S) → Option (Bay S) → Type 0 = λ x y. LosesCacheIn size told failures x y in (
           may,

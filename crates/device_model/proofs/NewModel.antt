@@ -10,7 +10,7 @@ use Rattle.device_model.specs.Modelled.{IsNewMedia, IsNewPort, IsReset, all_tell
 use Rattle.device_model.specs.declared.disks.Disks.{Disks}
 use Rattle.device_model.specs.declared.disks.PortDisks.{PortDisks}
 use Rattle.sector_store.specs.Stores.{AreSectors}
-use Rattle.device_model.specs.View.{Media, port_of, blank}
+use Rattle.device_model.specs.View.{Media, port_of, blank_port}
 use Rattle.device_model.specs.declared.bay.Bay.{Bay}
 use Rattle.device_model.specs.declared.port.PortModel.{PortModel}
 
@@ -34,7 +34,7 @@ IsIdleModel p = (m : Media) → IsIdlePort (port_of p m)
 abbrev pub IsResetModel : PortModel → Type 0
 IsResetModel p = (m : Media) → IsReset (port_of p m)
 
-pub blank_idle : IsIdleModel blank
+pub blank_idle : IsIdleModel blank_port
 blank_idle = λ m. record {
   st = refl;
   cr = refl;
@@ -46,8 +46,8 @@ blank_idle = λ m. record {
 }
 
 -- what holds of four ports, each at its place, holds at each place, if past them it holds of a blank one
-pub ports_are : (P : ℕ → PortModel → Type 0) (a b c d : PortModel) → P 0 a → P 1 b → P 2 c → P 3 d → (k : ℕ) → (4 ≤ k → P k blank) →
-    P k (slice_index_or (a ∷ b ∷ c ∷ d ∷ []) k blank)
+pub ports_are : (P : ℕ → PortModel → Type 0) (a b c d : PortModel) → P 0 a → P 1 b → P 2 c → P 3 d → (k : ℕ) → (4 ≤ k → P k blank_port) →
+    P k (slice_index_or (a ∷ b ∷ c ∷ d ∷ []) k blank_port)
 ports_are P a b c d pa pb pc pd zero past = pa
 ports_are P a b c d pa pb pc pd (suc zero) past = pb
 ports_are P a b c d pa pb pc pd (suc (suc zero)) past = pc

@@ -8,12 +8,12 @@ use Rattle.std.proofs.lemmas.Cmp.{ranked}
 use Rattle.std.proofs.lemmas.List.Sorted.{IsNonDecreasingBy-from_default}
 use Rattle.std.proofs.lemmas.List.Edits.{length-insert, get_or-insert_below, get_or-insert_at, get_or-insert_above}
 use Rattle.std.proofs.lemmas.Bool.Decides.{nat_tests}
-use Rattle.device_model.specs.OldSectors.{AreRising, IsGapFor, IsOldAt, KeepsOnly, no_old, number_at, old_of}
+use Rattle.device_model.specs.OldSectors.{AreRising, IsGapFor, IsOldAt, KeepsOnly, no_old, old_number_at, old_of}
 use Rattle.device_model.specs.declared.old_sectors.OldSector.{OldSector}
 
 -- none before this place has this number
 abbrev pub NoneBefore : List OldSector → ℕ → ℕ → Type 0
-NoneBefore olds sector place = (k : ℕ) → k < place → number_at olds k ≢ sector
+NoneBefore olds sector place = (k : ℕ) → k < place → old_number_at olds k ≢ sector
 
 none_after_first : (o : OldSector) (olds : List OldSector) (sector place : ℕ) → NoneBefore (o ∷ olds) sector (suc place) → NoneBefore olds sector place
 none_after_first o olds sector place none k lt = none (suc k) (omega arith)
@@ -43,16 +43,16 @@ insert_keeps (o ∷ olds) new (suc place) none k =
 
 module _ (olds : List OldSector) (rising : AreRising olds) where
   -- each stands there once
-  pub once : (place : ℕ) → place < length olds → old_of olds (number_at olds place) ≡ Some (slice_index_or olds place no_old).bytes
+  pub once : (place : ℕ) → place < length olds → old_of olds (old_number_at olds place) ≡ Some (slice_index_or olds place no_old).bytes
   once place inside =
-      present_some olds (number_at olds place) place (record { inside = inside; number = refl })
+      present_some olds (old_number_at olds place) place (record { inside = inside; number = refl })
       (λ k lt same. let up = rising k place lt inside in omega (arith, up, same))
 
   module _ (sector : ℕ) where
     -- the comparisons rise along the list, as a binary search asks
     comparisons_rise : IsNonDecreasingBy (λ (o : OldSector). ordering_index (nat_cmp o.sector sector)) olds
     comparisons_rise = IsNonDecreasingBy-from_default (λ (o : OldSector). ordering_index (nat_cmp o.sector sector)) olds no_old (λ i j le inside.
-        let up : number_at olds i ≤ number_at olds j = grind (arith, rising i j, λ (same : i ≡ j). ap (number_at olds) same) in
+        let up : old_number_at olds i ≤ old_number_at olds j = grind (arith, rising i j, λ (same : i ≡ j). ap (old_number_at olds) same) in
         grind (arith, nat_tests))
 
     -- a binary search ends at the sector, or at the gap for it
@@ -89,8 +89,8 @@ module _ (olds : List OldSector) (sector place : ℕ) (gap : IsGapFor olds secto
         let now = insert olds place new in
         let number : OldSector → ℕ = λ (o : OldSector). o.sector in
         let long = length-insert olds place new gap.inside in
-        let below : (i : ℕ) → i < place → number_at now i ≡ number_at olds i = λ i below. ap number (get_or-insert_below olds place new no_old i below gap.inside) in
-        let here : (i : ℕ) → i ≡ place → number_at now i ≡ sector = λ i here. rw here (ap number (get_or-insert_at olds place new no_old gap.inside)) in
-        let above : (i : ℕ) → place < i → number_at now i ≡ number_at olds (i - 1) = λ i above.
-        subst (λ q. number_at now q ≡ number_at olds (i - 1)) {x = i - 1 + 1} (omega arith) (ap number (get_or-insert_above olds place new no_old (i - 1) (omega arith) gap.inside)) in
+        let below : (i : ℕ) → i < place → old_number_at now i ≡ old_number_at olds i = λ i below. ap number (get_or-insert_below olds place new no_old i below gap.inside) in
+        let here : (i : ℕ) → i ≡ place → old_number_at now i ≡ sector = λ i here. rw here (ap number (get_or-insert_at olds place new no_old gap.inside)) in
+        let above : (i : ℕ) → place < i → old_number_at now i ≡ old_number_at olds (i - 1) = λ i above.
+        subst (λ q. old_number_at now q ≡ old_number_at olds (i - 1)) {x = i - 1 + 1} (omega arith) (ap number (get_or-insert_above olds place new no_old (i - 1) (omega arith) gap.inside)) in
         grind (arith, below i, here i, above i, below j, here j, above j, rising i j, rising i (j - 1), rising (i - 1) (j - 1), gap.lower i, gap.higher (j - 1))

@@ -3,17 +3,17 @@ use Rattle.std.proofs.Common.{ℕ, length, Bool, zero, suc, true, false, ◌≡�
 use Rattle.std.proofs.lemmas.Bool.Decides.{eqb_tells}
 use Rattle.std.proofs.lemmas.List.Elements.{All-append, All-nil}
 use Rattle.std.specs.Prelude.{if◌then◌else◌, slice_index_or}
-use Rattle.adapter.specs.Asked.{DoesFatal, DoesOne, DoesSome, Fails, GoesOn, fatal_bit}
+use Rattle.adapter.specs.Asked.{DoesFatal, DoesOne, DoesSome, Fails, SlotGoesOn, fatal_bit}
 use Rattle.adapter.specs.Commands.{Meaning, is_queued}
-use Rattle.adapter.specs.Device.{PortState, Device, Taken}
+use Rattle.adapter.specs.Device.{DevicePort, Device, FetchedCommand}
 use Rattle.adapter.specs.Memory.{changed}
 use Rattle.adapter.specs.declared.access.FatalError.{FatalError}
 use Rattle.adapter.specs.declared.command.Operation.{Operation}
 use Rattle.device_model.proofs.Absurd.{some-none, some_one, true-false}
 use Rattle.device_model.proofs.Places.{changed_other, changed_same}
-use Rattle.adapter.specs.Steps.{Step, Can, Steps, after, begun, block_after, with_clear, with_done, with_flush, with_fault, with_fetch, with_move}
+use Rattle.adapter.specs.Steps.{DeviceTransition, Can, Steps, device_after, begun, block_after, with_clear, with_done, with_flush, with_fault, with_fetch, with_move}
 use Rattle.adapter.proofs.Runs.{Steps-one, Steps-refl, Steps-trans}
-use Rattle.adapter.specs.Steps.Step.{Fetch, FetchFault, Move, Clear, Done, Fault, Fatal, Fall, FrFall, LinkUp, Unplug, Plug, ResetEnds, Scribble}
+use Rattle.adapter.specs.Steps.DeviceTransition.{Fetch, FetchFault, Move, Clear, Done, Fault, Fatal, Fall, FrFall, LinkUp, Unplug, Plug, ResetEnds, Scribble}
 use Rattle.device_model.specs.Finishing.{sends_page}
 use Rattle.device_model.specs.Held.{IsPortHeld, IsPortLoose}
 use Rattle.device_model.specs.Sent.{SendsAfter, SendsEnd, SendsFailed, SendsFault}
@@ -21,33 +21,33 @@ use Rattle.device_model.specs.Settled.{DoesOwn, EndsReset, SendsPages, IsOwn, Le
 use Rattle.device_model.proofs.Posting.{after_rest, after_steps, end_rest, fault_rest}
 use Rattle.device_model.proofs.Transfers.{page_plain}
 
-pub own_none : (Own : Step → Type 0) (d : Device) → LeadsOwn Own d d
+pub own_none : (Own : DeviceTransition → Type 0) (d : Device) → LeadsOwn Own d d
 own_none Own d = record { steps = []; own = All-nil Own; lead = refl }
 
 all_one : {X : Type 0} (P : X → Type 0) (x : X) → P x → All P (x ∷ [])
 all_one P x here zero d small = here
 all_one P x here (suc k) d small = absurd (omega (arith, small))
 
-pub own_one : (Own : Step → Type 0) (step : Step) (old new : Device) → Own step → Can step old → SendsAfter step (after step old) new → LeadsOwn Own old new
+pub own_one : (Own : DeviceTransition → Type 0) (step : DeviceTransition) (old new : Device) → Own step → Can step old → SendsAfter step (device_after step old) new → LeadsOwn Own old new
 own_one Own step old new own can sends = record { steps = step ∷ []; own = all_one Own step own; lead = (can, new, sends, refl) }
 
-leads_on : (first more : List Step) (old mid new : Device) → LeadsSending first old mid → LeadsSending more mid new → LeadsSending (first ++ more) old new
+leads_on : (first more : List DeviceTransition) (old mid new : Device) → LeadsSending first old mid → LeadsSending more mid new → LeadsSending (first ++ more) old new
 leads_on [] more old mid new e rest = let P : Device → Type 0 = λ d. LeadsSending more d new in subst P e rest
 leads_on (step ∷ steps) more old mid new (can, next, sends, lead) rest = (can, next, sends, leads_on steps more next mid new lead rest)
 
-pub own_on : (Own : Step → Type 0) (old mid new : Device) → LeadsOwn Own old mid → LeadsOwn Own mid new → LeadsOwn Own old new
+pub own_on : (Own : DeviceTransition → Type 0) (old mid new : Device) → LeadsOwn Own old mid → LeadsOwn Own mid new → LeadsOwn Own old new
 own_on Own old mid new a b = record {
   steps = a.steps ++ b.steps;
   own = All-append Own a.steps b.steps a.own b.own;
   lead = leads_on a.steps b.steps old mid new a.lead b.lead;
 }
 
-leads_steps : (steps : List Step) (old new : Device) → LeadsSending steps old new → Steps old new
+leads_steps : (steps : List DeviceTransition) (old new : Device) → LeadsSending steps old new → Steps old new
 leads_steps [] old new e = let P : Device → Type 0 = λ d. Steps old d in subst P (sym e) (Steps-refl old)
 leads_steps (step ∷ steps) old new (can, next, sends, lead) =
-    Steps-trans (Steps-one step old (after step old) can refl) (Steps-trans (after_steps step (after step old) next sends) (leads_steps steps next new lead))
+    Steps-trans (Steps-one step old (device_after step old) can refl) (Steps-trans (after_steps step (device_after step old) next sends) (leads_steps steps next new lead))
 
-pub own_steps : (Own : Step → Type 0) (old new : Device) → LeadsOwn Own old new → Steps old new
+pub own_steps : (Own : DeviceTransition → Type 0) (old new : Device) → LeadsOwn Own old new → Steps old new
 own_steps Own old new d = leads_steps d.steps old new d.lead
 
 pub reset_steps : (was held : List Bool) (old new : Device) → EndsReset was held old new → Steps old new
@@ -57,13 +57,13 @@ reset_steps was held old new (inr ends) = Steps-one ResetEnds old new ends.0 end
 -- ---- the steps of one slot's command
 
 -- they neither put a disk into a port nor take one out
-present_with : (q : ℕ) (f : ℕ → PortState) (port : ℕ) (p : PortState) → p.present ≡ (f port).present → (changed f port p q).present ≡ (f q).present
+present_with : (q : ℕ) (f : ℕ → DevicePort) (port : ℕ) (p : DevicePort) → p.present ≡ (f port).present → (changed f port p q).present ≡ (f q).present
 present_with q f port p same =
     elim (eqb_tells q port) [
       | inl here ↦
           let P : ℕ → Type 0 = λ k. (changed f port p k).present ≡ (f k).present in
-          subst P (sym here.1) (ap (λ (x : PortState). x.present) (changed_same f port p) ∙ same)
-      | inr there ↦ ap (λ (x : PortState). x.present) (changed_other f port p q there.1)
+          subst P (sym here.1) (ap (λ (x : DevicePort). x.present) (changed_same f port p) ∙ same)
+      | inr there ↦ ap (λ (x : DevicePort). x.present) (changed_other f port p q there.1)
     ]
 
 pub one_keeps_present : (q : ℕ) (port slot : ℕ) (old new : Device) → DoesOne (SendsEnd slot) port slot old new → (new.port q).present ≡ (old.port q).present
@@ -88,10 +88,10 @@ fatal_keeps_present q port error old new f =
     ap (λ (d : Device). (d.port q).present) f.effect
     ∙ present_with q old.port port (record (old.port port) { is = changed (old.port port).is (fatal_bit error) true; broken = true }) refl
 
-pub senseless_keeps_present : (q : ℕ) (port slot : ℕ) (old new : Device) → SendsFault false port (after (FetchFault port slot false 0) old) new →
+pub senseless_keeps_present : (q : ℕ) (port slot : ℕ) (old new : Device) → SendsFault false port (device_after (FetchFault port slot false 0) old) new →
     (new.port q).present ≡ (old.port q).present
 senseless_keeps_present q port slot old new sends =
-    ap (λ (d : Device). (d.port q).present) (fault_rest false port (after (FetchFault port slot false 0) old) new sends) ∙ present_with q old.port port (with_fault (old.port port) false 4 0) refl
+    ap (λ (d : Device). (d.port q).present) (fault_rest false port (device_after (FetchFault port slot false 0) old) new sends) ∙ present_with q old.port port (with_fault (old.port port) false 4 0) refl
 
 pub some_keep_present : (q : ℕ) (n port slot : ℕ) (old new : Device) → DoesSome (SendsEnd slot) n port slot old new → (new.port q).present ≡ (old.port q).present
 some_keep_present q zero port slot old new same = ap (λ (d : Device). (d.port q).present) same
@@ -99,46 +99,46 @@ some_keep_present q (suc n) port slot old new s = one_keeps_present q port slot 
 
 -- whatever command is taken in the slot, or may be, this holds of what it is and of its places
 pub record IsOnly (P : Operation → List ℕ → Type 0) (d : Device) (port slot : ℕ) : Type 0 where
-  pub taken : (t : Taken) → (d.port port).taken slot ≡ Some t → P t.meaning.operation t.places
+  pub taken : (t : FetchedCommand) → (d.port port).taken slot ≡ Some t → P t.meaning.operation t.places
   pub fetched : (m : Meaning) (places : List ℕ) → Can (Fetch port slot m places) d → P m.operation places
 
 module _ (P : Operation → List ℕ → Type 0) (is_plain : (o : Operation) (places : List ℕ) → P o places → is_queued o ≡ false) (port slot : ℕ) where
   -- a command stands in the slot afterwards
-  only_with : (new : Device) (p : PortState) (t : Taken) → new.port port ≡ p → p.taken slot ≡ Some t → P t.meaning.operation t.places → IsOnly P new port slot
+  only_with : (new : Device) (p : DevicePort) (t : FetchedCommand) → new.port port ≡ p → p.taken slot ≡ Some t → P t.meaning.operation t.places → IsOnly P new port slot
   only_with new p t there here holds =
-      let stands : (new.port port).taken slot ≡ Some t = ap (λ (x : PortState). x.taken slot) there ∙ here in
+      let stands : (new.port port).taken slot ≡ Some t = ap (λ (x : DevicePort). x.taken slot) there ∙ here in
       record {
         taken = λ u is.
             let same : t ≡ u = some_one (sym stands ∙ is) in
-            subst (λ (x : Taken). P x.meaning.operation x.places) same holds;
+            subst (λ (x : FetchedCommand). P x.meaning.operation x.places) same holds;
         fetched = λ m places can. some-none stands can.fetchable.free;
       }
 
   only_by_one : (old new : Device) → DoesOne (SendsEnd slot) port slot old new → IsOnly P old port slot → IsOnly P new port slot
   only_by_one old new (inl f) only =
-      let p : PortState = with_fetch (old.port port) slot f.meaning f.places in
+      let p : DevicePort = with_fetch (old.port port) slot f.meaning f.places in
       only_with new p (begun f.meaning f.places) (ap (λ (d : Device). d.port port) f.effect ∙ changed_same old.port port p)
       (changed_same (old.port port).taken slot (Some (begun f.meaning f.places))) (only.fetched f.meaning f.places f.can)
   only_by_one old new (inr (inl m)) only =
-      let p : PortState = with_move (old.port port) slot m.t m.bytes in
-      let u : Taken = record m.t { moved = m.t.moved + 1; block = block_after m.t.meaning.operation m.bytes m.t.block } in
+      let p : DevicePort = with_move (old.port port) slot m.t m.bytes in
+      let u : FetchedCommand = record m.t { moved = m.t.moved + 1; block = block_after m.t.meaning.operation m.bytes m.t.block } in
       only_with new p u (ap (λ (d : Device). d.port port) m.effect ∙ changed_same old.port port p) (changed_same (old.port port).taken slot (Some u))
       (only.taken m.t m.can.works.taken)
   only_by_one old new (inr (inr (inl e))) only =
-      let t : Taken = e.done.t in
-      let p : PortState = with_flush (with_done (old.port port) slot e.done.flag t.meaning.operation) t.meaning.operation (length old.tape) in
+      let t : FetchedCommand = e.done.t in
+      let p : DevicePort = with_flush (with_done (old.port port) slot e.done.flag t.meaning.operation) t.meaning.operation (length old.tape) in
       let there : new.port port ≡ p =
       ap (λ (d : Device). d.port port) (end_rest port slot e.done.flag t.meaning.operation e.mid new e.posts)
       ∙ (ap (λ (d : Device). d.port port) e.done.effect ∙ changed_same old.port port p) in
-      let none : (new.port port).taken slot ≡ None = ap (λ (x : PortState). x.taken slot) there ∙ changed_same (old.port port).taken slot None in
+      let none : (new.port port).taken slot ≡ None = ap (λ (x : DevicePort). x.taken slot) there ∙ changed_same (old.port port).taken slot None in
       let plain = is_plain t.meaning.operation t.places (only.taken t e.done.can.works.taken) in
       let clear : (new.port port).ci slot ≡ false =
-      ap (λ (x : PortState). x.ci slot) there
+      ap (λ (x : DevicePort). x.ci slot) there
       ∙ (ap (λ (b : Bool). (if b then (old.port port).ci else changed (old.port port).ci slot false) slot) plain ∙ changed_same (old.port port).ci slot false) in
       record { taken = λ t is. some-none is none; fetched = λ m places can. true-false can.fetchable.issued clear }
   only_by_one old new (inr (inr (inr (most, c)))) only =
-      let p : PortState = with_clear (old.port port) slot c.t c.first c.count in
-      let u : Taken = record c.t { cleared = c.t.cleared + c.count } in
+      let p : DevicePort = with_clear (old.port port) slot c.t c.first c.count in
+      let u : FetchedCommand = record c.t { cleared = c.t.cleared + c.count } in
       only_with new p u (ap (λ (d : Device). d.port port) c.effect ∙ changed_same old.port port p) (changed_same (old.port port).taken slot (Some u))
       (only.taken c.t c.can.works.taken)
 
@@ -147,7 +147,7 @@ module _ (P : Operation → List ℕ → Type 0) (is_plain : (o : Operation) (pl
   only_by_some (suc n) old new s only = only_by_one s.0 new s.2 (only_by_some n old s.0 s.1 only)
 
   -- a command went on, or didn't
-  pub only_gone : (did : Bool) (old new : Device) → (did ≡ true → GoesOn (SendsEnd slot) port slot old new) → (did ≡ false → new ≡ old) → IsOnly P old port slot →
+  pub only_gone : (did : Bool) (old new : Device) → (did ≡ true → SlotGoesOn (SendsEnd slot) port slot old new) → (did ≡ false → new ≡ old) → IsOnly P old port slot →
       IsOnly P new port slot
   only_gone true old new went same only = let g = went refl in only_by_some (suc g.0) old new g.1 only
   only_gone false old new went same only = only_by_some zero old new (same refl) only
@@ -163,7 +163,7 @@ module _ (P : Operation → List ℕ → Type 0) (is_page : (o : Operation) (pla
   own_by_one old new (inr (inl m)) only =
       own_one (SendsPages held) (Move port slot m.t m.bytes) old new ((loose, is_page _ _ (only.taken m.t m.can.works.taken)), tt) m.can m.effect
   own_by_one old new (inr (inr (inl e))) only =
-      let t : Taken = e.done.t in
+      let t : FetchedCommand = e.done.t in
       let Sent : Device → Type 0 = λ d. SendsEnd slot port e.done.flag t.meaning.operation d new in
       own_one (SendsPages held) (Done port slot e.done.flag t) old new ((loose, is_page _ _ (only.taken t e.done.can.works.taken)), tt) e.done.can
       (subst Sent e.done.effect e.posts)
@@ -181,7 +181,7 @@ module _ (P : Operation → List ℕ → Type 0) (is_page : (o : Operation) (pla
       )
 
   -- a command went on, or didn't
-  pub own_gone : (did : Bool) (old new : Device) → (did ≡ true → GoesOn (SendsEnd slot) port slot old new) → (did ≡ false → new ≡ old) → IsOnly P old port slot →
+  pub own_gone : (did : Bool) (old new : Device) → (did ≡ true → SlotGoesOn (SendsEnd slot) port slot old new) → (did ≡ false → new ≡ old) → IsOnly P old port slot →
       LeadsOwn (SendsPages held) old new × IsOnly P new port slot
   own_gone true old new went same only = let g = went refl in own_by_some (suc g.0) old new g.1 only
   own_gone false old new went same only = own_by_some zero old new (same refl) only
@@ -190,10 +190,10 @@ module _ (P : Operation → List ℕ → Type 0) (is_page : (o : Operation) (pla
 
 module _ (held : List Bool) (port : ℕ) (is : IsPortHeld held port) where
   -- a port on which a step of its own is done isn't it
-  elsewhere : (q : ℕ) (p : PortState) (d : Device) → IsPortLoose held q → changed d.port q p port ≡ d.port port
+  elsewhere : (q : ℕ) (p : DevicePort) (d : Device) → IsPortLoose held q → changed d.port q p port ≡ d.port port
   elsewhere q p d loose = changed_other d.port q p port (λ same. true-false is (ap (λ k. slice_index_or held k false) same ∙ loose))
 
-  one_stays : (step : Step) (d : Device) → IsOwn held step → (after step d).port port ≡ d.port port
+  one_stays : (step : DeviceTransition) (d : Device) → IsOwn held step → (device_after step d).port port ≡ d.port port
   one_stays (Fall q) d own = elsewhere q _ d own
   one_stays (FrFall q) d own = elsewhere q _ d own
   one_stays (LinkUp q sig n) d own = elsewhere q _ d own.0
@@ -209,11 +209,11 @@ module _ (held : List Bool) (port : ℕ) (is : IsPortHeld held port) where
   one_stays ResetEnds d own = absurd own
   one_stays (Scribble q slot at bytes) d own = absurd own
 
-  held_stays : (steps : List Step) (old new : Device) → All (IsOwn held) steps → LeadsSending steps old new → new.port port ≡ old.port port
+  held_stays : (steps : List DeviceTransition) (old new : Device) → All (IsOwn held) steps → LeadsSending steps old new → new.port port ≡ old.port port
   held_stays [] old new own e = ap (λ (d : Device). d.port port) e
   held_stays (step ∷ steps) old new own (can, next, sends, lead) =
       held_stays steps next new (λ k d small. own (suc k) d (omega (arith, small))) lead
-      ∙ (ap (λ (d : Device). d.port port) (after_rest step (after step old) next sends) ∙ one_stays step old (own 0 step (omega arith)))
+      ∙ (ap (λ (d : Device). d.port port) (after_rest step (device_after step old) next sends) ∙ one_stays step old (own 0 step (omega arith)))
 
   pub own_stays : (old new : Device) → DoesOwn held old new → new.port port ≡ old.port port
   own_stays old new d =

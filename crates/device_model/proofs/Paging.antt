@@ -3,14 +3,14 @@ use Rattle.std.proofs.Common.{ℕ, length, Bool, zero, suc, true, false, ◌≡�
 use Rattle.std.specs.Prelude.{◌&&◌, not, if◌then◌else◌, is_some, option_map}
 use Rattle.std.proofs.lemmas.Bool.Decides.{eqb_tells}
 use Rattle.adapter.specs.Access.{note, noted}
-use Rattle.adapter.specs.Asked.{DoesFetch, DoesOne, DoesSome, GoesOn}
+use Rattle.adapter.specs.Asked.{DoesFetch, DoesOne, DoesSome, SlotGoesOn}
 use Rattle.adapter.specs.Commands.{Meaning, is_queued, is_ranged}
-use Rattle.adapter.specs.Device.{Notes, PortState, Device, Taken}
+use Rattle.adapter.specs.Device.{Notes, DevicePort, Device, FetchedCommand}
 use Rattle.adapter.specs.Memory.{changed}
 use Rattle.adapter.specs.OneCommand.{IsFreeSlot}
-use Rattle.adapter.specs.Says.{Says}
+use Rattle.adapter.specs.Decoding.{DecodesTo}
 use Rattle.adapter.specs.Steps.{Can, IsFetchable, IsWorking, IsAlone, WorksOn, begun, with_clear, with_done, with_flush, with_fetch, with_move}
-use Rattle.adapter.specs.Steps.Step.{Fetch}
+use Rattle.adapter.specs.Steps.DeviceTransition.{Fetch}
 use Rattle.adapter.specs.declared.command.Operation.{Operation}
 use Rattle.device_model.proofs.Absurd.{some-none, some_one, true-false}
 use Rattle.device_model.proofs.Places.{changed_other, changed_same}
@@ -21,18 +21,18 @@ use Rattle.ata_types.specs.declared.Port.{Port}
 use Rattle.ata_types.specs.declared.Slot.{Slot}
 use Rattle.adapter.specs.declared.access.DeviceStep.TheVariants as asked
 use Rattle.sector_store.specs.declared.store.Failures.{Failures}
-use Rattle.device_model.specs.Does.{AnswersStep, AsksFor, AsksStore, Completes, Did, StepFails, FailsToClear, FailsToMove}
-use Rattle.device_model.specs.Finishing.{AreInside, HasPage, FindsPage, IsBusy, IsCovered, MayFinish, MayPage, sends_page}
+use Rattle.device_model.specs.Does.{AnswersStep, LeavesMoves, AsksStore, Completes, Did, StepFails, FailsToClear, FailsToMove}
+use Rattle.device_model.specs.Finishing.{AreInside, HasPageCommand, LooksForPage, IsBusy, IsCovered, MayFinish, MayPage, sends_page}
 use Rattle.device_model.specs.Modelled.{device_at}
 use Rattle.device_model.specs.Sent.{SendsEnd}
 use Rattle.device_model.specs.Slots.{IsNext}
-use Rattle.device_model.specs.View.{operation_of, taken_of}
-use Rattle.device_model.specs.Disks.{disk_in_bay, disk_of}
+use Rattle.device_model.specs.View.{transfer_operation, taken_of}
+use Rattle.device_model.specs.Disks.{disk_in_bay, numbered_disk}
 use Rattle.device_model.specs.Whole.{HasDisks, Outside, device_of}
 use Rattle.device_model.specs.declared.bay.Bay.{Bay}
-use Rattle.device_model.specs.declared.disks.Which.{Which}
+use Rattle.device_model.specs.declared.disks.DiskIndex.{DiskIndex}
 use Rattle.device_model.specs.declared.hardware.Hardware.{Hardware}
-use Rattle.device_model.specs.declared.bay.Description.{Description}
+use Rattle.device_model.specs.declared.bay.PageContents.{PageContents}
 use Rattle.device_model.specs.declared.model.Model.{Model}
 use Rattle.device_model.specs.declared.port.TakenCommand.{TakenCommand}
 use Rattle.device_model.specs.declared.port.Transfer.{Transfer}
@@ -57,14 +57,14 @@ pub only_of : (P : Operation → List ℕ → Type 0) (d : Device) (port slot le
     P may.t.meaning.operation may.t.places → IsOnly P d port slot
 only_of P d port slot left clears may holds = by may.begins
   where
-    t : Taken
+    t : FetchedCommand
     t = may.t
 
     by : WorksOn (d.port port) slot t t.meaning.operation ⊎ (Can (Fetch port slot t.meaning t.places) d × (t ≡ begun t.meaning t.places)) → IsOnly P d port slot
     by (inl works) = record {
       taken = λ u is.
           let same : t ≡ u = some_one (sym works.taken ∙ is) in
-          subst (λ (x : Taken). P x.meaning.operation x.places) same holds;
+          subst (λ (x : FetchedCommand). P x.meaning.operation x.places) same holds;
       fetched = λ m places can. some-none works.taken can.fetchable.free;
     }
     by (inr begins) = record {
@@ -76,12 +76,12 @@ only_of P d port slot left clears may holds = by may.begins
           subst (λ (x : List ℕ). P m.operation x) same (subst (λ (x : Meaning). P x.operation t.places) meaning holds);
     }
 
-pub has_only : (d : Device) (port slot : ℕ) → HasPage d port slot → IsOnly IsPage d port slot
+pub has_only : (d : Device) (port slot : ℕ) → HasPageCommand d port slot → IsOnly IsPage d port slot
 has_only d port slot has = only_of IsPage d port slot has.left 0 has.ready (has.sends, has.low)
 
 -- nor afterwards
-pub page_taken : (port slot : ℕ) (did : Bool) (old new : Device) → (did ≡ true → GoesOn (SendsEnd slot) port slot old new) → (did ≡ false → new ≡ old) →
-    HasPage old port slot → (t : Taken) → (new.port port).taken slot ≡ Some t → IsPage t.meaning.operation t.places
+pub page_taken : (port slot : ℕ) (did : Bool) (old new : Device) → (did ≡ true → SlotGoesOn (SendsEnd slot) port slot old new) → (did ≡ false → new ≡ old) →
+    HasPageCommand old port slot → (t : FetchedCommand) → (new.port port).taken slot ≡ Some t → IsPage t.meaning.operation t.places
 page_taken port slot did old new went same has t is =
     (only_gone IsPage (λ o places page. page_plain o page.0) port slot did old new went same (has_only old port slot has)).taken t is
 
@@ -95,11 +95,11 @@ abbrev IsUnranged : Operation → List ℕ → Type 0
 IsUnranged operation places = is_ranged operation ≡ false
 
 -- a Finish of it asks for none
-pub page_asks_none : (d : Device) (port slot left clears : ℕ) → HasPage d port slot → (may : MayFinish d port slot left clears) →
-    AsksFor may.t.meaning.operation left clears → ⊥
+pub page_asks_none : (d : Device) (port slot left clears : ℕ) → HasPageCommand d port slot → (may : MayFinish d port slot left clears) →
+    LeavesMoves may.t.meaning.operation left clears → ⊥
 page_asks_none d port slot left clears has may asks = by asks
   where
-    t : Taken
+    t : FetchedCommand
     t = may.t
 
     kind : WorksOn (d.port port) slot t t.meaning.operation ⊎ (Can (Fetch port slot t.meaning t.places) d × (t ≡ begun t.meaning t.places)) →
@@ -107,27 +107,27 @@ page_asks_none d port slot left clears has may asks = by asks
     kind (inl works) = ((has_only d port slot has).taken t works.taken).0
     kind (inr begins) = ((has_only d port slot has).fetched t.meaning t.places begins.0).0
 
-    by : AsksFor t.meaning.operation left clears → ⊥
+    by : LeavesMoves t.meaning.operation left clears → ⊥
     by (inl moves) = true-false moves.0 (page_unranged _ (kind may.begins))
     by (inr some) =
         let none = page_cleared t.meaning.operation d.memory t clears (kind may.begins) may.clearing in absurd (omega (arith, some, none))
 
 -- so it comes to no sector on which it fails
-page_whole : (p : Port) (s : Slot) (cached : Bool) (was now : Option Failures) (says later : Option Description) (old new : Device) → HasPage old p.0 s.0 →
+page_whole : (p : Port) (s : Slot) (cached : Bool) (was now : Option Failures) (says later : Option PageContents) (old new : Device) → HasPageCommand old p.0 s.0 →
     StepFails (asked.Finish p s) cached was now says later old new → ⊥
 page_whole p s cached was now says later old new has (mid, before, fails) = by before fails
   where
-    page : (mid ≡ old) ⊎ GoesOn (SendsEnd s.0) p.0 s.0 old mid → (t : Taken) → (mid.port p.0).taken s.0 ≡ Some t → IsPage t.meaning.operation t.places
+    page : (mid ≡ old) ⊎ SlotGoesOn (SendsEnd s.0) p.0 s.0 old mid → (t : FetchedCommand) → (mid.port p.0).taken s.0 ≡ Some t → IsPage t.meaning.operation t.places
     page (inl same) = page_taken p.0 s.0 false old mid (λ never. absurd (let no : false ≡ true = never in cc)) (λ _. same) has
     page (inr went) = page_taken p.0 s.0 true old mid (λ _. went) (λ never. absurd (let no : true ≡ false = never in cc)) has
 
-    by : (mid ≡ old) ⊎ GoesOn (SendsEnd s.0) p.0 s.0 old mid →
+    by : (mid ≡ old) ⊎ SlotGoesOn (SendsEnd s.0) p.0 s.0 old mid →
         FailsToMove cached p.0 s.0 was now says later mid new ⊎ FailsToClear cached p.0 s.0 was now says later mid new → ⊥
     by gone (inl moves) = true-false moves.ranged (page_unranged _ (page gone moves.t moves.move.works.taken).0)
     by gone (inr clears) = true-false (page gone clears.t clears.clear.works.taken).0 (ap sends_page clears.clear.trim)
 
 pub page_completes : {S : Type 0} (size : S → ℕ) (told : S → Option (ℕ → List ℕ)) (failures : S → Option Failures) (old new : Model S) (p : Port) (s : Slot) →
-    Did size told failures (asked.Finish p s) old new → HasPage (device_at size told old) p.0 s.0 → Completes size told failures (asked.Finish p s) old new
+    Did size told failures (asked.Finish p s) old new → HasPageCommand (device_at size told old) p.0 s.0 → Completes size told failures (asked.Finish p s) old new
 page_completes size told failures old new p s did has =
     elim did.came [
       | inl whole ↦ whole
@@ -136,8 +136,8 @@ page_completes size told failures old new p s did has =
 
 -- each disk stays as it is
 pub finish_keeps : {S : Type 0} (size : S → ℕ) (told : S → Option (ℕ → List ℕ)) (failures : S → Option Failures) (old new : Model S) (p : Port) (s : Slot) (answer : Bool) →
-    AnswersStep size told failures (asked.Finish p s) answer old new → HasPage (device_at size told old) p.0 s.0 → (q : ℕ) (w : Which) →
-    disk_of new q w ≡ disk_of old q w
+    AnswersStep size told failures (asked.Finish p s) answer old new → HasPageCommand (device_at size told old) p.0 s.0 → (q : ℕ) (w : DiskIndex) →
+    numbered_disk new q w ≡ numbered_disk old q w
 finish_keeps {S} size told failures old new p s true a has q w =
     each_port (option_map (λ (b : Bay S). disk_in_bay b w)) old new p.0
     (a.1.disks (λ asks. page_asks_none (device_at size told old) p.0 s.0 _ _ has asks.4 asks.5) w) a.1.others q
@@ -145,7 +145,7 @@ finish_keeps {S} size told failures old new p s false a has q w = each_port (opt
 
 -- a Move of what a Finish has begun asks for one only where the Finish does
 pub finish_moves : (p : Port) (s : Slot) (did : Bool) (old new : Device) (left clears : ℕ) → HasDisks old p.0 → 1 ≤ left →
-    (did ≡ true → GoesOn (SendsEnd s.0) p.0 s.0 old new) → (did ≡ false → new ≡ old) → MayFinish old p.0 s.0 left clears →
+    (did ≡ true → SlotGoesOn (SendsEnd s.0) p.0 s.0 old new) → (did ≡ false → new ≡ old) → MayFinish old p.0 s.0 left clears →
     AsksStore (asked.Move p s) new → AsksStore (asked.Finish p s) old
 finish_moves p s did old new left clears here some went stayed may moves = by (is_ranged may.t.meaning.operation) refl
   where
@@ -163,20 +163,20 @@ finish_clears p s old left clears here small some ready = (here, small, left, cl
 
 -- what the hardware moves next is a sector only where a Move moves one
 pub next_moves : (h : Hardware) (o : Outside) (d : Device) (p : Port) (s : Slot) (next : NextMove) (r : TakenCommand) → HasDisks d p.0 → s.0 < 32 →
-    device_of h o ≡ d → IsNext h p.0 s.0 next r → is_ranged (operation_of next.transfer) ≡ true → AsksStore (asked.Move p s) d
+    device_of h o ≡ d → IsNext h p.0 s.0 next r → is_ranged (transfer_operation next.transfer) ≡ true → AsksStore (asked.Move p s) d
 next_moves h o d p s next r here small same is ranged = (
   small,
   taken_of r,
   next_has_move h o d p.0 s.0 next r here same is,
-  ap (λ (k : Transfer). is_ranged (operation_of k)) (sym is.transfer_is) ∙ ranged,
+  ap (λ (k : Transfer). is_ranged (transfer_operation k)) (sym is.transfer_is) ∙ ranged,
 )
 
 -- and else it is none
 pub next_unranged : (h : Hardware) (o : Outside) (d : Device) (p : Port) (s : Slot) (next : NextMove) (r : TakenCommand) → HasDisks d p.0 → s.0 < 32 →
-    device_of h o ≡ d → IsNext h p.0 s.0 next r → (AsksStore (asked.Move p s) d → ⊥) → is_ranged (operation_of next.transfer) ≡ false
-next_unranged h o d p s next r here small same is none = by (is_ranged (operation_of next.transfer)) refl
+    device_of h o ≡ d → IsNext h p.0 s.0 next r → (AsksStore (asked.Move p s) d → ⊥) → is_ranged (transfer_operation next.transfer) ≡ false
+next_unranged h o d p s next r here small same is none = by (is_ranged (transfer_operation next.transfer)) refl
   where
-    by : (b : Bool) → is_ranged (operation_of next.transfer) ≡ b → is_ranged (operation_of next.transfer) ≡ false
+    by : (b : Bool) → is_ranged (transfer_operation next.transfer) ≡ b → is_ranged (transfer_operation next.transfer) ≡ false
     by true e = absurd (none (next_moves h o d p s next r here small same is e))
     by false e = e
 
@@ -195,30 +195,30 @@ may_only d port slot may = record {
       ap (λ (x : Meaning). sends_page x.operation) (sym meaning) ∙ may.sends;
 }
 
-pub found_only : (d : Device) (port slot : ℕ) → MayPage d port slot ⊎ HasPage d port slot → IsOnly BringsPage d port slot
+pub found_only : (d : Device) (port slot : ℕ) → MayPage d port slot ⊎ HasPageCommand d port slot → IsOnly BringsPage d port slot
 found_only d port slot (inl may) = may_only d port slot may
 found_only d port slot (inr has) = only_of BringsPage d port slot has.left 0 has.ready has.sends
 
 -- what a look at a slot has found
-pub found_ends : (d : Device) (port slot : ℕ) (ends : Bool) → not ends ≡ false → FindsPage d port slot (Some ends) → HasPage d port slot
+pub found_ends : (d : Device) (port slot : ℕ) (ends : Bool) → not ends ≡ false → LooksForPage d port slot (Some ends) → HasPageCommand d port slot
 found_ends d port slot true e found = found
 found_ends d port slot false e found = absurd (let no : true ≡ false = e in cc)
 
-pub found_stuck : (d : Device) (port slot : ℕ) (ends : Bool) → not ends ≡ true → FindsPage d port slot (Some ends) → MayPage d port slot × (HasPage d port slot → ⊥)
+pub found_stuck : (d : Device) (port slot : ℕ) (ends : Bool) → not ends ≡ true → LooksForPage d port slot (Some ends) → MayPage d port slot × (HasPageCommand d port slot → ⊥)
 found_stuck d port slot true e found = absurd (let no : false ≡ true = e in cc)
 found_stuck d port slot false e found = found
 
 -- where a command is taken, none that sends a page may be
-pub taken_bars : (d : Device) (port slot k : ℕ) (t : Taken) → (d.port port).taken slot ≡ Some t → MayPage d port k → ⊥
+pub taken_bars : (d : Device) (port slot k : ℕ) (t : FetchedCommand) → (d.port port).taken slot ≡ Some t → MayPage d port k → ⊥
 taken_bars d port slot k t is may = some-none is (alone_none (d.port port) may.meaning.operation (page_plain _ may.sends) may.can.alone slot)
 
 fetched_is : (port slot : ℕ) (old new : Device) (f : DoesFetch port slot old new) → (new.port port).taken ≡ changed (old.port port).taken slot (Some (begun f.meaning f.places))
 fetched_is port slot old new f =
-    ap (λ (d : Device). (d.port port).taken) f.effect ∙ ap (λ (p : PortState). p.taken) (changed_same old.port port (with_fetch (old.port port) slot f.meaning f.places))
+    ap (λ (d : Device). (d.port port).taken) f.effect ∙ ap (λ (p : DevicePort). p.taken) (changed_same old.port port (with_fetch (old.port port) slot f.meaning f.places))
 
 fetched_taken : (port slot : ℕ) (old new : Device) (f : DoesFetch port slot old new) → (new.port port).taken slot ≡ Some (begun f.meaning f.places)
 fetched_taken port slot old new f =
-    ap (λ (g : ℕ → Option Taken). g slot) (fetched_is port slot old new f) ∙ changed_same (old.port port).taken slot (Some (begun f.meaning f.places))
+    ap (λ (g : ℕ → Option FetchedCommand). g slot) (fetched_is port slot old new f) ∙ changed_same (old.port port).taken slot (Some (begun f.meaning f.places))
 
 -- a port on which a command is taken is busy
 pub busy_bars : (d : Device) (port k : ℕ) → IsBusy d port → MayPage d port k → ⊥
@@ -227,12 +227,12 @@ busy_bars d port k busy = taken_bars d port busy.0 k busy.1 busy.2
 -- once it was taken, or was already, the port is
 pub fetched_busy : (port slot : ℕ) (did : Bool) (old new : Device) → (did ≡ true → DoesFetch port slot old new) →
     (did ≡ false → (m : Meaning) (places : List ℕ) → Can (Fetch port slot m places) old → ⊥) → (did ≡ false → new ≡ old) →
-    MayPage old port slot ⊎ HasPage old port slot → IsBusy new port
+    MayPage old port slot ⊎ HasPageCommand old port slot → IsBusy new port
 fetched_busy port slot true old new went never same there = let f = went refl in (slot, begun f.meaning f.places, fetched_taken port slot old new f)
 fetched_busy port slot false old new went never same (inl may) = absurd (never refl may.meaning may.places may.can)
 fetched_busy port slot false old new went never same (inr has) = by has.ready.begins
   where
-    t : Taken
+    t : FetchedCommand
     t = has.ready.t
 
     by : WorksOn (old.port port) slot t t.meaning.operation ⊎ (Can (Fetch port slot t.meaning t.places) old × (t ≡ begun t.meaning t.places)) → IsBusy new port
@@ -240,16 +240,16 @@ fetched_busy port slot false old new went never same (inr has) = by has.ready.be
     by (inr may) = absurd (never refl t.meaning t.places may.0)
 
 -- and what can be done to its end then, could before
-taken_has : (port slot k : ℕ) (old new : Device) → DoesFetch port slot old new → HasPage new port k → HasPage old port slot
+taken_has : (port slot k : ℕ) (old new : Device) → DoesFetch port slot old new → HasPageCommand new port k → HasPageCommand old port slot
 taken_has port slot k old new f has = by has.ready.begins
   where
-    t : Taken
+    t : FetchedCommand
     t = has.ready.t
 
     size : new.size ≡ old.size
     size = ap (λ (d : Device). d.size) f.effect
 
-    by : WorksOn (new.port port) k t t.meaning.operation ⊎ (Can (Fetch port k t.meaning t.places) new × (t ≡ begun t.meaning t.places)) → HasPage old port slot
+    by : WorksOn (new.port port) k t t.meaning.operation ⊎ (Can (Fetch port k t.meaning t.places) new × (t ≡ begun t.meaning t.places)) → HasPageCommand old port slot
     by (inr may) =
         absurd (taken_bars new port slot k (begun f.meaning f.places) (fetched_taken port slot old new f)
         (record { meaning = t.meaning; places = t.places; sends = has.sends; can = may.0 }))
@@ -259,23 +259,23 @@ taken_has port slot k old new f has = by has.ready.begins
               let P : ℕ → Type 0 = λ q. (new.port port).taken q ≡ Some t in
               let one : t ≡ begun f.meaning f.places = some_one (sym (subst P here.1 works.taken) ∙ fetched_taken port slot old new f) in
               let Q : ℕ → Type 0 = λ n. IsCovered t n has.left in
-              let R : Taken → Type 0 = λ x. IsCovered x old.size has.left in
+              let R : FetchedCommand → Type 0 = λ x. IsCovered x old.size has.left in
               record {
                 left = has.left;
                 ready = record {
                   t = begun f.meaning f.places;
                   covered = subst R one (subst Q size has.ready.covered);
                   clearing = page_clears f.meaning.operation old.memory (begun f.meaning f.places)
-                      (ap (λ (x : Taken). sends_page x.meaning.operation) (sym one) ∙ has.sends);
+                      (ap (λ (x : FetchedCommand). sends_page x.meaning.operation) (sym one) ∙ has.sends);
                   begins = inr (f.can, refl);
                 };
-                sends = ap (λ (x : Taken). sends_page x.meaning.operation) (sym one) ∙ has.sends;
-                low = subst (λ (x : Taken). AreInside (2 ^ 32) x.places) one has.low;
+                sends = ap (λ (x : FetchedCommand). sends_page x.meaning.operation) (sym one) ∙ has.sends;
+                low = subst (λ (x : FetchedCommand). AreInside (2 ^ 32) x.places) one has.low;
               }
           | inr there ↦
               let was : (old.port port).taken k ≡ Some t =
               sym (changed_other (old.port port).taken slot (Some (begun f.meaning f.places)) k there.1)
-              ∙ (ap (λ (g : ℕ → Option Taken). g k) (sym (fetched_is port slot old new f)) ∙ works.taken) in
+              ∙ (ap (λ (g : ℕ → Option FetchedCommand). g k) (sym (fetched_is port slot old new f)) ∙ works.taken) in
               let no : (is_queued f.meaning.operation && is_queued t.meaning.operation) ≡ false =
               plain_right (is_queued f.meaning.operation) (is_queued t.meaning.operation) (page_plain _ has.sends) in
               true-false (f.can.alone k t was) no
@@ -283,14 +283,14 @@ taken_has port slot k old new f has = by has.ready.begins
 
 pub fetched_has : (port slot k : ℕ) (did : Bool) (old new : Device) → (did ≡ true → DoesFetch port slot old new) →
     (did ≡ false → (m : Meaning) (places : List ℕ) → Can (Fetch port slot m places) old → ⊥) →
-    MayPage old port slot → HasPage new port k → HasPage old port slot
+    MayPage old port slot → HasPageCommand new port k → HasPageCommand old port slot
 fetched_has port slot k true old new went never may has = taken_has port slot k old new (went refl) has
 fetched_has port slot k false old new went never may has = absurd (never refl may.meaning may.places may.can)
 
 -- one that can be done to its end still can be once it is taken
-pub fetched_left : (port slot : ℕ) (did : Bool) (old new : Device) (has : HasPage old port slot) → (did ≡ true → DoesFetch port slot old new) →
+pub fetched_left : (port slot : ℕ) (did : Bool) (old new : Device) (has : HasPageCommand old port slot) → (did ≡ true → DoesFetch port slot old new) →
     (did ≡ false → new ≡ old) → (did ≡ false → (m : Meaning) (places : List ℕ) → Can (Fetch port slot m places) old → ⊥) →
-    (now : HasPage new port slot) × (now.left ≡ has.left)
+    (now : HasPageCommand new port slot) × (now.left ≡ has.left)
 fetched_left port slot did old new has went same never =
     let going = fetched_goes port slot has.left 0 did old new has.ready went same never in
     let page = page_taken port slot did old new (λ e. goes_one (SendsEnd slot) port slot old new (inl (went e))) same has going.t going.works.taken in (
@@ -338,10 +338,10 @@ abbrev pub weight : Device → (port : ℕ) → ℕ → ℕ
 weight d port k = (if (d.port port).ci k then 1 else 0) + (if is_some ((d.port port).taken k) then 1 else 0)
 
 -- a step of one slot's command leaves the other slots
-weight_with : (old new : Device) (port : ℕ) (p : PortState) (k : ℕ) → new.port port ≡ p → p.ci k ≡ (old.port port).ci k → p.taken k ≡ (old.port port).taken k →
+weight_with : (old new : Device) (port : ℕ) (p : DevicePort) (k : ℕ) → new.port port ≡ p → p.ci k ≡ (old.port port).ci k → p.taken k ≡ (old.port port).taken k →
     weight new port k ≡ weight old port k
 weight_with old new port p k there ci taken =
-    ap (λ (x : PortState). (if x.ci k then 1 else 0) + (if is_some (x.taken k) then 1 else 0)) there
+    ap (λ (x : DevicePort). (if x.ci k then 1 else 0) + (if is_some (x.taken k) then 1 else 0)) there
     ∙ (λ i. (if ci i then 1 else 0) + (if is_some (taken i) then 1 else 0))
 
 pub cleared_other : (b : Bool) (f : ℕ → Bool) (slot k : ℕ) → k ≢ slot → (if b then changed f slot false else f) k ≡ f k
@@ -354,17 +354,17 @@ kept_other false f slot k ne = changed_other f slot false k ne
 
 one_elsewhere : (port slot : ℕ) (old new : Device) → DoesOne (SendsEnd slot) port slot old new → (k : ℕ) → k ≢ slot → weight new port k ≡ weight old port k
 one_elsewhere port slot old new (inl f) k ne =
-    let p : PortState = with_fetch (old.port port) slot f.meaning f.places in
+    let p : DevicePort = with_fetch (old.port port) slot f.meaning f.places in
     weight_with old new port p k (ap (λ (d : Device). d.port port) f.effect ∙ changed_same old.port port p)
     (cleared_other (is_queued f.meaning.operation) (old.port port).ci slot k ne) (changed_other (old.port port).taken slot _ k ne)
 one_elsewhere port slot old new (inr (inl m)) k ne =
-    let p : PortState = with_move (old.port port) slot m.t m.bytes in
+    let p : DevicePort = with_move (old.port port) slot m.t m.bytes in
     weight_with old new port p k (ap (λ (d : Device). d.port port) m.effect ∙ changed_same old.port port p) refl (changed_other (old.port port).taken slot _ k ne)
 one_elsewhere port slot old new (inr (inr (inr (most, c)))) k ne =
-    let p : PortState = with_clear (old.port port) slot c.t c.first c.count in
+    let p : DevicePort = with_clear (old.port port) slot c.t c.first c.count in
     weight_with old new port p k (ap (λ (d : Device). d.port port) c.effect ∙ changed_same old.port port p) refl (changed_other (old.port port).taken slot _ k ne)
 one_elsewhere port slot old new (inr (inr (inl e))) k ne =
-    let p : PortState = with_flush (with_done (old.port port) slot e.done.flag e.done.t.meaning.operation) e.done.t.meaning.operation (length old.tape) in
+    let p : DevicePort = with_flush (with_done (old.port port) slot e.done.flag e.done.t.meaning.operation) e.done.t.meaning.operation (length old.tape) in
     weight_with old new port p k
     (ap (λ (d : Device). d.port port) (end_rest port slot e.done.flag e.done.t.meaning.operation e.mid new e.posts)
     ∙ (ap (λ (d : Device). d.port port) e.done.effect ∙ changed_same old.port port p))
@@ -375,7 +375,7 @@ some_elsewhere zero port slot old new e k ne = ap (λ (d : Device). weight d por
 some_elsewhere (suc n) port slot old new s k ne = one_elsewhere port slot s.0 new s.2 k ne ∙ some_elsewhere n port slot old s.0 s.1 k ne
 
 -- one that was done is neither issued nor taken
-pub fewer_left : (port slot : ℕ) (old new : Device) → slot < 32 → HasPage old port slot → GoesOn (SendsEnd slot) port slot old new → IsFreeSlot (new.port port) slot →
+pub fewer_left : (port slot : ℕ) (old new : Device) → slot < 32 → HasPageCommand old port slot → SlotGoesOn (SendsEnd slot) port slot old new → IsFreeSlot (new.port port) slot →
     total (weight new port) 32 < total (weight old port) 32
 fewer_left port slot old new small has went free =
     total_less (weight new port) (weight old port) slot 32 small (some_elsewhere (suc went.0) port slot old new went.1) (less has.ready.begins)
@@ -388,7 +388,7 @@ fewer_left port slot old new small has went free =
         weight new port slot < weight old port slot
     less (inl works) =
         let one : weight old port slot ≡ (if (old.port port).ci slot then 1 else 0) + 1 =
-        ap (λ (x : Option Taken). (if (old.port port).ci slot then 1 else 0) + (if is_some x then 1 else 0)) works.taken in
+        ap (λ (x : Option FetchedCommand). (if (old.port port).ci slot then 1 else 0) + (if is_some x then 1 else 0)) works.taken in
         omega (arith, none, one)
     less (inr may) =
         let one : weight old port slot ≡ 1 + (if is_some ((old.port port).taken slot) then 1 else 0) =
@@ -426,7 +426,7 @@ some_apart (suc n) port slot old new s =
     let last = one_apart port slot s.0 new s.2 in
     (last.0 ∙ first.0, λ q ne. last.1 q ne ∙ first.1 q ne)
 
-pub gone_apart : (port slot : ℕ) (old new : Device) → GoesOn (SendsEnd slot) port slot old new → (new.size ≡ old.size) × ((q : ℕ) → q ≢ port → new.port q ≡ old.port q)
+pub gone_apart : (port slot : ℕ) (old new : Device) → SlotGoesOn (SendsEnd slot) port slot old new → (new.size ≡ old.size) × ((q : ℕ) → q ≢ port → new.port q ≡ old.port q)
 gone_apart port slot old new went = some_apart (suc went.0) port slot old new went.1
 
 pub fetched_apart : (port slot : ℕ) (did : Bool) (old new : Device) → (did ≡ true → DoesFetch port slot old new) → (did ≡ false → new ≡ old) →
@@ -435,18 +435,18 @@ fetched_apart port slot true old new went same = one_apart port slot old new (in
 fetched_apart port slot false old new went same = (ap (λ (d : Device). d.size) (same refl), λ q ne. ap (λ (d : Device). d.port q) (same refl))
 
 -- so what such a port has taken, and can be done to its end, still can be, and could before
-pub page_stays : (old new : Device) (port k : ℕ) → new.port port ≡ old.port port → new.size ≡ old.size → IsBusy old port → (has : HasPage old port k) →
-    (now : HasPage new port k) × (now.left ≡ has.left)
+pub page_stays : (old new : Device) (port k : ℕ) → new.port port ≡ old.port port → new.size ≡ old.size → IsBusy old port → (has : HasPageCommand old port k) →
+    (now : HasPageCommand new port k) × (now.left ≡ has.left)
 page_stays old new port k same size busy has = by has.ready.begins
   where
-    t : Taken
+    t : FetchedCommand
     t = has.ready.t
 
     by : WorksOn (old.port port) k t t.meaning.operation ⊎ (Can (Fetch port k t.meaning t.places) old × (t ≡ begun t.meaning t.places)) →
-        (now : HasPage new port k) × (now.left ≡ has.left)
+        (now : HasPageCommand new port k) × (now.left ≡ has.left)
     by (inr may) = absurd (busy_bars old port k busy (record { meaning = t.meaning; places = t.places; sends = has.sends; can = may.0 }))
     by (inl works) =
-        let P : PortState → Type 0 = λ p. WorksOn p k t t.meaning.operation in
+        let P : DevicePort → Type 0 = λ p. WorksOn p k t t.meaning.operation in
         let Q : ℕ → Type 0 = λ n. IsCovered t n has.left in (
           record {
             left = has.left;
@@ -463,17 +463,17 @@ page_stays old new port k same size busy has = by has.ready.begins
         )
 
 pub busy_stays : (old new : Device) (port : ℕ) → new.port port ≡ old.port port → IsBusy old port → IsBusy new port
-busy_stays old new port same busy = (busy.0, busy.1, ap (λ (p : PortState). p.taken busy.0) same ∙ busy.2)
+busy_stays old new port same busy = (busy.0, busy.1, ap (λ (p : DevicePort). p.taken busy.0) same ∙ busy.2)
 
 -- ---- a reading leaves none where none was left
 
-working_noted : (p : PortState) (n : Notes) (operation : Operation) → IsWorking (record p { notes = n }) operation → IsWorking p operation
+working_noted : (p : DevicePort) (n : Notes) (operation : Operation) → IsWorking (record p { notes = n }) operation → IsWorking p operation
 working_noted p n operation w = record { running = w.running; present = w.present; fresh = w.fresh; admitted = w.admitted; whole = w.whole }
 
-works_noted : (p : PortState) (n : Notes) (slot : ℕ) (t : Taken) (operation : Operation) → WorksOn (record p { notes = n }) slot t operation → WorksOn p slot t operation
+works_noted : (p : DevicePort) (n : Notes) (slot : ℕ) (t : FetchedCommand) (operation : Operation) → WorksOn (record p { notes = n }) slot t operation → WorksOn p slot t operation
 works_noted p n slot t operation w = record { taken = w.taken; working = working_noted p n operation w.working }
 
-has_noted : (d : Device) (f : ℕ → PortState) (n : Notes) (port slot : ℕ) → f port ≡ record (d.port port) { notes = n } → HasPage (record d { port = f }) port slot → HasPage d port slot
+has_noted : (d : Device) (f : ℕ → DevicePort) (n : Notes) (port slot : ℕ) → f port ≡ record (d.port port) { notes = n } → HasPageCommand (record d { port = f }) port slot → HasPageCommand d port slot
 has_noted d f n port slot is has = record {
   left = has.left;
   ready = record {
@@ -486,29 +486,29 @@ has_noted d f n port slot is has = record {
   low = has.low;
 }
   where
-    t : Taken
+    t : FetchedCommand
     t = has.ready.t
 
     by : WorksOn (f port) slot t t.meaning.operation ⊎ (Can (Fetch port slot t.meaning t.places) (record d { port = f }) × (t ≡ begun t.meaning t.places)) →
         WorksOn (d.port port) slot t t.meaning.operation ⊎ (Can (Fetch port slot t.meaning t.places) d × (t ≡ begun t.meaning t.places))
-    by (inl works) = inl (works_noted (d.port port) n slot t t.meaning.operation (subst (λ (p : PortState). WorksOn p slot t t.meaning.operation) is works))
+    by (inl works) = inl (works_noted (d.port port) n slot t t.meaning.operation (subst (λ (p : DevicePort). WorksOn p slot t t.meaning.operation) is works))
     by (inr may) =
-        let fetchable = subst (λ (p : PortState). IsFetchable p slot) is may.0.fetchable in
-        let working = subst (λ (p : PortState). IsWorking p t.meaning.operation) is may.0.working in
+        let fetchable = subst (λ (p : DevicePort). IsFetchable p slot) is may.0.fetchable in
+        let working = subst (λ (p : DevicePort). IsWorking p t.meaning.operation) is may.0.working in
         inr (
           record {
             fetchable = record { st = fetchable.st; issued = fetchable.issued; free = fetchable.free };
             working = working_noted (d.port port) n t.meaning.operation working;
-            alone = subst (λ (p : PortState). IsAlone p t.meaning.operation) is may.0.alone;
-            says = subst (λ (p : PortState). Says d.memory p.bases.clb slot t.meaning t.places) is may.0.says;
+            alone = subst (λ (p : DevicePort). IsAlone p t.meaning.operation) is may.0.alone;
+            says = subst (λ (p : DevicePort). DecodesTo d.memory p.bases.clb slot t.meaning t.places) is may.0.says;
           },
           may.1,
         )
 
-may_noted : (d : Device) (f : ℕ → PortState) (n : Notes) (port slot : ℕ) → f port ≡ record (d.port port) { notes = n } → MayPage (record d { port = f }) port slot → MayPage d port slot
+may_noted : (d : Device) (f : ℕ → DevicePort) (n : Notes) (port slot : ℕ) → f port ≡ record (d.port port) { notes = n } → MayPage (record d { port = f }) port slot → MayPage d port slot
 may_noted d f n port slot is may =
-    let fetchable = subst (λ (p : PortState). IsFetchable p slot) is may.can.fetchable in
-    let working = subst (λ (p : PortState). IsWorking p may.meaning.operation) is may.can.working in
+    let fetchable = subst (λ (p : DevicePort). IsFetchable p slot) is may.can.fetchable in
+    let working = subst (λ (p : DevicePort). IsWorking p may.meaning.operation) is may.can.working in
     record {
       meaning = may.meaning;
       places = may.places;
@@ -516,14 +516,14 @@ may_noted d f n port slot is may =
       can = record {
         fetchable = record { st = fetchable.st; issued = fetchable.issued; free = fetchable.free };
         working = working_noted (d.port port) n may.meaning.operation working;
-        alone = subst (λ (p : PortState). IsAlone p may.meaning.operation) is may.can.alone;
-        says = subst (λ (p : PortState). Says d.memory p.bases.clb slot may.meaning may.places) is may.can.says;
+        alone = subst (λ (p : DevicePort). IsAlone p may.meaning.operation) is may.can.alone;
+        says = subst (λ (p : DevicePort). DecodesTo d.memory p.bases.clb slot may.meaning may.places) is may.can.says;
       };
     }
 
 pub noted_may : (r : Reg) (v : ℕ) (d : Device) (port slot : ℕ) → MayPage (noted r v d) port slot → MayPage d port slot
 noted_may (Px q r) v d port slot may =
-    let p : PortState = record (d.port q.0) { notes = note r v (d.port q.0) } in
+    let p : DevicePort = record (d.port q.0) { notes = note r v (d.port q.0) } in
     elim (eqb_tells port q.0) [
       | inl here ↦
           let same : port ≡ q.0 = here.1 in
@@ -539,9 +539,9 @@ noted_may Vs v d port slot may = may
 noted_may Cap2 v d port slot may = may
 noted_may Bohc v d port slot may = may
 
-pub noted_page : (r : Reg) (v : ℕ) (d : Device) (port slot : ℕ) → HasPage (noted r v d) port slot → HasPage d port slot
+pub noted_page : (r : Reg) (v : ℕ) (d : Device) (port slot : ℕ) → HasPageCommand (noted r v d) port slot → HasPageCommand d port slot
 noted_page (Px q r) v d port slot has =
-    let p : PortState = record (d.port q.0) { notes = note r v (d.port q.0) } in
+    let p : DevicePort = record (d.port q.0) { notes = note r v (d.port q.0) } in
     elim (eqb_tells port q.0) [
       | inl here ↦
           let same : port ≡ q.0 = here.1 in

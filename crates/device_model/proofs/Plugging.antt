@@ -4,8 +4,8 @@ use Rattle.std.specs.Prelude.{if◌then◌else◌, is_some, nat_eq, option_map, 
 use Rattle.adapter.specs.Asked.{DoesPlug}
 use Rattle.adapter.specs.Device.{Device, Disk}
 use Rattle.std.proofs.lemmas.Option.{same_Some}
-use Rattle.adapter.specs.Steps.{after}
-use Rattle.adapter.specs.Steps.Step.{Plug}
+use Rattle.adapter.specs.Steps.{device_after}
+use Rattle.adapter.specs.Steps.DeviceTransition.{Plug}
 use Rattle.adapter.specs.declared.access.DeviceStep.TheVariants as asked
 use Rattle.adapter.specs.declared.access.DiskNumber.{DiskNumber}
 use Rattle.adapter.specs.declared.tape.Entry.TheVariants as entry
@@ -19,8 +19,8 @@ use Rattle.device_model.specs.Tells.{bay_told, each_tells}
 use Rattle.device_model.specs.Whole.{Outside, device_of, media_plugged, outside_plugged}
 use Rattle.device_model.specs.declared.bay.Bay.{Bay}
 use Rattle.device_model.specs.declared.disks.ModelDisk.{ModelDisk}
-use Rattle.device_model.specs.declared.disks.Which.{Which}
-use Rattle.device_model.specs.declared.disks.Which.TheVariants.{Disk0, Disk1}
+use Rattle.device_model.specs.declared.disks.DiskIndex.{DiskIndex}
+use Rattle.device_model.specs.declared.disks.DiskIndex.TheVariants.{Disk0, Disk1}
 use Rattle.device_model.specs.declared.model.Model.{Model}
 use Rattle.device_model.specs.Paged.{GainsPages}
 use Rattle.device_model.proofs.Absurd.{true-false}
@@ -28,14 +28,14 @@ use Rattle.device_model.proofs.NewModel.{disks_are}
 use Rattle.device_model.proofs.Telling.{gains_one}
 use Rattle.device_model.proofs.TwoDisks.{both_turned, has_disks, in_kept, number_small, of_number, one_number, seated_behind, seated_here, seated_keeps, seated_others, seated_outside, seated_same}
 
-same_number : (w v : Which) → is_same w v ≡ nat_eq (disk_number w) (disk_number v)
+same_number : (w v : DiskIndex) → is_same w v ≡ nat_eq (disk_number w) (disk_number v)
 same_number Disk0 Disk0 = refl
 same_number Disk0 Disk1 = refl
 same_number Disk1 Disk0 = refl
 same_number Disk1 Disk1 = refl
 
 -- whichever it is, by its name
-by_name : (w v : Which) (was comes : Option (ℕ → List ℕ)) → (if is_same w v then was else comes) ≡ (if nat_eq (disk_number w) (disk_number v) then was else comes)
+by_name : (w v : DiskIndex) (was comes : Option (ℕ → List ℕ)) → (if is_same w v then was else comes) ≡ (if nat_eq (disk_number w) (disk_number v) then was else comes)
 by_name w v was comes = ap (λ x. if x then was else comes) (same_number w v)
 
 module _ {S : Type 0} (size : S → ℕ) (told : S → Option (ℕ → List ℕ)) (failures : S → Option Failures) (m new : Model S) (p : Port)
@@ -46,7 +46,7 @@ module _ {S : Type 0} (size : S → ℕ) (told : S → Option (ℕ → List ℕ)
       Possible (asked.Plug p number) (device_at size told m) → LacksMemory (asked.Plug p number) (device_at size told m) m.hardware m.bays.items →
       new.hardware.starved ≡ true → IsLeftOut size told failures (asked.Plug p number) m new
   plug_left number rest same may lacks starved =
-      let kept : (w : Which) → disk_in_bay b w ≡ disk_in_bay a w = λ (w : Which). ap (λ (x : Bay S). disk_in_bay x w) rest in
+      let kept : (w : DiskIndex) → disk_in_bay b w ≡ disk_in_bay a w = λ (w : DiskIndex). ap (λ (x : Bay S). disk_in_bay x w) rest in
       record {
         device = ap (λ (o : Outside). device_of new.hardware o) (seated_behind m new p.0 a b was items size told (ap (λ (x : Bay S). media_of size told (Some x)) rest)
             (ap (λ (x : Bay S). tells told (Some x)) rest))
@@ -64,7 +64,7 @@ module _ {S : Type 0} (size : S → ℕ) (told : S → Option (ℕ → List ℕ)
 
   -- a disk is put in, as it is then
   module _ (tells_so : tells told (Some b) ≡ tells told (Some a)) (first : b.first ≡ a.first)
-      (later : (disk : Which → S → Disk) → plugged_as disk b.later ≡ plugged_as disk a.later ++ disk b.which b.disk.store ∷ [])
+      (later : (disk : DiskIndex → S → Disk) → plugged_as disk b.later ≡ plugged_as disk a.later ++ disk b.which b.disk.store ∷ [])
       (lasts : lasting_of told b ≡ (if is_same b.which a.which then lasting_of told a else told b.disk.store))
       (that : b.which ≡ a.which → (size b.disk.store ≡ size a.disk.store)
       × ((last comes : ℕ → List ℕ) → told a.disk.store ≡ Some last → told b.disk.store ≡ Some comes → (k : ℕ) →
@@ -87,7 +87,7 @@ module _ {S : Type 0} (size : S → ℕ) (told : S → Option (ℕ → List ℕ)
     same_named = same_number b.which a.which ∙ ap (λ (d : Disk). nat_eq (disk_number b.which) d.name) (sym disk_is)
 
     pub plugged_so : (number : ℕ) → disk_number b.which ≡ number → ((d : Device) → d ≡ device_at size told m → ((d.port p.0).present ≡ false)) → ((s : S) → AreSectors (size s) (told s)) →
-        ((o : Outside) (disk : Disk) → disk.name ≡ number → is_same b.which a.which ≡ nat_eq disk.name (o.media p.0).disk.name → device_of new.hardware (outside_plugged o p.0 disk) ≡ after (Plug p.0 disk) (device_of m.hardware o)) →
+        ((o : Outside) (disk : Disk) → disk.name ≡ number → is_same b.which a.which ≡ nat_eq disk.name (o.media p.0).disk.name → device_of new.hardware (outside_plugged o p.0 disk) ≡ device_after (Plug p.0 disk) (device_of m.hardware o)) →
         DoesPlug p.0 number (device_at size told m) (device_at size told new)
     plugged_so number name free are did =
         let o : Outside = outside_at size told m in
@@ -114,24 +114,24 @@ module _ {S : Type 0} (size : S → ℕ) (told : S → Option (ℕ → List ℕ)
         }
 
     pub plug_noted : (number : ℕ) → disk_number b.which ≡ number →
-        ((o : Outside) (disk : Disk) → disk.name ≡ number → is_same b.which a.which ≡ nat_eq disk.name (o.media p.0).disk.name → device_of new.hardware (outside_plugged o p.0 disk) ≡ after (Plug p.0 disk) (device_of m.hardware o)) →
+        ((o : Outside) (disk : Disk) → disk.name ≡ number → is_same b.which a.which ≡ nat_eq disk.name (o.media p.0).disk.name → device_of new.hardware (outside_plugged o p.0 disk) ≡ device_after (Plug p.0 disk) (device_of m.hardware o)) →
         GainsPages size m new
     plug_noted number name did =
         gains_one size m new (entry.Plug p (disk_number b.which)) (ap (λ (d : Device). d.tape) (did (outside_at size told m) put_disk name same_named)) (λ x e. absurd (cc e))
 
   -- one of the two is put in by its number, with the sectors that it had
-  module _ (number : DiskNumber) (which : Which) (found : disk_number which ≡ number.0) (which_is : b.which ≡ which) (kept : (w : Which) → disk_in_bay b w ≡ disk_in_bay a w)
-      (later : (disk : Which → S → Disk) → plugged_as disk b.later ≡ plugged_as disk a.later ++ disk which b.disk.store ∷ [])
+  module _ (number : DiskNumber) (which : DiskIndex) (found : disk_number which ≡ number.0) (which_is : b.which ≡ which) (kept : (w : DiskIndex) → disk_in_bay b w ≡ disk_in_bay a w)
+      (later : (disk : DiskIndex → S → Disk) → plugged_as disk b.later ≡ plugged_as disk a.later ++ disk which b.disk.store ∷ [])
       (says : b.says ≡ a.says) (first : b.first ≡ a.first) (cached : b.cache.is_on ≡ a.cache.is_on)
       (lasting : lasting_of told b ≡ (if is_same which a.which then lasting_of told a else told b.disk.store)) where
     tells_so : tells told (Some b) ≡ tells told (Some a)
     tells_so = both_turned (λ (x : ModelDisk S). is_some (told x.store)) a b kept
 
-    later_so : (disk : Which → S → Disk) → plugged_as disk b.later ≡ plugged_as disk a.later ++ disk b.which b.disk.store ∷ []
-    later_so disk = later disk ∙ ap (λ (w : Which). plugged_as disk a.later ++ disk w b.disk.store ∷ []) (sym which_is)
+    later_so : (disk : DiskIndex → S → Disk) → plugged_as disk b.later ≡ plugged_as disk a.later ++ disk b.which b.disk.store ∷ []
+    later_so disk = later disk ∙ ap (λ (w : DiskIndex). plugged_as disk a.later ++ disk w b.disk.store ∷ []) (sym which_is)
 
     lasts_so : lasting_of told b ≡ (if is_same b.which a.which then lasting_of told a else told b.disk.store)
-    lasts_so = lasting ∙ ap (λ (w : Which). if is_same w a.which then lasting_of told a else told b.disk.store) (sym which_is)
+    lasts_so = lasting ∙ ap (λ (w : DiskIndex). if is_same w a.which then lasting_of told a else told b.disk.store) (sym which_is)
 
     that_so : b.which ≡ a.which → (size b.disk.store ≡ size a.disk.store)
         × ((last comes : ℕ → List ℕ) → told a.disk.store ≡ Some last → told b.disk.store ≡ Some comes → (k : ℕ) →
@@ -144,14 +144,14 @@ module _ {S : Type 0} (size : S → ℕ) (told : S → Option (ℕ → List ℕ)
     )
 
     pub did_plug : p.0 < 4 → ((d : Device) → d ≡ device_at size told m → ((d.port p.0).present ≡ false)) → ((s : S) → AreSectors (size s) (told s)) →
-        ((o : Outside) (disk : Disk) → disk.name ≡ number.0 → is_same which a.which ≡ nat_eq disk.name (o.media p.0).disk.name → device_of new.hardware (outside_plugged o p.0 disk) ≡ after (Plug p.0 disk) (device_of m.hardware o)) →
+        ((o : Outside) (disk : Disk) → disk.name ≡ number.0 → is_same which a.which ≡ nat_eq disk.name (o.media p.0).disk.name → device_of new.hardware (outside_plugged o p.0 disk) ≡ device_after (Plug p.0 disk) (device_of m.hardware o)) →
         new.hardware.starved ≡ m.hardware.starved →
         Possible (asked.Plug p number) (device_at size told m) × Did size told failures (asked.Plug p number) m new
     did_plug small free are did starved =
         let few = number_small which in
         let name : disk_number b.which ≡ number.0 = ap disk_number which_is ∙ found in
-        let so : (o : Outside) (disk : Disk) → disk.name ≡ number.0 → is_same b.which a.which ≡ nat_eq disk.name (o.media p.0).disk.name → device_of new.hardware (outside_plugged o p.0 disk) ≡ after (Plug p.0 disk) (device_of m.hardware o) =
-        λ o disk named same. did o disk named (ap (λ (w : Which). is_same w a.which) (sym which_is) ∙ same) in (
+        let so : (o : Outside) (disk : Disk) → disk.name ≡ number.0 → is_same b.which a.which ≡ nat_eq disk.name (o.media p.0).disk.name → device_of new.hardware (outside_plugged o p.0 disk) ≡ device_after (Plug p.0 disk) (device_of m.hardware o) =
+        λ o disk named same. did o disk named (ap (λ (w : DiskIndex). is_same w a.which) (sym which_is) ∙ same) in (
           (small, has_disks size told m p.0 a was, omega (arith, few, found), free _ refl),
           record {
             came = inl (record {
@@ -165,7 +165,7 @@ module _ {S : Type 0} (size : S → ℕ) (told : S → Option (ℕ → List ℕ)
             held = held;
             which = ap (option_map (λ (x : Bay S). x.which)) (seated_here m new p.0 a b was items)
                 ∙ (ap Some (which_is ∙ of_number which number.0 found)
-                ∙ sym (ap (λ x. option_map (λ (_ : Which). if nat_eq number.0 0 then Disk0 else Disk1) (option_map (λ (y : Bay S). y.which) x)) was));
+                ∙ sym (ap (λ x. option_map (λ (_ : DiskIndex). if nat_eq number.0 0 then Disk0 else Disk1) (option_map (λ (y : Bay S). y.which) x)) was));
             others = seated_others m new p.0 a b was items;
             pages = plug_noted tells_so first later_so lasts_so that_so number.0 name so;
             disks = λ _ w. seated_same m new p.0 a b was items (option_map (λ (x : Bay S). disk_in_bay x w)) (ap Some (kept w)) p.0;

@@ -4,7 +4,7 @@ use Rattle.std.specs.Prelude.{slice_set, slice_index_or}
 use Rattle.std.specs.Global.{Vec}
 use Rattle.std.proofs.lemmas.Bool.Decides.{eqb_tells}
 use Rattle.adapter.specs.Memory.{changed}
-use Rattle.adapter.specs.Device.{PortState, Device}
+use Rattle.adapter.specs.Device.{DevicePort, Device}
 use Rattle.adapter.specs.Steps.{MayLinkUp, with_link, with_port, recorded}
 use Rattle.adapter.specs.Access.{note, noted}
 use Rattle.adapter.specs.Rules.{MayRead, MayWrite}
@@ -16,14 +16,14 @@ use Rattle.device_model.specs.Fetched.{bytes_of}
 use Rattle.device_model.specs.Held.{IsPortHeld, IsPortLoose}
 use Rattle.device_model.specs.Sent.{SendsRegisters, signature_of}
 use Rattle.device_model.specs.Settled.{LeadsOwn, Settles, GoesTo, IsSettled}
-use Rattle.device_model.specs.View.{Media, port_of, blank}
+use Rattle.device_model.specs.View.{Media, port_of, blank_port}
 use Rattle.device_model.specs.Whole.{Outside, device_of, HasRegister}
 use Rattle.device_model.specs.declared.port.PortModel.{PortModel}
 use Rattle.device_model.specs.declared.hardware.Hardware.{Hardware}
 use Rattle.device_model.proofs.GoingOn.{own_linked, with_same}
 
-abbrev ports_of : List PortModel → Outside → ℕ → PortState
-ports_of ports o = λ port. port_of (slice_index_or ports port blank) (o.media port)
+abbrev ports_of : List PortModel → Outside → ℕ → DevicePort
+ports_of ports o = λ port. port_of (slice_index_or ports port blank_port) (o.media port)
 
 ports_set : (ports : List PortModel) (o after : Outside) (p : ℕ) (new : PortModel) → p < length ports →
     ((k : ℕ) → k ≢ p → after.media k ≡ o.media k) → (k : ℕ) →
@@ -32,30 +32,30 @@ ports_set ports o after p new small others k =
     elim (eqb_tells k p) [
       | inl same ↦
           rw same.1
-          (ap (λ (m : PortModel). port_of m (after.media p)) (get_or-set_same ports p new blank small)
+          (ap (λ (m : PortModel). port_of m (after.media p)) (get_or-set_same ports p new blank_port small)
           ∙ sym (changed_same (ports_of ports o) p (port_of new (after.media p))))
       | inr differ ↦
-          ap (λ (m : PortModel). port_of m (after.media k)) (get_or-set_other ports p k new blank differ.1)
-          ∙ (ap (λ (m : Media). port_of (slice_index_or ports k blank) m) (others k differ.1)
+          ap (λ (m : PortModel). port_of m (after.media k)) (get_or-set_other ports p k new blank_port differ.1)
+          ∙ (ap (λ (m : Media). port_of (slice_index_or ports k blank_port) m) (others k differ.1)
           ∙ sym (changed_other (ports_of ports o) p (port_of new (after.media p)) k differ.1))
     ]
 
 -- and so is what is behind it
-set_both : (h : Hardware) (o : Outside) (p : ℕ) (new : PortModel) (media : Media) (state : PortState) → p < length h.ports →
+set_both : (h : Hardware) (o : Outside) (p : ℕ) (new : PortModel) (media : Media) (state : DevicePort) → p < length h.ports →
     port_of new media ≡ state →
     device_of (record h { ports = slice_set h.ports p new }) (record o { media = changed o.media p media }) ≡ with_port (device_of h o) p state
 set_both h o p new media state small is =
     let after : Outside = record o { media = changed o.media p media } in
-    ap (λ (f : ℕ → PortState). record (device_of h o) { port = f })
+    ap (λ (f : ℕ → DevicePort). record (device_of h o) { port = f })
     (fun_ext (ports_set h.ports o after p new small (λ k other. changed_other o.media p media k other)))
-    ∙ ap (λ (s : PortState). with_port (device_of h o) p s) (ap (port_of new) (changed_same o.media p media) ∙ is)
+    ∙ ap (λ (s : DevicePort). with_port (device_of h o) p s) (ap (port_of new) (changed_same o.media p media) ∙ is)
 
-pub set_port : (h : Hardware) (o : Outside) (p : ℕ) (new : PortModel) (state : PortState) → p < length h.ports →
+pub set_port : (h : Hardware) (o : Outside) (p : ℕ) (new : PortModel) (state : DevicePort) → p < length h.ports →
     port_of new (o.media p) ≡ state →
     device_of (record h { ports = slice_set h.ports p new }) o ≡ with_port (device_of h o) p state
 set_port h o p new state small is =
-    ap (λ (f : ℕ → PortState). record (device_of h o) { port = f }) (fun_ext (ports_set h.ports o o p new small (λ k _. refl)))
-    ∙ ap (λ (s : PortState). with_port (device_of h o) p s) is
+    ap (λ (f : ℕ → DevicePort). record (device_of h o) { port = f }) (fun_ext (ports_set h.ports o o p new small (λ k _. refl)))
+    ∙ ap (λ (s : DevicePort). with_port (device_of h o) p s) is
 
 pub has_port_read : (r : Reg) (d : Device) → MayRead r d → HasRegister r
 has_port_read (Px port r) d may = may.1.0
@@ -79,7 +79,7 @@ has_port_write Bohc v d may = tt
 
 -- one port that isn't held did what it does by itself
 pub port_settles : (h : Hardware) (o : Outside) (p : ℕ) (new : PortModel) (held : List Bool) → p < length h.ports → IsPortLoose held p →
-    GoesTo (port_of (slice_index_or h.ports p blank) (o.media p)) (port_of new (o.media p)) →
+    GoesTo (port_of (slice_index_or h.ports p blank_port) (o.media p)) (port_of new (o.media p)) →
     LeadsOwn (Settles held) (device_of h o) (device_of (record h { ports = slice_set h.ports p new }) o)
 port_settles h o p new held small loose goes =
     let P : Device → Type 0 = λ d. LeadsOwn (Settles held) (device_of h o) d in
@@ -87,23 +87,23 @@ port_settles h o p new held small loose goes =
 
 -- its link came up, and the disk's first FIS was sent
 pub port_links : (h : Hardware) (o : Outside) (p : ℕ) (linked : PortModel) (held : List Bool) (new : Device) → p < length h.ports → IsPortLoose held p →
-    MayLinkUp (port_of (slice_index_or h.ports p blank) (o.media p)) 0x101 →
-    port_of linked (o.media p) ≡ with_link (port_of (slice_index_or h.ports p blank) (o.media p)) 0x101 true →
+    MayLinkUp (port_of (slice_index_or h.ports p blank_port) (o.media p)) 0x101 →
+    port_of linked (o.media p) ≡ with_link (port_of (slice_index_or h.ports p blank_port) (o.media p)) 0x101 true →
     SendsRegisters p (signature_of ((device_of (record h { ports = slice_set h.ports p linked }) o).port p)) (device_of (record h { ports = slice_set h.ports p linked }) o) new →
     LeadsOwn (Settles held) (device_of h o) new
 port_links h o p linked held new small loose may is sends =
-    own_linked held (device_of h o) (device_of (record h { ports = slice_set h.ports p linked }) o) new p (port_of (slice_index_or h.ports p blank) (o.media p)) loose refl may
+    own_linked held (device_of h o) (device_of (record h { ports = slice_set h.ports p linked }) o) new p (port_of (slice_index_or h.ports p blank_port) (o.media p)) loose refl may
     (set_port h o p linked _ small is) sends
 
 -- one port is as it was
-pub port_same : (h : Hardware) (o : Outside) (p : ℕ) (new : PortModel) → p < length h.ports → new ≡ slice_index_or h.ports p blank →
+pub port_same : (h : Hardware) (o : Outside) (p : ℕ) (new : PortModel) → p < length h.ports → new ≡ slice_index_or h.ports p blank_port →
     device_of (record h { ports = slice_set h.ports p new }) o ≡ device_of h o
 port_same h o p new small is =
-    set_port h o p new (port_of (slice_index_or h.ports p blank) (o.media p)) small (ap (λ (x : PortModel). port_of x (o.media p)) is)
-    ∙ with_same (device_of h o) p (port_of (slice_index_or h.ports p blank) (o.media p)) refl
+    set_port h o p new (port_of (slice_index_or h.ports p blank_port) (o.media p)) small (ap (λ (x : PortModel). port_of x (o.media p)) is)
+    ∙ with_same (device_of h o) p (port_of (slice_index_or h.ports p blank_port) (o.media p)) refl
 
 -- one port is changed, and the tape has one more entry
-pub set_port_recorded : (h : Hardware) (o : Outside) (p : ℕ) (new : PortModel) (state : PortState) (tape : Vec Entry) (entry : Entry) →
+pub set_port_recorded : (h : Hardware) (o : Outside) (p : ℕ) (new : PortModel) (state : DevicePort) (tape : Vec Entry) (entry : Entry) →
     p < length h.ports → port_of new (o.media p) ≡ state → tape.items ≡ h.tape.items ++ entry ∷ [] →
     device_of (record h { ports = slice_set h.ports p new; tape = tape }) o ≡ recorded (device_of h o) p state entry
 set_port_recorded h o p new state tape entry small is more =
@@ -111,7 +111,7 @@ set_port_recorded h o p new state tape entry small is more =
     ∙ ap (λ (entries : List Entry). record (with_port (device_of h o) p state) { tape = entries }) more
 
 -- one port is changed with what is behind it, and the tape has one more entry
-pub set_port_plugged : (h : Hardware) (o : Outside) (p : ℕ) (new : PortModel) (media : Media) (state : PortState) (tape : Vec Entry) (entry : Entry) →
+pub set_port_plugged : (h : Hardware) (o : Outside) (p : ℕ) (new : PortModel) (media : Media) (state : DevicePort) (tape : Vec Entry) (entry : Entry) →
     p < length h.ports → port_of new media ≡ state → tape.items ≡ h.tape.items ++ entry ∷ [] →
     device_of (record h { ports = slice_set h.ports p new; tape = tape }) (record o { media = changed o.media p media }) ≡ recorded (device_of h o) p state entry
 set_port_plugged h o p new media state tape entry small is more =
@@ -119,7 +119,7 @@ set_port_plugged h o p new media state tape entry small is more =
     ∙ ap (λ (entries : List Entry). record (with_port (device_of h o) p state) { tape = entries }) more
 
 -- one port is changed with what is behind it, the tape has one more entry, and the memory other bytes
-pub set_port_moved : (h : Hardware) (o : Outside) (p : ℕ) (new : PortModel) (media : Media) (state : PortState) (tape : Vec Entry) (entry : Entry)
+pub set_port_moved : (h : Hardware) (o : Outside) (p : ℕ) (new : PortModel) (media : Media) (state : DevicePort) (tape : Vec Entry) (entry : Entry)
     (memory : Vec ℕ) (bytes : ℕ → ℕ) →
     p < length h.ports → port_of new media ≡ state → tape.items ≡ h.tape.items ++ entry ∷ [] →
     length memory.items ≡ length h.memory.items → bytes_of memory.items ≡ bytes →
@@ -132,7 +132,7 @@ set_port_moved h o p new media state tape entry memory bytes small is more size 
 -- a reading leaves settled what is
 pub noted_settled : (r : Reg) (v : ℕ) (d : Device) (held : List Bool) → IsSettled held d → IsSettled held (noted r v d)
 noted_settled (Px q r) v d held s =
-    let new : PortState = record (d.port q.0) { notes = note r v (d.port q.0) } in
+    let new : DevicePort = record (d.port q.0) { notes = note r v (d.port q.0) } in
     record {
       reset = s.reset;
       engines = changed_each d.port q.0 new (λ k p. (p.st ≡ false) × (p.cr ≡ true) → IsPortHeld held k) (s.engines q.0) s.engines;

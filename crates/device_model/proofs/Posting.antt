@@ -1,11 +1,11 @@
 -- What the model sends is one of the device's own steps, and changes the memory alone.
 use Rattle.std.proofs.Common.{ℕ, Bool, true, false, zero, suc, ◌≡◌, ◌∙◌, ◌+◌, ◌≤◌, ◌⊎◌, List, Option, refl, sym, ap, inl, inr, arith}
 use Rattle.std.proofs.lemmas.Bool.Decides.{leb_tells}
-use Rattle.adapter.specs.Asked.{Asked, DoesClear, DoesOne, DoneOf, Fails, FailsAfter, GoesOn, DoesSome, Ends, MayPost, busy}
+use Rattle.adapter.specs.Asked.{Asked, DoesClear, DoesOne, DoneOf, Fails, FailsAfter, SlotGoesOn, DoesSome, EndsAndPosts, MayPost, busy}
 use Rattle.adapter.specs.Commands.{is_queued}
-use Rattle.adapter.specs.Device.{PortState, Device}
-use Rattle.adapter.specs.Steps.{Step, Steps, after}
-use Rattle.adapter.specs.Steps.Step.{Fetch, FetchFault, Move, Clear, Done, Fault, Fatal, Fall, FrFall, LinkUp, Unplug, Plug, ResetEnds, Scribble}
+use Rattle.adapter.specs.Device.{DevicePort, Device}
+use Rattle.adapter.specs.Steps.{DeviceTransition, Steps, device_after}
+use Rattle.adapter.specs.Steps.DeviceTransition.{Fetch, FetchFault, Move, Clear, Done, Fault, Fatal, Fall, FrFall, LinkUp, Unplug, Plug, ResetEnds, Scribble}
 use Rattle.adapter.specs.declared.access.DeviceStep.{DeviceStep}
 use Rattle.adapter.specs.declared.access.DeviceStep.TheVariants as asked
 use Rattle.adapter.specs.declared.command.Operation.{Operation}
@@ -15,10 +15,10 @@ use Rattle.sector_store.specs.declared.store.Failures.{Failures}
 use Rattle.device_model.specs.Does.{ClearsFewer, Did, StepFails, FailsToClear, FailsToMove}
 use Rattle.device_model.specs.Modelled.{device_at}
 use Rattle.device_model.specs.Sent.{IsSent, Sends, SendsAfter, SendsEnd, SendsFailed, SendsFault, is_received}
-use Rattle.device_model.specs.declared.bay.Description.{Description}
+use Rattle.device_model.specs.declared.bay.PageContents.{PageContents}
 use Rattle.device_model.specs.declared.model.Model.{Model}
 
-pub received_there : (p : PortState) (size : ℕ) → p.fre ≡ true → p.bases.fb + 256 ≤ size → is_received p size ≡ true
+pub received_there : (p : DevicePort) (size : ℕ) → p.fre ≡ true → p.bases.fb + 256 ≤ size → is_received p size ≡ true
 received_there p size fre inside =
     elim (leb_tells (p.bases.fb + 256) size) [
       | inl fits ↦ rw fre fits.0
@@ -47,7 +47,7 @@ fault_may : (queued : Bool) (port : ℕ) (o : Operation) (old new : Device) → 
 fault_may true port o old new s = sent_may port 0x58 s.0 old new s.2
 fault_may false port o old new s = sent_may port 0x40 s.0 old new s.2
 
-after_may : (step : Step) (old new : Device) → SendsAfter step old new → (port : ℕ) × MayPost port 0 operation.Read old new
+after_may : (step : DeviceTransition) (old new : Device) → SendsAfter step old new → (port : ℕ) × MayPost port 0 operation.Read old new
 after_may (Done port slot flag t) old new s = (port, end_may port slot flag t.meaning.operation old new s)
 after_may (LinkUp port sig n) old new s = (port, sent_may port 0x40 s.0 old new s.2)
 after_may (Fetch port slot meaning places) old new e = (0, inl e)
@@ -78,17 +78,17 @@ end_rest port slot flag o old new s = may_rest port flag o old new (end_may port
 pub fault_rest : (queued : Bool) (port : ℕ) (old new : Device) → SendsFault queued port old new → new ≡ record old { memory = new.memory }
 fault_rest queued port old new s = may_rest port 30 operation.Read old new (fault_may queued port operation.Read old new s)
 
-pub after_rest : (step : Step) (old new : Device) → SendsAfter step old new → new ≡ record old { memory = new.memory }
+pub after_rest : (step : DeviceTransition) (old new : Device) → SendsAfter step old new → new ≡ record old { memory = new.memory }
 after_rest step old new s = let m = after_may step old new s in may_rest m.0 0 operation.Read old new m.1
 
 -- ---- it is a step of the device
 
-pub after_steps : (step : Step) (old new : Device) → SendsAfter step old new → Steps old new
+pub after_steps : (step : DeviceTransition) (old new : Device) → SendsAfter step old new → Steps old new
 after_steps step old new s = let m = after_may step old new s in post_steps m.0 0 operation.Read old new m.1
 
 -- ---- what was asked of the model was asked of an adapter
 
-ends_may : (port slot : ℕ) (old new : Device) → Ends (SendsEnd slot) port slot old new → Ends MayPost port slot old new
+ends_may : (port slot : ℕ) (old new : Device) → EndsAndPosts (SendsEnd slot) port slot old new → EndsAndPosts MayPost port slot old new
 ends_may port slot old new e = record { mid = e.mid; done = e.done; posts = end_may port slot e.done.flag e.done.t.meaning.operation e.mid new e.posts }
 
 one_may : (port slot : ℕ) (old new : Device) → DoesOne (SendsEnd slot) port slot old new → DoesOne MayPost port slot old new
@@ -125,15 +125,15 @@ done_may (asked.Plug p number) old new did = did
 done_may (asked.LosePlug p) old new did = did
 
 -- a fault in the place of a step, or on its way, is one of the device's own
-pub moving_fails : (cached : Bool) (port slot : ℕ) (was now : Option Failures) (says later : Option Description) (old new : Device) (f : FailsToMove cached port slot was now says later old new) →
+pub moving_fails : (cached : Bool) (port slot : ℕ) (was now : Option Failures) (says later : Option PageContents) (old new : Device) (f : FailsToMove cached port slot was now says later old new) →
     Fails SendsFailed port slot f.error 0 old new
 moving_fails cached port slot was now says later old new f =
-    record { mid = after (Fault port slot f.error 0 f.t) old; fault = record { t = f.t; can = f.can; effect = refl }; posts = f.sends }
+    record { mid = device_after (Fault port slot f.error 0 f.t) old; fault = record { t = f.t; can = f.can; effect = refl }; posts = f.sends }
 
-pub clearing_fails : (cached : Bool) (port slot : ℕ) (was now : Option Failures) (says later : Option Description) (old new : Device) (f : FailsToClear cached port slot was now says later old new) →
+pub clearing_fails : (cached : Bool) (port slot : ℕ) (was now : Option Failures) (says later : Option PageContents) (old new : Device) (f : FailsToClear cached port slot was now says later old new) →
     Fails SendsFailed port slot f.error 0 old new
 clearing_fails cached port slot was now says later old new f =
-    record { mid = after (Fault port slot f.error 0 f.t) old; fault = record { t = f.t; can = f.can; effect = refl }; posts = f.sends }
+    record { mid = device_after (Fault port slot f.error 0 f.t) old; fault = record { t = f.t; can = f.can; effect = refl }; posts = f.sends }
 
 fails_after_may : (port slot error : ℕ) (Part More : Device → Device → Type 0) → ((old mid : Device) → Part old mid → More old mid) → (old mid new : Device) →
     (mid ≡ old) ⊎ Part old mid → Fails SendsFailed port slot error 0 mid new → FailsAfter MayPost More port slot old new
@@ -142,11 +142,11 @@ fails_after_may port slot error Part More more old mid new (inl same) f =
 fails_after_may port slot error Part More more old mid new (inr some) f =
     record { mid = mid; before = inr (more old mid some); error = error; fails = failed_may port slot error 0 mid new f }
 
-fails_may : (s : DeviceStep) (cached : Bool) (was now : Option Failures) (says later : Option Description) (old new : Device) → StepFails s cached was now says later old new → Asked s old new
+fails_may : (s : DeviceStep) (cached : Bool) (was now : Option Failures) (says later : Option PageContents) (old new : Device) → StepFails s cached was now says later old new → Asked s old new
 fails_may (asked.Fetch p s) cached was now says later old new f = inr (record {
-  mid = after (FetchFault p.0 s.0 false 0) old;
+  mid = device_after (FetchFault p.0 s.0 false 0) old;
   fault = record { queued = false; can = f.can; effect = refl };
-  posts = λ o. fault_may false p.0 o (after (FetchFault p.0 s.0 false 0) old) new f.sends;
+  posts = λ o. fault_may false p.0 o (device_after (FetchFault p.0 s.0 false 0) old) new f.sends;
 })
 fails_may (asked.Move p s) cached was now says later old new f =
     inr (f.error, failed_may p.0 s.0 f.error 0 old new (moving_fails cached p.0 s.0 was now says later old new f))
@@ -154,10 +154,10 @@ fails_may (asked.Clear p s most) cached was now says later old new (mid, before,
     inr (fails_after_may p.0 s.0 f.error (ClearsFewer p.0 s.0 most) (DoesClear p.0 s.0 most) (λ a b some. some.0) old mid new before
     (clearing_fails cached p.0 s.0 was now says later mid new f))
 fails_may (asked.Finish p s) cached was now says later old new (mid, before, inl f) =
-    inr (fails_after_may p.0 s.0 f.error (GoesOn (SendsEnd s.0) p.0 s.0) (GoesOn MayPost p.0 s.0) (λ a b g. (g.0, some_may (suc g.0) p.0 s.0 a b g.1)) old mid new before
+    inr (fails_after_may p.0 s.0 f.error (SlotGoesOn (SendsEnd s.0) p.0 s.0) (SlotGoesOn MayPost p.0 s.0) (λ a b g. (g.0, some_may (suc g.0) p.0 s.0 a b g.1)) old mid new before
     (moving_fails cached p.0 s.0 was now says later mid new f))
 fails_may (asked.Finish p s) cached was now says later old new (mid, before, inr f) =
-    inr (fails_after_may p.0 s.0 f.error (GoesOn (SendsEnd s.0) p.0 s.0) (GoesOn MayPost p.0 s.0) (λ a b g. (g.0, some_may (suc g.0) p.0 s.0 a b g.1)) old mid new before
+    inr (fails_after_may p.0 s.0 f.error (SlotGoesOn (SendsEnd s.0) p.0 s.0) (SlotGoesOn MayPost p.0 s.0) (λ a b g. (g.0, some_may (suc g.0) p.0 s.0 a b g.1)) old mid new before
     (clearing_fails cached p.0 s.0 was now says later mid new f))
 fails_may (asked.Done p s) cached was now says later old new f = absurd f
 fails_may (asked.Fault p s error) cached was now says later old new f = absurd f

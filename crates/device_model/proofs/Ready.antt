@@ -7,21 +7,21 @@ use Rattle.std.specs.Option.{SomeIff}
 use Rattle.std.specs.Vec.{vec_len}
 use Rattle.adapter.specs.Asked.{DoesFetch}
 use Rattle.adapter.specs.Commands.{Meaning}
-use Rattle.adapter.specs.Device.{Device, PortState, Taken}
-use Rattle.adapter.specs.Says.{Says, pieces, cut}
+use Rattle.adapter.specs.Device.{Device, DevicePort, FetchedCommand}
+use Rattle.adapter.specs.Decoding.{DecodesTo, pieces, piece_addresses}
 use Rattle.adapter.specs.Steps.{Can, IsAlone, WorksOn, admits, begun, with_fetch}
-use Rattle.adapter.specs.Steps.Step.{Fetch}
+use Rattle.adapter.specs.Steps.DeviceTransition.{Fetch}
 use Rattle.adapter.specs.declared.command.Operation.{Operation}
 use Rattle.adapter.specs.declared.command.Prd.{Prd}
 use Rattle.device_model.proofs.Absurd.{some-none, some_one, true-false}
 use Rattle.adapter.proofs.SaysLemmas.{says_meaning, says_places, cut_length, cut_index}
-use Rattle.device_model.specs.Finishing.{HasPage, FindsPage, IsInside, AreInside, IsCovered, IsRest, MayFinish, MayPage, sends_page}
-use Rattle.device_model.specs.Fetched.{IsNew, bytes_of}
+use Rattle.device_model.specs.Finishing.{HasPageCommand, LooksForPage, IsInside, AreInside, IsCovered, IsRest, MayFinish, MayPage, sends_page}
+use Rattle.device_model.specs.Fetched.{IsUntouched, bytes_of}
 use Rattle.device_model.specs.Cached.{HasOldRoom}
 use Rattle.device_model.specs.Trims.{WillClear, changes_ahead}
-use Rattle.device_model.specs.Slots.{IsOpenTo, MayTake, HasUntaken, HoldsAt}
-use Rattle.device_model.specs.Bits.{bits_of}
-use Rattle.device_model.specs.View.{Media, halt_of, held_in, operation_of, port_of, taken_of, blank}
+use Rattle.device_model.specs.Slots.{IsOpenTo, MayTake, HasUntaken, WorksOnIn}
+use Rattle.device_model.specs.Bits.{word_bits}
+use Rattle.device_model.specs.View.{Media, halt_of, held_in, transfer_operation, port_of, taken_of, blank_port}
 use Rattle.device_model.specs.Whole.{Outside, device_of}
 use Rattle.device_model.specs.declared.port.PortModel.{PortModel}
 use Rattle.device_model.specs.declared.port.TakenCommand.{TakenCommand}
@@ -36,7 +36,7 @@ use Rattle.device_model.proofs.Stepping.{fetch_takes, fetch_says}
 
 module _ (size : ℕ) (x : Prd) (xs : List Prd) where
   abbrev front : List ℕ
-  front = cut x.address (x.bytes / 512)
+  front = piece_addresses x.address (x.bytes / 512)
 
   front_length : length front ≡ x.bytes / 512
   front_length = cut_length x.address (x.bytes / 512)
@@ -108,16 +108,16 @@ MayTakeNone p slot = (m : Media) (operation : Operation) → MayTake (port_of p 
 
 -- this command may be taken beside those that are
 abbrev pub IsBeside : PortModel → TakenCommand → Type 0
-IsBeside p r = IsOpenTo p (operation_of r.transfer)
+IsBeside p r = IsOpenTo p (transfer_operation r.transfer)
 
 pub may_be_taken : (p : PortModel) (slot : ℕ) (r : TakenCommand) → HasUntaken p slot → IsBeside p r → (m : Media) →
-    MayTake (port_of p m) slot (operation_of r.transfer)
+    MayTake (port_of p m) slot (transfer_operation r.transfer)
 may_be_taken p slot r may beside m =
-    let w = may m (operation_of r.transfer) beside.0 in record { fetchable = w.0; working = w.1; alone = beside.1 m }
+    let w = may m (transfer_operation r.transfer) beside.0 in record { fetchable = w.0; working = w.1; alone = beside.1 m }
 
 module _ (h : Hardware) (o : Outside) (p port slot left clears : ℕ) (e : p ≡ port) (ready : MayFinish (device_of h o) port slot left clears) where
   abbrev state : PortModel
-  state = slice_index_or h.ports p blank
+  state = slice_index_or h.ports p blank_port
 
   pub ready_fetch : HasUntaken state slot →
       Can (Fetch port slot ready.t.meaning ready.t.places) (device_of h o) × (ready.t ≡ begun ready.t.meaning ready.t.places)
@@ -129,29 +129,29 @@ module _ (h : Hardware) (o : Outside) (p port slot left clears : ℕ) (e : p ≡
       by (inl works) = some-none (ap (λ (q : ℕ). ((device_of h o).port q).taken slot) e ∙ works.taken) (may (o.media p) ready.t.meaning.operation (ap (λ (q : ℕ). admits ((device_of h o).port q).halt ready.t.meaning.operation) e ∙ works.working.admitted)).0.free
       by (inr begins) = begins
 
-  pub ready_said : HasUntaken state slot → Says (bytes_of h.memory.items) state.addresses.clb slot ready.t.meaning ready.t.places
+  pub ready_said : HasUntaken state slot → DecodesTo (bytes_of h.memory.items) state.addresses.clb slot ready.t.meaning ready.t.places
   ready_said may = fetch_says h o p port slot ready.t.meaning ready.t.places e (ready_fetch may).0
 
-  pub ready_held : MayTakeNone state slot → (r : TakenCommand) × HoldsAt state slot r × (ready.t ≡ taken_of r)
+  pub ready_held : MayTakeNone state slot → (r : TakenCommand) × WorksOnIn state slot r × (ready.t ≡ taken_of r)
   ready_held never = by ready.begins
     where
       by : WorksOn ((device_of h o).port port) slot ready.t ready.t.meaning.operation
           ⊎ (Can (Fetch port slot ready.t.meaning ready.t.places) (device_of h o) × (ready.t ≡ begun ready.t.meaning ready.t.places)) →
-          (r : TakenCommand) × HoldsAt state slot r × (ready.t ≡ taken_of r)
+          (r : TakenCommand) × WorksOnIn state slot r × (ready.t ≡ taken_of r)
       by (inl works) =
-          let P : ℕ → Type 0 = λ q. (r : TakenCommand) × HoldsAt (slice_index_or h.ports q blank) slot r × (ready.t ≡ taken_of r) in
+          let P : ℕ → Type 0 = λ q. (r : TakenCommand) × WorksOnIn (slice_index_or h.ports q blank_port) slot r × (ready.t ≡ taken_of r) in
           subst P (sym e) (holds h o port slot ready.t works)
       by (inr begins) = absurd (never (o.media p) ready.t.meaning.operation (fetch_takes h o p port slot ready.t.meaning ready.t.places e begins.0))
 
 module _ (h : Hardware) (p port slot : ℕ) (r : TakenCommand) (e : p ≡ port) where
   -- a command that may be taken is ready
-  pub ready_to_take : (left clears : ℕ) → IsRest r h.memory.items left clears → IsNew r →
-      HasUntaken (slice_index_or h.ports p blank) slot → IsBeside (slice_index_or h.ports p blank) r →
-      Says (bytes_of h.memory.items) (slice_index_or h.ports p blank).addresses.clb slot (taken_of r).meaning (taken_of r).places →
+  pub ready_to_take : (left clears : ℕ) → IsRest r h.memory.items left clears → IsUntouched r →
+      HasUntaken (slice_index_or h.ports p blank_port) slot → IsBeside (slice_index_or h.ports p blank_port) r →
+      DecodesTo (bytes_of h.memory.items) (slice_index_or h.ports p blank_port).addresses.clb slot (taken_of r).meaning (taken_of r).places →
       (o : Outside) → MayFinish (device_of h o) port slot left clears
   ready_to_take left clears rest new may beside says o =
       let P : ℕ → Type 0 = λ q. MayFinish (device_of h o) q slot left clears in
-      let m = may (o.media p) (operation_of r.transfer) beside.0 in
+      let m = may (o.media p) (transfer_operation r.transfer) beside.0 in
       subst P e
       (record {
         t = taken_of r;
@@ -161,7 +161,7 @@ module _ (h : Hardware) (p port slot : ℕ) (r : TakenCommand) (e : p ≡ port) 
       })
 
   -- and so is one that is taken
-  pub ready_to_go : (left clears : ℕ) → IsRest r h.memory.items left clears → HoldsAt (slice_index_or h.ports p blank) slot r →
+  pub ready_to_go : (left clears : ℕ) → IsRest r h.memory.items left clears → WorksOnIn (slice_index_or h.ports p blank_port) slot r →
       (o : Outside) → MayFinish (device_of h o) port slot left clears
   ready_to_go left clears rest here o =
       let P : ℕ → Type 0 = λ q. MayFinish (device_of h o) q slot left clears in
@@ -171,45 +171,45 @@ module _ (h : Hardware) (p port slot : ℕ) (r : TakenCommand) (e : p ≡ port) 
   rest_back : (left clears : ℕ) (o : Outside) (ready : MayFinish (device_of h o) port slot left clears) → ready.t ≡ taken_of r →
       IsRest r h.memory.items left clears
   rest_back left clears o ready same =
-      let Q : Taken → Type 0 = λ t. IsCovered t (length h.memory.items) left in
-      let R : Taken → Type 0 = λ t. WillClear t.meaning.operation (bytes_of h.memory.items) t clears in
+      let Q : FetchedCommand → Type 0 = λ t. IsCovered t (length h.memory.items) left in
+      let R : FetchedCommand → Type 0 = λ t. WillClear t.meaning.operation (bytes_of h.memory.items) t clears in
       (subst Q same ready.covered, subst R same ready.clearing)
 
   -- where a command may be taken, one that is ready is the one that its slot's bytes say
-  pub ready_is_one : HasUntaken (slice_index_or h.ports p blank) slot → IsNew r →
-      Says (bytes_of h.memory.items) (slice_index_or h.ports p blank).addresses.clb slot (taken_of r).meaning (taken_of r).places →
+  pub ready_is_one : HasUntaken (slice_index_or h.ports p blank_port) slot → IsUntouched r →
+      DecodesTo (bytes_of h.memory.items) (slice_index_or h.ports p blank_port).addresses.clb slot (taken_of r).meaning (taken_of r).places →
       (o : Outside) (left clears : ℕ) (ready : MayFinish (device_of h o) port slot left clears) → ready.t ≡ taken_of r
   ready_is_one may new says o left clears ready =
-      let t : Taken = ready.t in
+      let t : FetchedCommand = ready.t in
       let memory = bytes_of h.memory.items in
-      let list = (slice_index_or h.ports p blank).addresses.clb in
+      let list = (slice_index_or h.ports p blank_port).addresses.clb in
       let there = ready_said h o p port slot left clears e ready may in
       let meaning = says_meaning memory list slot t.meaning (taken_of r).meaning t.places (taken_of r).places there says in
       let places = says_places memory list slot t.meaning (taken_of r).meaning t.places (taken_of r).places there says in
       (ready_fetch h o p port slot left clears e ready may).1 ∙ ((λ i. begun (meaning i) (places i)) ∙ sym (new_begun r new))
 
-  pub ready_is_said : HasUntaken (slice_index_or h.ports p blank) slot → IsNew r →
-      Says (bytes_of h.memory.items) (slice_index_or h.ports p blank).addresses.clb slot (taken_of r).meaning (taken_of r).places →
+  pub ready_is_said : HasUntaken (slice_index_or h.ports p blank_port) slot → IsUntouched r →
+      DecodesTo (bytes_of h.memory.items) (slice_index_or h.ports p blank_port).addresses.clb slot (taken_of r).meaning (taken_of r).places →
       (o : Outside) (left clears : ℕ) → MayFinish (device_of h o) port slot left clears → IsRest r h.memory.items left clears
   ready_is_said may new says o left clears ready =
       rest_back left clears o ready (ready_is_one may new says o left clears ready)
 
   -- one that may not be taken beside those that are isn't ready
-  pub ready_beside : HasUntaken (slice_index_or h.ports p blank) slot → IsNew r →
-      Says (bytes_of h.memory.items) (slice_index_or h.ports p blank).addresses.clb slot (taken_of r).meaning (taken_of r).places →
+  pub ready_beside : HasUntaken (slice_index_or h.ports p blank_port) slot → IsUntouched r →
+      DecodesTo (bytes_of h.memory.items) (slice_index_or h.ports p blank_port).addresses.clb slot (taken_of r).meaning (taken_of r).places →
       (o : Outside) (left clears : ℕ) → MayFinish (device_of h o) port slot left clears →
-      (admits (halt_of (slice_index_or h.ports p blank).halting) (operation_of r.transfer) ≡ true)
-      × IsAlone (port_of (slice_index_or h.ports p blank) (o.media p)) (operation_of r.transfer)
+      (admits (halt_of (slice_index_or h.ports p blank_port).halting) (transfer_operation r.transfer) ≡ true)
+      × IsAlone (port_of (slice_index_or h.ports p blank_port) (o.media p)) (transfer_operation r.transfer)
   ready_beside may new says o left clears ready =
       let same = ready_is_one may new says o left clears ready in
       let P : ℕ → Type 0 = λ q. (admits ((device_of h o).port q).halt ready.t.meaning.operation ≡ true) × IsAlone ((device_of h o).port q) ready.t.meaning.operation in
       let can = (ready_fetch h o p port slot left clears e ready may).0 in
       let both = subst P (sym e) (can.working.admitted, can.alone) in
-      subst (λ (t : Taken). (admits (halt_of (slice_index_or h.ports p blank).halting) t.meaning.operation ≡ true)
-      × IsAlone (port_of (slice_index_or h.ports p blank) (o.media p)) t.meaning.operation) same both
+      subst (λ (t : FetchedCommand). (admits (halt_of (slice_index_or h.ports p blank_port).halting) t.meaning.operation ≡ true)
+      × IsAlone (port_of (slice_index_or h.ports p blank_port) (o.media p)) t.meaning.operation) same both
 
   -- where it is taken, the one that its slot holds
-  pub ready_is_held : HoldsAt (slice_index_or h.ports p blank) slot r → MayTakeNone (slice_index_or h.ports p blank) slot →
+  pub ready_is_held : WorksOnIn (slice_index_or h.ports p blank_port) slot r → MayTakeNone (slice_index_or h.ports p blank_port) slot →
       (o : Outside) (left clears : ℕ) → MayFinish (device_of h o) port slot left clears → IsRest r h.memory.items left clears
   ready_is_held here never o left clears ready =
       let w = ready_held h o p port slot left clears e ready never in
@@ -218,7 +218,7 @@ module _ (h : Hardware) (p port slot : ℕ) (r : TakenCommand) (e : p ≡ port) 
 
 -- what a command is going to change is what is left of the one that is ready
 pub ahead_is : (h : Hardware) (o : Outside) (cache : Cache) (port slot left changes n m : ℕ) (r : TakenCommand) (may : MayFinish (device_of h o) port slot n m) → may.t ≡ taken_of r →
-    left ≡ n → changes ≡ changes_ahead (operation_of r.transfer) (bytes_of h.memory.items) (taken_of r) left →
+    left ≡ n → changes ≡ changes_ahead (transfer_operation r.transfer) (bytes_of h.memory.items) (taken_of r) left →
     HasOldRoom cache (changes_ahead may.t.meaning.operation (bytes_of h.memory.items) may.t n) → HasOldRoom cache changes
 ahead_is h o cache port slot left changes n m r may same number is =
     let memory = bytes_of h.memory.items in
@@ -226,30 +226,30 @@ ahead_is h o cache port slot left changes n m r may same number is =
     subst (HasOldRoom cache) here
 
 -- and of the one that is taken
-pub ahead_of : (cache : Cache) (memory : ℕ → ℕ) (left changes : ℕ) (r : TakenCommand) (t : Taken) → taken_of r ≡ t →
-    changes ≡ changes_ahead (operation_of r.transfer) memory (taken_of r) left → HasOldRoom cache changes → HasOldRoom cache (changes_ahead t.meaning.operation memory t left)
+pub ahead_of : (cache : Cache) (memory : ℕ → ℕ) (left changes : ℕ) (r : TakenCommand) (t : FetchedCommand) → taken_of r ≡ t →
+    changes ≡ changes_ahead (transfer_operation r.transfer) memory (taken_of r) left → HasOldRoom cache changes → HasOldRoom cache (changes_ahead t.meaning.operation memory t left)
 ahead_of cache memory left changes r t same is =
     let there : changes ≡ changes_ahead t.meaning.operation memory t left = is ∙ (λ i. changes_ahead (same i).meaning.operation memory (same i) left) in
     subst (HasOldRoom cache) there
 
 -- the one that was taken just now
-pub fetched_is : (port slot : ℕ) (old new : Device) (r : TakenCommand) (f : DoesFetch port slot old new) → IsNew r →
-    Says old.memory (old.port port).bases.clb slot (taken_of r).meaning (taken_of r).places → (t : Taken) → (new.port port).taken slot ≡ Some t → taken_of r ≡ t
+pub fetched_is : (port slot : ℕ) (old new : Device) (r : TakenCommand) (f : DoesFetch port slot old new) → IsUntouched r →
+    DecodesTo old.memory (old.port port).bases.clb slot (taken_of r).meaning (taken_of r).places → (t : FetchedCommand) → (new.port port).taken slot ≡ Some t → taken_of r ≡ t
 fetched_is port slot old new r f fresh says t taken =
-    let p : PortState = old.port port in
-    let state : PortState = with_fetch p slot f.meaning f.places in
+    let p : DevicePort = old.port port in
+    let state : DevicePort = with_fetch p slot f.meaning f.places in
     let meaning : f.meaning ≡ (taken_of r).meaning = says_meaning old.memory p.bases.clb slot f.meaning (taken_of r).meaning f.places (taken_of r).places f.can.says says in
     let places : f.places ≡ (taken_of r).places = says_places old.memory p.bases.clb slot f.meaning (taken_of r).meaning f.places (taken_of r).places f.can.says says in
     let there : new.port port ≡ state = ap (λ (d : Device). d.port port) f.effect ∙ here_after old port state in
     let held : (new.port port).taken slot ≡ Some (begun (taken_of r).meaning (taken_of r).places) =
-    ap (λ (x : PortState). x.taken slot) there ∙ (taken_after p slot (Some (begun f.meaning f.places)) ∙ (λ i. Some (begun (meaning i) (places i)))) in
+    ap (λ (x : DevicePort). x.taken slot) there ∙ (taken_after p slot (Some (begun f.meaning f.places)) ∙ (λ i. Some (begun (meaning i) (places i)))) in
     new_begun r fresh ∙ some_one (sym held ∙ taken)
 
 -- ---- commands that send a page
 
 module _ (h : Hardware) (port slot size : ℕ) (sized : size ≡ vec_len h.memory) where
   abbrev here : PortModel
-  here = slice_index_or h.ports port blank
+  here = slice_index_or h.ports port blank_port
 
   memory_size : size ≡ length h.memory.items
   memory_size = let ok = h.memory.ok.0 in omega (arith, sized, ok)
@@ -261,18 +261,18 @@ module _ (h : Hardware) (port slot size : ℕ) (sized : size ≡ vec_len h.memor
   covers_back r left covered = let P : ℕ → Type 0 = λ n. IsCovered (taken_of r) n left in subst P (sym memory_size) covered
 
   -- it clears nothing
-  clears : (r : TakenCommand) → sends_page (operation_of r.transfer) ≡ true → WillClear (operation_of r.transfer) (bytes_of h.memory.items) (taken_of r) 0
-  clears r kind = page_clears (operation_of r.transfer) (bytes_of h.memory.items) (taken_of r) kind
+  clears : (r : TakenCommand) → sends_page (transfer_operation r.transfer) ≡ true → WillClear (transfer_operation r.transfer) (bytes_of h.memory.items) (taken_of r) 0
+  clears r kind = page_clears (transfer_operation r.transfer) (bytes_of h.memory.items) (taken_of r) kind
 
   -- a command that can be done to its end
   abbrev pub Ends : TakenCommand → Type 0
   Ends r = (left : ℕ) × IsCovered (taken_of r) size left × AreInside (2 ^ 32) (pieces r.prds)
 
   -- one that may be taken
-  pub page_said : (r : TakenCommand) → IsNew r → Says (bytes_of h.memory.items) here.addresses.clb slot (taken_of r).meaning (taken_of r).places →
-      sends_page (operation_of r.transfer) ≡ true → HasUntaken here slot → IsBeside here r → Ends r → (o : Outside) → HasPage (device_of h o) port slot
+  pub page_said : (r : TakenCommand) → IsUntouched r → DecodesTo (bytes_of h.memory.items) here.addresses.clb slot (taken_of r).meaning (taken_of r).places →
+      sends_page (transfer_operation r.transfer) ≡ true → HasUntaken here slot → IsBeside here r → Ends r → (o : Outside) → HasPageCommand (device_of h o) port slot
   page_said r new says kind may beside ends o =
-      let m = may (o.media port) (operation_of r.transfer) beside.0 in
+      let m = may (o.media port) (transfer_operation r.transfer) beside.0 in
       record {
         left = ends.0;
         ready = record {
@@ -286,22 +286,22 @@ module _ (h : Hardware) (port slot size : ℕ) (sized : size ≡ vec_len h.memor
       }
 
   -- no other one may be
-  pub page_unsaid : ((m : Meaning) (places : List ℕ) → sends_page m.operation ≡ true → Says (bytes_of h.memory.items) here.addresses.clb slot m places → ⊥) →
-      HasUntaken here slot → (o : Outside) → HasPage (device_of h o) port slot → ⊥
+  pub page_unsaid : ((m : Meaning) (places : List ℕ) → sends_page m.operation ≡ true → DecodesTo (bytes_of h.memory.items) here.addresses.clb slot m places → ⊥) →
+      HasUntaken here slot → (o : Outside) → HasPageCommand (device_of h o) port slot → ⊥
   page_unsaid none may o has =
       none has.ready.t.meaning has.ready.t.places has.sends (ready_said h o port port slot has.left 0 refl has.ready may)
 
   -- and where one may be taken, it is the one that is ready
-  pub page_endless : (r : TakenCommand) → IsNew r → Says (bytes_of h.memory.items) here.addresses.clb slot (taken_of r).meaning (taken_of r).places →
+  pub page_endless : (r : TakenCommand) → IsUntouched r → DecodesTo (bytes_of h.memory.items) here.addresses.clb slot (taken_of r).meaning (taken_of r).places →
       HasUntaken here slot → ((left : ℕ) → IsCovered (taken_of r) size left → AreInside (2 ^ 32) (pieces r.prds) → ⊥) → (o : Outside) →
-      HasPage (device_of h o) port slot → ⊥
+      HasPageCommand (device_of h o) port slot → ⊥
   page_endless r new says may never o has =
       let same = ready_is_one h port port slot r refl may new says o has.left 0 has.ready in
       never has.left (covers_back r has.left (ready_is_said h port port slot r refl may new says o has.left 0 has.ready).0)
-      (subst (λ (t : Taken). AreInside (2 ^ 32) t.places) same has.low)
+      (subst (λ (t : FetchedCommand). AreInside (2 ^ 32) t.places) same has.low)
 
   -- one that is taken
-  pub page_held : (r : TakenCommand) → HoldsAt here slot r → sends_page (operation_of r.transfer) ≡ true → Ends r → (o : Outside) → HasPage (device_of h o) port slot
+  pub page_held : (r : TakenCommand) → WorksOnIn here slot r → sends_page (transfer_operation r.transfer) ≡ true → Ends r → (o : Outside) → HasPageCommand (device_of h o) port slot
   page_held r held kind ends o = record {
     left = ends.0;
     ready = record {
@@ -314,28 +314,28 @@ module _ (h : Hardware) (port slot size : ℕ) (sized : size ≡ vec_len h.memor
     low = ends.2;
   }
 
-  pub page_unheld : ((r : TakenCommand) → HoldsAt here slot r → sends_page (operation_of r.transfer) ≡ true → Ends r → ⊥) → MayTakeNone here slot → (o : Outside) →
-      HasPage (device_of h o) port slot → ⊥
+  pub page_unheld : ((r : TakenCommand) → WorksOnIn here slot r → sends_page (transfer_operation r.transfer) ≡ true → Ends r → ⊥) → MayTakeNone here slot → (o : Outside) →
+      HasPageCommand (device_of h o) port slot → ⊥
   page_unheld none never o has =
       let w = ready_held h o port port slot has.left 0 refl has.ready never in
-      none w.0 w.1 (sym (ap (λ (t : Taken). sends_page t.meaning.operation) w.2) ∙ has.sends)
-      (has.left, covers_back w.0 has.left (rest_back h port port slot w.0 refl has.left 0 o has.ready w.2).0, subst (λ (t : Taken). AreInside (2 ^ 32) t.places) w.2 has.low)
+      none w.0 w.1 (sym (ap (λ (t : FetchedCommand). sends_page t.meaning.operation) w.2) ∙ has.sends)
+      (has.left, covers_back w.0 has.left (rest_back h port port slot w.0 refl has.left 0 o has.ready w.2).0, subst (λ (t : FetchedCommand). AreInside (2 ^ 32) t.places) w.2 has.low)
 
 -- what a look at a slot finds, by whether it can be done to its end
-pub finds : (d : Device) (port slot : ℕ) (ends : Bool) → (ends ≡ true → HasPage d port slot) → (ends ≡ false → MayPage d port slot × (HasPage d port slot → ⊥)) →
-    FindsPage d port slot (Some ends)
+pub finds : (d : Device) (port slot : ℕ) (ends : Bool) → (ends ≡ true → HasPageCommand d port slot) → (ends ≡ false → MayPage d port slot × (HasPageCommand d port slot → ⊥)) →
+    LooksForPage d port slot (Some ends)
 finds d port slot true has may = has refl
 finds d port slot false has may = may refl
 
 module _ (h : Hardware) (port slot : ℕ) where
   abbrev first : PortModel
-  first = slice_index_or h.ports port blank
+  first = slice_index_or h.ports port blank_port
 
   -- one that its slot's bytes say may be taken
-  pub may_page : (r : TakenCommand) → Says (bytes_of h.memory.items) first.addresses.clb slot (taken_of r).meaning (taken_of r).places →
-      sends_page (operation_of r.transfer) ≡ true → HasUntaken first slot → IsBeside first r → (o : Outside) → MayPage (device_of h o) port slot
+  pub may_page : (r : TakenCommand) → DecodesTo (bytes_of h.memory.items) first.addresses.clb slot (taken_of r).meaning (taken_of r).places →
+      sends_page (transfer_operation r.transfer) ≡ true → HasUntaken first slot → IsBeside first r → (o : Outside) → MayPage (device_of h o) port slot
   may_page r says kind may beside o =
-      let m = may (o.media port) (operation_of r.transfer) beside.0 in
+      let m = may (o.media port) (transfer_operation r.transfer) beside.0 in
       record {
         meaning = (taken_of r).meaning;
         places = (taken_of r).places;
@@ -344,7 +344,7 @@ module _ (h : Hardware) (port slot : ℕ) where
       }
 
   -- and so may one that can be done to its end, where one may be
-  pub ready_may : HasUntaken first slot → (o : Outside) → HasPage (device_of h o) port slot → MayPage (device_of h o) port slot
+  pub ready_may : HasUntaken first slot → (o : Outside) → HasPageCommand (device_of h o) port slot → MayPage (device_of h o) port slot
   ready_may may o has = record {
     meaning = has.ready.t.meaning;
     places = has.ready.t.places;
@@ -353,19 +353,19 @@ module _ (h : Hardware) (port slot : ℕ) where
   }
 
   -- none may be beside others that are taken
-  pub page_crowded : (r : TakenCommand) → Says (bytes_of h.memory.items) first.addresses.clb slot (taken_of r).meaning (taken_of r).places →
-      ((m : Media) → admits (halt_of first.halting) (operation_of r.transfer) ≡ true → IsAlone (port_of first m) (operation_of r.transfer) → ⊥) → (o : Outside) →
+  pub page_crowded : (r : TakenCommand) → DecodesTo (bytes_of h.memory.items) first.addresses.clb slot (taken_of r).meaning (taken_of r).places →
+      ((m : Media) → admits (halt_of first.halting) (transfer_operation r.transfer) ≡ true → IsAlone (port_of first m) (transfer_operation r.transfer) → ⊥) → (o : Outside) →
       MayPage (device_of h o) port slot → ⊥
   page_crowded r says crowded o may =
       let memory = bytes_of h.memory.items in
       let there = fetch_says h o port port slot may.meaning may.places refl may.can in
       let meaning = says_meaning memory first.addresses.clb slot may.meaning (taken_of r).meaning may.places (taken_of r).places there says in
-      let same : may.meaning.operation ≡ operation_of r.transfer = ap (λ (x : Meaning). x.operation) meaning in
+      let same : may.meaning.operation ≡ transfer_operation r.transfer = ap (λ (x : Meaning). x.operation) meaning in
       crowded (o.media port) (subst (λ (x : Operation). admits (halt_of first.halting) x ≡ true) same may.can.working.admitted)
       (subst (λ (x : Operation). IsAlone (port_of first (o.media port)) x) same may.can.alone)
 
   -- none is said
-  pub page_unmeant : ((m : Meaning) (places : List ℕ) → sends_page m.operation ≡ true → Says (bytes_of h.memory.items) first.addresses.clb slot m places → ⊥) →
+  pub page_unmeant : ((m : Meaning) (places : List ℕ) → sends_page m.operation ≡ true → DecodesTo (bytes_of h.memory.items) first.addresses.clb slot m places → ⊥) →
       (o : Outside) → MayPage (device_of h o) port slot → ⊥
   page_unmeant none o may = none may.meaning may.places may.sends (fetch_says h o port port slot may.meaning may.places refl may.can)
 
@@ -375,8 +375,8 @@ module _ (h : Hardware) (port slot : ℕ) where
       never (o.media port) may.meaning.operation (fetch_takes h o port port slot may.meaning may.places refl may.can)
 
 -- nothing is issued or taken there
-pub page_unused : (h : Hardware) (port slot : ℕ) → bits_of (slice_index_or h.ports port blank).ci slot ≡ false → held_in (slice_index_or h.ports port blank).taken slot ≡ None →
-    (o : Outside) → FindsPage (device_of h o) port slot None
+pub page_unused : (h : Hardware) (port slot : ℕ) → word_bits (slice_index_or h.ports port blank_port).ci slot ≡ false → held_in (slice_index_or h.ports port blank_port).taken slot ≡ None →
+    (o : Outside) → LooksForPage (device_of h o) port slot None
 page_unused h port slot unissued untaken o =
-    let never : MayTakeNone (slice_index_or h.ports port blank) slot = λ m operation may. true-false may.fetchable.issued unissued in
+    let never : MayTakeNone (slice_index_or h.ports port blank_port) slot = λ m operation may. true-false may.fetchable.issued unissued in
     (page_barred h port slot never o, page_unheld h port slot _ refl (λ r held kind ends. some-none held.held untaken) never o)

@@ -6,7 +6,7 @@ use Rattle.std.proofs.lemmas.Bool.Decides.{eqb_tells}
 use Rattle.std.proofs.lemmas.List.{drop_all, take_all}
 use Rattle.byteorder.specs.Endian.{little_from}
 use Rattle.adapter.specs.Trim.{consecutive, trim_sectors}
-use Rattle.device_model.specs.Trims.{run_from, run_of, runs_from, runs_of}
+use Rattle.device_model.specs.Trims.{run_from, trim_extent, runs_from, runs_of}
 
 -- ---- sectors that follow one another
 
@@ -151,7 +151,7 @@ run_on a (suc m) rest =
     let more : suc (m + run_from (a + suc m) rest) ≡ suc m + run_from (a + suc m) rest = omega arith in
     rw (same_number a) (ap suc (run_on (suc a) m rest ∙ ap (λ (k : ℕ). m + run_from k rest) next) ∙ more)
 
-run_is : (a m : ℕ) (rest : List ℕ) → 1 ≤ m → run_from (a + m) rest ≡ 0 → run_of (consecutive a m ++ rest) ≡ m
+run_is : (a m : ℕ) (rest : List ℕ) → 1 ≤ m → run_from (a + m) rest ≡ 0 → trim_extent (consecutive a m ++ rest) ≡ m
 run_is a zero rest some stops = absurd (omega (arith, some))
 run_is a (suc m) rest some stops =
     let next : suc a + m ≡ a + suc m = omega arith in
@@ -227,9 +227,9 @@ module _ (sectors : List ℕ) (cleared most : ℕ) (here rest : List ℕ) (skip 
       }
 
   -- the next entry doesn't go on
-  pub along_stops : skip < n → 1 ≤ count → first + count ≢ f → run_of (take most (drop cleared sectors)) ≡ count
+  pub along_stops : skip < n → 1 ≤ count → first + count ≢ f → trim_extent (take most (drop cleared sectors)) ≡ count
   along_stops inside some other =
-      ap run_of (parts_on some)
+      ap trim_extent (parts_on some)
       ∙ run_is first count (consecutive f (min n (most - count)) ++ take (most - count - min n (most - count)) rest) some (stop (most - count))
     where
       stop : (k : ℕ) → run_from (first + count) (consecutive f (min n k) ++ take (k - min n k) rest) ≡ 0
@@ -247,9 +247,9 @@ module _ (sectors : List ℕ) (cleared most : ℕ) (here rest : List ℕ) (skip 
 
 -- what is found once no entry is left
 pub along_count : (sectors : List ℕ) (cleared most : ℕ) (rest : List ℕ) (skip first count : ℕ) → rest ≡ [] → IsAlong sectors cleared most rest skip first count →
-    run_of (take most (drop cleared sectors)) ≡ count
+    trim_extent (take most (drop cleared sectors)) ≡ count
 along_count sectors cleared most rest skip first zero none along =
-    ap run_of
+    ap trim_extent
     (along.parts
     ∙ (ap (λ (l : List ℕ). take (most - zero) (drop skip l)) none
     ∙ (ap (λ (l : List ℕ). take (most - zero) l) (drop_all skip [] (omega arith)) ∙ take_all (most - zero) [] (omega arith))))
@@ -257,7 +257,7 @@ along_count sectors cleared most rest skip first (suc count) none along =
     let nothing : take (most - suc count) (drop skip rest) ≡ [] =
     ap (λ (l : List ℕ). take (most - suc count) (drop skip l)) none
     ∙ (ap (λ (l : List ℕ). take (most - suc count) l) (drop_all skip [] (omega arith)) ∙ take_all (most - suc count) [] (omega arith)) in
-    ap run_of along.parts
+    ap trim_extent along.parts
     ∙ run_is first (suc count) (take (most - suc count) (drop skip rest)) (omega arith) (ap (λ (l : List ℕ). run_from (first + suc count) l) nothing)
 
 pub along_head : (sectors : List ℕ) (cleared most : ℕ) (rest : List ℕ) (skip first count : ℕ) → IsAlong sectors cleared most rest skip first count →
@@ -280,7 +280,7 @@ take_run_from next (suc j) (x ∷ xs) few =
     ]
 
 -- of a run each number of sectors follow one another
-pub take_run : (xs : List ℕ) (j : ℕ) → j ≤ run_of xs → take j xs ≡ consecutive (slice_index xs 0) j
+pub take_run : (xs : List ℕ) (j : ℕ) → j ≤ trim_extent xs → take j xs ≡ consecutive (slice_index xs 0) j
 take_run xs zero few = refl
 take_run [] (suc j) few = absurd (omega (arith, few))
 take_run (x ∷ xs) (suc j) few = ap (λ (l : List ℕ). x ∷ l) (take_run_from (suc x) j xs (omega (arith, few)))
@@ -293,7 +293,7 @@ run_from_long next (x ∷ xs) =
       | inr there ↦ rw there.0 (omega arith)
     ]
 
-pub run_long : (xs : List ℕ) → run_of xs ≤ length xs
+pub run_long : (xs : List ℕ) → trim_extent xs ≤ length xs
 run_long [] = omega arith
 run_long (x ∷ xs) = let rest = run_from_long (suc x) xs in omega (arith, rest)
 
@@ -309,7 +309,7 @@ run_from_runs next (x ∷ xs) =
     ]
 
 -- one run less is left once the first one is taken away
-pub one_less : (xs : List ℕ) (n : ℕ) → runs_of xs ≡ suc n → runs_of (drop (run_of xs) xs) ≡ n
+pub one_less : (xs : List ℕ) (n : ℕ) → runs_of xs ≡ suc n → runs_of (drop (trim_extent xs) xs) ≡ n
 one_less [] n e = absurd (omega (arith, e))
 one_less (x ∷ xs) n e = sym (run_from_runs (suc x) xs) ∙ (let less : runs_from (suc x) xs ≡ n = omega (arith, e) in less)
 

@@ -3,22 +3,22 @@ use Rattle.std.proofs.Common.{ℕ, Bool, true, false, ◌≡◌, ◌≢◌, ◌<
 use Rattle.std.specs.Prelude.{if◌then◌else◌, is_some}
 use Rattle.std.proofs.lemmas.List.{length-set}
 use Rattle.std.proofs.lemmas.Bool.Decides.{eqb_tells}
-use Rattle.adapter.specs.Asked.{GoesOn}
-use Rattle.adapter.specs.Device.{Device, PortState}
+use Rattle.adapter.specs.Asked.{SlotGoesOn}
+use Rattle.adapter.specs.Device.{Device, DevicePort}
 use Rattle.adapter.specs.OneCommand.{IsFreeSlot}
 use Rattle.adapter.specs.declared.access.DeviceStep.TheVariants as asked
 use Rattle.ata_types.specs.declared.Port.{Port}
 use Rattle.ata_types.specs.declared.Slot.{Slot}
 use Rattle.sector_store.specs.declared.store.Failures.{Failures}
-use Rattle.device_model.specs.Disks.{disk_of, which_of}
+use Rattle.device_model.specs.Disks.{numbered_disk, which_of}
 use Rattle.device_model.specs.Does.{AnswersStep, Completes, GoesOnSo}
-use Rattle.device_model.specs.Finishing.{FindsPage, HasPage, HasRoom, IsBusy, MayPage}
+use Rattle.device_model.specs.Finishing.{LooksForPage, HasPageCommand, TapeHasRoom, IsBusy, MayPage}
 use Rattle.device_model.specs.Held.{IsPortHeld, IsPortLoose}
 use Rattle.device_model.specs.Modelled.{device_at}
 use Rattle.device_model.specs.Sent.{SendsEnd}
 use Rattle.device_model.specs.Settled.{IsSettled, LeadsOwn, LeavesOne, NoneIsLeft, SendsPages}
 use Rattle.device_model.specs.Whole.{HasDisks}
-use Rattle.device_model.specs.declared.disks.Which.{Which}
+use Rattle.device_model.specs.declared.disks.DiskIndex.{DiskIndex}
 use Rattle.device_model.specs.declared.model.Model.{Model}
 use Rattle.device_model.proofs.Absurd.{true-false}
 use Rattle.device_model.proofs.Doing.{did_it, finish_goes_so, goes_so_on, left_it}
@@ -32,7 +32,7 @@ still_long xs k long = length-set xs k true ∙ long
 
 weight_same : (old new : Device) (q : ℕ) → new.port q ≡ old.port q → total (weight new q) 32 ≡ total (weight old q) 32
 weight_same old new q same =
-    ap (λ (p : PortState). total (λ k. (if p.ci k then 1 else 0) + (if is_some (p.taken k) then 1 else 0)) 32) same
+    ap (λ (p : DevicePort). total (λ k. (if p.ci k then 1 else 0) + (if is_some (p.taken k) then 1 else 0)) 32) same
 
 module _ {S : Type 0} (size : S → ℕ) (told : S → Option (ℕ → List ℕ)) (failures : S → Option Failures) where
   -- a command that sends a page was taken, or was already
@@ -40,14 +40,14 @@ module _ {S : Type 0} (size : S → ℕ) (told : S → Option (ℕ → List ℕ)
     pub own : (held : List Bool) → IsPortLoose held port → LeadsOwn (SendsPages held) (device_at size told old) (device_at size told new)
     pub settled : (held : List Bool) → IsSettled held (device_at size told old) → IsSettled held (device_at size told new)
     pub taken : IsBusy (device_at size told new) port
-    pub stuck : MayPage (device_at size told old) port slot → (other : ℕ) → HasPage (device_at size told new) port other → HasPage (device_at size told old) port slot
-    pub left : (has : HasPage (device_at size told old) port slot) → (now : HasPage (device_at size told new) port slot) × (now.left ≡ has.left)
+    pub stuck : MayPage (device_at size told old) port slot → (other : ℕ) → HasPageCommand (device_at size told new) port other → HasPageCommand (device_at size told old) port slot
+    pub left : (has : HasPageCommand (device_at size told old) port slot) → (now : HasPageCommand (device_at size told new) port slot) × (now.left ≡ has.left)
     pub others : (q : ℕ) → q ≢ port → (device_at size told new).port q ≡ (device_at size told old).port q
     pub as_large : (device_at size told new).size ≡ (device_at size told old).size
     pub rest : GoesOnSo size old new
-    pub room : (n : ℕ) → HasRoom new.hardware n → HasRoom old.hardware n
+    pub room : (n : ℕ) → TapeHasRoom new.hardware n → TapeHasRoom old.hardware n
     pub starved : new.hardware.starved ≡ old.hardware.starved
-    pub disks : (q : ℕ) (w : Which) → disk_of new q w ≡ disk_of old q w
+    pub disks : (q : ℕ) (w : DiskIndex) → numbered_disk new q w ≡ numbered_disk old q w
 
   -- one is left, for which the tape has no memory, of a port that is left out; it is taken
   pub record Lacks (left_out : List Bool) (m : Model S) : Type 0 where
@@ -58,19 +58,19 @@ module _ {S : Type 0} (size : S → ℕ) (told : S → Option (ℕ → List ℕ)
     pub out : IsPortHeld left_out port
     pub disks : HasDisks (device_at size told m) port
     pub busy : IsBusy (device_at size told m) port
-    pub has : HasPage (device_at size told m) port slot
-    pub lacks : HasRoom m.hardware (has.left + 1) → ⊥
+    pub has : HasPageCommand (device_at size told m) port slot
+    pub lacks : TapeHasRoom m.hardware (has.left + 1) → ⊥
 
   -- a port on which nothing more goes on by itself: a command is taken, and one that can be done to its end lacks memory
   abbrev pub Waits : Model S → ℕ → Type 0
-  Waits m q = IsBusy (device_at size told m) q × ((k : ℕ) → HasPage (device_at size told m) q k → m.hardware.starved ≡ true)
+  Waits m q = IsBusy (device_at size told m) q × ((k : ℕ) → HasPageCommand (device_at size told m) q k → m.hardware.starved ≡ true)
 
   -- So far it came: these ports are left out, each since it is held, or waits; and the tape has lacked memory, or not.
   pub record IsSoFar (first m : Model S) (left_out : List Bool) (lacks : Bool) : Type 0 where
     pub own : LeadsOwn (SendsPages first.held) (device_at size told first) (device_at size told m)
     pub settled : (held : List Bool) → IsSettled held (device_at size told first) → IsSettled held (device_at size told m)
     pub rest : GoesOnSo size first m
-    pub disks : (q : ℕ) (w : Which) → disk_of m q w ≡ disk_of first q w
+    pub disks : (q : ℕ) (w : DiskIndex) → numbered_disk m q w ≡ numbered_disk first q w
     pub long : length left_out ≡ 4
     pub out : (q : ℕ) → IsPortHeld left_out q → IsPortHeld first.held q ⊎ Waits m q
     pub loose : (q : ℕ) → IsPortLoose left_out q → IsPortLoose first.held q
@@ -89,7 +89,7 @@ module _ {S : Type 0} (size : S → ℕ) (told : S → Option (ℕ → List ℕ)
   -- and one that lacks memory lacking it, where no more is found
   lacks_on : (old new : Model S) (left_out out_then : List Bool) (p : ℕ) → IsPortLoose left_out p → ((q : ℕ) → q ≢ p → IsPortHeld left_out q → IsPortHeld out_then q) →
       ((q : ℕ) → q ≢ p → (device_at size told new).port q ≡ (device_at size told old).port q) → (device_at size told new).size ≡ (device_at size told old).size →
-      ((q : ℕ) → which_of new q ≡ which_of old q) → ((n : ℕ) → HasRoom new.hardware n → HasRoom old.hardware n) → Lacks left_out old → Lacks out_then new
+      ((q : ℕ) → which_of new q ≡ which_of old q) → ((n : ℕ) → TapeHasRoom new.hardware n → TapeHasRoom old.hardware n) → Lacks left_out old → Lacks out_then new
   lacks_on old new left_out out_then p loose on others large which room one =
       let apart : one.port ≢ p = λ (same : one.port ≡ p). true-false one.out (subst (IsPortLoose left_out) (sym same) loose) in
       let same = others one.port apart in
@@ -103,7 +103,7 @@ module _ {S : Type 0} (size : S → ℕ) (told : S → Option (ℕ → List ℕ)
         disks = disks_kept size told old new one.port (which one.port) one.disks;
         busy = busy_stays (device_at size told old) (device_at size told new) one.port same one.busy;
         has = now.0;
-        lacks = λ some. one.lacks (room _ (let R : ℕ → Type 0 = λ n. HasRoom new.hardware (n + 1) in subst R now.1 some));
+        lacks = λ some. one.lacks (room _ (let R : ℕ → Type 0 = λ n. TapeHasRoom new.hardware (n + 1) in subst R now.1 some));
       }
 
   module _ (first m : Model S) (left_out : List Bool) (lacks : Bool) (is : IsSoFar first m left_out lacks) (p : Port) (s : Slot) (small : p.0 < 4) (low : s.0 < 32)
@@ -115,7 +115,7 @@ module _ {S : Type 0} (size : S → ℕ) (told : S → Option (ℕ → List ℕ)
     apart_of q held = λ same. true-false held (subst (IsPortLoose left_out) (sym same) loose)
 
     -- the port is left out from then on, and waits
-    out_then : (new : Model S) → IsBusy (device_at size told new) p.0 → ((k : ℕ) → HasPage (device_at size told new) p.0 k → new.hardware.starved ≡ true) →
+    out_then : (new : Model S) → IsBusy (device_at size told new) p.0 → ((k : ℕ) → HasPageCommand (device_at size told new) p.0 k → new.hardware.starved ≡ true) →
         ((q : ℕ) → q ≢ p.0 → (device_at size told new).port q ≡ old_device.port q) → (device_at size told new).size ≡ old_device.size →
         (m.hardware.starved ≡ true → new.hardware.starved ≡ true) → (q : ℕ) → IsPortHeld (slice_set left_out p.0 true) q → IsPortHeld first.held q ⊎ Waits new q
     out_then new busy starves ports large on q held =
@@ -140,11 +140,11 @@ module _ {S : Type 0} (size : S → ℕ) (told : S → Option (ℕ → List ℕ)
 
     -- ---- one that can be done to its end is done
 
-    module _ (new : Model S) (answer : Bool) (answers : AnswersStep size told failures (asked.Finish p s) answer m new) (has : HasPage (device_at size told m) p.0 s.0) where
+    module _ (new : Model S) (answer : Bool) (answers : AnswersStep size told failures (asked.Finish p s) answer m new) (has : HasPageCommand (device_at size told m) p.0 s.0) where
       completes : answer ≡ true → Completes size told failures (asked.Finish p s) m new
       completes e = page_completes size told failures m new p s (did_it size told failures (asked.Finish p s) m new answer answers e) has
 
-      went : answer ≡ true → GoesOn (SendsEnd s.0) p.0 s.0 old_device (device_at size told new)
+      went : answer ≡ true → SlotGoesOn (SendsEnd s.0) p.0 s.0 old_device (device_at size told new)
       went e = (completes e).asked
 
       same : answer ≡ false → device_at size told new ≡ old_device
@@ -192,10 +192,10 @@ module _ {S : Type 0} (size : S → ℕ) (told : S → Option (ℕ → List ℕ)
 
       -- ---- one that lacks memory is taken, and no more
 
-      pub so_far_lacking : (last : Model S) → lacks ≡ false → answer ≡ false → (new.hardware.starved ≡ true) × (HasRoom new.hardware (has.left + 1) → ⊥) →
+      pub so_far_lacking : (last : Model S) → lacks ≡ false → answer ≡ false → (new.hardware.starved ≡ true) × (TapeHasRoom new.hardware (has.left + 1) → ⊥) →
           Takes p.0 s.0 new last → IsSoFar first last (slice_set left_out p.0 true) true
       so_far_lacking last fed left missed t =
-          let P : Device → Type 0 = λ d. (there : HasPage d p.0 s.0) × (HasRoom new.hardware (there.left + 1) → ⊥) in
+          let P : Device → Type 0 = λ d. (there : HasPageCommand d p.0 s.0) × (TapeHasRoom new.hardware (there.left + 1) → ⊥) in
           let one = subst P (sym (same left)) (has, missed.1) in
           let now = t.left one.0 in
           let long : p.0 < length left_out = subst (λ (n : ℕ). p.0 < n) (sym is.long) small in
@@ -224,14 +224,14 @@ module _ {S : Type 0} (size : S → ℕ) (told : S → Option (ℕ → List ℕ)
                 disks = disks_kept size told m last p.0 (rest.which p.0) disks;
                 busy = t.taken;
                 has = now.0;
-                lacks = λ some. one.1 (t.room _ (let R : ℕ → Type 0 = λ n. HasRoom last.hardware (n + 1) in subst R now.1 some));
+                lacks = λ some. one.1 (t.room _ (let R : ℕ → Type 0 = λ n. TapeHasRoom last.hardware (n + 1) in subst R now.1 some));
               },
             );
           }
 
     -- ---- one that can't be done to its end, or for which no memory is looked for, is taken
 
-    pub so_far_taken : (new : Model S) → Takes p.0 s.0 m new → (lacks ≡ false → (MayPage old_device p.0 s.0) × (HasPage old_device p.0 s.0 → ⊥)) →
+    pub so_far_taken : (new : Model S) → Takes p.0 s.0 m new → (lacks ≡ false → (MayPage old_device p.0 s.0) × (HasPageCommand old_device p.0 s.0 → ⊥)) →
         IsSoFar first new (slice_set left_out p.0 true) lacks
     so_far_taken new t stuck =
         let long : p.0 < length left_out = subst (λ (n : ℕ). p.0 < n) (sym is.long) small in
@@ -252,14 +252,14 @@ module _ {S : Type 0} (size : S → ℕ) (told : S → Option (ℕ → List ℕ)
               );
         }
       where
-        starves : (b : Bool) → lacks ≡ b → (k : ℕ) → HasPage (device_at size told new) p.0 k → new.hardware.starved ≡ true
+        starves : (b : Bool) → lacks ≡ b → (k : ℕ) → HasPageCommand (device_at size told new) p.0 k → new.hardware.starved ≡ true
         starves true e k has = t.starved ∙ (is.lacking e).0
         starves false e k has = let one = stuck e in absurd (one.1 (t.stuck one.0 k has))
 
   -- ---- none is left, on the ports that aren't left out
 
   module _ (first m : Model S) (left_out : List Bool) (lacks : Bool) (is : IsSoFar first m left_out lacks)
-      (none : (port slot : ℕ) → port < 4 → IsPortLoose left_out port → HasDisks (device_at size told m) port → slot < 32 → FindsPage (device_at size told m) port slot None) where
+      (none : (port slot : ℕ) → port < 4 → IsPortLoose left_out port → HasDisks (device_at size told m) port → slot < 32 → LooksForPage (device_at size told m) port slot None) where
     by_port : (port : ℕ) → (IsPortLoose left_out port) ⊎ (IsPortHeld first.held port) ⊎ Waits m port
     by_port port = by (slice_index_or left_out port false) refl
       where

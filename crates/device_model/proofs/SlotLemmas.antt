@@ -3,13 +3,13 @@ use Rattle.std.proofs.Common.{ℕ, Bool, false, zero, suc, ◌≡◌, ◌<◌, L
 use Rattle.std.specs.Prelude.{is_some, option_map, slice_index_or, slice_set}
 use Rattle.std.proofs.lemmas.Bool.Decides.{eqb_tells}
 use Rattle.std.proofs.lemmas.List.{get_or_default}
-use Rattle.adapter.specs.Device.{Taken}
+use Rattle.adapter.specs.Device.{FetchedCommand}
 use Rattle.adapter.specs.Memory.{changed}
 use Rattle.adapter.specs.Steps.{begun}
 use Rattle.device_model.proofs.Places.{fun_ext, changed_same, changed_other}
 use Rattle.device_model.specs.Block.{brought}
-use Rattle.device_model.specs.Fetched.{IsNew}
-use Rattle.device_model.specs.View.{held_in, slots_of, taken_of, blank}
+use Rattle.device_model.specs.Fetched.{IsUntouched}
+use Rattle.device_model.specs.View.{held_in, taken_slots, taken_of, blank_port}
 use Rattle.device_model.specs.declared.port.PortModel.{PortModel}
 use Rattle.device_model.specs.declared.port.TakenCommand.{TakenCommand}
 
@@ -26,15 +26,15 @@ set_slot items slot new small =
 
 -- what is taken in a slot is what the command there stands for
 pub slots_changed : (taken : ℕ → Option TakenCommand) (slot : ℕ) (new : Option TakenCommand) →
-    slots_of (changed taken slot new) ≡ changed (slots_of taken) slot (option_map taken_of new)
+    taken_slots (changed taken slot new) ≡ changed (taken_slots taken) slot (option_map taken_of new)
 slots_changed taken slot new =
     fun_ext (λ k.
     elim (eqb_tells k slot) [
       | inl here ↦
-          rw here.1 (ap (option_map taken_of) (changed_same taken slot new) ∙ sym (changed_same (slots_of taken) slot (option_map taken_of new)))
+          rw here.1 (ap (option_map taken_of) (changed_same taken slot new) ∙ sym (changed_same (taken_slots taken) slot (option_map taken_of new)))
       | inr there ↦
           ap (option_map taken_of) (changed_other taken slot new k there.1)
-          ∙ sym (changed_other (slots_of taken) slot (option_map taken_of new) k there.1)
+          ∙ sym (changed_other (taken_slots taken) slot (option_map taken_of new) k there.1)
     ])
 
 -- whether one is taken in a slot
@@ -73,21 +73,21 @@ filled_still items slot new bits small tell same =
     ]))
 
 -- a command of which nothing was moved or cleared yet has just begun
-pub new_begun : (r : TakenCommand) → IsNew r → taken_of r ≡ begun (taken_of r).meaning (taken_of r).places
+pub new_begun : (r : TakenCommand) → IsUntouched r → taken_of r ≡ begun (taken_of r).meaning (taken_of r).places
 new_begun r new = λ i. record (taken_of r) { moved = new.moved i; block = brought (new.block i); cleared = new.cleared i }
 
 -- what is taken in such a slot
-pub slots_begun : (taken : ℕ → Option TakenCommand) (slot : ℕ) (r : TakenCommand) → IsNew r →
-    slots_of (changed taken slot (Some r)) ≡ changed (slots_of taken) slot (Some (begun (taken_of r).meaning (taken_of r).places))
+pub slots_begun : (taken : ℕ → Option TakenCommand) (slot : ℕ) (r : TakenCommand) → IsUntouched r →
+    taken_slots (changed taken slot (Some r)) ≡ changed (taken_slots taken) slot (Some (begun (taken_of r).meaning (taken_of r).places))
 slots_begun taken slot r new =
-    slots_changed taken slot (Some r) ∙ ap (λ (t : Taken). changed (slots_of taken) slot (Some t)) (new_begun r new)
+    slots_changed taken slot (Some r) ∙ ap (λ (t : FetchedCommand). changed (taken_slots taken) slot (Some t)) (new_begun r new)
 
 -- the command that is taken in a slot
-pub slot_taken : (taken : ℕ → Option TakenCommand) (t : TakenCommand) (slot : ℕ) → taken slot ≡ Some t → slots_of taken slot ≡ Some (taken_of t)
+pub slot_taken : (taken : ℕ → Option TakenCommand) (t : TakenCommand) (slot : ℕ) → taken slot ≡ Some t → taken_slots taken slot ≡ Some (taken_of t)
 slot_taken taken t slot is = ap (option_map taken_of) is
 
 -- and what is in a slot is that command
-pub taken_slot : (taken : ℕ → Option TakenCommand) (slot : ℕ) (t : Taken) → slots_of taken slot ≡ Some t →
+pub taken_slot : (taken : ℕ → Option TakenCommand) (slot : ℕ) (t : FetchedCommand) → taken_slots taken slot ≡ Some t →
     (r : TakenCommand) × (taken slot ≡ Some r) × (t ≡ taken_of r)
 taken_slot taken slot t is = by (taken slot) refl
   where
@@ -110,5 +110,5 @@ none_held n = fun_ext (by n)
     by (suc m) (suc k) = by m k
 
 -- a port that is there, whatever would stand for one that isn't
-pub at_port : (ports : List PortModel) (p : ℕ) (any : PortModel) → p < length ports → slice_index_or ports p any ≡ slice_index_or ports p blank
-at_port ports p any there = get_or_default ports p any blank there
+pub at_port : (ports : List PortModel) (p : ℕ) (any : PortModel) → p < length ports → slice_index_or ports p any ≡ slice_index_or ports p blank_port
+at_port ports p any there = get_or_default ports p any blank_port there

@@ -3,11 +3,11 @@ use Rattle.std.proofs.Common.{ℕ, Bool, true, false, ◌≡◌, ◌<◌, List, 
 use Rattle.std.specs.Prelude.{slice_set, slice_index_or, IfSome, if◌then◌else◌}
 use Rattle.std.specs.Global.{Vec}
 use Rattle.adapter.specs.Commands.{Meaning, direction_of, is_queued, is_ranged, reads_memory}
-use Rattle.adapter.specs.Device.{Disk, Lasting, PortState, Device, IsSector}
+use Rattle.adapter.specs.Device.{Disk, Lasting, DevicePort, Device, IsSector}
 use Rattle.adapter.specs.Memory.{changed, patched, bytes_at}
-use Rattle.adapter.specs.Says.{Says}
-use Rattle.adapter.specs.Steps.{AreKeptBits, admits, after, IsFinished, MayBeDone, MayFault, MayFetch, MayFetchFault, MayMove, Brings, recorded, with_clear, with_fault, with_fetch, with_move, with_done, with_flush, clear_entry, done_entry, fault_entry, move_of, noted_bytes, memory_after, next_place, next_sector}
-use Rattle.adapter.specs.Steps.Step.{Clear, FetchFault, Move, Unplug, Plug}
+use Rattle.adapter.specs.Decoding.{DecodesTo}
+use Rattle.adapter.specs.Steps.{AreKeptBits, admits, device_after, IsFinished, MayBeDone, MayFault, MayFetch, MayFetchFault, MayMove, Brings, recorded, with_clear, with_fault, with_fetch, with_move, with_done, with_flush, clear_entry, done_entry, fault_entry, move_of, noted_bytes, device_memory_after, next_place, next_sector}
+use Rattle.adapter.specs.Steps.DeviceTransition.{Clear, FetchFault, Move, Unplug, Plug}
 use Rattle.adapter.specs.declared.access.FatalError.{FatalError}
 use Rattle.adapter.specs.declared.access.FatalError.TheVariants.{Interface, HostBus}
 use Rattle.adapter.specs.declared.command.Direction.{Direction}
@@ -16,11 +16,11 @@ use Rattle.adapter.specs.declared.command.Operation.TheVariants.{Identify}
 use Rattle.adapter.specs.declared.tape.Entry.{Entry}
 use Rattle.adapter.specs.declared.tape.Entry.TheVariants as entry
 use Rattle.adapter.specs.declared.tape.Move as tape_move
-use Rattle.adapter.specs.Asked.{DoesFatal, DoesFault, DoesFetch, Ends, fatal_bit}
+use Rattle.adapter.specs.Asked.{DoesFatal, DoesFault, DoesFetch, EndsAndPosts, fatal_bit}
 use Rattle.device_model.specs.Fetched.{bytes_of}
 use Rattle.device_model.specs.Sent.{SendsEnd}
-use Rattle.device_model.specs.Slots.{HasUntaken, MayTake, HoldsAt, IsNext}
-use Rattle.device_model.specs.View.{Media, cause_of, halt_of, held_in, kept_by, media_after, media_cleared, media_ended, operation_of, port_of, taken_of, blank}
+use Rattle.device_model.specs.Slots.{HasUntaken, MayTake, WorksOnIn, IsNext}
+use Rattle.device_model.specs.View.{Media, cause_of, halt_of, held_in, kept_by, media_after, media_cleared, media_ended, transfer_operation, port_of, taken_of, blank_port}
 use Rattle.device_model.specs.Whole.{Outside, device_of, media_plugged, outside_after, outside_cleared, outside_ended, outside_plugged}
 use Rattle.device_model.specs.declared.port.TakenCommand.{TakenCommand}
 use Rattle.device_model.specs.declared.port.Transfer.{Transfer}
@@ -45,9 +45,9 @@ moved_by port slot operation sector address direction bytes = record {
 
 -- a command is taken
 pub port_takes : (h : Hardware) (o : Outside) (p port slot : ℕ) (new : PortModel) (t : TakenCommand) → p ≡ port → p < length h.ports →
-    MayTake (port_of (slice_index_or h.ports p blank) (o.media p)) slot (operation_of t.transfer) →
-    Says (device_of h o).memory ((device_of h o).port p).bases.clb slot (taken_of t).meaning (taken_of t).places →
-    port_of new (o.media p) ≡ with_fetch (port_of (slice_index_or h.ports p blank) (o.media p)) slot (taken_of t).meaning (taken_of t).places →
+    MayTake (port_of (slice_index_or h.ports p blank_port) (o.media p)) slot (transfer_operation t.transfer) →
+    DecodesTo (device_of h o).memory ((device_of h o).port p).bases.clb slot (taken_of t).meaning (taken_of t).places →
+    port_of new (o.media p) ≡ with_fetch (port_of (slice_index_or h.ports p blank_port) (o.media p)) slot (taken_of t).meaning (taken_of t).places →
     DoesFetch port slot (device_of h o) (device_of (record h { ports = slice_set h.ports p new }) o)
 port_takes h o p port slot new t e small may says is =
     subst (λ q. DoesFetch q slot (device_of h o) (device_of (record h { ports = slice_set h.ports p new }) o)) e
@@ -60,22 +60,22 @@ port_takes h o p port slot new t e small may says is =
 
 -- where a command may be fetched, it may be taken
 pub fetch_takes : (h : Hardware) (o : Outside) (p port slot : ℕ) (m : Meaning) (places : List ℕ) → p ≡ port →
-    MayFetch (device_of h o) port slot m places → MayTake (port_of (slice_index_or h.ports p blank) (o.media p)) slot m.operation
+    MayFetch (device_of h o) port slot m places → MayTake (port_of (slice_index_or h.ports p blank_port) (o.media p)) slot m.operation
 fetch_takes h o p port slot m places e may =
     rw e (record { fetchable = may.fetchable; working = may.working; alone = may.alone })
 
 -- and its bytes say it
 pub fetch_says : (h : Hardware) (o : Outside) (p port slot : ℕ) (m : Meaning) (places : List ℕ) → p ≡ port →
-    MayFetch (device_of h o) port slot m places → Says (bytes_of h.memory.items) (slice_index_or h.ports p blank).addresses.clb slot m places
+    MayFetch (device_of h o) port slot m places → DecodesTo (bytes_of h.memory.items) (slice_index_or h.ports p blank_port).addresses.clb slot m places
 fetch_says h o p port slot m places e may = rw e may.says
 
 -- the disk is taken out
 pub unplugged : (h : Hardware) (o : Outside) (p port : ℕ) (new : PortModel) (tape : Vec Entry) → p ≡ port → p < length h.ports →
-    port_of new (o.media p) ≡ record (port_of (slice_index_or h.ports p blank) (o.media p)) { ssts_det = 0; present = false; fresh = false; serr_n = true } →
+    port_of new (o.media p) ≡ record (port_of (slice_index_or h.ports p blank_port) (o.media p)) { ssts_det = 0; present = false; fresh = false; serr_n = true } →
     tape.items ≡ h.tape.items ++ entry.Unplug (record { 0 = port }) ∷ [] →
-    device_of (record h { ports = slice_set h.ports p new; tape = tape }) o ≡ after (Unplug port) (device_of h o)
+    device_of (record h { ports = slice_set h.ports p new; tape = tape }) o ≡ device_after (Unplug port) (device_of h o)
 unplugged h o p port new tape e small is more =
-    let P : ℕ → Type 0 = λ q. device_of (record h { ports = slice_set h.ports p new; tape = tape }) o ≡ after (Unplug q) (device_of h o) in
+    let P : ℕ → Type 0 = λ q. device_of (record h { ports = slice_set h.ports p new; tape = tape }) o ≡ device_after (Unplug q) (device_of h o) in
     subst P e (set_port_recorded h o p new _ tape (entry.Unplug (record { 0 = p })) small is (rw (← e) at more))
 
 -- what of another disk is lasting, or of the same
@@ -86,16 +86,16 @@ lasting_put false was comes at here since e = λ i. record { sectors = comes; si
 
 -- a disk is put in
 pub plugged_in : (h : Hardware) (o : Outside) (p port : ℕ) (new : PortModel) (tape : Vec Entry) (disk : Disk) (number since : ℕ) → disk.name ≡ number → p ≡ port → p < length h.ports →
-    since ≡ (if nat_eq disk.name (o.media p).disk.name then (slice_index_or h.ports p blank).lasting_at else length h.tape.items) →
-    ((m : Media) → port_of new m ≡ record (port_of (slice_index_or h.ports p blank) m) { ssts_det = 3; present = true; fresh = false; serr_n = true; serr_x = true; lasting = record { sectors = m.lasting; since = since } }) →
+    since ≡ (if nat_eq disk.name (o.media p).disk.name then (slice_index_or h.ports p blank_port).lasting_at else length h.tape.items) →
+    ((m : Media) → port_of new m ≡ record (port_of (slice_index_or h.ports p blank_port) m) { ssts_det = 3; present = true; fresh = false; serr_n = true; serr_x = true; lasting = record { sectors = m.lasting; since = since } }) →
     tape.items ≡ h.tape.items ++ entry.Plug (record { 0 = port }) number ∷ [] →
-    device_of (record h { ports = slice_set h.ports p new; tape = tape }) (outside_plugged o port disk) ≡ after (Plug port disk) (device_of h o)
+    device_of (record h { ports = slice_set h.ports p new; tape = tape }) (outside_plugged o port disk) ≡ device_after (Plug port disk) (device_of h o)
 plugged_in h o p port new tape disk number since name e some lasts is more =
     let media : Media = media_plugged (o.media p) disk in
-    let state : PortState = port_of (slice_index_or h.ports p blank) media in
-    let lasting = lasting_put (nat_eq disk.name (o.media p).disk.name) (o.media p).lasting disk.sectors (slice_index_or h.ports p blank).lasting_at (length h.tape.items) since lasts in
+    let state : DevicePort = port_of (slice_index_or h.ports p blank_port) media in
+    let lasting = lasting_put (nat_eq disk.name (o.media p).disk.name) (o.media p).lasting disk.sectors (slice_index_or h.ports p blank_port).lasting_at (length h.tape.items) since lasts in
     let named : entry.Plug (record { 0 = p }) number ≡ entry.Plug (record { 0 = p }) disk.name = ap (entry.Plug (record { 0 = p })) (sym name) in
-    let P : ℕ → Type 0 = λ q. device_of (record h { ports = slice_set h.ports p new; tape = tape }) (outside_plugged o q disk) ≡ after (Plug q disk) (device_of h o) in
+    let P : ℕ → Type 0 = λ q. device_of (record h { ports = slice_set h.ports p new; tape = tape }) (outside_plugged o q disk) ≡ device_after (Plug q disk) (device_of h o) in
     subst P e
     (set_port_plugged h o p new media _ tape (entry.Plug (record { 0 = p }) disk.name) some
     (is media ∙ ap (λ (l : Lasting). record state { ssts_det = 3; present = true; fresh = false; serr_n = true; serr_x = true; lasting = l }) lasting)
@@ -112,7 +112,7 @@ is_cause transfer.ReadQueued = inr (inr refl)
 is_cause transfer.WriteQueued = inr (inr refl)
 
 -- a command of which nothing is left may end
-pub may_end : (h : Hardware) (o : Outside) (port slot : ℕ) (t : TakenCommand) → HoldsAt (slice_index_or h.ports port blank) slot t →
+pub may_end : (h : Hardware) (o : Outside) (port slot : ℕ) (t : TakenCommand) → WorksOnIn (slice_index_or h.ports port blank_port) slot t →
     IsFinished (taken_of t) → MayBeDone (device_of h o) port slot (cause_of t.transfer) (taken_of t)
 may_end h o port slot t holds all = record {
   works = holds.works (o.media port);
@@ -122,28 +122,28 @@ may_end h o port slot t holds all = record {
 
 -- a command is at its end, and its FIS is sent
 pub port_ends : (h : Hardware) (o : Outside) (p port slot : ℕ) (new : PortModel) (t : TakenCommand) (tape : Vec Entry) (last : Device) → p ≡ port →
-    p < length h.ports → HoldsAt (slice_index_or h.ports p blank) slot t → IsFinished (taken_of t) →
-    port_of new (media_ended (o.media p) (operation_of t.transfer)) ≡ with_flush (with_done (port_of (slice_index_or h.ports p blank) (o.media p)) slot (cause_of t.transfer) (operation_of t.transfer)) (operation_of t.transfer) (length h.tape.items) →
-    tape.items ≡ h.tape.items ++ done_entry port slot (operation_of t.transfer) ∷ [] →
-    SendsEnd slot p (cause_of t.transfer) (operation_of t.transfer) (device_of (record h { ports = slice_set h.ports p new; tape = tape }) (outside_ended o p (operation_of t.transfer))) last →
-    Ends (SendsEnd slot) port slot (device_of h o) last
+    p < length h.ports → WorksOnIn (slice_index_or h.ports p blank_port) slot t → IsFinished (taken_of t) →
+    port_of new (media_ended (o.media p) (transfer_operation t.transfer)) ≡ with_flush (with_done (port_of (slice_index_or h.ports p blank_port) (o.media p)) slot (cause_of t.transfer) (transfer_operation t.transfer)) (transfer_operation t.transfer) (length h.tape.items) →
+    tape.items ≡ h.tape.items ++ done_entry port slot (transfer_operation t.transfer) ∷ [] →
+    SendsEnd slot p (cause_of t.transfer) (transfer_operation t.transfer) (device_of (record h { ports = slice_set h.ports p new; tape = tape }) (outside_ended o p (transfer_operation t.transfer))) last →
+    EndsAndPosts (SendsEnd slot) port slot (device_of h o) last
 port_ends h o p port slot new t tape last e small holds all is more sends =
-    subst (λ q. Ends (SendsEnd slot) q slot (device_of h o) last) e
+    subst (λ q. EndsAndPosts (SendsEnd slot) q slot (device_of h o) last) e
     (record {
-      mid = device_of (record h { ports = slice_set h.ports p new; tape = tape }) (outside_ended o p (operation_of t.transfer));
+      mid = device_of (record h { ports = slice_set h.ports p new; tape = tape }) (outside_ended o p (transfer_operation t.transfer));
       done = record {
         flag = cause_of t.transfer;
         t = taken_of t;
         can = may_end h o p slot t holds all;
-        effect = set_port_plugged h o p new (media_ended (o.media p) (operation_of t.transfer)) _ tape (done_entry p slot (operation_of t.transfer)) small is (rw e more);
+        effect = set_port_plugged h o p new (media_ended (o.media p) (transfer_operation t.transfer)) _ tape (done_entry p slot (transfer_operation t.transfer)) small is (rw e more);
       };
       posts = sends;
     })
 
 -- what is issued and means no command may fail for that, where no fault keeps it waiting
-pub may_fail_senseless : (h : Hardware) (o : Outside) (p port slot : ℕ) → p ≡ port → HasUntaken (slice_index_or h.ports p blank) slot →
-    admits (halt_of (slice_index_or h.ports p blank).halting) Identify ≡ true →
-    ((m : Meaning) (places : List ℕ) → Says (bytes_of h.memory.items) (slice_index_or h.ports p blank).addresses.clb slot m places → ⊥) →
+pub may_fail_senseless : (h : Hardware) (o : Outside) (p port slot : ℕ) → p ≡ port → HasUntaken (slice_index_or h.ports p blank_port) slot →
+    admits (halt_of (slice_index_or h.ports p blank_port).halting) Identify ≡ true →
+    ((m : Meaning) (places : List ℕ) → DecodesTo (bytes_of h.memory.items) (slice_index_or h.ports p blank_port).addresses.clb slot m places → ⊥) →
     MayFetchFault (device_of h o) port slot 0
 may_fail_senseless h o p port slot e may admitted none =
     let w = may (o.media p) Identify admitted in
@@ -152,11 +152,11 @@ may_fail_senseless h o p port slot e may admitted none =
 
 -- and it does
 pub port_fails_senseless : (h : Hardware) (o : Outside) (p port slot : ℕ) (new : PortModel) (tape : Vec Entry) → p ≡ port → p < length h.ports →
-    port_of new (o.media p) ≡ with_fault (port_of (slice_index_or h.ports p blank) (o.media p)) false 4 0 →
+    port_of new (o.media p) ≡ with_fault (port_of (slice_index_or h.ports p blank_port) (o.media p)) false 4 0 →
     tape.items ≡ h.tape.items ++ fault_entry port slot 4 0 ∷ [] →
-    device_of (record h { ports = slice_set h.ports p new; tape = tape }) o ≡ after (FetchFault port slot false 0) (device_of h o)
+    device_of (record h { ports = slice_set h.ports p new; tape = tape }) o ≡ device_after (FetchFault port slot false 0) (device_of h o)
 port_fails_senseless h o p port slot new tape e small is more =
-    let P : ℕ → Type 0 = λ q. device_of (record h { ports = slice_set h.ports p new; tape = tape }) o ≡ after (FetchFault q slot false 0) (device_of h o) in
+    let P : ℕ → Type 0 = λ q. device_of (record h { ports = slice_set h.ports p new; tape = tape }) o ≡ device_after (FetchFault q slot false 0) (device_of h o) in
     subst P e (set_port_recorded h o p new _ tape (fault_entry p slot 4 0) small is (rw (← e) at more))
 
 -- BSY is one of the bits that may be left set
@@ -165,10 +165,10 @@ kept_well true = refl
 kept_well false = refl
 
 -- a command that is taken may fail, while the engine runs
-pub may_fail : (h : Hardware) (o : Outside) (port slot error : ℕ) (busy : Bool) (t : TakenCommand) → error < 256 → held_in (slice_index_or h.ports port blank).taken slot ≡ Some t →
-    (slice_index_or h.ports port blank).cr ≡ true → MayFault ((device_of h o).port port) slot error (kept_by busy) (taken_of t)
+pub may_fail : (h : Hardware) (o : Outside) (port slot error : ℕ) (busy : Bool) (t : TakenCommand) → error < 256 → held_in (slice_index_or h.ports port blank_port).taken slot ≡ Some t →
+    (slice_index_or h.ports port blank_port).cr ≡ true → MayFault ((device_of h o).port port) slot error (kept_by busy) (taken_of t)
 may_fail h o port slot error busy t byte held cr = record {
-  taken = slot_taken (held_in (slice_index_or h.ports port blank).taken) t slot held;
+  taken = slot_taken (held_in (slice_index_or h.ports port blank_port).taken) t slot held;
   running = cr;
   is_byte = byte;
   kept = kept_well busy;
@@ -176,8 +176,8 @@ may_fail h o port slot error busy t byte held cr = record {
 
 -- and it does
 pub port_fails : (h : Hardware) (o : Outside) (p port slot error : ℕ) (busy : Bool) (new : PortModel) (t : TakenCommand) (queued : Bool) (tape : Vec Entry) → p ≡ port →
-    p < length h.ports → error < 256 → held_in (slice_index_or h.ports port blank).taken slot ≡ Some t → (slice_index_or h.ports port blank).cr ≡ true →
-    queued ≡ is_queued (operation_of t.transfer) → port_of new (o.media p) ≡ with_fault (port_of (slice_index_or h.ports p blank) (o.media p)) queued error (kept_by busy) →
+    p < length h.ports → error < 256 → held_in (slice_index_or h.ports port blank_port).taken slot ≡ Some t → (slice_index_or h.ports port blank_port).cr ≡ true →
+    queued ≡ is_queued (transfer_operation t.transfer) → port_of new (o.media p) ≡ with_fault (port_of (slice_index_or h.ports p blank_port) (o.media p)) queued error (kept_by busy) →
     tape.items ≡ h.tape.items ++ fault_entry port slot error (kept_by busy) ∷ [] →
     (f : DoesFault port slot error (kept_by busy) (device_of h o) (device_of (record h { ports = slice_set h.ports p new; tape = tape }) o)) × (queued ≡ is_queued f.t.meaning.operation)
 port_fails h o p port slot error busy new t queued tape e small byte held cr kind is more = (
@@ -186,10 +186,10 @@ port_fails h o p port slot error busy new t queued tape e small byte held cr kin
     can = may_fail h o port slot error busy t byte held cr;
     effect =
         let P : ℕ → Type 0 = λ q. device_of (record h { ports = slice_set h.ports p new; tape = tape }) o
-        ≡ recorded (device_of h o) q (with_fault ((device_of h o).port q) (is_queued (operation_of t.transfer)) error (kept_by busy)) (fault_entry q slot error (kept_by busy)) in
+        ≡ recorded (device_of h o) q (with_fault ((device_of h o).port q) (is_queued (transfer_operation t.transfer)) error (kept_by busy)) (fault_entry q slot error (kept_by busy)) in
         subst P e
         (set_port_recorded h o p new _ tape (fault_entry p slot error (kept_by busy)) small
-        (is ∙ ap (λ (b : Bool). with_fault (port_of (slice_index_or h.ports p blank) (o.media p)) b error (kept_by busy)) kind) (rw (← e) at more));
+        (is ∙ ap (λ (b : Bool). with_fault (port_of (slice_index_or h.ports p blank_port) (o.media p)) b error (kept_by busy)) kind) (rw (← e) at more));
   },
   kind,
 )
@@ -201,8 +201,8 @@ is_fatal HostBus = inr refl
 
 -- a port meets one, while its engine runs
 pub port_breaks : (h : Hardware) (o : Outside) (p port : ℕ) (error : FatalError) (new : PortModel) (tape : Vec Entry) → p ≡ port → p < length h.ports →
-    (slice_index_or h.ports p blank).cr ≡ true →
-    port_of new (o.media p) ≡ (let state = port_of (slice_index_or h.ports p blank) (o.media p) in record state { is = changed state.is (fatal_bit error) true; broken = true }) →
+    (slice_index_or h.ports p blank_port).cr ≡ true →
+    port_of new (o.media p) ≡ (let state = port_of (slice_index_or h.ports p blank_port) (o.media p) in record state { is = changed state.is (fatal_bit error) true; broken = true }) →
     tape.items ≡ h.tape.items ++ entry.Fatal (record { 0 = port }) ∷ [] →
     DoesFatal port error (device_of h o) (device_of (record h { ports = slice_set h.ports p new; tape = tape }) o)
 port_breaks h o p port error new tape e small runs is more =
@@ -216,79 +216,79 @@ port_breaks h o p port error new tape e small runs is more =
 -- the next piece of a command is moved
 pub port_moves : (h : Hardware) (o : Outside) (p port slot : ℕ) (next : NextMove) (new : PortModel) (t : TakenCommand) (tape : Vec Entry) (memory : Vec ℕ)
     (bytes : List ℕ) (operation : Operation) (direction : Direction) → p ≡ port → p < length h.ports → IsNext h port slot next t →
-    port_of new (media_after (o.media p) (taken_of t) bytes) ≡ with_move (port_of (slice_index_or h.ports p blank) (o.media p)) slot (taken_of t) bytes →
-    operation ≡ operation_of next.transfer → direction ≡ direction_of (operation_of next.transfer) →
+    port_of new (media_after (o.media p) (taken_of t) bytes) ≡ with_move (port_of (slice_index_or h.ports p blank_port) (o.media p)) slot (taken_of t) bytes →
+    operation ≡ transfer_operation next.transfer → direction ≡ direction_of (transfer_operation next.transfer) →
     tape.items ≡ h.tape.items ++ entry.Move (moved_by port slot operation next.sector next.address direction bytes) ∷ [] →
     length memory.items ≡ length h.memory.items →
     bytes_of memory.items
-    ≡ (if reads_memory (operation_of next.transfer) then bytes_of h.memory.items else patched (bytes_of h.memory.items) next.address bytes) →
+    ≡ (if reads_memory (transfer_operation next.transfer) then bytes_of h.memory.items else patched (bytes_of h.memory.items) next.address bytes) →
     device_of (record h { memory = memory; ports = slice_set h.ports p new; tape = tape }) (outside_after o port (taken_of t) bytes)
-    ≡ after (Move port slot (taken_of t) bytes) (device_of h o)
+    ≡ device_after (Move port slot (taken_of t) bytes) (device_of h o)
 port_moves h o p port slot next new t tape memory bytes operation direction e small is moves named way more size put =
     let kind : next.transfer ≡ t.transfer = is.transfer_is in
     let sector : next.sector ≡ next_sector (taken_of t) = is.sector_is in
     let place : next.address ≡ next_place (taken_of t) = is.address_is in
-    let asks : operation ≡ operation_of t.transfer = named ∙ ap operation_of kind in
-    let goes : direction ≡ direction_of (operation_of t.transfer) = way ∙ ap (λ (k : Transfer). direction_of (operation_of k)) kind in
+    let asks : operation ≡ transfer_operation t.transfer = named ∙ ap transfer_operation kind in
+    let goes : direction ≡ direction_of (transfer_operation t.transfer) = way ∙ ap (λ (k : Transfer). direction_of (transfer_operation k)) kind in
     let back : port ≡ p = sym e in
     let entries : tape.items ≡ h.tape.items ++ entry.Move (move_of p slot (taken_of t) bytes) ∷ [] =
     more ∙ (λ i. h.tape.items ++ entry.Move (moved_by (back i) slot (asks i) (sector i) (place i) (goes i) bytes) ∷ []) in
-    let kept : bytes_of memory.items ≡ memory_after (bytes_of h.memory.items) (taken_of t) bytes =
-    put ∙ (λ i. if reads_memory (operation_of (kind i)) then bytes_of h.memory.items else patched (bytes_of h.memory.items) (place i) bytes) in
+    let kept : bytes_of memory.items ≡ device_memory_after (bytes_of h.memory.items) (taken_of t) bytes =
+    put ∙ (λ i. if reads_memory (transfer_operation (kind i)) then bytes_of h.memory.items else patched (bytes_of h.memory.items) (place i) bytes) in
     let new_memory : Vec ℕ = memory in
     subst (λ q. device_of (record h { memory = new_memory; ports = slice_set h.ports p new; tape = tape }) (outside_after o q (taken_of t) bytes)
-    ≡ after (Move q slot (taken_of t) bytes) (device_of h o)) e
+    ≡ device_after (Move q slot (taken_of t) bytes) (device_of h o)) e
     (set_port_moved h o p new (media_after (o.media p) (taken_of t) bytes) (with_move ((device_of h o).port p) slot (taken_of t) bytes) tape
-    (entry.Move (move_of p slot (taken_of t) bytes)) new_memory (memory_after (bytes_of h.memory.items) (taken_of t) bytes) small moves entries size kept)
+    (entry.Move (move_of p slot (taken_of t) bytes)) new_memory (device_memory_after (bytes_of h.memory.items) (taken_of t) bytes) small moves entries size kept)
 
 -- what the disk gave or took may be moved
 pub may_move : (h : Hardware) (o : Outside) (port slot : ℕ) (next : NextMove) (t : TakenCommand) (bytes : List ℕ) → IsNext h port slot next t →
-    IsSector bytes → (is_ranged (operation_of next.transfer) ≡ true → next.sector < (o.media port).disk.size) →
-    (is_ranged (operation_of next.transfer) ≡ true → reads_memory (operation_of next.transfer) ≡ false → IfSome (o.media port).disk.sectors (λ f. bytes ≡ f next.sector)) →
-    (reads_memory (operation_of next.transfer) ≡ true → bytes ≡ bytes_at (bytes_of h.memory.items) next.address 512) → MayMove (device_of h o) port slot (taken_of t) bytes
+    IsSector bytes → (is_ranged (transfer_operation next.transfer) ≡ true → next.sector < (o.media port).disk.size) →
+    (is_ranged (transfer_operation next.transfer) ≡ true → reads_memory (transfer_operation next.transfer) ≡ false → IfSome (o.media port).disk.sectors (λ f. bytes ≡ f next.sector)) →
+    (reads_memory (transfer_operation next.transfer) ≡ true → bytes ≡ bytes_at (bytes_of h.memory.items) next.address 512) → MayMove (device_of h o) port slot (taken_of t) bytes
 may_move h o port slot next t bytes is sized small gives takes =
     record {
       works = is.holds.works (o.media port);
       left = is.left;
       sector = sized;
-      brings = subst (λ (k : Transfer). Brings (o.media port).disk (bytes_of h.memory.items) (taken_of t) (operation_of k) bytes) is.transfer_is
+      brings = subst (λ (k : Transfer). Brings (o.media port).disk (bytes_of h.memory.items) (taken_of t) (transfer_operation k) bytes) is.transfer_is
           (by next.transfer refl);
     }
   where
-    given : is_ranged (operation_of next.transfer) ≡ true → reads_memory (operation_of next.transfer) ≡ false →
+    given : is_ranged (transfer_operation next.transfer) ≡ true → reads_memory (transfer_operation next.transfer) ≡ false →
         (next_sector (taken_of t) < (o.media port).disk.size) × IfSome (o.media port).disk.sectors (λ f. bytes ≡ f (next_sector (taken_of t)))
     given ranged reads =
         let sector : next.sector ≡ next_sector (taken_of t) = is.sector_is in
         (rw sector at (small ranged), rw sector at (gives ranged reads))
 
-    taken : is_ranged (operation_of next.transfer) ≡ true → reads_memory (operation_of next.transfer) ≡ true →
+    taken : is_ranged (transfer_operation next.transfer) ≡ true → reads_memory (transfer_operation next.transfer) ≡ true →
         (next_sector (taken_of t) < (o.media port).disk.size) × (bytes ≡ bytes_at (bytes_of h.memory.items) (next_place (taken_of t)) 512)
     taken ranged reads =
         let sector : next.sector ≡ next_sector (taken_of t) = is.sector_is in
         let place : next.address ≡ next_place (taken_of t) = is.address_is in
         (rw sector at (small ranged), rw place at (takes reads))
 
-    by : (k : Transfer) → next.transfer ≡ k → Brings (o.media port).disk (bytes_of h.memory.items) (taken_of t) (operation_of k) bytes
-    by transfer.Read e = given (ap (λ (k : Transfer). is_ranged (operation_of k)) e) (ap (λ (k : Transfer). reads_memory (operation_of k)) e)
-    by transfer.Write e = taken (ap (λ (k : Transfer). is_ranged (operation_of k)) e) (ap (λ (k : Transfer). reads_memory (operation_of k)) e)
-    by transfer.ReadQueued e = given (ap (λ (k : Transfer). is_ranged (operation_of k)) e) (ap (λ (k : Transfer). reads_memory (operation_of k)) e)
-    by transfer.WriteQueued e = taken (ap (λ (k : Transfer). is_ranged (operation_of k)) e) (ap (λ (k : Transfer). reads_memory (operation_of k)) e)
+    by : (k : Transfer) → next.transfer ≡ k → Brings (o.media port).disk (bytes_of h.memory.items) (taken_of t) (transfer_operation k) bytes
+    by transfer.Read e = given (ap (λ (k : Transfer). is_ranged (transfer_operation k)) e) (ap (λ (k : Transfer). reads_memory (transfer_operation k)) e)
+    by transfer.Write e = taken (ap (λ (k : Transfer). is_ranged (transfer_operation k)) e) (ap (λ (k : Transfer). reads_memory (transfer_operation k)) e)
+    by transfer.ReadQueued e = given (ap (λ (k : Transfer). is_ranged (transfer_operation k)) e) (ap (λ (k : Transfer). reads_memory (transfer_operation k)) e)
+    by transfer.WriteQueued e = taken (ap (λ (k : Transfer). is_ranged (transfer_operation k)) e) (ap (λ (k : Transfer). reads_memory (transfer_operation k)) e)
     by transfer.Identify e = tt
     by transfer.Flush e = tt
     by transfer.ReadLog e = tt
     by transfer.Trim e =
-        let place : next.address ≡ next_place (taken_of t) = is.address_is in rw place at (takes (ap (λ (k : Transfer). reads_memory (operation_of k)) e))
+        let place : next.address ≡ next_place (taken_of t) = is.address_is in rw place at (takes (ap (λ (k : Transfer). reads_memory (transfer_operation k)) e))
 
 -- sectors of a trim are cleared
 pub port_clears : (h : Hardware) (o : Outside) (p port slot first count : ℕ) (new : PortModel) (t : TakenCommand) (tape : Vec Entry) → p ≡ port →
     p < length h.ports →
-    port_of new (media_cleared (o.media p) first count) ≡ with_clear (port_of (slice_index_or h.ports p blank) (o.media p)) slot (taken_of t) first count →
+    port_of new (media_cleared (o.media p) first count) ≡ with_clear (port_of (slice_index_or h.ports p blank_port) (o.media p)) slot (taken_of t) first count →
     tape.items ≡ h.tape.items ++ clear_entry port slot first count ∷ [] →
-    device_of (record h { ports = slice_set h.ports p new; tape = tape }) (outside_cleared o port first count) ≡ after (Clear port slot (taken_of t) first count) (device_of h o)
+    device_of (record h { ports = slice_set h.ports p new; tape = tape }) (outside_cleared o port first count) ≡ device_after (Clear port slot (taken_of t) first count) (device_of h o)
 port_clears h o p port slot first count new t tape e small is more =
     let new_tape : Vec Entry = tape in
     let back : port ≡ p = sym e in
     let entries : tape.items ≡ h.tape.items ++ clear_entry p slot first count ∷ [] = more ∙ (λ i. h.tape.items ++ clear_entry (back i) slot first count ∷ []) in
     subst (λ q. device_of (record h { ports = slice_set h.ports p new; tape = new_tape }) (outside_cleared o q first count)
-    ≡ after (Clear q slot (taken_of t) first count) (device_of h o)) e
+    ≡ device_after (Clear q slot (taken_of t) first count) (device_of h o)) e
     (set_port_plugged h o p new (media_cleared (o.media p) first count) _ tape (clear_entry p slot first count) small is entries)

@@ -3,7 +3,7 @@ use Rattle.std.proofs.Common.{ℕ, zero, suc, ◌≡◌, [], ◌∷◌, ◌++◌
 use Rattle.std.proofs.lemmas.List.Elements.{All-append, All-nil}
 use Rattle.std.specs.Prelude.{option_map}
 use Rattle.adapter.specs.Access.{noted}
-use Rattle.adapter.specs.Asked.{Ends}
+use Rattle.adapter.specs.Asked.{EndsAndPosts}
 use Rattle.adapter.specs.Device.{Device}
 use Rattle.adapter.specs.Steps.{done_entry}
 use Rattle.adapter.specs.declared.tape.Entry.{Entry}
@@ -14,7 +14,7 @@ use Rattle.hba_regs.specs.declared.reg.Reg.TheVariants.{Cap, Ghc, Is, Pi, Vs, Ca
 use Rattle.device_model.specs.Disks.{bay_of, identity, identity_of, says_of}
 use Rattle.device_model.specs.Paged.{BringsOf, GainsPages, IsItsLog, IsItsPage}
 use Rattle.device_model.specs.Sent.{SendsEnd}
-use Rattle.device_model.specs.View.{operation_of}
+use Rattle.device_model.specs.View.{transfer_operation}
 use Rattle.device_model.specs.Whole.{Outside, device_of}
 use Rattle.device_model.specs.declared.bay.Bay.{Bay}
 use Rattle.device_model.specs.declared.model.Model.{Model}
@@ -72,7 +72,7 @@ module _ {S : Type 0} (size : S → ℕ) where
 
   -- a move was noted, of a port that has these disks
   pub gains_moved : (old new : Model S) (bay : Bay S) (k : Transfer) (m : Move) → bay_of old m.port.0 ≡ Some bay →
-      new.hardware.tape.items ≡ old.hardware.tape.items ++ entry.Move m ∷ [] → m.operation ≡ operation_of k →
+      new.hardware.tape.items ≡ old.hardware.tape.items ++ entry.Move m ∷ [] → m.operation ≡ transfer_operation k →
       (k ≡ transfer.Identify → IsItsPage (identity size bay.disk) bay.says m.bytes.value) → (k ≡ transfer.ReadLog → IsItsLog bay.says m.bytes.value) →
       GainsPages size old new
   gains_moved old new bay k m was more named page log =
@@ -86,7 +86,7 @@ module _ {S : Type 0} (size : S → ℕ) where
       subst (λ (y : Move). BringsOf (identity_of size old y.port.0) (says_of old y.port.0) y) same here)
 
   -- a command ended
-  pub gains_done : (o later : Outside) (port slot : ℕ) (old new : Model S) → Ends (SendsEnd slot) port slot (device_of old.hardware o) (device_of new.hardware later) →
+  pub gains_done : (o later : Outside) (port slot : ℕ) (old new : Model S) → EndsAndPosts (SendsEnd slot) port slot (device_of old.hardware o) (device_of new.hardware later) →
       GainsPages size old new
   gains_done o later port slot old new e =
       let rest = end_rest port slot e.done.flag e.done.t.meaning.operation e.mid (device_of new.hardware later) e.posts in

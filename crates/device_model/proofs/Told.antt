@@ -2,12 +2,12 @@
 use Rattle.std.proofs.Common.{ℕ, Bool, true, false, ◌≡◌, ◌<◌, ◌∙◌, List, [], ◌∷◌, ◌++◌, Option, None, Some, refl, sym, ap, subst, inl, inr}
 use Rattle.std.specs.Global.{Vec}
 use Rattle.std.specs.Prelude.{if◌then◌else◌, option_map, slice_set}
-use Rattle.adapter.specs.Asked.{DoesFatal, DoesFault, DoesFetch, DoesScribble, DoneOf, Ends, Fails, fatal_bit}
+use Rattle.adapter.specs.Asked.{DoesFatal, DoesFault, DoesFetch, DoesScribble, DoneOf, EndsAndPosts, Fails, fatal_bit}
 use Rattle.adapter.specs.Asked.{busy as busy_bit}
 use Rattle.adapter.specs.Commands.{Meaning, is_queued}
-use Rattle.adapter.specs.Device.{Device, Taken}
-use Rattle.adapter.specs.Steps.{Can, after, fault_entry}
-use Rattle.adapter.specs.Steps.Step.{Fetch, FetchFault, Done, Fault, Fatal, Unplug}
+use Rattle.adapter.specs.Device.{Device, FetchedCommand}
+use Rattle.adapter.specs.Steps.{Can, device_after, fault_entry}
+use Rattle.adapter.specs.Steps.DeviceTransition.{Fetch, FetchFault, Done, Fault, Fatal, Unplug}
 use Rattle.adapter.specs.declared.access.DeviceStep.{DeviceStep}
 use Rattle.adapter.specs.declared.access.DeviceStep.TheVariants as asked
 use Rattle.adapter.specs.declared.access.FatalError.{FatalError}
@@ -21,7 +21,7 @@ use Rattle.ata_types.specs.declared.Slot.{Slot}
 use Rattle.sector_store.specs.declared.store.Failures.{Failures}
 use Rattle.device_model.specs.Disks.{EndsCommandIn, EndsOnly, EndsCommand, SaysOnly, bay_of, disk_in_bay, lasting_of, says_of, which_of}
 use Rattle.device_model.specs.Does.{AnswersStep, EndsIt, IsLeftOut, is_losing, MayBeFetched, StepKeeps, LacksMemory, Possible, asked_fault, asked_port, says_after, says_failed, which_after}
-use Rattle.device_model.specs.Finishing.{HasRoom, IsPassed}
+use Rattle.device_model.specs.Finishing.{TapeHasRoom, IsPassed}
 use Rattle.device_model.specs.Held.{held_after}
 use Rattle.device_model.specs.Modelled.{device_at, media_of, outside_at, tells}
 use Rattle.device_model.specs.Sent.{Sends, SendsEnd, SendsFailed, SendsFault}
@@ -32,7 +32,7 @@ use Rattle.device_model.specs.Cached.{lasting_in}
 use Rattle.device_model.specs.OldSectors.{with_old}
 use Rattle.device_model.specs.declared.old_sectors.OldSector.{OldSector}
 use Rattle.device_model.specs.declared.bay.Bay.{Bay}
-use Rattle.device_model.specs.declared.bay.Description.{Description}
+use Rattle.device_model.specs.declared.bay.PageContents.{PageContents}
 use Rattle.device_model.specs.declared.disks.ModelDisk.{ModelDisk}
 use Rattle.device_model.specs.declared.model.Model.{Model}
 use Rattle.device_model.proofs.Absurd.{some-none, some_one, true-false}
@@ -121,7 +121,7 @@ module _ {S : Type 0} (size : S → ℕ) (told : S → Option (ℕ → List ℕ)
 
   -- a step that notes one entry wasn't done
   passed_left : (s : DeviceStep) (possible : Type 0) → (Possible s (device_at size told m) → possible) → (possible → Possible s (device_at size told m)) →
-      ((HasRoom m.hardware 1 → ⊥) → LacksMemory s (device_at size told m) m.hardware m.bays.items) → device_of h behind ≡ device_of m.hardware behind →
+      ((TapeHasRoom m.hardware 1 → ⊥) → LacksMemory s (device_at size told m) m.hardware m.bays.items) → device_of h behind ≡ device_of m.hardware behind →
       IsPassed m.hardware h possible → IsLeftOut size told failures s m new
   passed_left s possible forth back lacks same (inl never) = record {
     device = same;
@@ -201,7 +201,7 @@ module _ {S : Type 0} (size : S → ℕ) (told : S → Option (ℕ → List ℕ)
   -- or what is issued means none, and it failed for that; or neither
   pub senseless_answers : (p : Port) (s : Slot) (did : Bool) → p.0 < 4 → s.0 < 32 →
       ((g : Meaning) (places : List ℕ) → Can (Fetch p.0 s.0 g places) (device_of m.hardware behind) → ⊥) →
-      (did ≡ true → Can (FetchFault p.0 s.0 false 0) (device_of m.hardware behind) × SendsFault false p.0 (after (FetchFault p.0 s.0 false 0) (device_of m.hardware behind)) (device_of h behind)) →
+      (did ≡ true → Can (FetchFault p.0 s.0 false 0) (device_of m.hardware behind) × SendsFault false p.0 (device_after (FetchFault p.0 s.0 false 0) (device_of m.hardware behind)) (device_of h behind)) →
       (did ≡ false → device_of h behind ≡ device_of m.hardware behind) → (did ≡ false → IsPassed m.hardware h (Can (FetchFault p.0 s.0 false 0) (device_of m.hardware behind))) →
       (did ≡ true → h.starved ≡ m.hardware.starved) → AnswersStep size told failures (asked.Fetch p s) did m new
   senseless_answers p s true port slot only done same passed starved =
@@ -212,7 +212,7 @@ module _ {S : Type 0} (size : S → ℕ) (told : S → Option (ℕ → List ℕ)
           held = refl;
           which = refl;
           others = λ _ _. refl;
-          pages = gains_one size m new (fault_entry p.0 s.0 4 0) (ap (λ (x : Device). x.tape) (fault_rest false p.0 (after (FetchFault p.0 s.0 false 0) (device_of m.hardware behind)) (device_of h behind) d.1)) (λ x e. absurd (cc e));
+          pages = gains_one size m new (fault_entry p.0 s.0 4 0) (ap (λ (x : Device). x.tape) (fault_rest false p.0 (device_after (FetchFault p.0 s.0 false 0) (device_of m.hardware behind)) (device_of h behind) d.1)) (λ x e. absurd (cc e));
           disks = λ _ _. refl;
           keeps = on_hardware;
           starved = starved refl;
@@ -223,7 +223,7 @@ module _ {S : Type 0} (size : S → ℕ) (told : S → Option (ℕ → List ℕ)
 
   -- a command ended
   pub done_answers : (p : Port) (s : Slot) (o : Operation) (bays : Vec (Option (Bay S))) → p.0 < 4 → s.0 < 32 →
-      Ends (SendsEnd s.0) p.0 s.0 (device_of m.hardware behind) (device_of h (outside_ended behind p.0 o)) →
+      EndsAndPosts (SendsEnd s.0) p.0 s.0 (device_of m.hardware behind) (device_of h (outside_ended behind p.0 o)) →
       h.starved ≡ m.hardware.starved → EndsOnly o p.0 m.bays.items bays.items → AnswersStep size told failures (asked.Done p s) true m (record new { bays = bays })
   done_answers p s o bays port slot d starved (bay, is, only) =
       let last : Model S = record new { bays = bays } in
@@ -235,7 +235,7 @@ module _ {S : Type 0} (size : S → ℕ) (told : S → Option (ℕ → List ℕ)
       let behind_then : outside_at size told last ≡ outside_ended behind p.0 o =
       put_outside put m last p.0 items size told (λ x. media_ended x o) (λ b e. ap (λ (x : Bay S). tells told (Some x)) (rest b e).0)
       (ap (media_of size told) (sym ended.1) ∙ ended_media size told o (bay_of m p.0) bay is) in
-      let P : Outside → Type 0 = λ x. Ends (SendsEnd s.0) p.0 s.0 (device_of m.hardware behind) (device_of h x) in (
+      let P : Outside → Type 0 = λ x. EndsAndPosts (SendsEnd s.0) p.0 s.0 (device_of m.hardware behind) (device_of h x) in (
         (port, slot, d.done.flag, d.done.t, d.done.can),
         record {
           came = inl (record {
@@ -258,9 +258,9 @@ module _ {S : Type 0} (size : S → ℕ) (told : S → Option (ℕ → List ℕ)
 
   -- none did
   pub done_left : (p : Port) (s : Slot) → p.0 < 4 → s.0 < 32 → device_of h behind ≡ device_of m.hardware behind →
-      IsPassed m.hardware h ((flag : ℕ) × (t : Taken) × Can (Done p.0 s.0 flag t) (device_of m.hardware behind)) → AnswersStep size told failures (asked.Done p s) false m new
+      IsPassed m.hardware h ((flag : ℕ) × (t : FetchedCommand) × Can (Done p.0 s.0 flag t) (device_of m.hardware behind)) → AnswersStep size told failures (asked.Done p s) false m new
   done_left p s port slot same passed =
-      passed_left (asked.Done p s) ((flag : ℕ) × (t : Taken) × Can (Done p.0 s.0 flag t) (device_of m.hardware behind)) (λ may. (may.2, may.3, may.4))
+      passed_left (asked.Done p s) ((flag : ℕ) × (t : FetchedCommand) × Can (Done p.0 s.0 flag t) (device_of m.hardware behind)) (λ may. (may.2, may.3, may.4))
       (λ may. (port, slot, may.0, may.1, may.2)) (λ none. none) same passed
 
   -- a command that is taken fails: in the model the log names it, if it is queued
@@ -269,12 +269,12 @@ module _ {S : Type 0} (size : S → ℕ) (told : S → Option (ℕ → List ℕ)
       (done : (old last : Device) → Fails SendsFailed (asked_port step) s.0 error kept old last → DoneOf (Sends step) step old last)
       (ends : (old last : Device) → EndsIt step old last)
       (safe : is_losing step ≡ false)
-      (tells : (said : Option Description) → says_after step (device_at size told m) said ≡ says_failed (((device_at size told m).port (asked_port step)).taken s.0) s.0 error said)
+      (tells : (said : Option PageContents) → says_after step (device_at size told m) said ≡ says_failed (((device_at size told m).port (asked_port step)).taken s.0) s.0 error said)
       (held : m.held ≡ held_after step m.held) (which : which_of m (asked_port step) ≡ which_after step (which_of m (asked_port step))) where
     abbrev at : ℕ
     at = asked_port step
 
-    abbrev name : Description → Description
+    abbrev name : PageContents → PageContents
     name = naming (record { tag = s.0; error = error })
 
     noted : h.tape.items ≡ m.hardware.tape.items ++ fault_entry at s.0 error kept ∷ []
@@ -284,7 +284,7 @@ module _ {S : Type 0} (size : S → ℕ) (told : S → Option (ℕ → List ℕ)
         (if queued then option_map name (says_of m at) else says_of m at) ≡ says_after step (device_at size told m) (says_of m at)
     said queued e =
         ap (λ (b : Bool). if b then option_map name (says_of m at) else says_of m at) (sym e)
-        ∙ (ap (λ (t : Option Taken). says_failed t s.0 error (says_of m at)) (sym f.fault.can.taken) ∙ sym (tells (says_of m at)))
+        ∙ (ap (λ (t : Option FetchedCommand). says_failed t s.0 error (says_of m at)) (sym f.fault.can.taken) ∙ sym (tells (says_of m at)))
 
     plain_fails : is_queued f.fault.t.meaning.operation ≡ false → AnswersStep size told failures step true m new
     plain_fails plain = (
@@ -345,13 +345,13 @@ module _ {S : Type 0} (size : S → ℕ) (told : S → Option (ℕ → List ℕ)
 
   -- none did
   pub fail_left : (busy : Bool) (p : Port) (s : Slot) (error : ℕ) → p.0 < 4 → s.0 < 32 → device_of h behind ≡ device_of m.hardware behind →
-      IsPassed m.hardware h ((t : Taken) × Can (Fault p.0 s.0 error (kept_by busy) t) (device_of m.hardware behind)) →
+      IsPassed m.hardware h ((t : FetchedCommand) × Can (Fault p.0 s.0 error (kept_by busy) t) (device_of m.hardware behind)) →
       AnswersStep size told failures (asked_fault busy p s error) false m new
   fail_left false p s error port slot same passed =
-      passed_left (asked.Fault p s error) ((t : Taken) × Can (Fault p.0 s.0 error 0 t) (device_of m.hardware behind)) (λ may. (may.2, may.3))
+      passed_left (asked.Fault p s error) ((t : FetchedCommand) × Can (Fault p.0 s.0 error 0 t) (device_of m.hardware behind)) (λ may. (may.2, may.3))
       (λ may. (port, slot, may.0, may.1)) (λ none. none) same passed
   fail_left true p s error port slot same passed =
-      passed_left (asked.FaultBusy p s error) ((t : Taken) × Can (Fault p.0 s.0 error busy_bit t) (device_of m.hardware behind)) (λ may. (may.2, may.3))
+      passed_left (asked.FaultBusy p s error) ((t : FetchedCommand) × Can (Fault p.0 s.0 error busy_bit t) (device_of m.hardware behind)) (λ may. (may.2, may.3))
       (λ may. (port, slot, may.0, may.1)) (λ none. none) same passed
 
   -- what the device may write as it wants is filled, or the port receives no FISes
@@ -379,7 +379,7 @@ module _ {S : Type 0} (size : S → ℕ) (told : S → Option (ℕ → List ℕ)
   -- a step that notes one entry, which is no move, and changes nothing of the model but the device, was done, or wasn't
   noted_answers : (s : DeviceStep) (did : Bool) (possible : Type 0) (note : Entry) → ((x : Move) → note ≡ entry.Move x → ⊥) →
       (Possible s (device_at size told m) → possible) → (possible → Possible s (device_at size told m)) →
-      ((HasRoom m.hardware 1 → ⊥) → LacksMemory s (device_at size told m) m.hardware m.bays.items) → says_of m (asked_port s) ≡ says_after s (device_at size told m) (says_of m (asked_port s)) →
+      ((TapeHasRoom m.hardware 1 → ⊥) → LacksMemory s (device_at size told m) m.hardware m.bays.items) → says_of m (asked_port s) ≡ says_after s (device_at size told m) (says_of m (asked_port s)) →
       m.held ≡ held_after s m.held → which_of m (asked_port s) ≡ which_after s (which_of m (asked_port s)) → EndsIt s (device_of m.hardware behind) (device_of h behind) →
       is_losing s ≡ false →
       (did ≡ true → possible × DoneOf (Sends s) s (device_of m.hardware behind) (device_of h behind) × (h.tape.items ≡ m.hardware.tape.items ++ note ∷ [])) →
@@ -412,7 +412,7 @@ module _ {S : Type 0} (size : S → ℕ) (told : S → Option (ℕ → List ℕ)
       (λ e. let d = done e in (d.can, d, ap (λ (x : Device). x.tape) d.effect)) same passed starved
 
   pub unplug_answers : (p : Port) (did : Bool) → p.0 < 4 →
-      (did ≡ true → Can (Unplug p.0) (device_of m.hardware behind) × (device_of h behind ≡ after (Unplug p.0) (device_of m.hardware behind))) →
+      (did ≡ true → Can (Unplug p.0) (device_of m.hardware behind) × (device_of h behind ≡ device_after (Unplug p.0) (device_of m.hardware behind))) →
       (did ≡ false → device_of h behind ≡ device_of m.hardware behind) → (did ≡ false → IsPassed m.hardware h (Can (Unplug p.0) (device_of m.hardware behind))) →
       (did ≡ true → h.starved ≡ m.hardware.starved) → AnswersStep size told failures (asked.Unplug p) did m new
   unplug_answers p did port done same passed starved =
@@ -422,7 +422,7 @@ module _ {S : Type 0} (size : S → ℕ) (told : S → Option (ℕ → List ℕ)
 
 -- ---- what the disks of a port say is another
 
-module _ {S : Type 0} (size : S → ℕ) (told : S → Option (ℕ → List ℕ)) (failures : S → Option Failures) (m : Model S) (s : DeviceStep) (name : Description → Description)
+module _ {S : Type 0} (size : S → ℕ) (told : S → Option (ℕ → List ℕ)) (failures : S → Option Failures) (m : Model S) (s : DeviceStep) (name : PageContents → PageContents)
     (bays : Vec (Option (Bay S))) (only : SaysOnly name (asked_port s) m.bays.items bays.items) where
   abbrev lied : Model S
   lied = record m { bays = bays }

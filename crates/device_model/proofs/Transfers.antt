@@ -3,7 +3,7 @@ use Rattle.std.proofs.Common.{ℕ, Bool, true, false, ◌≡◌, ◌&&◌, List,
 use Rattle.std.specs.Prelude.{is_some, option_map}
 use Rattle.sector_store.specs.Stores.{replaced}
 use Rattle.adapter.specs.Commands.{is_queued, is_ranged}
-use Rattle.adapter.specs.Device.{Disk, Taken, PortState}
+use Rattle.adapter.specs.Device.{Disk, FetchedCommand, DevicePort}
 use Rattle.adapter.specs.Memory.{changed}
 use Rattle.adapter.specs.Steps.{IsAlone, block_after, disk_after}
 use Rattle.adapter.specs.declared.command.Operation.{Operation}
@@ -11,12 +11,12 @@ use Rattle.adapter.specs.declared.command.Operation.TheVariants.{Identify, Read,
 use Rattle.device_model.proofs.Absurd.{true-false}
 use Rattle.device_model.specs.Finishing.{sends_page}
 use Rattle.device_model.specs.Trims.{changes_ahead, written_ahead}
-use Rattle.device_model.specs.View.{operation_of}
+use Rattle.device_model.specs.View.{transfer_operation}
 use Rattle.device_model.specs.declared.port.Transfer.{Transfer}
 use Rattle.device_model.specs.declared.port.Transfer.TheVariants as transfer
 
 -- no command but a trim keeps what it moves
-pub no_block : (k : Transfer) (bytes old : List ℕ) → (k ≡ transfer.Trim → ⊥) → block_after (operation_of k) bytes old ≡ old
+pub no_block : (k : Transfer) (bytes old : List ℕ) → (k ≡ transfer.Trim → ⊥) → block_after (transfer_operation k) bytes old ≡ old
 no_block transfer.Read bytes old other = refl
 no_block transfer.Write bytes old other = refl
 no_block transfer.ReadQueued bytes old other = refl
@@ -27,7 +27,7 @@ no_block transfer.Trim bytes old other = absurd (other refl)
 no_block transfer.ReadLog bytes old other = refl
 
 -- the command whose operation is a trim
-pub is_trim : (k : Transfer) → operation_of k ≡ Trim → k ≡ transfer.Trim
+pub is_trim : (k : Transfer) → transfer_operation k ≡ Trim → k ≡ transfer.Trim
 is_trim transfer.Read e = cc
 is_trim transfer.Write e = cc
 is_trim transfer.ReadQueued e = cc
@@ -38,7 +38,7 @@ is_trim transfer.Trim e = refl
 is_trim transfer.ReadLog e = cc
 
 -- each operation is that of a command that the model takes
-pub transfer_of : (o : Operation) → (k : Transfer) × (o ≡ operation_of k)
+pub transfer_of : (o : Operation) → (k : Transfer) × (o ≡ transfer_operation k)
 transfer_of Read = (transfer.Read, refl)
 transfer_of Write = (transfer.Write, refl)
 transfer_of ReadQueued = (transfer.ReadQueued, refl)
@@ -60,10 +60,10 @@ unranged_plain Trim e = refl
 unranged_plain ReadLog e = refl
 
 -- where a plain one is alone, no slot is taken
-pub alone_none : (p : PortState) (o : Operation) → is_queued o ≡ false → IsAlone p o → (slot : ℕ) → p.taken slot ≡ None
+pub alone_none : (p : DevicePort) (o : Operation) → is_queued o ≡ false → IsAlone p o → (slot : ℕ) → p.taken slot ≡ None
 alone_none p o plain alone slot = by (p.taken slot) refl
   where
-    by : (held : Option Taken) → p.taken slot ≡ held → p.taken slot ≡ None
+    by : (held : Option FetchedCommand) → p.taken slot ≡ held → p.taken slot ≡ None
     by None e = e
     by (Some t) e = true-false (alone slot t e) (ap (λ b. b && is_queued t.meaning.operation) plain)
 
@@ -73,7 +73,7 @@ mapped_tells sector bytes (Some f) = refl
 
 -- a disk tells its sectors after a move as it did
 pub still_tells : (k : Transfer) (disk : Disk) (sector : ℕ) (bytes : List ℕ) →
-    is_some (disk_after (operation_of k) disk sector bytes).sectors ≡ is_some disk.sectors
+    is_some (disk_after (transfer_operation k) disk sector bytes).sectors ≡ is_some disk.sectors
 still_tells transfer.Read disk sector bytes = refl
 still_tells transfer.ReadQueued disk sector bytes = refl
 still_tells transfer.Identify disk sector bytes = refl
@@ -93,7 +93,7 @@ pub replaced_is : (told : Option (ℕ → List ℕ)) (sector : ℕ) (bytes : Lis
 replaced_is told sector bytes = ap (λ (g : (ℕ → List ℕ) → ℕ → List ℕ). option_map g told) (λ i f. one_replaced f sector bytes i)
 
 -- the command whose operation is IDENTIFY DEVICE
-pub is_identify : (k : Transfer) → operation_of k ≡ Identify → k ≡ transfer.Identify
+pub is_identify : (k : Transfer) → transfer_operation k ≡ Identify → k ≡ transfer.Identify
 is_identify transfer.Read e = cc
 is_identify transfer.Write e = cc
 is_identify transfer.ReadQueued e = cc
@@ -104,7 +104,7 @@ is_identify transfer.Trim e = cc
 is_identify transfer.ReadLog e = cc
 
 -- and READ LOG EXT
-pub is_log : (k : Transfer) → operation_of k ≡ ReadLog → k ≡ transfer.ReadLog
+pub is_log : (k : Transfer) → transfer_operation k ≡ ReadLog → k ≡ transfer.ReadLog
 is_log transfer.Read e = cc
 is_log transfer.Write e = cc
 is_log transfer.ReadQueued e = cc
@@ -135,7 +135,7 @@ page_unwritten ReadQueued left e = refl
 page_unwritten Write left e = absurd (cc e)
 page_unwritten WriteQueued left e = absurd (cc e)
 
-pub page_unchanged : (o : Operation) (memory : ℕ → ℕ) (t : Taken) (left : ℕ) → sends_page o ≡ true → changes_ahead o memory t left ≡ 0
+pub page_unchanged : (o : Operation) (memory : ℕ → ℕ) (t : FetchedCommand) (left : ℕ) → sends_page o ≡ true → changes_ahead o memory t left ≡ 0
 page_unchanged Identify memory t left e = refl
 page_unchanged ReadLog memory t left e = refl
 page_unchanged Flush memory t left e = refl
@@ -149,12 +149,12 @@ pub page_plain : (o : Operation) → sends_page o ≡ true → is_queued o ≡ f
 page_plain o e = unranged_plain o (page_unranged o e)
 
 -- of two that are queued neither is a trim
-pub both_queued : (k l : Transfer) → is_queued (operation_of k) && is_queued (operation_of l) ≡ true → (k ≡ transfer.Trim → ⊥) × (l ≡ transfer.Trim → ⊥)
-both_queued k l both = (λ trim. true-false both (first trim), λ trim. true-false both (second (is_queued (operation_of k)) trim))
+pub both_queued : (k l : Transfer) → is_queued (transfer_operation k) && is_queued (transfer_operation l) ≡ true → (k ≡ transfer.Trim → ⊥) × (l ≡ transfer.Trim → ⊥)
+both_queued k l both = (λ trim. true-false both (first trim), λ trim. true-false both (second (is_queued (transfer_operation k)) trim))
   where
-    first : k ≡ transfer.Trim → is_queued (operation_of k) && is_queued (operation_of l) ≡ false
-    first trim = ap (λ (x : Transfer). is_queued (operation_of x) && is_queued (operation_of l)) trim
+    first : k ≡ transfer.Trim → is_queued (transfer_operation k) && is_queued (transfer_operation l) ≡ false
+    first trim = ap (λ (x : Transfer). is_queued (transfer_operation x) && is_queued (transfer_operation l)) trim
 
-    second : (b : Bool) → l ≡ transfer.Trim → b && is_queued (operation_of l) ≡ false
-    second true trim = ap (λ (x : Transfer). is_queued (operation_of x)) trim
+    second : (b : Bool) → l ≡ transfer.Trim → b && is_queued (transfer_operation l) ≡ false
+    second true trim = ap (λ (x : Transfer). is_queued (transfer_operation x)) trim
     second false trim = refl

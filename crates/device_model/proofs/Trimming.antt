@@ -3,7 +3,7 @@ use Rattle.std.proofs.Common.{ℕ, Bool, true, zero, suc, ◌≡◌, ◌<◌, �
 use Rattle.std.specs.Prelude.{if◌then◌else◌}
 use Rattle.std.proofs.lemmas.Bool.{cases_lt, le-ltb, lt-ltb}
 use Rattle.std.proofs.lemmas.List.{take_all}
-use Rattle.adapter.specs.Device.{Disk, Taken}
+use Rattle.adapter.specs.Device.{Disk, FetchedCommand}
 use Rattle.adapter.specs.Memory.{bytes_at, patched}
 use Rattle.adapter.specs.Commands.{reads_memory}
 use Rattle.adapter.specs.Steps.{Brings, block_after, next_place}
@@ -11,26 +11,26 @@ use Rattle.adapter.specs.Trim.{consecutive, trim_sectors}
 use Rattle.adapter.specs.declared.command.Operation.{Operation}
 use Rattle.adapter.specs.declared.command.Operation.TheVariants.{Identify, Read, ReadQueued, Write, WriteQueued, Flush, Trim, ReadLog}
 use Rattle.device_model.specs.Finishing.{sends_page}
-use Rattle.device_model.specs.Trims.{HasRuns, WillClear, block_ahead, changes_ahead, cleared_ahead, written_ahead, next_uncleared, run_of, runs_of, span, uncleared}
+use Rattle.device_model.specs.Trims.{HasRuns, WillClear, block_ahead, changes_ahead, cleared_ahead, written_ahead, next_uncleared, trim_extent, runs_of, span, uncleared}
 use Rattle.device_model.proofs.Runs.{drop_twice, no_runs, one_less, run_long, some_runs, take_run}
 
 -- ---- the block that a trim is going to have
 
 -- the one that it has, once all is moved
-pub ahead_moved : (memory : ℕ → ℕ) (t : Taken) → t.moved ≡ length t.places → block_ahead memory t ≡ t.block
+pub ahead_moved : (memory : ℕ → ℕ) (t : FetchedCommand) → t.moved ≡ length t.places → block_ahead memory t ≡ t.block
 ahead_moved memory t all =
     ap (λ (b : Bool). if b then bytes_at memory (slice_index t.places (length t.places - 1)) 512 else t.block)
     (le-ltb t.moved (length t.places) (omega (arith, all)))
 
-ahead_unmoved : (memory : ℕ → ℕ) (t : Taken) → t.moved < length t.places → block_ahead memory t ≡ bytes_at memory (slice_index t.places (length t.places - 1)) 512
+ahead_unmoved : (memory : ℕ → ℕ) (t : FetchedCommand) → t.moved < length t.places → block_ahead memory t ≡ bytes_at memory (slice_index t.places (length t.places - 1)) 512
 ahead_unmoved memory t left =
     ap (λ (b : Bool). if b then bytes_at memory (slice_index t.places (length t.places - 1)) 512 else t.block) (lt-ltb t.moved (length t.places) left)
 
 -- no move changes which one it is
-moved_ahead : (memory : ℕ → ℕ) (t : Taken) (bytes : List ℕ) → t.moved < length t.places → bytes ≡ bytes_at memory (next_place t) 512 →
+moved_ahead : (memory : ℕ → ℕ) (t : FetchedCommand) (bytes : List ℕ) → t.moved < length t.places → bytes ≡ bytes_at memory (next_place t) 512 →
     block_ahead memory (record t { moved = t.moved + 1; block = bytes }) ≡ block_ahead memory t
 moved_ahead memory t bytes left brings =
-    let u : Taken = record t { moved = t.moved + 1; block = bytes } in
+    let u : FetchedCommand = record t { moved = t.moved + 1; block = bytes } in
     elim (cases_lt (t.moved + 1) (length t.places)) [
       | inl more ↦ ahead_unmoved memory u more ∙ sym (ahead_unmoved memory t left)
       | inr all ↦
@@ -42,7 +42,7 @@ moved_ahead memory t bytes left brings =
 -- ---- what a command is going to clear
 
 -- a command that sends a page clears nothing
-pub page_clears : (o : Operation) (memory : ℕ → ℕ) (t : Taken) → sends_page o ≡ true → WillClear o memory t 0
+pub page_clears : (o : Operation) (memory : ℕ → ℕ) (t : FetchedCommand) → sends_page o ≡ true → WillClear o memory t 0
 page_clears Identify memory t is = refl
 page_clears ReadLog memory t is = refl
 page_clears Read memory t is = refl
@@ -52,7 +52,7 @@ page_clears WriteQueued memory t is = refl
 page_clears Flush memory t is = refl
 page_clears Trim memory t is = absurd (cc is)
 
-pub page_cleared : (o : Operation) (memory : ℕ → ℕ) (t : Taken) (clears : ℕ) → sends_page o ≡ true → WillClear o memory t clears → clears ≡ 0
+pub page_cleared : (o : Operation) (memory : ℕ → ℕ) (t : FetchedCommand) (clears : ℕ) → sends_page o ≡ true → WillClear o memory t clears → clears ≡ 0
 page_cleared Identify memory t clears is will = will
 page_cleared ReadLog memory t clears is will = will
 page_cleared Read memory t clears is will = will
@@ -63,7 +63,7 @@ page_cleared Flush memory t clears is will = will
 page_cleared Trim memory t clears is will = absurd (cc is)
 
 -- a move changes none of that
-pub moved_clears : (o : Operation) (disk : Disk) (memory : ℕ → ℕ) (t : Taken) (bytes : List ℕ) (clears : ℕ) → t.moved < length t.places →
+pub moved_clears : (o : Operation) (disk : Disk) (memory : ℕ → ℕ) (t : FetchedCommand) (bytes : List ℕ) (clears : ℕ) → t.moved < length t.places →
     Brings disk memory t o bytes → WillClear o memory t clears →
     WillClear o (if reads_memory o then memory else patched memory (next_place t) bytes) (record t { moved = t.moved + 1; block = block_after o bytes t.block }) clears
 moved_clears Trim disk memory t bytes clears left brings will =
@@ -77,7 +77,7 @@ moved_clears Flush disk memory t bytes clears left brings will = will
 moved_clears ReadLog disk memory t bytes clears left brings will = will
 
 -- and so is what it is going to change, but for what this piece has written
-pub moved_changes : (o : Operation) (disk : Disk) (memory : ℕ → ℕ) (t : Taken) (bytes : List ℕ) (left : ℕ) → t.moved < length t.places → Brings disk memory t o bytes →
+pub moved_changes : (o : Operation) (disk : Disk) (memory : ℕ → ℕ) (t : FetchedCommand) (bytes : List ℕ) (left : ℕ) → t.moved < length t.places → Brings disk memory t o bytes →
     changes_ahead o memory t (suc left)
     ≡ written_ahead o 1
     + changes_ahead o (if reads_memory o then memory else patched memory (next_place t) bytes) (record t { moved = t.moved + 1; block = block_after o bytes t.block }) left
@@ -93,7 +93,7 @@ moved_changes Flush disk memory t bytes left small brings = refl
 moved_changes ReadLog disk memory t bytes left small brings = refl
 
 -- and once a run was cleared, but for that run
-pub cleared_changes : (memory : ℕ → ℕ) (t : Taken) (most : ℕ) → t.moved ≡ length t.places → t.meaning.operation ≡ Trim →
+pub cleared_changes : (memory : ℕ → ℕ) (t : FetchedCommand) (most : ℕ) → t.moved ≡ length t.places → t.meaning.operation ≡ Trim →
     span most t + changes_ahead t.meaning.operation memory (record t { cleared = t.cleared + span most t }) 0 ≤ changes_ahead t.meaning.operation memory t 0
 cleared_changes memory t most all trim =
     let xs : List ℕ = trim_sectors t.block in
@@ -112,7 +112,7 @@ cleared_changes memory t most all trim =
     omega (arith, before, now, none, was, is, run, few)
 
 -- what is going to be cleared is a trim's
-clears_trim : (o : Operation) (memory : ℕ → ℕ) (t : Taken) (clears : ℕ) → WillClear o memory t (suc clears) → o ≡ Trim
+clears_trim : (o : Operation) (memory : ℕ → ℕ) (t : FetchedCommand) (clears : ℕ) → WillClear o memory t (suc clears) → o ≡ Trim
 clears_trim Trim memory t clears will = refl
 clears_trim Identify memory t clears will = absurd (omega (arith, will))
 clears_trim Read memory t clears will = absurd (omega (arith, will))
@@ -123,7 +123,7 @@ clears_trim Flush memory t clears will = absurd (omega (arith, will))
 clears_trim ReadLog memory t clears will = absurd (omega (arith, will))
 
 -- where nothing is left to clear, all is cleared
-pub none_left : (o : Operation) (memory : ℕ → ℕ) (t : Taken) → t.moved ≡ length t.places → WillClear o memory t 0 → o ≡ Trim →
+pub none_left : (o : Operation) (memory : ℕ → ℕ) (t : FetchedCommand) → t.moved ≡ length t.places → WillClear o memory t 0 → o ≡ Trim →
     t.cleared ≡ length (trim_sectors t.block)
 none_left o memory t all will trim =
     let there : WillClear Trim memory t 0 = subst (λ (x : Operation). WillClear x memory t 0) trim will in
@@ -133,7 +133,7 @@ none_left o memory t all will trim =
     let within = is.within in
     omega (arith, none, size, within)
 
-module _ (memory : ℕ → ℕ) (t : Taken) (clears : ℕ) (all : t.moved ≡ length t.places) (will : WillClear t.meaning.operation memory t (suc clears)) where
+module _ (memory : ℕ → ℕ) (t : FetchedCommand) (clears : ℕ) (all : t.moved ≡ length t.places) (will : WillClear t.meaning.operation memory t (suc clears)) where
   pub is_a_trim : t.meaning.operation ≡ Trim
   is_a_trim = clears_trim t.meaning.operation memory t clears will
 
@@ -146,14 +146,14 @@ module _ (memory : ℕ → ℕ) (t : Taken) (clears : ℕ) (all : t.moved ≡ le
   some_uncleared = some_runs (uncleared t) clears (sym is_cleared.runs)
 
   -- the whole run is cleared at once
-  span_whole : span (length (uncleared t)) t ≡ run_of (uncleared t)
-  span_whole = ap run_of (take_all (length (uncleared t)) (uncleared t) (omega arith))
+  span_whole : span (length (uncleared t)) t ≡ trim_extent (uncleared t)
+  span_whole = ap trim_extent (take_all (length (uncleared t)) (uncleared t) (omega arith))
 
   -- and one run less is left
   pub span_less : WillClear t.meaning.operation memory (record t { cleared = t.cleared + span (length (uncleared t)) t }) clears
   span_less =
-      let n : ℕ = run_of (uncleared t) in
-      let u : Taken = record t { cleared = t.cleared + span (length (uncleared t)) t } in
+      let n : ℕ = trim_extent (uncleared t) in
+      let u : FetchedCommand = record t { cleared = t.cleared + span (length (uncleared t)) t } in
       let xs : List ℕ = trim_sectors t.block in
       let same : t.cleared + span (length (uncleared t)) t ≡ t.cleared + n = ap (λ (k : ℕ). t.cleared + k) span_whole in
       let rest : drop n (drop t.cleared xs) ≡ drop (t.cleared + n) xs = drop_twice t.cleared n xs in
@@ -173,11 +173,11 @@ module _ (memory : ℕ → ℕ) (t : Taken) (clears : ℕ) (all : t.moved ≡ le
 -- ---- clearing
 
 -- of the sectors that can be cleared at once each number follow one another
-pub span_sectors : (most count : ℕ) (t : Taken) → count ≤ span most t → most ≤ length (uncleared t) →
+pub span_sectors : (most count : ℕ) (t : FetchedCommand) → count ≤ span most t → most ≤ length (uncleared t) →
     take count (uncleared t) ≡ consecutive (next_uncleared t) count
 span_sectors most count t few enough =
     let run = run_long (take most (uncleared t)) in
-    let fits : count ≤ run_of (take most (uncleared t)) = few in
+    let fits : count ≤ trim_extent (take most (uncleared t)) = few in
     let size_is = take_length most (uncleared t) enough in
     let part : take count (take most (uncleared t)) ≡ take count (uncleared t) = take_twice count most (uncleared t) (omega (arith, fits, run, size_is)) in
     let all = take_run (take most (uncleared t)) count fits in
@@ -201,7 +201,7 @@ span_sectors most count t few enough =
     start (suc n) (suc m) (x ∷ xs) small = refl
 
 -- the next one, where one is left
-pub next_one : (t : Taken) → 1 ≤ length (uncleared t) → take 1 (uncleared t) ≡ next_uncleared t ∷ []
+pub next_one : (t : FetchedCommand) → 1 ≤ length (uncleared t) → take 1 (uncleared t) ≡ next_uncleared t ∷ []
 next_one t some = by (uncleared t) some
   where
     by : (xs : List ℕ) → 1 ≤ length xs → take 1 xs ≡ slice_index xs 0 ∷ []
@@ -209,20 +209,20 @@ next_one t some = by (uncleared t) some
     by (x ∷ xs) some = refl
 
 -- of some sectors, and some of them, one at least is in the first run
-pub run_one : (n : ℕ) (xs : List ℕ) → 1 ≤ n → n ≤ length xs → 1 ≤ run_of (take n xs)
+pub run_one : (n : ℕ) (xs : List ℕ) → 1 ≤ n → n ≤ length xs → 1 ≤ trim_extent (take n xs)
 run_one zero xs some small = absurd (omega (arith, some))
 run_one (suc n) [] some small = absurd (omega (arith, small))
 run_one (suc n) (x ∷ xs) some small = omega arith
 
-pub span_some : (most : ℕ) (t : Taken) → 1 ≤ most → most ≤ length (uncleared t) → 1 ≤ span most t
+pub span_some : (most : ℕ) (t : FetchedCommand) → 1 ≤ most → most ≤ length (uncleared t) → 1 ≤ span most t
 span_some most t some enough = run_one most (uncleared t) some enough
 
 -- what is left behind so many
-pub uncleared_on : (t : Taken) (count : ℕ) → uncleared (record t { cleared = t.cleared + count }) ≡ drop count (uncleared t)
+pub uncleared_on : (t : FetchedCommand) (count : ℕ) → uncleared (record t { cleared = t.cleared + count }) ≡ drop count (uncleared t)
 uncleared_on t count = sym (drop_twice t.cleared count (trim_sectors t.block))
 
 -- the next one behind so many that were cleared at once, of more that could be
-pub next_on : (most count : ℕ) (t : Taken) → count < span most t → most ≤ length (uncleared t) →
+pub next_on : (most count : ℕ) (t : FetchedCommand) → count < span most t → most ≤ length (uncleared t) →
     (1 ≤ length (uncleared (record t { cleared = t.cleared + count }))) × (next_uncleared (record t { cleared = t.cleared + count }) ≡ next_uncleared t + count)
 next_on most count t more enough =
     let follow = span_sectors most (suc count) t (omega (arith, more)) enough in
@@ -241,7 +241,7 @@ next_on most count t more enough =
         (rest.0, omega (arith, at))
 
 -- so many at the most
-pub span_most : (most : ℕ) (t : Taken) → span most t ≤ most
+pub span_most : (most : ℕ) (t : FetchedCommand) → span most t ≤ most
 span_most most t =
     let long = run_long (take most (uncleared t)) in
     let taken = by most (uncleared t) in

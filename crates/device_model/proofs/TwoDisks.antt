@@ -8,17 +8,17 @@ use Rattle.adapter.specs.Memory.{changed}
 use Rattle.adapter.specs.Steps.{disk_after, disk_cleared, next_sector}
 use Rattle.device_model.proofs.Places.{fun_ext, changed_same, changed_other}
 use Rattle.sector_store.specs.declared.store.Failures.{Failures}
-use Rattle.device_model.specs.Disks.{bay_of, disk_in_bay, disk_number, disk_of, disk_over, failing, failures_of, has_cache, identity, identity_of, is_same, lasting_of, says_of, which_of}
-use Rattle.device_model.specs.Does.{NoneFails, StepKeeps}
+use Rattle.device_model.specs.Disks.{bay_of, disk_in_bay, disk_number, numbered_disk, disk_over, failing, disk_failures, has_cache, identity, identity_of, is_same, lasting_of, says_of, which_of}
+use Rattle.device_model.specs.Does.{NoCallFailed, StepKeeps}
 use Rattle.device_model.specs.Modelled.{all_tell, device_at, media_of, outside_at, tells}
-use Rattle.device_model.specs.View.{Media, media_after, media_cleared, operation_of, taken_of}
+use Rattle.device_model.specs.View.{Media, media_after, media_cleared, transfer_operation, taken_of}
 use Rattle.device_model.specs.Whole.{HasDisks, outside_after, outside_cleared}
 use Rattle.device_model.specs.declared.bay.Bay.{Bay}
-use Rattle.device_model.specs.declared.bay.Description.{Description}
+use Rattle.device_model.specs.declared.bay.PageContents.{PageContents}
 use Rattle.device_model.specs.declared.cache.Cache.{Cache}
 use Rattle.device_model.specs.declared.disks.ModelDisk.{ModelDisk}
-use Rattle.device_model.specs.declared.disks.Which.{Which}
-use Rattle.device_model.specs.declared.disks.Which.TheVariants.{Disk0, Disk1}
+use Rattle.device_model.specs.declared.disks.DiskIndex.{DiskIndex}
+use Rattle.device_model.specs.declared.disks.DiskIndex.TheVariants.{Disk0, Disk1}
 use Rattle.device_model.specs.declared.model.Model.{Model}
 use Rattle.device_model.specs.declared.port.TakenCommand.{TakenCommand}
 use Rattle.device_model.specs.declared.steps.NextMove.{NextMove}
@@ -28,30 +28,30 @@ use Rattle.device_model.proofs.Transfers.{still_tells}
 
 -- ---- which disk it is
 
-pub same_self : (w : Which) → is_same w w ≡ true
+pub same_self : (w : DiskIndex) → is_same w w ≡ true
 same_self Disk0 = refl
 same_self Disk1 = refl
 
-pub not_same : (w v : Which) → w ≢ v → is_same w v ≡ false
+pub not_same : (w v : DiskIndex) → w ≢ v → is_same w v ≡ false
 not_same Disk0 Disk0 ne = absurd (ne refl)
 not_same Disk0 Disk1 ne = refl
 not_same Disk1 Disk0 ne = refl
 not_same Disk1 Disk1 ne = absurd (ne refl)
 
-pub one_number : (w v : Which) → disk_number w ≡ disk_number v → w ≡ v
+pub one_number : (w v : DiskIndex) → disk_number w ≡ disk_number v → w ≡ v
 one_number Disk0 Disk0 e = refl
 one_number Disk0 Disk1 e = absurd (omega (arith, e))
 one_number Disk1 Disk0 e = absurd (omega (arith, e))
 one_number Disk1 Disk1 e = refl
 
-pub number_small : (w : Which) → disk_number w < 2
+pub number_small : (w : DiskIndex) → disk_number w < 2
 number_small Disk0 = omega arith
 number_small Disk1 = omega arith
 
-pub of_number : (w : Which) (number : ℕ) → disk_number w ≡ number → w ≡ (if nat_eq number 0 then Disk0 else Disk1)
+pub of_number : (w : DiskIndex) (number : ℕ) → disk_number w ≡ number → w ≡ (if nat_eq number 0 then Disk0 else Disk1)
 of_number w number e = subst (λ n. w ≡ (if nat_eq n 0 then Disk0 else Disk1)) e (by w)
   where
-    by : (v : Which) → v ≡ (if nat_eq (disk_number v) 0 then Disk0 else Disk1)
+    by : (v : DiskIndex) → v ≡ (if nat_eq (disk_number v) 0 then Disk0 else Disk1)
     by Disk0 = refl
     by Disk1 = refl
 
@@ -70,16 +70,16 @@ module _ {S : Type 0} where
   by_number : (f : ModelDisk S → Bool) (b : Bay S) → f (disk_in_bay b Disk0) && f (disk_in_bay b Disk1) ≡ (f b.disk && f b.other)
   by_number f b = by b.which
     where
-      by : (w : Which) → f (if is_same Disk0 w then b.disk else b.other) && f (if is_same Disk1 w then b.disk else b.other) ≡ (f b.disk && f b.other)
+      by : (w : DiskIndex) → f (if is_same Disk0 w then b.disk else b.other) && f (if is_same Disk1 w then b.disk else b.other) ≡ (f b.disk && f b.other)
       by Disk0 = refl
       by Disk1 = and_turned (f b.other) (f b.disk)
 
   -- what holds of both disks holds whichever is in
-  pub both_turned : (f : ModelDisk S → Bool) (old new : Bay S) → ((w : Which) → disk_in_bay new w ≡ disk_in_bay old w) → f new.disk && f new.other ≡ (f old.disk && f old.other)
+  pub both_turned : (f : ModelDisk S → Bool) (old new : Bay S) → ((w : DiskIndex) → disk_in_bay new w ≡ disk_in_bay old w) → f new.disk && f new.other ≡ (f old.disk && f old.other)
   both_turned f old new each = sym (by_number f new) ∙ ((λ i. f (each Disk0 i) && f (each Disk1 i)) ∙ by_number f old)
 
   -- what is kept of both disks is kept of the one that is in
-  pub in_kept : {X : Type 0} (f : ModelDisk S → X) (old new : Bay S) → new.which ≡ old.which → ((w : Which) → f (disk_in_bay new w) ≡ f (disk_in_bay old w)) → f new.disk ≡ f old.disk
+  pub in_kept : {X : Type 0} (f : ModelDisk S → X) (old new : Bay S) → new.which ≡ old.which → ((w : DiskIndex) → f (disk_in_bay new w) ≡ f (disk_in_bay old w)) → f new.disk ≡ f old.disk
   in_kept f old new same each = sym (ap f (in_is new)) ∙ (each new.which ∙ (ap (λ w. f (disk_in_bay old w)) same ∙ ap f (in_is old)))
 
   pub kept_in : {X : Type 0} (f : ModelDisk S → X) (b : Bool) (new old other : ModelDisk S) → f new ≡ f old → f (if b then new else other) ≡ f (if b then old else other)
@@ -159,7 +159,7 @@ module _ {S : Type 0} where
   -- what is the same of both disks, and which is in, is the same of the disk that is in
   pub in_both : {X Y : Type 0} (f : ModelDisk S → X) (g : X → Y) (none : Y) (x y : Option (Bay S)) →
       option_map (λ (b : Bay S). b.which) y ≡ option_map (λ (b : Bay S). b.which) x →
-      ((w : Which) → option_map f (option_map (λ (b : Bay S). disk_in_bay b w) y) ≡ option_map f (option_map (λ (b : Bay S). disk_in_bay b w) x)) →
+      ((w : DiskIndex) → option_map f (option_map (λ (b : Bay S). disk_in_bay b w) y) ≡ option_map f (option_map (λ (b : Bay S). disk_in_bay b w) x)) →
       (F : Option (Bay S) → Y) → F None ≡ none → ((b : Bay S) → F (Some b) ≡ g (f b.disk)) → F y ≡ F x
   in_both f g none None None which each F empty some = refl
   in_both f g none None (Some b) which each F empty some = some-none refl which
@@ -168,14 +168,14 @@ module _ {S : Type 0} where
       some b ∙ (ap g (in_kept f a b (some_one which) (λ w. some_one (each w))) ∙ sym (some a))
 
   pub identity_kept : (size : S → ℕ) (old new : Model S) (port : ℕ) → which_of new port ≡ which_of old port →
-      ((w : Which) → option_map (identity size) (disk_of new port w) ≡ option_map (identity size) (disk_of old port w)) →
+      ((w : DiskIndex) → option_map (identity size) (numbered_disk new port w) ≡ option_map (identity size) (numbered_disk old port w)) →
       identity_of size new port ≡ identity_of size old port
   identity_kept size old new port which each =
       in_both (identity size) Some None (bay_of old port) (bay_of new port) which each (option_map (λ (b : Bay S). identity size b.disk)) refl (λ b. refl)
 
   pub failures_kept : (failures : S → Option Failures) (old new : Model S) (port : ℕ) → which_of new port ≡ which_of old port →
-      ((w : Which) → option_map (λ (x : ModelDisk S). failures x.store) (disk_of new port w) ≡ option_map (λ (x : ModelDisk S). failures x.store) (disk_of old port w)) →
-      failures_of failures new port ≡ failures_of failures old port
+      ((w : DiskIndex) → option_map (λ (x : ModelDisk S). failures x.store) (numbered_disk new port w) ≡ option_map (λ (x : ModelDisk S). failures x.store) (numbered_disk old port w)) →
+      disk_failures failures new port ≡ disk_failures failures old port
   failures_kept failures old new port which each =
       in_both (λ (x : ModelDisk S). failures x.store) (λ (f : Option Failures). f) None (bay_of old port) (bay_of new port) which each (failing failures) refl (λ b. refl)
 
@@ -192,11 +192,11 @@ module _ {S : Type 0} where
     pub seated_same : {X : Type 0} (f : Option (Bay S) → X) → f (Some b) ≡ f (Some a) → (q : ℕ) → f (bay_of new q) ≡ f (bay_of m q)
     seated_same f same = each_port f m new port (ap f seated_here ∙ (same ∙ ap f (sym was))) seated_others
 
-    seated_out : (w : Which) → ((w ≢ a.which) → disk_in_bay b w ≡ disk_in_bay a w) → (q : ℕ) → which_of m q ≢ Some w → disk_of new q w ≡ disk_of m q w
+    seated_out : (w : DiskIndex) → ((w ≢ a.which) → disk_in_bay b w ≡ disk_in_bay a w) → (q : ℕ) → which_of m q ≢ Some w → numbered_disk new q w ≡ numbered_disk m q w
     seated_out w out q ne =
         elim (eqb_tells q port) [
           | inl same ↦
-              let Q : ℕ → Type 0 = λ k. which_of m k ≢ Some w → disk_of new k w ≡ disk_of m k w in
+              let Q : ℕ → Type 0 = λ k. which_of m k ≢ Some w → numbered_disk new k w ≡ numbered_disk m k w in
               subst Q (sym same.1)
               (λ other.
               let apart : w ≢ a.which = λ e. other (ap (option_map (λ (x : Bay S). x.which)) was ∙ ap Some (sym e)) in
@@ -204,7 +204,7 @@ module _ {S : Type 0} where
           | inr differ ↦ ap (option_map (λ (x : Bay S). disk_in_bay x w)) (seated_others q differ.1)
         ]
 
-    pub seated_keeps : (size : S → ℕ) → ((w : Which) → w ≢ a.which → disk_in_bay b w ≡ disk_in_bay a w) → ((w : Which) → identity size (disk_in_bay b w) ≡ identity size (disk_in_bay a w)) →
+    pub seated_keeps : (size : S → ℕ) → ((w : DiskIndex) → w ≢ a.which → disk_in_bay b w ≡ disk_in_bay a w) → ((w : DiskIndex) → identity size (disk_in_bay b w) ≡ identity size (disk_in_bay a w)) →
         b.cache.is_on ≡ a.cache.is_on → new.queue ≡ m.queue → new.accesses ≡ m.accesses → StepKeeps size m new
     seated_keeps size out same cached queue accesses = record {
       out = λ q w ne. seated_out w (out w) q ne;
@@ -254,17 +254,17 @@ module _ {S : Type 0} where
     store_which : b.which ≡ a.which
     store_which = ap (λ (x : Bay S). x.which) rest
 
-    pub store_out : (w : Which) → w ≢ a.which → disk_in_bay b w ≡ disk_in_bay a w
+    pub store_out : (w : DiskIndex) → w ≢ a.which → disk_in_bay b w ≡ disk_in_bay a w
     store_out w ne = ap (λ (x : Bay S). disk_in_bay x w) rest ∙ kept_out (is_same w a.which) (record a.disk { store = b.disk.store }) a.disk a.other (not_same w a.which ne)
 
-    pub store_kept : {X : Type 0} (f : ModelDisk S → X) → f (record a.disk { store = b.disk.store }) ≡ f a.disk → (w : Which) → f (disk_in_bay b w) ≡ f (disk_in_bay a w)
+    pub store_kept : {X : Type 0} (f : ModelDisk S → X) → f (record a.disk { store = b.disk.store }) ≡ f a.disk → (w : DiskIndex) → f (disk_in_bay b w) ≡ f (disk_in_bay a w)
     store_kept f same w = ap (λ (x : Bay S). f (disk_in_bay x w)) rest ∙ kept_in f (is_same w a.which) (record a.disk { store = b.disk.store }) a.disk a.other same
 
     pub store_keeps : (size : S → ℕ) → size b.disk.store ≡ size a.disk.store → b.cache.is_on ≡ a.cache.is_on → new.queue ≡ m.queue → new.accesses ≡ m.accesses → StepKeeps size m new
     store_keeps size sectors =
         seated_keeps m new port a b was items size store_out (store_kept (identity size) (ap (λ (n : ℕ). record { serial = a.disk.serial; size = n }) sectors))
 
-    pub store_fine : (failures : S → Option Failures) → failures b.disk.store ≡ failures a.disk.store → NoneFails failures m new
+    pub store_fine : (failures : S → Option Failures) → failures b.disk.store ≡ failures a.disk.store → NoCallFailed failures m new
     store_fine failures fine q w =
         seated_same m new port a b was items (λ x. option_map (λ (y : ModelDisk S). failures y.store) (option_map (λ (y : Bay S). disk_in_bay y w) x))
         (ap Some (store_kept (λ (y : ModelDisk S). failures y.store) fine w)) q
@@ -302,7 +302,7 @@ module _ {S : Type 0} where
       -- a piece was moved
       pub outside_moved : (next : NextMove) (r : TakenCommand) (bytes : List ℕ) → lasting_of told b ≡ lasting_of told a → next.transfer ≡ r.transfer → next.sector ≡ next_sector (taken_of r) →
           disk_over a.which (size b.disk.store) (told b.disk.store)
-          ≡ disk_after (operation_of next.transfer) (disk_over a.which (size a.disk.store) (told a.disk.store)) next.sector bytes →
+          ≡ disk_after (transfer_operation next.transfer) (disk_over a.which (size a.disk.store) (told a.disk.store)) next.sector bytes →
           outside_at size told new ≡ outside_after (outside_at size told m) port (taken_of r) bytes
       outside_moved next r bytes lasts kind sector is =
           seated_outside m new port a b was items size told _ (store_tells (ap (λ (d : Disk). is_some d.sectors) is_after ∙ still_tells r.transfer old (next_sector (taken_of r)) bytes))
@@ -311,8 +311,8 @@ module _ {S : Type 0} where
           old : Disk
           old = disk_over a.which (size a.disk.store) (told a.disk.store)
 
-          is_after : disk_over a.which (size b.disk.store) (told b.disk.store) ≡ disk_after (operation_of r.transfer) old (next_sector (taken_of r)) bytes
-          is_after = is ∙ (λ i. disk_after (operation_of (kind i)) old (sector i) bytes)
+          is_after : disk_over a.which (size b.disk.store) (told b.disk.store) ≡ disk_after (transfer_operation r.transfer) old (next_sector (taken_of r)) bytes
+          is_after = is ∙ (λ i. disk_after (transfer_operation (kind i)) old (sector i) bytes)
 
       -- the store tells what it told
       pub outside_kept : size b.disk.store ≡ size a.disk.store → told b.disk.store ≡ told a.disk.store → lasting_of told b ≡ lasting_of told a →
@@ -374,7 +374,7 @@ module _ {S : Type 0} where
               | inr differ ↦ ap (media_of size told) (put_others q differ.1) ∙ sym (changed_other was_media port (media (was_media port)) q differ.1)
             ]
 
-    pub put_keeps : (size : S → ℕ) → ((b : Bay S) → bay_of m port ≡ Some b → (w : Which) → disk_in_bay (put b) w ≡ disk_in_bay b w) →
+    pub put_keeps : (size : S → ℕ) → ((b : Bay S) → bay_of m port ≡ Some b → (w : DiskIndex) → disk_in_bay (put b) w ≡ disk_in_bay b w) →
         ((b : Bay S) → bay_of m port ≡ Some b → (put b).cache.is_on ≡ b.cache.is_on) → new.queue ≡ m.queue → new.accesses ≡ m.accesses → StepKeeps size m new
     put_keeps size same cached queue accesses = record {
       out = λ q w _. put_same (option_map (λ (b : Bay S). disk_in_bay b w)) (λ b is. ap Some (same b is w)) q;
@@ -386,7 +386,7 @@ module _ {S : Type 0} where
 
   -- ---- what the disks of a port say is another
 
-  module _ (says : Description → Description) (m new : Model S) (port : ℕ)
+  module _ (says : PageContents → PageContents) (m new : Model S) (port : ℕ)
       (items : new.bays.items ≡ slice_set m.bays.items port (option_map (λ (b : Bay S). record b { says = says b.says }) (bay_of m port))) where
     abbrev saying : Bay S → Bay S
     saying b = record b { says = says b.says }

@@ -3,21 +3,21 @@ use Rattle.std.proofs.Common.{ℕ, zero, suc, Bool, true, false, ◌≡◌, ◌�
 use Rattle.std.proofs.lemmas.Bool.Decides.{eqb_tells}
 use Rattle.std.proofs.lemmas.List.Elements.{All-head, All-tail}
 use Rattle.std.specs.Prelude.{if◌then◌else◌, nat_eq, option_map}
-use Rattle.adapter.specs.Asked.{DoesPlug, DoesUnplug, DoneOf, GoesOn, busy}
-use Rattle.adapter.specs.Device.{Device, PortState, Taken}
+use Rattle.adapter.specs.Asked.{DoesPlug, DoesUnplug, DoneOf, SlotGoesOn, busy}
+use Rattle.adapter.specs.Device.{Device, DevicePort, FetchedCommand}
 use Rattle.adapter.specs.Steps.{Can, WorksOn, begun}
-use Rattle.adapter.specs.Steps.Step.{Fetch}
+use Rattle.adapter.specs.Steps.DeviceTransition.{Fetch}
 use Rattle.adapter.specs.declared.access.DeviceStep.{DeviceStep}
 use Rattle.adapter.specs.declared.access.DeviceStep.TheVariants as asked
 use Rattle.sector_store.specs.declared.store.Failures.{Failures}
-use Rattle.device_model.specs.Disks.{disk_in_bay, disk_number, disk_of, which_of}
+use Rattle.device_model.specs.Disks.{disk_in_bay, disk_number, numbered_disk, which_of}
 use Rattle.device_model.specs.Does.{AnswersStep, AsksStore, ClearsFewer, StepFails, FailsToClear, FailsToMove, Possible, PutsIn, asked_port, which_after}
 use Rattle.device_model.specs.Modelled.{device_at}
 use Rattle.device_model.specs.Queue.{DoesEach}
 use Rattle.device_model.specs.Sent.{Sends, SendsEnd}
-use Rattle.device_model.specs.declared.disks.Which.{Which}
-use Rattle.device_model.specs.declared.disks.Which.TheVariants.{Disk0, Disk1}
-use Rattle.device_model.specs.declared.bay.Description.{Description}
+use Rattle.device_model.specs.declared.disks.DiskIndex.{DiskIndex}
+use Rattle.device_model.specs.declared.disks.DiskIndex.TheVariants.{Disk0, Disk1}
+use Rattle.device_model.specs.declared.bay.PageContents.{PageContents}
 use Rattle.device_model.specs.declared.model.Model.{Model}
 use Rattle.device_model.proofs.Places.{changed_each, changed_other}
 use Rattle.device_model.specs.declared.bay.Bay.{Bay}
@@ -27,7 +27,7 @@ use Rattle.device_model.proofs.TwoDisks.{each_port}
 use Rattle.device_model.proofs.Posting.{clearing_fails, moving_fails}
 use Rattle.device_model.proofs.Own.{fatal_keeps_present, fault_keeps_present, one_keeps_present, senseless_keeps_present, some_keep_present}
 
-named_by : (w : Which) (number : ℕ) → number < 2 → w ≡ (if nat_eq number 0 then Disk0 else Disk1) → number ≡ disk_number w
+named_by : (w : DiskIndex) (number : ℕ) → number < 2 → w ≡ (if nat_eq number 0 then Disk0 else Disk1) → number ≡ disk_number w
 named_by w zero small e = sym (ap disk_number e)
 named_by w (suc zero) small e = sym (ap disk_number e)
 named_by w (suc (suc n)) small e = absurd (omega (arith, small))
@@ -45,10 +45,10 @@ unplug_empties q port old new did empty =
 -- and so does one that is put in
 plug_elsewhere : (q port number : ℕ) (old new : Device) → DoesPlug port number old new → (old.port q).present ≡ false → (q ≡ port → ⊥) → (new.port q).present ≡ false
 plug_elsewhere q port number old new did empty apart =
-    ap (λ (d : Device). (d.port q).present) did.effect ∙ (ap (λ (p : PortState). p.present) (changed_other old.port port _ q apart) ∙ empty)
+    ap (λ (d : Device). (d.port q).present) did.effect ∙ (ap (λ (p : DevicePort). p.present) (changed_other old.port port _ q apart) ∙ empty)
 
 -- a step of this port that doesn't put the disk in leaves it out
-still_out : (l : Option Which) (s : DeviceStep) (d : Device) (q : ℕ) (w : Which) (v : Option Which) → q ≡ asked_port s → v ≢ Some w → (PutsIn l q w s → ⊥) → Possible s d → which_after s v ≢ Some w
+still_out : (l : Option DiskIndex) (s : DeviceStep) (d : Device) (q : ℕ) (w : DiskIndex) (v : Option DiskIndex) → q ≡ asked_port s → v ≢ Some w → (PutsIn l q w s → ⊥) → Possible s d → which_after s v ≢ Some w
 still_out l (asked.Plug p number) d q w None at out never may = λ e. some-none e refl
 still_out l (asked.Plug p number) d q w (Some v) at out never may = λ e. never (sym at, named_by w number.0 may.2 (sym (some_one e)))
 still_out l (asked.Fetch p s) d q w v at out never may = out
@@ -68,7 +68,7 @@ still_out l (asked.Unplug p) d q w v at out never may = out
 still_out l (asked.LosePlug p) d q w v at out never may = out
 
 -- where a port has no disk in it, nothing that is asked puts one in, but a Plug
-still_empty : (s : DeviceStep) (old new : Device) (q : ℕ) (w : Which) (v : Option Which) → (old.port q).present ≡ false → (PutsIn (Some w) q w s → ⊥) → Possible s old →
+still_empty : (s : DeviceStep) (old new : Device) (q : ℕ) (w : DiskIndex) (v : Option DiskIndex) → (old.port q).present ≡ false → (PutsIn (Some w) q w s → ⊥) → Possible s old →
     DoneOf (Sends s) s old new → (q ≡ asked_port s → which_after s v ≡ Some w) → (new.port q).present ≡ false
 still_empty (asked.Fetch p s) old new q w v empty never may did same = one_keeps_present q p.0 s.0 old new (inl did) ∙ empty
 still_empty (asked.Move p s) old new q w v empty never may did same = one_keeps_present q p.0 s.0 old new (inr (inl did)) ∙ empty
@@ -89,18 +89,18 @@ still_empty (asked.Plug p number) old new q w (Some v) empty never may did same 
     plug_elsewhere q p.0 number.0 old new did empty (λ here. absurd (never (sym here, named_by w number.0 may.2 (sym (some_one (same here))))))
 still_empty (asked.LosePlug p) old new q w v empty never may did same = plug_elsewhere q p.0 (old.port p.0).disk.name old new did empty (λ here. never (sym here, refl))
 
-moving_keeps : (cached : Bool) (q port slot : ℕ) (was now : Option Failures) (says later : Option Description) (old new : Device) → FailsToMove cached port slot was now says later old new →
+moving_keeps : (cached : Bool) (q port slot : ℕ) (was now : Option Failures) (says later : Option PageContents) (old new : Device) → FailsToMove cached port slot was now says later old new →
     (new.port q).present ≡ (old.port q).present
 moving_keeps cached q port slot was now says later old new f =
     fault_keeps_present q port slot f.error 0 old new (moving_fails cached port slot was now says later old new f)
 
-clearing_keeps : (cached : Bool) (q port slot : ℕ) (was now : Option Failures) (says later : Option Description) (old new : Device) → FailsToClear cached port slot was now says later old new →
+clearing_keeps : (cached : Bool) (q port slot : ℕ) (was now : Option Failures) (says later : Option PageContents) (old new : Device) → FailsToClear cached port slot was now says later old new →
     (new.port q).present ≡ (old.port q).present
 clearing_keeps cached q port slot was now says later old new f =
     fault_keeps_present q port slot f.error 0 old new (clearing_fails cached port slot was now says later old new f)
 
 -- nor does a fault
-still_failed : (q : ℕ) (s : DeviceStep) (cached : Bool) (was now : Option Failures) (says later : Option Description) (old new : Device) → (old.port q).present ≡ false →
+still_failed : (q : ℕ) (s : DeviceStep) (cached : Bool) (was now : Option Failures) (says later : Option PageContents) (old new : Device) → (old.port q).present ≡ false →
     StepFails s cached was now says later old new → (new.port q).present ≡ false
 still_failed q (asked.Move p s) cached was now says later old new empty f = moving_keeps cached q p.0 s.0 was now says later old new f ∙ empty
 still_failed q (asked.Clear p s most) cached was now says later old new empty (mid, before, f) =
@@ -111,7 +111,7 @@ still_failed q (asked.Clear p s most) cached was now says later old new empty (m
     by (inr did) = one_keeps_present q p.0 s.0 old mid (inr (inr (inr (most, did.0))))
 still_failed q (asked.Finish p s) cached was now says later old new empty (mid, before, f) = by f ∙ (went before ∙ empty)
   where
-    went : (mid ≡ old) ⊎ GoesOn (SendsEnd s.0) p.0 s.0 old mid → (mid.port q).present ≡ (old.port q).present
+    went : (mid ≡ old) ⊎ SlotGoesOn (SendsEnd s.0) p.0 s.0 old mid → (mid.port q).present ≡ (old.port q).present
     went (inl same) = ap (λ (d : Device). (d.port q).present) same
     went (inr did) = some_keep_present q (suc did.0) p.0 s.0 old mid did.1
 
@@ -133,7 +133,7 @@ still_failed q (asked.Plug p number) cached was now says later old new empty f =
 still_failed q (asked.LosePlug p) cached was now says later old new empty f = absurd f
 
 -- the disk is the one that is in or was last, or it isn't
-is_it : (v : Option Which) (w : Which) → (v ≡ Some w) ⊎ (v ≢ Some w)
+is_it : (v : Option DiskIndex) (w : DiskIndex) → (v ≡ Some w) ⊎ (v ≢ Some w)
 is_it None w = inr (λ e. some-none e refl)
 is_it (Some Disk0) Disk0 = inl refl
 is_it (Some Disk0) Disk1 = inr (λ e. absurd (let no : Disk0 ≡ Disk1 = some_one e in cc))
@@ -142,11 +142,11 @@ is_it (Some Disk1) Disk1 = inl refl
 
 module _ {S : Type 0} (size : S → ℕ) (told : S → Option (ℕ → List ℕ)) (failures : S → Option Failures) (q : ℕ) where
   -- where it is the disk that is in or was last, the port has none in it
-  abbrev pub IsOut : Which → Model S → Type 0
+  abbrev pub IsOut : DiskIndex → Model S → Type 0
   IsOut w m = which_of m q ≡ Some w → ((device_at size told m).port q).present ≡ false
 
   -- where the port has no disk in it, its store isn't asked
-  none_moves : (s : DeviceStep) (w : Which) (m : Model S) → (PutsIn (Some w) q w s → ⊥) → q ≡ asked_port s → ((device_at size told m).port q).present ≡ false →
+  none_moves : (s : DeviceStep) (w : DiskIndex) (m : Model S) → (PutsIn (Some w) q w s → ⊥) → q ≡ asked_port s → ((device_at size told m).port q).present ≡ false →
       AsksStore s (device_at size told m) → ⊥
   none_moves (asked.Move p s) w m never at empty moves = there (device_at size told m) p.0 at empty moves.2.works.working.present
   none_moves (asked.Finish p s) w m never at empty moves = by moves.4.begins
@@ -154,7 +154,7 @@ module _ {S : Type 0} (size : S → ℕ) (told : S → Option (ℕ → List ℕ)
       d : Device
       d = device_at size told m
 
-      t : Taken
+      t : FetchedCommand
       t = moves.4.t
 
       by : WorksOn (d.port p.0) s.0 t t.meaning.operation ⊎ (Can (Fetch p.0 s.0 t.meaning t.places) d × (t ≡ begun t.meaning t.places)) → ⊥
@@ -175,8 +175,8 @@ module _ {S : Type 0} (size : S → ℕ) (told : S → Option (ℕ → List ℕ)
   none_moves (asked.Plug p number) w m never at empty moves = moves
   none_moves (asked.LosePlug p) w m never at empty moves = never (sym at, refl)
 
-  one_stays : (l : Option Which) (s : DeviceStep) (answer : Bool) (old new : Model S) (w : Which) → which_of old q ≢ Some w → (PutsIn l q w s → ⊥) →
-      AnswersStep size told failures s answer old new → (which_of new q ≢ Some w) × (disk_of new q w ≡ disk_of old q w)
+  one_stays : (l : Option DiskIndex) (s : DeviceStep) (answer : Bool) (old new : Model S) (w : DiskIndex) → which_of old q ≢ Some w → (PutsIn l q w s → ⊥) →
+      AnswersStep size told failures s answer old new → (which_of new q ≢ Some w) × (numbered_disk new q w ≡ numbered_disk old q w)
   one_stays l s true old new w out never a = (
     elim (eqb_tells q (asked_port s)) [
       | inl here ↦
@@ -192,17 +192,17 @@ module _ {S : Type 0} (size : S → ℕ) (told : S → Option (ℕ → List ℕ)
     a.keeps.out q w out,
   )
 
-  pub out_stays : (l : Option Which) (steps : List DeviceStep) (old new : Model S) (w : Which) → which_of old q ≢ Some w → All (λ s. PutsIn l q w s → ⊥) steps →
-      DoesEach size told failures steps old new → (which_of new q ≢ Some w) × (disk_of new q w ≡ disk_of old q w)
-  out_stays l [] old new w out none same = (λ e. out (sym (ap (λ (m : Model S). which_of m q) same) ∙ e), ap (λ (m : Model S). disk_of m q w) same)
+  pub out_stays : (l : Option DiskIndex) (steps : List DeviceStep) (old new : Model S) (w : DiskIndex) → which_of old q ≢ Some w → All (λ s. PutsIn l q w s → ⊥) steps →
+      DoesEach size told failures steps old new → (which_of new q ≢ Some w) × (numbered_disk new q w ≡ numbered_disk old q w)
+  out_stays l [] old new w out none same = (λ e. out (sym (ap (λ (m : Model S). which_of m q) same) ∙ e), ap (λ (m : Model S). numbered_disk m q w) same)
   out_stays l (s ∷ steps) old new w out none does =
       let P : DeviceStep → Type 0 = λ x. PutsIn l q w x → ⊥ in
       let first = one_stays l s does.0 old does.1 w out (All-head P s steps none) does.2 in
       let last = out_stays l steps does.1 new w first.0 (All-tail P s steps none) does.3 in
       (last.0, last.1 ∙ first.1)
 
-  last_stays : (s : DeviceStep) (answer : Bool) (old new : Model S) (w : Which) → ((device_at size told old).port q).present ≡ false →
-      (PutsIn (Some w) q w s → ⊥) → AnswersStep size told failures s answer old new → IsOut w new × (disk_of new q w ≡ disk_of old q w)
+  last_stays : (s : DeviceStep) (answer : Bool) (old new : Model S) (w : DiskIndex) → ((device_at size told old).port q).present ≡ false →
+      (PutsIn (Some w) q w s → ⊥) → AnswersStep size told failures s answer old new → IsOut w new × (numbered_disk new q w ≡ numbered_disk old q w)
   last_stays s true old new w empty never a = (
     λ same.
         elim a.1.came [
@@ -211,7 +211,7 @@ module _ {S : Type 0} (size : S → ℕ) (told : S → Option (ℕ → List ℕ)
         ],
     elim (eqb_tells q (asked_port s)) [
       | inl here ↦
-          let P : ℕ → Type 0 = λ k. disk_of new k w ≡ disk_of old k w in
+          let P : ℕ → Type 0 = λ k. numbered_disk new k w ≡ numbered_disk old k w in
           subst P (sym here.1) (a.1.disks (none_moves s w old never here.1 empty) w)
       | inr there ↦ ap (option_map (λ (b : Bay S). disk_in_bay b w)) (a.1.others q there.1)
     ],
@@ -224,18 +224,18 @@ module _ {S : Type 0} (size : S → ℕ) (told : S → Option (ℕ → List ℕ)
     each_port (option_map (λ (b : Bay S). disk_in_bay b w)) old new (asked_port s) (a.disks w) a.others q,
   )
 
-  one_waits : (s : DeviceStep) (answer : Bool) (old new : Model S) (w : Which) → IsOut w old → (PutsIn (Some w) q w s → ⊥) → AnswersStep size told failures s answer old new →
-      IsOut w new × (disk_of new q w ≡ disk_of old q w)
+  one_waits : (s : DeviceStep) (answer : Bool) (old new : Model S) (w : DiskIndex) → IsOut w old → (PutsIn (Some w) q w s → ⊥) → AnswersStep size told failures s answer old new →
+      IsOut w new × (numbered_disk new q w ≡ numbered_disk old q w)
   one_waits s answer old new w out never a =
       elim (is_it (which_of old q) w) [
         | inl is ↦ last_stays s answer old new w (out is) never a
         | inr ne ↦ let other = one_stays (Some w) s answer old new w ne never a in ((λ e. absurd (other.0 e)), other.1)
       ]
 
-  pub last_waits : (steps : List DeviceStep) (old new : Model S) (w : Which) → IsOut w old → All (λ s. PutsIn (Some w) q w s → ⊥) steps →
-      DoesEach size told failures steps old new → IsOut w new × (disk_of new q w ≡ disk_of old q w)
+  pub last_waits : (steps : List DeviceStep) (old new : Model S) (w : DiskIndex) → IsOut w old → All (λ s. PutsIn (Some w) q w s → ⊥) steps →
+      DoesEach size told failures steps old new → IsOut w new × (numbered_disk new q w ≡ numbered_disk old q w)
   last_waits [] old new w out none same =
-      let P : Model S → Type 0 = λ m. IsOut w m in (subst P (sym same) out, ap (λ (m : Model S). disk_of m q w) same)
+      let P : Model S → Type 0 = λ m. IsOut w m in (subst P (sym same) out, ap (λ (m : Model S). numbered_disk m q w) same)
   last_waits (s ∷ steps) old new w out none does =
       let P : DeviceStep → Type 0 = λ x. PutsIn (Some w) q w x → ⊥ in
       let first = one_waits s does.0 old does.1 w out (All-head P s steps none) does.2 in

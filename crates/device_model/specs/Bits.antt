@@ -2,5 +2,5 @@
 use Rattle.std.specs.Prelude.{ℕ, Bool}
 use Rattle.hba_regs.specs.Bits.{bit}
 
-abbrev pub bits_of : ℕ → ℕ → Bool
-bits_of value = λ place. bit value place
+abbrev pub word_bits : ℕ → ℕ → Bool
+word_bits value = λ place. bit value place

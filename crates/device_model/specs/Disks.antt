@@ -7,26 +7,26 @@ use Rattle.adapter.specs.declared.command.Operation.TheVariants.{Flush}
 use Rattle.sector_store.specs.declared.store.Failures.{Failures}
 use Rattle.device_model.specs.Cached.{HasOldRoom, KeepsNone, TurnsBack, lasting_in}
 use Rattle.device_model.specs.declared.bay.Bay.{Bay}
-use Rattle.device_model.specs.declared.bay.Description.{Description}
+use Rattle.device_model.specs.declared.bay.PageContents.{PageContents}
 use Rattle.device_model.specs.declared.disks.Disks.{Disks}
 use Rattle.device_model.specs.declared.disks.ModelDisk.{ModelDisk}
 use Rattle.device_model.specs.declared.disks.Plugged.{Plugged, Nothing, After'}
 use Rattle.device_model.specs.declared.disks.PortDisks.{PortDisks}
-use Rattle.device_model.specs.declared.disks.Which.{Which}
-use Rattle.device_model.specs.declared.disks.Which.TheVariants.{Disk0, Disk1}
+use Rattle.device_model.specs.declared.disks.DiskIndex.{DiskIndex}
+use Rattle.device_model.specs.declared.disks.DiskIndex.TheVariants.{Disk0, Disk1}
 use Rattle.device_model.specs.declared.model.Model.{Model}
 
-abbrev pub disk_number : Which → ℕ
+abbrev pub disk_number : DiskIndex → ℕ
 disk_number Disk0 = 0
 disk_number Disk1 = 1
 
-abbrev pub is_same : Which → Which → Bool
+abbrev pub is_same : DiskIndex → DiskIndex → Bool
 is_same Disk0 Disk0 = true
 is_same Disk1 Disk1 = true
 is_same _ _ = false
 
 -- a disk over a store of so many sectors, which tells these
-abbrev pub disk_over : Which → ℕ → Option (ℕ → List ℕ) → Disk
+abbrev pub disk_over : DiskIndex → ℕ → Option (ℕ → List ℕ) → Disk
 disk_over which size told = record { name = disk_number which; size = size; sectors = told }
 
 -- ---- those that are given
@@ -51,11 +51,11 @@ port_0_alone image blank =
 -- ---- those of a port
 
 -- A port has the disk that is in, or was last, and the other one.
-abbrev pub disk_in_bay : {S : Type 0} → Bay S → Which → ModelDisk S
+abbrev pub disk_in_bay : {S : Type 0} → Bay S → DiskIndex → ModelDisk S
 disk_in_bay b which = if is_same which b.which then b.disk else b.other
 
 -- the disks that were put in one after another, each as it is made of which one it was and of its store then
-abbrev pub plugged_as : {S : Type 0} → (Which → S → Disk) → Plugged S → List Disk
+abbrev pub plugged_as : {S : Type 0} → (DiskIndex → S → Disk) → Plugged S → List Disk
 plugged_as disk Nothing = []
 plugged_as disk (After' shape before which store) = plugged_as disk before ++ disk which store.value ∷ []
 
@@ -73,16 +73,16 @@ abbrev pub bay_of : {S : Type 0} → Model S → ℕ → Option (Bay S)
 bay_of m port = slice_index_or m.bays.items port None
 
 -- which of its disks is in, or was last
-abbrev pub which_of : {S : Type 0} → Model S → ℕ → Option Which
+abbrev pub which_of : {S : Type 0} → Model S → ℕ → Option DiskIndex
 which_of {S} m port = option_map (λ (b : Bay S). b.which) (bay_of m port)
 
 -- what both say of themselves
-abbrev pub says_of : {S : Type 0} → Model S → ℕ → Option Description
+abbrev pub says_of : {S : Type 0} → Model S → ℕ → Option PageContents
 says_of {S} m port = option_map (λ (b : Bay S). b.says) (bay_of m port)
 
 -- the one or the other of them
-abbrev pub disk_of : {S : Type 0} → Model S → ℕ → Which → Option (ModelDisk S)
-disk_of {S} m port which = option_map (λ (b : Bay S). disk_in_bay b which) (bay_of m port)
+abbrev pub numbered_disk : {S : Type 0} → Model S → ℕ → DiskIndex → Option (ModelDisk S)
+numbered_disk {S} m port which = option_map (λ (b : Bay S). disk_in_bay b which) (bay_of m port)
 
 -- what is fixed of the disk that is in, or was last
 abbrev pub identity_of : {S : Type 0} → (S → ℕ) → Model S → ℕ → Option Identity
@@ -93,8 +93,8 @@ abbrev pub failing : {S : Type 0} → (S → Option Failures) → Option (Bay S)
 failing failures None = None
 failing failures (Some b) = failures b.disk.store
 
-abbrev pub failures_of : {S : Type 0} → (S → Option Failures) → Model S → ℕ → Option Failures
-failures_of failures m port = failing failures (bay_of m port)
+abbrev pub disk_failures : {S : Type 0} → (S → Option Failures) → Model S → ℕ → Option Failures
+disk_failures failures m port = failing failures (bay_of m port)
 
 -- ---- what is lasting of the one that is in, or was last
 
@@ -147,7 +147,7 @@ pub record LosesCache {S : Type 0} (size : S → ℕ) (told : S → Option (ℕ 
   pub as_it_was : old.cache.is_on ≡ false → new.disk.store ≡ old.disk.store
 
 -- what the disks of this port say is another, if it has some, and nothing else
-abbrev pub SaysOnly : {S : Type 0} → (Description → Description) → ℕ → (old new : List (Option (Bay S))) → Type 0
+abbrev pub SaysOnly : {S : Type 0} → (PageContents → PageContents) → ℕ → (old new : List (Option (Bay S))) → Type 0
 SaysOnly {S} says port old new =
     new ≡ slice_set old port (option_map (λ (b : Bay S). record b { says = says b.says })
     (slice_index_or old port None))

@@ -1,11 +1,11 @@
 -- What a model makes of a step that it is told: when the step is possible, what it changes where it is done, and what
 -- stays where it is left (this project's own).
 use Rattle.std.specs.Prelude.{ℕ, Bool, true, false, ◌≡◌, ◌≢◌, ◌+◌, ◌-◌, min, ◌^◌, ◌<◌, ◌≤◌, ◌⊎◌, List, [], ◌∷◌, ◌++◌, Option, None, Some, if◌then◌else◌, nat_eq, option_map}
-use Rattle.adapter.specs.Asked.{DoesClear, DoneOf, GoesOn, busy, fatal_bit}
+use Rattle.adapter.specs.Asked.{DoesClear, DoneOf, SlotGoesOn, busy, fatal_bit}
 use Rattle.adapter.specs.Commands.{Meaning, is_queued, is_ranged, reads_memory}
-use Rattle.adapter.specs.Device.{Device, Taken}
-use Rattle.adapter.specs.Steps.{Can, after, done_entry, next_sector}
-use Rattle.adapter.specs.Steps.Step.{Fetch, FetchFault, Done, Fault, Fatal, Unplug}
+use Rattle.adapter.specs.Device.{Device, FetchedCommand}
+use Rattle.adapter.specs.Steps.{Can, device_after, done_entry, next_sector}
+use Rattle.adapter.specs.Steps.DeviceTransition.{Fetch, FetchFault, Done, Fault, Fatal, Unplug}
 use Rattle.adapter.specs.declared.access.DeviceStep.{DeviceStep}
 use Rattle.adapter.specs.declared.access.DeviceStep.TheVariants as asked
 use Rattle.adapter.specs.declared.command.Operation.{Operation}
@@ -14,22 +14,22 @@ use Rattle.ata_types.specs.declared.Port.{Port}
 use Rattle.ata_types.specs.declared.Slot.{Slot}
 use Rattle.sector_store.specs.declared.store.Failures.{Failures}
 use Rattle.device_model.specs.Cached.{CallFails}
-use Rattle.device_model.specs.Disks.{HasOldRoomOf, LosesCache, bay_of, caches, disk_number, disk_of, failures_of, identity, says_of, which_of}
-use Rattle.device_model.specs.Finishing.{HasMove, HasRoom, MayFinish}
+use Rattle.device_model.specs.Disks.{HasOldRoomOf, LosesCache, bay_of, caches, disk_number, numbered_disk, disk_failures, identity, says_of, which_of}
+use Rattle.device_model.specs.Finishing.{HasMove, TapeHasRoom, MayFinish}
 use Rattle.device_model.specs.Held.{held_after}
 use Rattle.device_model.specs.Modelled.{device_at}
 use Rattle.device_model.specs.Paged.{GainsPages, lying, naming, truthful}
 use Rattle.device_model.specs.Sent.{Sends, SendsEnd, SendsFault}
 use Rattle.device_model.specs.Trims.{HasClear, changes_ahead, next_uncleared, span, written_ahead}
-use Rattle.device_model.specs.declared.disks.Which.{Which}
-use Rattle.device_model.specs.declared.disks.Which.TheVariants.{Disk0, Disk1}
+use Rattle.device_model.specs.declared.disks.DiskIndex.{DiskIndex}
+use Rattle.device_model.specs.declared.disks.DiskIndex.TheVariants.{Disk0, Disk1}
 use Rattle.device_model.specs.declared.hardware.Hardware.{Hardware}
 use Rattle.device_model.specs.Whole.{HasDisks}
 use Rattle.device_model.specs.declared.bay.Bay.{Bay}
-use Rattle.device_model.specs.declared.bay.Description.{Description}
+use Rattle.device_model.specs.declared.bay.PageContents.{PageContents}
 use Rattle.device_model.specs.declared.model.Model.{Model}
-use Rattle.device_model.specs.declared.model.Outcome.{Outcome}
-use Rattle.device_model.specs.declared.model.Outcome.TheVariants.{Left}
+use Rattle.device_model.specs.declared.model.StepOutcome.{StepOutcome}
+use Rattle.device_model.specs.declared.model.StepOutcome.TheVariants.{Left}
 
 -- ---- when a step is possible
 
@@ -45,12 +45,13 @@ MayBeFetched d port slot =
 -- the disk: its command fails then.
 abbrev pub Possible : DeviceStep → Device → Type 0
 Possible (asked.Fetch p s) d = (p.0 < 4) × (s.0 < 32) × MayBeFetched d p.0 s.0
-Possible (asked.Move p s) d = (s.0 < 32) × (t : Taken) × HasMove d p.0 s.0 t
-Possible (asked.Clear p s most) d = (s.0 < 32) × (t : Taken) × HasClear d p.0 s.0 most t
-Possible (asked.Done p s) d = (p.0 < 4) × (s.0 < 32) × (flag : ℕ) × (t : Taken) × Can (Done p.0 s.0 flag t) d
+Possible (asked.Move p s) d = (s.0 < 32) × (t : FetchedCommand) × HasMove d p.0 s.0 t
+Possible (asked.Clear p s most) d = (s.0 < 32) × (t : FetchedCommand) × HasClear d p.0 s.0 most t
+Possible (asked.Done p s) d = (p.0 < 4) × (s.0 < 32) × (flag : ℕ) × (t : FetchedCommand) × Can (Done p.0 s.0 flag t) d
 Possible (asked.Finish p s) d = HasDisks d p.0 × (s.0 < 32) × (left clears : ℕ) × MayFinish d p.0 s.0 left clears
-Possible (asked.Fault p s error) d = (p.0 < 4) × (s.0 < 32) × (t : Taken) × Can (Fault p.0 s.0 error 0 t) d
-Possible (asked.FaultBusy p s error) d = (p.0 < 4) × (s.0 < 32) × (t : Taken) × Can (Fault p.0 s.0 error busy t) d
+Possible (asked.Fault p s error) d = (p.0 < 4) × (s.0 < 32) × (t : FetchedCommand) × Can (Fault p.0 s.0 error 0 t) d
+Possible (asked.FaultBusy p s error) d = (p.0 < 4) × (s.0 < 32) × (t : FetchedCommand)
+    × Can (Fault p.0 s.0 error busy t) d
 Possible (asked.Fatal p error) d = (p.0 < 4) × Can (Fatal p.0 (fatal_bit error)) d
 Possible (asked.Scribble p byte) d = (p.0 < 4) × ((d.port p.0).fre ≡ true)
 Possible (asked.Lie p page offset bits) d = offset < 512
@@ -62,7 +63,7 @@ Possible (asked.Plug p number) d = (p.0 < 4) × HasDisks d p.0 × (number.0 < 2)
 Possible (asked.LosePlug p) d = (p.0 < 4) × HasDisks d p.0 × ((d.port p.0).present ≡ false)
 
 -- Of the sectors that a Clear clears at once, so many are on the disk.
-abbrev pub cleared_on_disk : (size most : ℕ) → Taken → ℕ
+abbrev pub cleared_on_disk : (size most : ℕ) → FetchedCommand → ℕ
 cleared_on_disk size most t = min (span most t) (size - next_uncleared t)
 
 -- Without growing, the tape has no room for what the step notes there, or the port's cache none for the old bytes of
@@ -72,36 +73,37 @@ cleared_on_disk size most t = min (span most t) (size - next_uncleared t)
 -- Clear and a Finish alone change sectors. Room for old bytes is asked for each sector that is to be written or
 -- cleared, also for one that has some already; and of a Finish also for those past the disk, at which it is to fail.
 abbrev pub LacksMemory : {S : Type 0} → DeviceStep → Device → Hardware → List (Option (Bay S)) → Type 0
-LacksMemory (asked.Fetch p s) d h bays = Can (FetchFault p.0 s.0 false 0) d × (HasRoom h 1 → ⊥)
-LacksMemory (asked.Move p s) d h bays = (t : Taken) × HasMove d p.0 s.0 t
-    × (HasRoom h 1 → HasOldRoomOf bays p.0 (written_ahead t.meaning.operation 1) → ⊥)
-LacksMemory (asked.Clear p s most) d h bays = (t : Taken) × HasClear d p.0 s.0 most t
-    × (HasRoom h 2 → HasOldRoomOf bays p.0 (cleared_on_disk (d.port p.0).disk.size most t) → ⊥)
-LacksMemory (asked.Done p s) d h bays = HasRoom h 1 → ⊥
+LacksMemory (asked.Fetch p s) d h bays = Can (FetchFault p.0 s.0 false 0) d × (TapeHasRoom h 1 → ⊥)
+LacksMemory (asked.Move p s) d h bays = (t : FetchedCommand) × HasMove d p.0 s.0 t
+    × (TapeHasRoom h 1 → HasOldRoomOf bays p.0 (written_ahead t.meaning.operation 1) → ⊥)
+LacksMemory (asked.Clear p s most) d h bays = (t : FetchedCommand) × HasClear d p.0 s.0 most t
+    × (TapeHasRoom h 2 → HasOldRoomOf bays p.0 (cleared_on_disk (d.port p.0).disk.size most t) → ⊥)
+LacksMemory (asked.Done p s) d h bays = TapeHasRoom h 1 → ⊥
 LacksMemory (asked.Finish p s) d h bays =
-    (left clears : ℕ) × (may : MayFinish d p.0 s.0 left clears) × (HasRoom h (left + clears + 1)
+    (left clears : ℕ) × (may : MayFinish d p.0 s.0 left clears) × (TapeHasRoom h (left + clears + 1)
     → HasOldRoomOf bays p.0 (changes_ahead may.t.meaning.operation d.memory may.t left) → ⊥)
-LacksMemory (asked.Fault p s error) d h bays = HasRoom h 1 → ⊥
-LacksMemory (asked.FaultBusy p s error) d h bays = HasRoom h 1 → ⊥
-LacksMemory (asked.Fatal p error) d h bays = HasRoom h 1 → ⊥
-LacksMemory (asked.Unplug p) d h bays = HasRoom h 1 → ⊥
-LacksMemory (asked.Plug p number) d h bays = HasRoom h 1 → ⊥
-LacksMemory (asked.LosePlug p) d h bays = HasRoom h 1 → ⊥
+LacksMemory (asked.Fault p s error) d h bays = TapeHasRoom h 1 → ⊥
+LacksMemory (asked.FaultBusy p s error) d h bays = TapeHasRoom h 1 → ⊥
+LacksMemory (asked.Fatal p error) d h bays = TapeHasRoom h 1 → ⊥
+LacksMemory (asked.Unplug p) d h bays = TapeHasRoom h 1 → ⊥
+LacksMemory (asked.Plug p number) d h bays = TapeHasRoom h 1 → ⊥
+LacksMemory (asked.LosePlug p) d h bays = TapeHasRoom h 1 → ⊥
 LacksMemory step d h bays = ⊥
 
 -- so many moves of sectors, or clears, are left of an operation
-abbrev pub AsksFor : Operation → (left clears : ℕ) → Type 0
-AsksFor operation left clears = ((is_ranged operation ≡ true) × (1 ≤ left)) ⊎ (1 ≤ clears)
+abbrev pub LeavesMoves : Operation → (left clears : ℕ) → Type 0
+LeavesMoves operation left clears = ((is_ranged operation ≡ true) × (1 ≤ left)) ⊎ (1 ≤ clears)
 
 -- The step is possible and moves or clears a sector, so that it may ask the store of the disk that is in for one: a
 -- Move, or a Finish that has a move left, of a command that names sectors; a Clear, or a Finish that has one left. Or
 -- it is a LosePlug, which may write sectors back of the disk that was last in. No other step asks a store for anything.
 abbrev pub AsksStore : DeviceStep → Device → Type 0
-AsksStore (asked.Move p s) d = (s.0 < 32) × (t : Taken) × HasMove d p.0 s.0 t × (is_ranged t.meaning.operation ≡ true)
-AsksStore (asked.Clear p s most) d = (s.0 < 32) × (t : Taken) × HasClear d p.0 s.0 most t
+AsksStore (asked.Move p s) d = (s.0 < 32) × (t : FetchedCommand) × HasMove d p.0 s.0 t
+    × (is_ranged t.meaning.operation ≡ true)
+AsksStore (asked.Clear p s most) d = (s.0 < 32) × (t : FetchedCommand) × HasClear d p.0 s.0 most t
 AsksStore (asked.Finish p s) d =
     HasDisks d p.0 × (s.0 < 32) × (left clears : ℕ) × (may : MayFinish d p.0 s.0 left clears)
-    × AsksFor may.t.meaning.operation left clears
+    × LeavesMoves may.t.meaning.operation left clears
 AsksStore (asked.LosePlug p) d = (p.0 < 4) × HasDisks d p.0 × ((d.port p.0).present ≡ false)
 AsksStore step d = ⊥
 
@@ -109,7 +111,7 @@ AsksStore step d = ⊥
 -- command that is taken already.
 abbrev pub NeedsAddresses : DeviceStep → Device → Type 0
 NeedsAddresses (asked.Move p s) d = d.size ≤ 2 ^ 32
-NeedsAddresses (asked.Finish p s) d = (t : Taken) → (d.port p.0).taken s.0 ≡ Some t → d.size ≤ 2 ^ 32
+NeedsAddresses (asked.Finish p s) d = (t : FetchedCommand) → (d.port p.0).taken s.0 ≡ Some t → d.size ≤ 2 ^ 32
 NeedsAddresses step d = Unit {0}
 
 -- ---- what a step makes of a model
@@ -140,13 +142,13 @@ asked_port (asked.LosePlug p) = p.0
 
 -- what the disks of a port say of themselves once a command that is taken in a slot has failed with an error: the log
 -- names it, if it is queued
-abbrev pub says_failed : Option Taken → (slot error : ℕ) → Option Description → Option Description
+abbrev pub says_failed : Option FetchedCommand → (slot error : ℕ) → Option PageContents → Option PageContents
 says_failed None slot error says = says
 says_failed (Some t) slot error says =
     if is_queued t.meaning.operation then option_map (naming (record { tag = slot; error = error })) says else says
 
 -- and those of a step's port after the step, on this device: they lie once more, or not any more, or a command failed
-abbrev pub says_after : DeviceStep → Device → Option Description → Option Description
+abbrev pub says_after : DeviceStep → Device → Option PageContents → Option PageContents
 says_after (asked.Lie p page offset bits) d says = option_map (lying page offset bits) says
 says_after (asked.Truth p) d says = option_map truthful says
 says_after (asked.Fault p s error) d says = says_failed ((d.port p.0).taken s.0) s.0 error says
@@ -154,12 +156,13 @@ says_after (asked.FaultBusy p s error) d says = says_failed ((d.port p.0).taken 
 says_after step d says = says
 
 -- the disk that is in the step's port after it, or was last: a disk that is put in
-abbrev pub which_after : DeviceStep → Option Which → Option Which
-which_after (asked.Plug p number) which = option_map (λ (_ : Which). if nat_eq number.0 0 then Disk0 else Disk1) which
+abbrev pub which_after : DeviceStep → Option DiskIndex → Option DiskIndex
+which_after (asked.Plug p number) which =
+    option_map (λ (_ : DiskIndex). if nat_eq number.0 0 then Disk0 else Disk1) which
 which_after step which = which
 
 -- the step puts this disk into this port: by its number, or as the one that was last in
-abbrev pub PutsIn : (last : Option Which) → (port : ℕ) → Which → DeviceStep → Type 0
+abbrev pub PutsIn : (last : Option DiskIndex) → (port : ℕ) → DiskIndex → DeviceStep → Type 0
 PutsIn last port which (asked.Plug p number) = (p.0 ≡ port) × (number.0 ≡ disk_number which)
 PutsIn last port which (asked.LosePlug p) = (p.0 ≡ port) × (last ≡ Some which)
 PutsIn last port which step = ⊥
@@ -167,10 +170,10 @@ PutsIn last port which step = ⊥
 -- What no step changes: the disk of a port that isn't in, or wasn't last; of each disk its serial number and how many
 -- sectors it has; whether the disks of a port have a cache; the queue; and the count of the accesses.
 pub record StepKeeps {S : Type 0} (size : S → ℕ) (old new : Model S) : Type 0 where
-  pub out : (port : ℕ) (which : Which) → which_of old port ≢ Some which
-      → disk_of new port which ≡ disk_of old port which
-  pub identities : (port : ℕ) (which : Which) → option_map (identity size) (disk_of new port which)
-      ≡ option_map (identity size) (disk_of old port which)
+  pub out : (port : ℕ) (which : DiskIndex) → which_of old port ≢ Some which
+      → numbered_disk new port which ≡ numbered_disk old port which
+  pub identities : (port : ℕ) (which : DiskIndex) → option_map (identity size) (numbered_disk new port which)
+      ≡ option_map (identity size) (numbered_disk old port which)
   pub caches : (port : ℕ) → caches new port ≡ caches old port
   pub queue : new.queue ≡ old.queue
   pub accesses : new.accesses ≡ old.accesses
@@ -187,34 +190,35 @@ IsCause cached writes sector size error was now =
 
 -- What is issued in the slot fails as it is to be taken, since its bytes mean no command: with 04h, aborted. It is told
 -- as a plain one.
-pub record FailsToFetch (port slot : ℕ) (was now : Option Failures) (says after_it : Option Description)
+pub record FailsToFetch (port slot : ℕ) (was now : Option Failures) (says after_it : Option PageContents)
     (old new : Device) : Type 0 where
   pub can : Can (FetchFault port slot false 0) old
-  pub sends : SendsFault false port (after (FetchFault port slot false 0) old) new
+  pub sends : SendsFault false port (device_after (FetchFault port slot false 0) old) new
   pub stores : now ≡ was
   pub log : after_it ≡ says
 
 -- the slot's command fails on the sector that it moves next;
-pub record FailsToMove (cached : Bool) (port slot : ℕ) (was now : Option Failures) (says after_it : Option Description)
+pub record FailsToMove (cached : Bool) (port slot : ℕ) (was now : Option Failures) (says after_it : Option PageContents)
     (old new : Device) : Type 0 where
-  pub t : Taken
+  pub t : FetchedCommand
   pub move : HasMove old port slot t
   pub ranged : is_ranged t.meaning.operation ≡ true
   pub error : ℕ
   pub cause : IsCause cached (reads_memory t.meaning.operation) (next_sector t) (old.port port).disk.size error was now
   pub can : Can (Fault port slot error 0 t) old
-  pub sends : SendsFault (is_queued t.meaning.operation) port (after (Fault port slot error 0 t) old) new
+  pub sends : SendsFault (is_queued t.meaning.operation) port (device_after (Fault port slot error 0 t) old) new
   pub log : after_it ≡ says_failed (Some t) slot error says
 
 -- or on the one that it clears next
-pub record FailsToClear (cached : Bool) (port slot : ℕ) (was now : Option Failures) (says after_it : Option Description)
+pub record FailsToClear (cached : Bool) (port slot : ℕ) (was now : Option Failures)
+    (says after_it : Option PageContents)
     (old new : Device) : Type 0 where
-  pub t : Taken
+  pub t : FetchedCommand
   pub clear : HasClear old port slot 1 t
   pub error : ℕ
   pub cause : IsCause cached true (next_uncleared t) (old.port port).disk.size error was now
   pub can : Can (Fault port slot error 0 t) old
-  pub sends : SendsFault (is_queued t.meaning.operation) port (after (Fault port slot error 0 t) old) new
+  pub sends : SendsFault (is_queued t.meaning.operation) port (device_after (Fault port slot error 0 t) old) new
   pub log : after_it ≡ says
 
 -- after some of what a step asks, or nothing of it
@@ -229,22 +233,22 @@ ClearsFewer port slot most old new = (did : DoesClear port slot most old new) ×
 -- Finish as they come to a sector of those that they ask for on which it fails, a Move as it begins, and the others
 -- once they have done what comes before it. What the disks say after it tells of a queued one.
 abbrev pub StepFails : DeviceStep → (cached : Bool) → (was now : Option Failures)
-    → (says after_it : Option Description) → Device → Device → Type 0
+    → (says after_it : Option PageContents) → Device → Device → Type 0
 StepFails (asked.Fetch p s) cached was now says after_it old new = FailsToFetch p.0 s.0 was now says after_it old new
 StepFails (asked.Move p s) cached was now says after_it old new = FailsToMove cached p.0 s.0 was now says after_it old
     new
 StepFails (asked.Clear p s most) cached was now says after_it old new =
     After (ClearsFewer p.0 s.0 most) (FailsToClear cached p.0 s.0 was now says after_it) old new
 StepFails (asked.Finish p s) cached was now says after_it old new =
-    After (GoesOn (SendsEnd s.0) p.0 s.0) (λ mid last. FailsToMove cached p.0 s.0 was now says after_it mid last
+    After (SlotGoesOn (SendsEnd s.0) p.0 s.0) (λ mid last. FailsToMove cached p.0 s.0 was now says after_it mid last
     ⊎ FailsToClear cached p.0 s.0 was now says after_it mid last) old new
 StepFails step cached was now says after_it old new = ⊥
 
 -- no call has failed, on any store
-abbrev pub NoneFails : {S : Type 0} → (S → Option Failures) → Model S → Model S → Type 0
-NoneFails {S} failures old new =
-    (port : ℕ) (which : Which) → option_map (λ x. failures x.store) (disk_of new port which)
-    ≡ option_map (λ x. failures x.store) (disk_of old port which)
+abbrev pub NoCallFailed : {S : Type 0} → (S → Option Failures) → Model S → Model S → Type 0
+NoCallFailed {S} failures old new =
+    (port : ℕ) (which : DiskIndex) → option_map (λ x. failures x.store) (numbered_disk new port which)
+    ≡ option_map (λ x. failures x.store) (numbered_disk old port which)
 
 -- the step loses what is in a cache
 abbrev pub is_losing : DeviceStep → Bool
@@ -271,12 +275,12 @@ pub record HasEndedSlot (since d : Device) (port slot : ℕ) : Type 0 where
 
 -- So many sectors of the slot's trim at the most were cleared: of the next ones all that follow one another.
 pub record HasCleared (old new : Device) (port slot most : ℕ) : Type 0 where
-  pub t : Taken
+  pub t : FetchedCommand
   pub was : (old.port port).taken slot ≡ Some t
   pub is : (new.port port).taken slot ≡ Some (record t { cleared = t.cleared + span most t })
 
 -- what a model answers, by what came of a move or a clear
-abbrev pub answer_of : Outcome → Bool
+abbrev pub answer_of : StepOutcome → Bool
 answer_of Left = false
 answer_of _ = true
 
@@ -293,18 +297,19 @@ EndsIt step old new = Unit {0}
 pub record Completes {S : Type 0} (size : S → ℕ) (told : S → Option (ℕ → List ℕ)) (failures : S → Option Failures)
     (s : DeviceStep) (old new : Model S) : Type 0 where
   pub asked : DoneOf (Sends s) s (device_at size told old) (device_at size told new)
-  pub fine : is_losing s ≡ false → NoneFails failures old new
+  pub fine : is_losing s ≡ false → NoCallFailed failures old new
   pub says : says_of new (asked_port s) ≡ says_after s (device_at size told old) (says_of old (asked_port s))
   pub ends : (device_at size told old).size ≤ 2 ^ 32 → EndsIt s (device_at size told old) (device_at size told new)
   pub loses : is_losing s ≡ true
       → LosesCacheIn size told failures (bay_of old (asked_port s)) (bay_of new (asked_port s))
 
 -- its command fails
-abbrev pub HasFailed : {S : Type 0} → (S → ℕ) → (S → Option (ℕ → List ℕ)) → (S → Option Failures) → DeviceStep → Model S
+abbrev pub CommandFails : {S : Type 0} → (S → ℕ) → (S → Option (ℕ → List ℕ)) → (S → Option Failures) → DeviceStep
+    → Model S
     → Model S → Type 0
-HasFailed size told failures s old new =
-    StepFails s (caches old (asked_port s)) (failures_of failures old (asked_port s))
-    (failures_of failures new (asked_port s))
+CommandFails size told failures s old new =
+    StepFails s (caches old (asked_port s)) (disk_failures failures old (asked_port s))
+    (disk_failures failures new (asked_port s))
     (says_of old (asked_port s)) (says_of new (asked_port s))
     (device_at size told old) (device_at size told new)
 
@@ -315,13 +320,13 @@ HasFailed size told failures s old new =
 -- was.
 pub record Did {S : Type 0} (size : S → ℕ) (told : S → Option (ℕ → List ℕ)) (failures : S → Option Failures)
     (s : DeviceStep) (old new : Model S) : Type 0 where
-  pub came : Completes size told failures s old new ⊎ HasFailed size told failures s old new
+  pub came : Completes size told failures s old new ⊎ CommandFails size told failures s old new
   pub held : new.held ≡ held_after s old.held
   pub which : which_of new (asked_port s) ≡ which_after s (which_of old (asked_port s))
   pub others : (port : ℕ) → port ≢ asked_port s → bay_of new port ≡ bay_of old port
   pub pages : GainsPages size old new
-  pub disks : (AsksStore s (device_at size told old) → ⊥) → (which : Which) → disk_of new (asked_port s) which
-      ≡ disk_of old (asked_port s) which
+  pub disks : (AsksStore s (device_at size told old) → ⊥) → (which : DiskIndex) → numbered_disk new (asked_port s) which
+      ≡ numbered_disk old (asked_port s) which
   pub keeps : StepKeeps size old new
   pub starved : new.hardware.starved ≡ old.hardware.starved
 
@@ -336,7 +341,7 @@ pub record IsLeftOut {S : Type 0} (size : S → ℕ) (told : S → Option (ℕ �
   pub says : says_of new (asked_port s) ≡ says_of old (asked_port s)
   pub which : which_of new (asked_port s) ≡ which_of old (asked_port s)
   pub others : (port : ℕ) → port ≢ asked_port s → bay_of new port ≡ bay_of old port
-  pub disks : (which : Which) → disk_of new (asked_port s) which ≡ disk_of old (asked_port s) which
+  pub disks : (which : DiskIndex) → numbered_disk new (asked_port s) which ≡ numbered_disk old (asked_port s) which
   pub why : NeedsAddresses s (device_at size told old) → Possible s (device_at size told old) →
       LacksMemory s (device_at size told old) old.hardware old.bays.items × (new.hardware.starved ≡ true)
   pub keeps : StepKeeps size old new

@@ -3,29 +3,29 @@ use Rattle.std.specs.Prelude.{ℕ, Bool, true, false, ◌≡◌, ◌+◌, ◌*�
 use Rattle.std.specs.Vec.{vec_len, vec_capacity}
 use Rattle.adapter.specs.Asked.{DoesFetch}
 use Rattle.adapter.specs.Commands.{Meaning, is_ranged}
-use Rattle.adapter.specs.Device.{Taken, Device}
+use Rattle.adapter.specs.Device.{FetchedCommand, Device}
 use Rattle.adapter.specs.Steps.{Can, WorksOn, begun, next_place}
-use Rattle.adapter.specs.Steps.Step.{Fetch}
+use Rattle.adapter.specs.Steps.DeviceTransition.{Fetch}
 use Rattle.adapter.specs.declared.command.Operation.{Operation}
 use Rattle.adapter.specs.declared.command.Operation.TheVariants.{Identify, ReadLog}
 use Rattle.adapter.specs.declared.command.Prd.{Prd}
 use Rattle.device_model.specs.Cached.{HasOldRoom}
 use Rattle.device_model.specs.Trims.{WillClear, changes_ahead}
 use Rattle.device_model.specs.Fetched.{bytes_of}
-use Rattle.device_model.specs.View.{operation_of, taken_of}
+use Rattle.device_model.specs.View.{transfer_operation, taken_of}
 use Rattle.device_model.specs.Whole.{HasDisks, Outside, device_of}
 use Rattle.device_model.specs.declared.cache.Cache.{Cache}
 use Rattle.device_model.specs.declared.hardware.Hardware.{Hardware}
 use Rattle.device_model.specs.declared.port.TakenCommand.{TakenCommand}
 
 -- the tape has memory for so many more entries
-abbrev pub HasRoom : Hardware → ℕ → Type 0
-HasRoom h n = vec_len h.tape + n ≤ vec_capacity h.tape
+abbrev pub TapeHasRoom : Hardware → ℕ → Type 0
+TapeHasRoom h n = vec_len h.tape + n ≤ vec_capacity h.tape
 
 -- A step wasn't done: it isn't possible, and nothing is another; or it is, and the tape had no memory for its one
 -- entry, which is told.
 abbrev pub IsPassed : Hardware → Hardware → Type 0 → Type 0
-IsPassed old new possible = ((possible → ⊥) × (new ≡ old)) ⊎ (possible × (HasRoom old 1 → ⊥) × (new.starved ≡ true))
+IsPassed old new possible = ((possible → ⊥) × (new ≡ old)) ⊎ (possible × (TapeHasRoom old 1 → ⊥) × (new.starved ≡ true))
 
 -- each of these pieces is in a memory of this size
 abbrev pub AreInside : ℕ → List ℕ → Type 0
@@ -36,7 +36,7 @@ abbrev pub IsInside : ℕ → Prd → Type 0
 IsInside size prd = 1 ≤ prd.bytes / 512 → prd.address + 512 * (prd.bytes / 512) ≤ size
 
 -- so many moves are left of this command, and each of its pieces is in a memory of this size
-pub record IsCovered (t : Taken) (size left : ℕ) : Type 0 where
+pub record IsCovered (t : FetchedCommand) (size left : ℕ) : Type 0 where
   pub left_is : t.moved + left ≡ length t.places
   pub inside : AreInside size t.places
 
@@ -45,7 +45,7 @@ abbrev pub HasDisk : Device → ℕ → Operation → Type 0
 HasDisk d port operation = HasDisks d port ⊎ (is_ranged operation ≡ true)
 
 -- the port, which has disks, works on this command, and its next piece has a place in the memory
-pub record HasMove (d : Device) (port slot : ℕ) (t : Taken) : Type 0 where
+pub record HasMove (d : Device) (port slot : ℕ) (t : FetchedCommand) : Type 0 where
   pub works : WorksOn (d.port port) slot t t.meaning.operation
   pub left : t.moved < length t.places
   pub inside : next_place t + 512 ≤ d.size
@@ -53,14 +53,14 @@ pub record HasMove (d : Device) (port slot : ℕ) (t : Taken) : Type 0 where
 
 -- the port works on a command of which so many moves, and then so many clears, are left, all of them possible
 pub record IsGoing (d : Device) (port slot left clears : ℕ) : Type 0 where
-  pub t : Taken
+  pub t : FetchedCommand
   pub covered : IsCovered t d.size left
   pub clearing : WillClear t.meaning.operation d.memory t clears
   pub works : WorksOn (d.port port) slot t t.meaning.operation
 
 -- the same, or the command isn't taken yet, and may be
 pub record MayFinish (d : Device) (port slot left clears : ℕ) : Type 0 where
-  pub t : Taken
+  pub t : FetchedCommand
   pub covered : IsCovered t d.size left
   pub clearing : WillClear t.meaning.operation d.memory t clears
   pub begins : WorksOn (d.port port) slot t t.meaning.operation
@@ -74,7 +74,7 @@ sends_page _ = false
 
 -- the port has such a command in this slot, taken or not, which can be done to its end; its pieces have addresses of 32
 -- bits
-pub record HasPage (d : Device) (port slot : ℕ) : Type 0 where
+pub record HasPageCommand (d : Device) (port slot : ℕ) : Type 0 where
   pub left : ℕ
   pub ready : MayFinish d port slot left 0
   pub sends : sends_page ready.t.meaning.operation ≡ true
@@ -89,18 +89,18 @@ pub record MayPage (d : Device) (port slot : ℕ) : Type 0 where
 
 -- What a look at a slot of a port finds: a command that sends a page and can be done to its end; or one that may be
 -- taken, but can't be done to its end; or neither.
-abbrev pub FindsPage : Device → (port slot : ℕ) → Option Bool → Type 0
-FindsPage d port slot (Some true) = HasPage d port slot
-FindsPage d port slot (Some false) = MayPage d port slot × (HasPage d port slot → ⊥)
-FindsPage d port slot None = (MayPage d port slot → ⊥) × (HasPage d port slot → ⊥)
+abbrev pub LooksForPage : Device → (port slot : ℕ) → Option Bool → Type 0
+LooksForPage d port slot (Some true) = HasPageCommand d port slot
+LooksForPage d port slot (Some false) = MayPage d port slot × (HasPageCommand d port slot → ⊥)
+LooksForPage d port slot None = (MayPage d port slot → ⊥) × (HasPageCommand d port slot → ⊥)
 
 -- some command is taken on the port: so none that sends a page may be, which is alone
 abbrev pub IsBusy : Device → ℕ → Type 0
-IsBusy d port = (slot : ℕ) × (t : Taken) × ((d.port port).taken slot ≡ Some t)
+IsBusy d port = (slot : ℕ) × (t : FetchedCommand) × ((d.port port).taken slot ≡ Some t)
 
 -- there is room for the old bytes of each sector that the slot's command is going to change, of so many moves
 abbrev pub HasRoomAhead : Cache → (port slot left : ℕ) → Device → Type 0
-HasRoomAhead cache port slot left d = (t : Taken) → (d.port port).taken slot ≡ Some t
+HasRoomAhead cache port slot left d = (t : FetchedCommand) → (d.port port).taken slot ≡ Some t
     → HasOldRoom cache (changes_ahead t.meaning.operation d.memory t left)
 
 -- ---- a command that is to be done to its end
@@ -108,7 +108,8 @@ HasRoomAhead cache port slot left d = (t : Taken) → (d.port port).taken slot �
 -- so many moves, and then so many clears, are left of this command, all of them possible with this memory
 abbrev pub IsRest : TakenCommand → List ℕ → (left clears : ℕ) → Type 0
 IsRest t memory left clears =
-    IsCovered (taken_of t) (length memory) left × WillClear (operation_of t.transfer) (bytes_of memory) (taken_of t)
+    IsCovered (taken_of t) (length memory) left
+    × WillClear (transfer_operation t.transfer) (bytes_of memory) (taken_of t)
     clears
 
 -- It is begun: so many moves and clears are left of it, each possible, and there is room for them and the end; it is
@@ -116,7 +117,7 @@ IsRest t memory left clears =
 pub record IsBegun (port slot left clears : ℕ) (was_taken : Bool) (old new : Hardware) : Type 0 where
   pub ready : (o : Outside) → MayFinish (device_of old o) port slot left clears
   pub going : (o : Outside) → IsGoing (device_of new o) port slot left clears
-  pub room : HasRoom new (left + clears + 1)
+  pub room : TapeHasRoom new (left + clears + 1)
   pub did : was_taken ≡ true → (o : Outside) → DoesFetch port slot (device_of old o) (device_of new o)
   pub same : was_taken ≡ false → (o : Outside) → device_of new o ≡ device_of old o
   pub tape : new.tape.items ≡ old.tape.items
@@ -128,9 +129,9 @@ pub record LacksRoom (port slot : ℕ) (old new : Hardware) (was now : Cache) : 
   pub left : ℕ
   pub clears : ℕ
   pub ready : (o : Outside) → MayFinish (device_of old o) port slot left clears
-  pub lacked : (o : Outside) (n m : ℕ) (may : MayFinish (device_of old o) port slot n m) → HasRoom old (n + m + 1) →
+  pub lacked : (o : Outside) (n m : ℕ) (may : MayFinish (device_of old o) port slot n m) → TapeHasRoom old (n + m + 1) →
       HasOldRoom was (changes_ahead may.t.meaning.operation (device_of old o).memory may.t n) → ⊥
-  pub lacks : (o : Outside) (n m : ℕ) (may : MayFinish (device_of old o) port slot n m) → HasRoom new (n + m + 1) →
+  pub lacks : (o : Outside) (n m : ℕ) (may : MayFinish (device_of old o) port slot n m) → TapeHasRoom new (n + m + 1) →
       HasOldRoom now (changes_ahead may.t.meaning.operation (device_of old o).memory may.t n) → ⊥
   pub same : (o : Outside) → device_of new o ≡ device_of old o
   pub told : new.starved ≡ true

@@ -1,7 +1,7 @@
 -- What a model with its disks stands for.
 use Rattle.std.specs.Prelude.{ℕ, Bool, true, false, ◌≡◌, ◌+◌, ◌-◌, ◌*◌, ◌^◌, ◌<◌, ◌&&◌, List, [], ◌∷◌, Option, None, Some, if◌then◌else◌, count_ones, is_some, slice_index_or}
 use Rattle.ata_types.specs.declared.memory.TheConstants.{FRAME_BYTES}
-use Rattle.adapter.specs.Device.{PortState, Device}
+use Rattle.adapter.specs.Device.{DevicePort, Device}
 use Rattle.adapter.specs.Device.Halt.{NotHalted}
 use Rattle.adapter.specs.FirstRead.{no_notes}
 use Rattle.adapter.specs.Idle.{IsIdle, IsSane}
@@ -11,11 +11,11 @@ use Rattle.device_model.specs.Paged.{no_lies}
 use Rattle.device_model.specs.View.{Media}
 use Rattle.device_model.specs.Whole.{Outside, device_of, no_media}
 use Rattle.device_model.specs.declared.bay.Bay.{Bay}
-use Rattle.device_model.specs.declared.bay.Description.{Description}
+use Rattle.device_model.specs.declared.bay.PageContents.{PageContents}
 use Rattle.device_model.specs.declared.config.ModelConfig.{ModelConfig}
 use Rattle.device_model.specs.declared.disks.Disks.{Disks}
 use Rattle.device_model.specs.declared.disks.PortDisks.{PortDisks}
-use Rattle.device_model.specs.declared.disks.Which.TheVariants.{Disk0}
+use Rattle.device_model.specs.declared.disks.DiskIndex.TheVariants.{Disk0}
 use Rattle.device_model.specs.declared.model.Model.{Model}
 
 -- What is behind a port: the disk that is in, or was last, as it is; and those that were put in, each as it was then,
@@ -57,7 +57,7 @@ cap_of pi slots ncq = (count_ones pi - 1) + 256 * (slots - 1) + (if ncq then 2 ^
 -- A port's registers as a reset of the adapter leaves them: no device is seen, no link is due to come up, no first FIS
 -- came, no error and no cause is told (AHCI 1.3.1, 3.3 and 10.4.3); and neither a fault nor a fatal error has stopped
 -- it. Nothing was read or written yet, PxCLB and PxFB neither.
-pub record IsReset (p : PortState) : Type 0 where
+pub record IsReset (p : DevicePort) : Type 0 where
   pub addresses : p.bases ≡ record {
     clb = 0;
     fb = 0;
@@ -93,7 +93,7 @@ IsNewMedia size told (Some disks) m =
 
 -- A new port has the first one of the disks that are given for it, which was never out, and of which all is lasting;
 -- without any it has no disk.
-abbrev pub IsNewPort : {S : Type 0} → (S → ℕ) → (S → Option (ℕ → List ℕ)) → Option (PortDisks S) → PortState → Type 0
+abbrev pub IsNewPort : {S : Type 0} → (S → ℕ) → (S → Option (ℕ → List ℕ)) → Option (PortDisks S) → DevicePort → Type 0
 IsNewPort size told None p = (p.present ≡ false) × (p.plugged ≡ [])
 IsNewPort size told (Some disks) p =
     (p.present ≡ true) × (p.disk ≡ disk_over Disk0 (size disks.first.store) (told disks.first.store))
@@ -117,7 +117,7 @@ pub record IsNewAdapter {S : Type 0} (config : ModelConfig) (size : S → ℕ) (
 
 -- what disks say of themselves at first: they have the abilities of the configuration, and tell no lies, and the log
 -- names no command
-abbrev pub new_says : ModelConfig → Description
+abbrev pub new_says : ModelConfig → PageContents
 new_says config =
     record {
       abilities = record { ncq = config.ncq; depth = config.depth; trim = config.trim };

@@ -8,23 +8,23 @@ abbrev pub no_old : OldSector
 no_old = record { sector = 0; bytes = [] }
 
 -- the number of the old sector in this place
-abbrev pub number_at : List OldSector → ℕ → ℕ
-number_at olds place = let old = slice_index_or olds place no_old in old.sector
+abbrev pub old_number_at : List OldSector → ℕ → ℕ
+old_number_at olds place = let old = slice_index_or olds place no_old in old.sector
 
 -- their numbers rise, so that none stands there twice
 abbrev pub AreRising : List OldSector → Type 0
-AreRising olds = (i j : ℕ) → i < j → j < length olds → number_at olds i < number_at olds j
+AreRising olds = (i j : ℕ) → i < j → j < length olds → old_number_at olds i < old_number_at olds j
 
 -- the old sector with this number is in this place
 pub record IsOldAt (olds : List OldSector) (sector place : ℕ) : Type 0 where
   pub inside : place < length olds
-  pub number : number_at olds place ≡ sector
+  pub number : old_number_at olds place ≡ sector
 
 -- there is none with this number, and it would be put in this place: lower ones before it, and higher ones from it on
 pub record IsGapFor (olds : List OldSector) (sector place : ℕ) : Type 0 where
   pub inside : place ≤ length olds
-  pub lower : (k : ℕ) → k < place → number_at olds k < sector
-  pub higher : (k : ℕ) → place ≤ k → k < length olds → sector < number_at olds k
+  pub lower : (k : ℕ) → k < place → old_number_at olds k < sector
+  pub higher : (k : ℕ) → place ≤ k → k < length olds → sector < old_number_at olds k
 
 -- what a sector held before it was changed, if it was
 abbrev pub old_of : List OldSector → ℕ → Option (List ℕ)

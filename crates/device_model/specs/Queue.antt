@@ -6,12 +6,12 @@ use Rattle.adapter.specs.declared.access.DeviceStep.{DeviceStep}
 use Rattle.adapter.specs.Access.{Shows, noted}
 use Rattle.hba_regs.specs.declared.reg.Reg.{Reg}
 use Rattle.sector_store.specs.declared.store.Failures.{Failures}
-use Rattle.device_model.specs.Disks.{disk_of, says_of, which_of}
+use Rattle.device_model.specs.Disks.{numbered_disk, says_of, which_of}
 use Rattle.device_model.specs.Does.{AnswersStep, StepKeeps}
 use Rattle.device_model.specs.Paged.{GainsPages}
 use Rattle.device_model.specs.Settled.{DoesOwn, EndsReset, LeavesOne}
 use Rattle.device_model.specs.Modelled.{device_at}
-use Rattle.device_model.specs.declared.disks.Which.{Which}
+use Rattle.device_model.specs.declared.disks.DiskIndex.{DiskIndex}
 use Rattle.device_model.specs.declared.model.Model.{Model}
 use Rattle.device_model.specs.declared.model.Queued.{Queued}
 
@@ -68,7 +68,7 @@ pub record DoesRead {S : Type 0} (size : S → ℕ) (told : S → Option (ℕ �
   pub says : (port : ℕ) → says_of new port ≡ says_of mid port
   pub pages : GainsPages size mid new
   pub which : (port : ℕ) → which_of new port ≡ which_of mid port
-  pub disks : (port : ℕ) (which : Which) → disk_of new port which ≡ disk_of mid port which
+  pub disks : (port : ℕ) (which : DiskIndex) → numbered_disk new port which ≡ numbered_disk mid port which
   pub keeps : StepKeeps size mid new
   pub starved_on : mid.hardware.starved ≡ true → new.hardware.starved ≡ true
   pub starved_since : new.hardware.starved ≡ true → (mid.hardware.starved ≡ true) ⊎ LeavesOne new.hardware last

@@ -3,14 +3,14 @@ use Rattle.std.specs.Prelude.{ℕ, Bool, true, false, ◌≡◌, ◌+◌, ◌/�
 use Rattle.ata_types.specs.declared.memory.TheConstants.{RECEIVED_BYTES}
 use Rattle.adapter.specs.Asked.{IsPosted, PostsNone}
 use Rattle.adapter.specs.Commands.{is_queued}
-use Rattle.adapter.specs.Device.{PortState, Device}
-use Rattle.adapter.specs.Steps.{Step}
-use Rattle.adapter.specs.Steps.Step.{Done, LinkUp}
+use Rattle.adapter.specs.Device.{DevicePort, Device}
+use Rattle.adapter.specs.Steps.{DeviceTransition}
+use Rattle.adapter.specs.Steps.DeviceTransition.{Done, LinkUp}
 use Rattle.adapter.specs.declared.access.DeviceStep.{DeviceStep}
 use Rattle.adapter.specs.declared.access.DeviceStep.TheVariants as asked
 use Rattle.adapter.specs.declared.command.Operation.{Operation}
 use Rattle.adapter.specs.declared.command.Operation.TheVariants.{Identify, ReadLog, ReadQueued, WriteQueued}
-use Rattle.fis.specs.Spelling.{SpellsDeviceToHost, SpellsPioSetup, SpellsSetDeviceBits}
+use Rattle.fis.specs.Encoding.{EncodesDeviceToHost, EncodesPioSetup, EncodesSetDeviceBits}
 use Rattle.fis.specs.declared.DeviceToHost.{DeviceToHost}
 use Rattle.fis.specs.declared.PioSetup.{PioSetup}
 use Rattle.fis.specs.declared.SetDeviceBits.{SetDeviceBits}
@@ -20,7 +20,7 @@ use Rattle.fis.specs.declared.SetDeviceBits.{SetDeviceBits}
 -- The page of IDENTIFY DEVICE or READ LOG EXT, 512 bytes by PIO: DRQ was set beside the ending status; I asks for an
 -- interrupt. A disk sends it before the page's bytes: here it stands as the command ends, since nobody may look there
 -- meanwhile.
-abbrev pub page_setup : PortState → PioSetup
+abbrev pub page_setup : DevicePort → PioSetup
 page_setup p =
     record {
       interrupt = true;
@@ -36,27 +36,27 @@ page_setup p =
 
 -- A command ended, or a plain one failed: LBA, device and count, which are reserved where it ended (ACS-3), are zero. A
 -- disk may tell in LBA where a command failed: the model's tells 0.
-abbrev pub end_of : PortState → DeviceToHost
-end_of p = record { interrupt = true; status = p.tfd % 256; error = p.tfd / 256; lba = 0; device = 0; count = 0 }
+abbrev pub end_fis : DevicePort → DeviceToHost
+end_fis p = record { interrupt = true; status = p.tfd % 256; error = p.tfd / 256; lba = 0; device = 0; count = 0 }
 
 -- the queued command of a slot ended without error: its tag, and the status without BSY and DRQ, which this FIS doesn't
 -- set
-abbrev pub tag_of : ℕ → PortState → SetDeviceBits
+abbrev pub tag_of : ℕ → DevicePort → SetDeviceBits
 tag_of slot p = record { interrupt = true; status = bit_and (p.tfd % 256) 0x77; error = p.tfd / 256; tags = 2 ^ slot }
 
 -- a queued command failed: no tag is named, since none has ended
-abbrev pub no_tag_of : PortState → SetDeviceBits
+abbrev pub no_tag_of : DevicePort → SetDeviceBits
 no_tag_of p = record (tag_of 0 p) { tags = 0 }
 
 -- the first FIS of an ATA disk: its signature has LBA 1 and count 1 (ACS-3), as PxSIG shows it; it asks for no
 -- interrupt
-abbrev pub signature_of : PortState → DeviceToHost
+abbrev pub signature_of : DevicePort → DeviceToHost
 signature_of p = record { interrupt = false; status = p.tfd % 256; error = p.tfd / 256; lba = 1; device = 0; count = 1 }
 
 -- ---- where it comes
 
 -- The port receives FISes, and its area is in the memory.
-abbrev pub is_received : PortState → ℕ → Bool
+abbrev pub is_received : DevicePort → ℕ → Bool
 is_received p size = p.fre && nat_le (p.bases.fb + RECEIVED_BYTES) size
 
 -- The bytes stand at this place of the port's received FIS area, and nothing else is another; or they are lost, where
@@ -68,13 +68,13 @@ pub record IsSent (port place : ℕ) (bytes : List ℕ) (old new : Device) : Typ
 
 -- where a PIO Setup FIS, a Register FIS and a Set Device Bits FIS stand in the area (AHCI 1.3.1, 4.2.1)
 abbrev pub SendsSetup : ℕ → PioSetup → Device → Device → Type 0
-SendsSetup port fis old new = (bytes : List ℕ) × SpellsPioSetup bytes fis × IsSent port 0x20 bytes old new
+SendsSetup port fis old new = (bytes : List ℕ) × EncodesPioSetup bytes fis × IsSent port 0x20 bytes old new
 
 abbrev pub SendsRegisters : ℕ → DeviceToHost → Device → Device → Type 0
-SendsRegisters port fis old new = (bytes : List ℕ) × SpellsDeviceToHost bytes fis × IsSent port 0x40 bytes old new
+SendsRegisters port fis old new = (bytes : List ℕ) × EncodesDeviceToHost bytes fis × IsSent port 0x40 bytes old new
 
 abbrev pub SendsBits : ℕ → SetDeviceBits → Device → Device → Type 0
-SendsBits port fis old new = (bytes : List ℕ) × SpellsSetDeviceBits bytes fis × IsSent port 0x58 bytes old new
+SendsBits port fis old new = (bytes : List ℕ) × EncodesSetDeviceBits bytes fis × IsSent port 0x58 bytes old new
 
 -- ---- when it is sent
 
@@ -87,13 +87,13 @@ SendsEnd slot port flag Identify old new = (flag ≡ 1) × SendsSetup port (page
 SendsEnd slot port flag ReadLog old new = (flag ≡ 1) × SendsSetup port (page_setup (old.port port)) old new
 SendsEnd slot port flag ReadQueued old new = (flag ≡ 3) × SendsBits port (tag_of slot (old.port port)) old new
 SendsEnd slot port flag WriteQueued old new = (flag ≡ 3) × SendsBits port (tag_of slot (old.port port)) old new
-SendsEnd slot port flag _ old new = (flag ≡ 0) × SendsRegisters port (end_of (old.port port)) old new
+SendsEnd slot port flag _ old new = (flag ≡ 0) × SendsRegisters port (end_fis (old.port port)) old new
 
 -- As a command fails, with TFES of PxIS: of a queued one a Set Device Bits FIS, and of another one, or of what means
 -- none, a Register FIS (TFES: AHCI 1.3.1, 3.3.5).
 abbrev pub SendsFault : (queued : Bool) → (port : ℕ) → Device → Device → Type 0
 SendsFault true port old new = SendsBits port (no_tag_of (old.port port)) old new
-SendsFault false port old new = SendsRegisters port (end_of (old.port port)) old new
+SendsFault false port old new = SendsRegisters port (end_fis (old.port port)) old new
 
 abbrev pub SendsFailed : (port flag : ℕ) → Operation → Device → Device → Type 0
 SendsFailed port flag operation old new = SendsFault (is_queued operation) port old new
@@ -107,7 +107,7 @@ Sends (asked.FaultBusy p s error) = SendsFailed
 Sends step = PostsNone
 
 -- after a step that the model does by itself: as a command ends, and as the link comes up
-abbrev pub SendsAfter : Step → Device → Device → Type 0
+abbrev pub SendsAfter : DeviceTransition → Device → Device → Type 0
 SendsAfter (Done port slot flag t) old new = SendsEnd slot port flag t.meaning.operation old new
 SendsAfter (LinkUp port sig n) old new = SendsRegisters port (signature_of (old.port port)) old new
 SendsAfter step old new = new ≡ old

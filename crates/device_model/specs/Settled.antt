@@ -1,9 +1,9 @@
 -- What a model does by itself before a register is read (this project's own).
 use Rattle.std.specs.Prelude.{ℕ, Bool, true, false, ◌≡◌, ◌≢◌, ◌+◌, ◌<◌, ◌⊎◌, List, [], ◌∷◌, All}
-use Rattle.adapter.specs.Device.{PortState, Device}
-use Rattle.adapter.specs.Steps.{Step, Can, MayLinkUp, after, with_port}
-use Rattle.adapter.specs.Steps.Step.{Fetch, Move, Done, Fall, FrFall, LinkUp, ResetEnds}
-use Rattle.device_model.specs.Finishing.{HasPage, HasRoom, MayPage, sends_page}
+use Rattle.adapter.specs.Device.{DevicePort, Device}
+use Rattle.adapter.specs.Steps.{DeviceTransition, Can, MayLinkUp, device_after, with_port}
+use Rattle.adapter.specs.Steps.DeviceTransition.{Fetch, Move, Done, Fall, FrFall, LinkUp, ResetEnds}
+use Rattle.device_model.specs.Finishing.{HasPageCommand, TapeHasRoom, MayPage, sends_page}
 use Rattle.device_model.specs.Held.{IsPortHeld, IsPortLoose, all_held, none_held}
 use Rattle.device_model.specs.Sent.{SendsAfter}
 use Rattle.device_model.specs.Whole.{HasDisks}
@@ -11,7 +11,7 @@ use Rattle.device_model.specs.declared.hardware.Hardware.{Hardware}
 
 -- A step that the model does by itself, while these ports are held. On the others CR and FR fall, the link comes up
 -- with the signature of an ATA disk, N and X, and IDENTIFY DEVICE and READ LOG EXT are taken, moved and ended.
-abbrev pub IsOwn : List Bool → Step → Type 0
+abbrev pub IsOwn : List Bool → DeviceTransition → Type 0
 IsOwn held (Fall port) = IsPortLoose held port
 IsOwn held (FrFall port) = IsPortLoose held port
 IsOwn held (LinkUp port sig n) = IsPortLoose held port × (sig ≡ 0x101) × (n ≡ true)
@@ -21,36 +21,36 @@ IsOwn held (Done port slot flag t) = IsPortLoose held port × (sends_page t.mean
 IsOwn held step = ⊥
 
 -- CR or FR falls, or the link comes up
-abbrev pub IsSettling : Step → Type 0
+abbrev pub IsSettling : DeviceTransition → Type 0
 IsSettling (Fall port) = Unit {0}
 IsSettling (FrFall port) = Unit {0}
 IsSettling (LinkUp port sig n) = Unit {0}
 IsSettling step = ⊥
 
 -- IDENTIFY DEVICE or READ LOG EXT is taken, moved or ended
-abbrev pub IsPaging : Step → Type 0
+abbrev pub IsPaging : DeviceTransition → Type 0
 IsPaging (Fetch port slot meaning places) = Unit {0}
 IsPaging (Move port slot t bytes) = Unit {0}
 IsPaging (Done port slot flag t) = Unit {0}
 IsPaging step = ⊥
 
 -- such a step of the model's own
-abbrev pub Settles : List Bool → Step → Type 0
+abbrev pub Settles : List Bool → DeviceTransition → Type 0
 Settles held step = IsOwn held step × IsSettling step
 
 -- or such a one
-abbrev pub SendsPages : List Bool → Step → Type 0
+abbrev pub SendsPages : List Bool → DeviceTransition → Type 0
 SendsPages held step = IsOwn held step × IsPaging step
 
 -- steps one after another, each with the FIS that is sent after it
-abbrev pub LeadsSending : List Step → Device → Device → Type 0
+abbrev pub LeadsSending : List DeviceTransition → Device → Device → Type 0
 LeadsSending [] old new = new ≡ old
-LeadsSending (step ∷ steps) old new = Can step old × (mid : Device) × SendsAfter step (after step old) mid
+LeadsSending (step ∷ steps) old new = Can step old × (mid : Device) × SendsAfter step (device_after step old) mid
     × LeadsSending steps mid new
 
 -- such steps with their FISes, and no others, lead from the one state to the other
-pub record LeadsOwn (Own : Step → Type 0) (old new : Device) : Type 0 where
-  pub steps : List Step
+pub record LeadsOwn (Own : DeviceTransition → Type 0) (old new : Device) : Type 0 where
+  pub steps : List DeviceTransition
   pub own : All Own steps
   pub lead : LeadsSending steps old new
 
@@ -65,16 +65,16 @@ pub record DoesOwn (held : List Bool) (old new : Device) : Type 0 where
 abbrev pub EndsReset : List Bool → List Bool → Device → Device → Type 0
 EndsReset was held old new =
     ((old.hr ≡ true → was ≡ all_held) × (held ≡ was) × (new ≡ old))
-    ⊎ ((old.hr ≡ true) × (was ≢ all_held) × (held ≡ none_held) × (new ≡ after ResetEnds old))
+    ⊎ ((old.hr ≡ true) × (was ≢ all_held) × (held ≡ none_held) × (new ≡ device_after ResetEnds old))
 
 -- in each device, and on each port that isn't held, such steps lead from the one state of the port to the other, and
 -- change nothing else
-abbrev pub GoesTo : PortState → PortState → Type 0
+abbrev pub GoesTo : DevicePort → DevicePort → Type 0
 GoesTo old new = (held : List Bool) (d : Device) (port : ℕ) → IsPortLoose held port → d.port port ≡ old
     → LeadsOwn (Settles held) d (with_port d port new)
 
 -- CR and FR have fallen where ST and FRE are zero, and no link is left that may come up
-pub record IsSettledPort (p : PortState) : Type 0 where
+pub record IsSettledPort (p : DevicePort) : Type 0 where
   pub engine : p.st ≡ false → p.cr ≡ true → ⊥
   pub area : p.fre ≡ false → p.cr ≡ false → p.fr ≡ true → ⊥
   pub link : (sig : ℕ) → MayLinkUp p sig → ⊥
@@ -92,10 +92,11 @@ pub record IsSettled (held : List Bool) (d : Device) : Type 0 where
 -- was left out for want of memory. To take one needs no memory.
 pub record NoneIsLeft (held : List Bool) (starved : Bool) (d : Device) : Type 0 where
   pub taken : (port slot : ℕ) → port < 4 → slot < 32 → HasDisks d port → MayPage d port slot → IsPortHeld held port
-  pub done : (port slot : ℕ) → port < 4 → slot < 32 → HasDisks d port → HasPage d port slot → IsPortHeld held port
+  pub done : (port slot : ℕ) → port < 4 → slot < 32 → HasDisks d port → HasPageCommand d port slot
+      → IsPortHeld held port
       ⊎ (starved ≡ true)
 
 -- one is left, for which the tape has no memory: each of its moves, and its end, would be noted there
 abbrev pub LeavesOne : Hardware → Device → Type 0
-LeavesOne h d = (port slot : ℕ) × (port < 4) × (slot < 32) × HasDisks d port × (has : HasPage d port slot)
-    × (HasRoom h (has.left + 1) → ⊥)
+LeavesOne h d = (port slot : ℕ) × (port < 4) × (slot < 32) × HasDisks d port × (has : HasPageCommand d port slot)
+    × (TapeHasRoom h (has.left + 1) → ⊥)

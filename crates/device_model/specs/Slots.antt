@@ -1,21 +1,21 @@
 -- What a port may do with its slots.
 use Rattle.std.specs.Prelude.{ℕ, true, ◌≡◌, ◌+◌, ◌*◌, ◌^◌, ◌<◌, ◌≤◌, Some, length, slice_index, slice_index_or}
 use Rattle.adapter.specs.Commands.{is_ranged}
-use Rattle.adapter.specs.Device.{PortState}
-use Rattle.adapter.specs.Says.{pieces}
+use Rattle.adapter.specs.Device.{DevicePort}
+use Rattle.adapter.specs.Decoding.{pieces}
 use Rattle.adapter.specs.Steps.{IsFetchable, IsWorking, IsAlone, WorksOn, admits, next_sector}
 use Rattle.adapter.specs.declared.command.Operation.{Operation}
-use Rattle.device_model.specs.View.{Media, halt_of, held_in, port_of, operation_of, taken_of, blank}
+use Rattle.device_model.specs.View.{Media, halt_of, held_in, port_of, transfer_operation, taken_of, blank_port}
 use Rattle.device_model.specs.declared.port.TakenCommand.{TakenCommand}
 use Rattle.device_model.specs.declared.port.PortModel.{PortModel}
 use Rattle.device_model.specs.declared.hardware.Hardware.{Hardware}
 use Rattle.device_model.specs.declared.steps.NextMove.{NextMove}
-use Rattle.device_model.specs.declared.clearing.Run.{Run}
+use Rattle.device_model.specs.declared.clearing.SectorExtent.{SectorExtent}
 use Rattle.device_model.specs.declared.port.Transfer.TheVariants.{Trim}
 use Rattle.device_model.specs.Trims.{next_uncleared, span, uncleared}
 
 -- a command of this operation in this slot may be taken, if its bytes say one
-pub record MayTake (p : PortState) (slot : ℕ) (operation : Operation) : Type 0 where
+pub record MayTake (p : DevicePort) (slot : ℕ) (operation : Operation) : Type 0 where
   pub fetchable : IsFetchable p slot
   pub working : IsWorking p operation
   pub alone : IsAlone p operation
@@ -32,9 +32,9 @@ abbrev pub IsOpenTo : PortModel → Operation → Type 0
 IsOpenTo p operation = (admits (halt_of p.halting) operation ≡ true) × ((m : Media) → IsAlone (port_of p m) operation)
 
 -- the port works on this command, which it has taken in this slot
-pub record HoldsAt (p : PortModel) (slot : ℕ) (t : TakenCommand) : Type 0 where
+pub record WorksOnIn (p : PortModel) (slot : ℕ) (t : TakenCommand) : Type 0 where
   pub held : held_in p.taken slot ≡ Some t
-  pub works : (m : Media) → WorksOn (port_of p m) slot (taken_of t) (operation_of t.transfer)
+  pub works : (m : Media) → WorksOn (port_of p m) slot (taken_of t) (transfer_operation t.transfer)
 
 -- so many of the next sectors of this command can be cleared: a trim whose block was moved, and of which as many are
 -- left, one at least
@@ -45,8 +45,8 @@ pub record CanClear (t : TakenCommand) (most : ℕ) : Type 0 where
   pub enough : most ≤ length (uncleared (taken_of t))
 
 -- these sectors of it are cleared at once
-pub record IsNextRun (h : Hardware) (port slot most : ℕ) (run : Run) (t : TakenCommand) : Type 0 where
-  pub holds : HoldsAt (slice_index_or h.ports port blank) slot t
+pub record IsNextRun (h : Hardware) (port slot most : ℕ) (run : SectorExtent) (t : TakenCommand) : Type 0 where
+  pub holds : WorksOnIn (slice_index_or h.ports port blank_port) slot t
   pub can : CanClear t most
   pub first_is : run.first ≡ next_uncleared (taken_of t)
   pub count_is : run.count ≡ span most (taken_of t)
@@ -59,11 +59,11 @@ pub record AreBehind (size : ℕ) (next : NextMove) (t : TakenCommand) : Type 0 
       × (slice_index (pieces t.prds) (t.moved + k) ≡ next.address + 512 * k)
   pub room : t.moved + next.behind + 1 < 2 ^ 32
   pub inside : next.address + 512 * next.behind + 512 ≤ size
-  pub ranged : 1 ≤ next.behind → is_ranged (operation_of t.transfer) ≡ true
+  pub ranged : 1 ≤ next.behind → is_ranged (transfer_operation t.transfer) ≡ true
 
 -- the next piece of this command goes to or from this address, and is this sector, if it is one
 pub record IsNext (h : Hardware) (port slot : ℕ) (next : NextMove) (t : TakenCommand) : Type 0 where
-  pub holds : HoldsAt (slice_index_or h.ports port blank) slot t
+  pub holds : WorksOnIn (slice_index_or h.ports port blank_port) slot t
   pub left : t.moved < length (pieces t.prds)
   pub room : t.moved + 1 < 2 ^ 32
   pub transfer_is : next.transfer ≡ t.transfer

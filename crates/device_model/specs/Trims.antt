@@ -1,7 +1,7 @@
 -- The sectors of a trim that are left to clear, in the order of its block (ACS-3, 7.5), and how a model clears them
 -- (this project's own).
 use Rattle.std.specs.Prelude.{ℕ, suc, ◌≡◌, ◌+◌, ◌-◌, ◌≤◌, List, [], ◌∷◌, length, drop, take, if◌then◌else◌, nat_eq, nat_lt, slice_index}
-use Rattle.adapter.specs.Device.{Taken, Device}
+use Rattle.adapter.specs.Device.{FetchedCommand, Device}
 use Rattle.adapter.specs.Memory.{bytes_at}
 use Rattle.adapter.specs.Steps.{WorksOn}
 use Rattle.adapter.specs.Trim.{trim_sectors}
@@ -17,9 +17,9 @@ run_from next [] = 0
 run_from next (sector ∷ rest) = if nat_eq sector next then suc (run_from (suc next) rest) else 0
 
 -- and from the first on, whichever it is
-abbrev pub run_of : List ℕ → ℕ
-run_of [] = 0
-run_of (sector ∷ rest) = suc (run_from (suc sector) rest)
+abbrev pub trim_extent : List ℕ → ℕ
+trim_extent [] = 0
+trim_extent (sector ∷ rest) = suc (run_from (suc sector) rest)
 
 -- in how many runs these are, each as long as can be: where a run before them ends at this one, which may go on
 abbrev pub runs_from : ℕ → List ℕ → ℕ
@@ -35,20 +35,20 @@ runs_of (sector ∷ rest) = suc (runs_from (suc sector) rest)
 -- ---- what is left to clear
 
 -- the sectors of the block that aren't cleared yet
-abbrev pub uncleared : Taken → List ℕ
+abbrev pub uncleared : FetchedCommand → List ℕ
 uncleared t = drop t.cleared (trim_sectors t.block)
 
-abbrev pub next_uncleared : Taken → ℕ
+abbrev pub next_uncleared : FetchedCommand → ℕ
 next_uncleared t = slice_index (uncleared t) 0
 
 -- How many of the next so many sectors are cleared at once, where all are on the disk: those that follow one another,
 -- from the next one on.
-abbrev pub span : ℕ → Taken → ℕ
-span most t = run_of (take most (uncleared t))
+abbrev pub span : ℕ → FetchedCommand → ℕ
+span most t = trim_extent (take most (uncleared t))
 
 -- The port, which has disks, works on this trim, whose block was moved, and so many sectors are left to clear, one at
 -- least.
-pub record HasClear (d : Device) (port slot most : ℕ) (t : Taken) : Type 0 where
+pub record HasClear (d : Device) (port slot most : ℕ) (t : FetchedCommand) : Type 0 where
   pub has_disks : HasDisks d port
   pub works : WorksOn (d.port port) slot t Trim
   pub trim : t.meaning.operation ≡ Trim
@@ -59,7 +59,7 @@ pub record HasClear (d : Device) (port slot most : ℕ) (t : Taken) : Type 0 whe
 -- ---- what a trim is going to clear
 
 -- the block that it has, or the one that its last move is going to bring
-abbrev pub block_ahead : (ℕ → ℕ) → Taken → List ℕ
+abbrev pub block_ahead : (ℕ → ℕ) → FetchedCommand → List ℕ
 block_ahead memory t = if nat_lt t.moved (length t.places) then bytes_at memory
     (slice_index t.places (length t.places - 1)) 512 else t.block
 
@@ -69,7 +69,7 @@ pub record HasRuns (block : List ℕ) (cleared clears : ℕ) : Type 0 where
   pub runs : clears ≡ runs_of (drop cleared (trim_sectors block))
 
 -- so many sectors are left to clear of a command: those of a trim, and of another command none
-abbrev pub cleared_ahead : Operation → (ℕ → ℕ) → Taken → ℕ
+abbrev pub cleared_ahead : Operation → (ℕ → ℕ) → FetchedCommand → ℕ
 cleared_ahead Trim memory t = length (drop t.cleared (trim_sectors (block_ahead memory t)))
 cleared_ahead _ memory t = 0
 
@@ -80,10 +80,10 @@ written_ahead WriteQueued left = left
 written_ahead _ left = 0
 
 -- so many sectors of the disk it is going to change
-abbrev pub changes_ahead : Operation → (ℕ → ℕ) → Taken → ℕ → ℕ
+abbrev pub changes_ahead : Operation → (ℕ → ℕ) → FetchedCommand → ℕ → ℕ
 changes_ahead operation memory t left = written_ahead operation left + cleared_ahead operation memory t
 
 -- so many clears are left of a command: one of each run of a trim, and of another command none
-abbrev pub WillClear : Operation → (ℕ → ℕ) → Taken → (clears : ℕ) → Type 0
+abbrev pub WillClear : Operation → (ℕ → ℕ) → FetchedCommand → (clears : ℕ) → Type 0
 WillClear Trim memory t clears = HasRuns (block_ahead memory t) t.cleared clears
 WillClear _ memory t clears = clears ≡ 0

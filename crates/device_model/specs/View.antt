@@ -1,15 +1,15 @@
 -- The state that a model stands for.
 use Rattle.std.specs.Prelude.{ℕ, Bool, false, ◌%◌, List, [], Option, None, option_map, unwrap_or, slice_index_or, if◌then◌else◌}
 use Rattle.adapter.specs.Asked.{busy}
-use Rattle.adapter.specs.Device.{Disk, Taken, Bases, Halt, Notes, PortState}
+use Rattle.adapter.specs.Device.{Disk, FetchedCommand, Bases, Halt, Notes, DevicePort}
 use Rattle.adapter.specs.Device.Halt.{NotHalted, HaltedPlain, HaltedQueued, LogOnly}
-use Rattle.adapter.specs.Says.{pieces}
+use Rattle.adapter.specs.Decoding.{pieces}
 use Rattle.adapter.specs.Access.{unacknowledged}
 use Rattle.adapter.specs.Steps.{next_sector, disk_after, disk_cleared}
 use Rattle.hba_regs.specs.Bits.{bit}
 use Rattle.adapter.specs.declared.command.Operation.{Operation}
 use Rattle.adapter.specs.declared.command.Operation.TheVariants.{Identify, Read, ReadQueued, Write, WriteQueued, Flush, Trim, ReadLog}
-use Rattle.device_model.specs.Bits.{bits_of}
+use Rattle.device_model.specs.Bits.{word_bits}
 use Rattle.device_model.specs.Block.{brought}
 use Rattle.device_model.specs.declared.halt.Halting.{Halting}
 use Rattle.device_model.specs.declared.halt.Halting.TheVariants as halting
@@ -49,15 +49,15 @@ notes_of r =
       acknowledged = r.acknowledged;
     }
 
-abbrev pub operation_of : Transfer → Operation
-operation_of transfer.Read = Read
-operation_of transfer.Write = Write
-operation_of transfer.ReadQueued = ReadQueued
-operation_of transfer.WriteQueued = WriteQueued
-operation_of transfer.Identify = Identify
-operation_of transfer.Flush = Flush
-operation_of transfer.Trim = Trim
-operation_of transfer.ReadLog = ReadLog
+abbrev pub transfer_operation : Transfer → Operation
+transfer_operation transfer.Read = Read
+transfer_operation transfer.Write = Write
+transfer_operation transfer.ReadQueued = ReadQueued
+transfer_operation transfer.WriteQueued = WriteQueued
+transfer_operation transfer.Identify = Identify
+transfer_operation transfer.Flush = Flush
+transfer_operation transfer.Trim = Trim
+transfer_operation transfer.ReadLog = ReadLog
 
 -- the cause in PxIS that its end sets: PSS where its data go by PIO, SDBS where it was queued, and else DHRS (AHCI
 -- 1.3.1, 3.3.5)
@@ -79,10 +79,10 @@ halt_of halting.Plain = HaltedPlain
 halt_of halting.Queued = HaltedQueued
 halt_of halting.LogOnly = LogOnly
 
-abbrev pub taken_of : TakenCommand → Taken
+abbrev pub taken_of : TakenCommand → FetchedCommand
 taken_of t =
     record {
-      meaning = record { operation = operation_of t.transfer; first = t.first; count = t.count };
+      meaning = record { operation = transfer_operation t.transfer; first = t.first; count = t.count };
       places = pieces t.prds;
       moved = t.moved;
       block = brought t.block;
@@ -94,8 +94,8 @@ abbrev pub held_in : List (Option TakenCommand) → ℕ → Option TakenCommand
 held_in slots = λ slot. slice_index_or slots slot None
 
 -- the command that is taken in each slot
-abbrev pub slots_of : (ℕ → Option TakenCommand) → ℕ → Option Taken
-slots_of taken = λ slot. option_map taken_of (taken slot)
+abbrev pub taken_slots : (ℕ → Option TakenCommand) → ℕ → Option FetchedCommand
+taken_slots taken = λ slot. option_map taken_of (taken slot)
 
 -- what is behind a port: its disk, and those that were plugged in; and what that disk held when it last ended a flush,
 -- or else when it was first in
@@ -105,7 +105,7 @@ pub record Media : Type 0 where
   pub lasting : Option (ℕ → List ℕ)
 
 -- the same after the next piece of this command, these bytes, was moved
-abbrev pub media_after : Media → Taken → List ℕ → Media
+abbrev pub media_after : Media → FetchedCommand → List ℕ → Media
 media_after m t bytes = record m { disk = disk_after t.meaning.operation m.disk (next_sector t) bytes }
 
 -- the same after sectors were cleared, so many from the first on
@@ -120,7 +120,7 @@ lasting_sectors _ m = m.lasting
 abbrev pub media_ended : Media → Operation → Media
 media_ended m operation = record m { lasting = lasting_sectors operation m }
 
-abbrev pub port_of : PortModel → Media → PortState
+abbrev pub port_of : PortModel → Media → DevicePort
 port_of p m =
     record {
       bases = bases_of p.addresses;
@@ -135,11 +135,11 @@ port_of p m =
       ssts_det = if p.detected then 3 else 0;
       serr_n = p.serr_n;
       serr_x = p.serr_x;
-      is = bits_of p.is;
+      is = word_bits p.is;
       ips = p.ips;
       other_causes = p.other_causes;
-      ci = bits_of p.ci;
-      sact = bits_of p.sact;
+      ci = word_bits p.ci;
+      sact = word_bits p.sact;
       disk = m.disk;
       plugged = m.plugged;
       lasting = record { sectors = m.lasting; since = p.lasting_at };
@@ -148,17 +148,17 @@ port_of p m =
       link_due = p.link_due;
       halt = halt_of p.halting;
       broken = p.broken;
-      taken = slots_of (held_in p.taken);
+      taken = taken_slots (held_in p.taken);
       notes = notes_of p.readings;
     }
 
 -- what becomes of each port where these bits of IS are written
-abbrev pub acknowledging : ℕ → ℕ → PortState → PortState
+abbrev pub acknowledging : ℕ → ℕ → DevicePort → DevicePort
 acknowledging value port p = if bit value port then unacknowledged p else p
 
 -- a port that isn't there, as after a reset
-abbrev pub blank : PortModel
-blank =
+abbrev pub blank_port : PortModel
+blank_port =
     record {
       addresses = record { clb = 0; fb = 0; clb_set = false; clbu_set = false; fb_set = false; fbu_set = false };
       st = false;

@@ -1,11 +1,11 @@
 -- The state of the whole adapter that a model stands for.
 use Rattle.std.specs.Prelude.{ℕ, Bool, ◌<◌, ◌≢◌, ◌++◌, ◌∷◌, List, [], length, Some, if◌then◌else◌, nat_eq, slice_index, slice_index_or}
-use Rattle.adapter.specs.Device.{Disk, Taken, Device}
+use Rattle.adapter.specs.Device.{Disk, FetchedCommand, Device}
 use Rattle.adapter.specs.Memory.{changed}
 use Rattle.adapter.specs.declared.command.Operation.{Operation}
 use Rattle.hba_regs.specs.declared.reg.Reg.{Reg}
 use Rattle.hba_regs.specs.declared.reg.Reg.TheVariants.{Px}
-use Rattle.device_model.specs.View.{Media, media_after, media_cleared, media_ended, port_of, blank}
+use Rattle.device_model.specs.View.{Media, media_after, media_cleared, media_ended, port_of, blank_port}
 use Rattle.device_model.specs.declared.hardware.Hardware.{Hardware}
 
 -- what is outside the hardware: what is behind each port, and whether all disks tell their sectors
@@ -14,7 +14,7 @@ pub record Outside : Type 0 where
   pub media : ℕ → Media
 
 -- the same after the next piece of a command of this port, these bytes, was moved
-abbrev pub outside_after : Outside → ℕ → Taken → List ℕ → Outside
+abbrev pub outside_after : Outside → ℕ → FetchedCommand → List ℕ → Outside
 outside_after o port t bytes = record o { media = changed o.media port (media_after (o.media port) t bytes) }
 
 -- the same after sectors of this port's disk were cleared
@@ -37,7 +37,7 @@ device_of h o =
       hr = h.hr;
       ae = h.ae;
       ie = h.ie;
-      port = λ port. port_of (slice_index_or h.ports port blank) (o.media port);
+      port = λ port. port_of (slice_index_or h.ports port blank_port) (o.media port);
       tape = h.tape.items;
     }
 

@@ -9,18 +9,18 @@ ghost use Rattle.device_model.specs.Exchanged.{Exchanges, IsExchanged, piece_of}
 ghost use Rattle.device_model.specs.Finishing.{HasRoomAhead, IsBegun, IsUnbegun};
 ghost use Rattle.device_model.specs.Paged.{IsItsLog, IsItsPage, IsTurned, lying, naming, no_lies, truthful};
 ghost use Rattle.device_model.specs.Trims.{written_ahead};
-ghost use Rattle.device_model.specs.View.{operation_of};
+ghost use Rattle.device_model.specs.View.{transfer_operation};
 ghost use Rattle.device_model.specs.Whole.{Outside, device_of};
 
 use crate::cache::{Cache, put_sector, write_back};
-use crate::clearing::Run;
-use crate::disks::{ModelDisk, Plugged, PortDisks, Which};
+use crate::clearing::SectorExtent;
+use crate::disks::{DiskIndex, ModelDisk, Plugged, PortDisks};
 use crate::hardware::Hardware;
 use crate::port::Transfer;
-use crate::steps::{Begun, NextMove};
+use crate::steps::{CommandToFinish, NextMove};
 use adapter::DiskPage;
 use sector_store::SectorStore;
-use sector_store::pages::{Abilities, FailedCommand, log_page};
+use sector_store::pages::{Abilities, LoggedError, log_page};
 use std::alloc::Global;
 use std::mem;
 use std::snapshot::Snapshot;
@@ -33,10 +33,10 @@ const ZEROS: [u8; 512] = [0; 512];
 /// What the disks of a port say of themselves by their pages of IDENTIFY DEVICE, beside their sizes and serial numbers,
 /// and by the page of log 10h.
 #[derive(Clone, Copy, Debug)]
-pub struct Description {
+pub struct PageContents {
     pub abilities: Abilities,
     /// The queued command that failed last.
-    pub log: Option<FailedCommand>,
+    pub log: Option<LoggedError>,
     /// The bits of a page of IDENTIFY DEVICE that are turned.
     pub lies: [u8; PAGE_BYTES],
     /// The bits of the log's page that are turned.
@@ -47,13 +47,13 @@ pub struct Description {
 #[derive(Drop)]
 pub struct Bay<S> {
     /// Which disk is in the port, or was last.
-    pub which: Which,
+    pub which: DiskIndex,
     /// That disk.
     pub disk: ModelDisk<S>,
     /// The other one.
     pub other: ModelDisk<S>,
     /// What the pages of both say of them.
-    pub says: Description,
+    pub says: PageContents,
     /// The disk that was in at first, as it was then, for proofs alone.
     pub first: Snapshot<S>,
     /// Those that were put in after it, for proofs alone.
@@ -66,7 +66,7 @@ pub struct Bay<S> {
 }
 
 /// Turns these bits of a page.
-fn turn(page: &mut [u8; PAGE_BYTES], bits: &[u8; PAGE_BYTES])
+fn flip_bits(page: &mut [u8; PAGE_BYTES], bits: &[u8; PAGE_BYTES])
     ensures turned { IsTurned page.old bits.now page.new }
     ensures bytes { IsSector page.old → IsSector page.new }
 {
@@ -79,7 +79,12 @@ fn turn(page: &mut [u8; PAGE_BYTES], bits: &[u8; PAGE_BYTES])
 /// one at which the store failed. What they hold is kept before. It is entered for clears alone, since its frame may
 /// have room for a sector.
 #[inline(never)]
-fn clear_sectors<S: SectorStore>(disk: &mut S, cache: &mut Cache, which: Which, run: Run) -> u32
+fn clear_sectors<S: SectorStore>(
+    disk: &mut S,
+    cache: &mut Cache,
+    which: DiskIndex,
+    run: SectorExtent,
+) -> u32
     requires inside { run.first + run.count ≤ S.size disk.old }
     requires room { HasOldRoom cache.old run.count }
     ensures few { result ≤ run.count }
@@ -107,23 +112,23 @@ impl<S: SectorStore> Bay<S> {
     /// A port with disks, of which the first one is in. They have these abilities, and a volatile write cache or none,
     /// and tell no lies.
     pub fn new(alloc: Global, disks: PortDisks<S>, abilities: Abilities, cached: bool) -> Bay<S>
-        ensures which { result.which ≡ Which.Disk0 }
+        ensures which { result.which ≡ DiskIndex.Disk0 }
         ensures disk { result.disk ≡ disks.first }
         ensures other { result.other ≡ disks.spare }
         ensures says { result.says ≡ record { abilities = abilities; log = None; lies = no_lies; log_lies = no_lies } }
         ensures first { result.first.value ≡ disks.first.store }
         ensures lasting { result.lasting.value ≡ disks.first.store }
-        ensures later { (disk : Which → S → Disk) → plugged_as disk result.later ≡ [] }
+        ensures later { (disk : DiskIndex → S → Disk) → plugged_as disk result.later ≡ [] }
         ensures cached { result.cache.is_on ≡ cached }
         ensures kept { result.cache.kept.sectors.items ≡ [] }
     {
         let first = Snapshot::of(&disks.first.store);
         let lasting = Snapshot::of(&disks.first.store);
         Bay {
-            which: Which::Disk0,
+            which: DiskIndex::Disk0,
             disk: disks.first,
             other: disks.spare,
-            says: Description {
+            says: PageContents {
                 abilities,
                 log: None,
                 lies: [0; PAGE_BYTES],
@@ -144,7 +149,7 @@ impl<S: SectorStore> Bay<S> {
         ensures bytes { IsSector bytes.new }
     {
         *bytes = self.disk.page(self.says.abilities);
-        turn(bytes, &self.says.lies);
+        flip_bits(bytes, &self.says.lies);
     }
 
     /// Gives the page of log 10h, with the bits turned on which the disks lie. It is entered for this page alone, as
@@ -155,41 +160,41 @@ impl<S: SectorStore> Bay<S> {
         ensures bytes { IsSector bytes.new }
     {
         *bytes = log_page(self.says.log);
-        turn(bytes, &self.says.log_lies);
+        flip_bits(bytes, &self.says.log_lies);
     }
 
     /// Has the disk that is in give these bytes of memory, the sector of a read or its page, or take them as a write's
     /// sector; a trim's block stands there already. `false` says that the store failed: it tells what it told, and the
     /// bytes are as they were.
     #[inline(always)]
-    fn exchange_bytes(&mut self, next: NextMove, bytes: &mut [u8; 512]) -> bool
-        requires { HasOldRoom self.old.cache (written_ahead (operation_of next.transfer) 1) }
-        ensures inside { result ≡ true → is_ranged (operation_of next.transfer) ≡ true
+    fn transfer_bytes(&mut self, next: NextMove, bytes: &mut [u8; 512]) -> bool
+        requires { HasOldRoom self.old.cache (written_ahead (transfer_operation next.transfer) 1) }
+        ensures inside { result ≡ true → is_ranged (transfer_operation next.transfer) ≡ true
             → next.sector < S.size self.old.disk.store }
         ensures sector { IsSector bytes.new }
-        ensures gives { result ≡ true → is_ranged (operation_of next.transfer) ≡ true
-            → reads_memory (operation_of next.transfer) ≡ false →
+        ensures gives { result ≡ true → is_ranged (transfer_operation next.transfer) ≡ true
+            → reads_memory (transfer_operation next.transfer) ≡ false →
             IfSome (S.told self.old.disk.store) (λ told. bytes.new ≡ told next.sector) }
-        ensures takes { reads_memory (operation_of next.transfer) ≡ true → bytes.new ≡ bytes.old }
+        ensures takes { reads_memory (transfer_operation next.transfer) ≡ true → bytes.new ≡ bytes.old }
         ensures left { result ≡ false → bytes.new ≡ bytes.old }
         ensures page { result ≡ true → next.transfer ≡ Transfer.Identify
             → IsItsPage (identity S.size self.old.disk) self.old.says bytes.new }
         ensures log { result ≡ true → next.transfer ≡ Transfer.ReadLog → IsItsLog self.old.says bytes.new }
-        ensures same { is_ranged (operation_of next.transfer) ≡ false → self.new ≡ self.old }
+        ensures same { is_ranged (transfer_operation next.transfer) ≡ false → self.new ≡ self.old }
         ensures disk { result ≡ true → disk_over self.old.which (S.size self.new.disk.store)
             (S.told self.new.disk.store)
-            ≡ disk_after (operation_of next.transfer) (disk_over self.old.which (S.size self.old.disk.store)
+            ≡ disk_after (transfer_operation next.transfer) (disk_over self.old.which (S.size self.old.disk.store)
             (S.told self.old.disk.store)) next.sector bytes.new }
         ensures kept { result ≡ false → S.told self.new.disk.store ≡ S.told self.old.disk.store }
         ensures size { S.size self.new.disk.store ≡ S.size self.old.disk.store }
         ensures fine { result ≡ true → S.failures self.new.disk.store ≡ S.failures self.old.disk.store }
-        ensures ranged { result ≡ false → is_ranged (operation_of next.transfer) ≡ true }
+        ensures ranged { result ≡ false → is_ranged (transfer_operation next.transfer) ≡ true }
         ensures fails { result ≡ false → next.sector < S.size self.old.disk.store →
-            CallFails self.old.cache.is_on (reads_memory (operation_of next.transfer)) next.sector
+            CallFails self.old.cache.is_on (reads_memory (transfer_operation next.transfer)) next.sector
             (S.failures self.old.disk.store) (S.failures self.new.disk.store) }
         ensures lasting { lasting_of S.told self.new ≡ lasting_of S.told self.old }
         ensures cached { self.new.cache.is_on ≡ self.old.cache.is_on }
-        ensures old_room { (n : ℕ) → HasOldRoom self.old.cache (written_ahead (operation_of next.transfer) 1 + n)
+        ensures old_room { (n : ℕ) → HasOldRoom self.old.cache (written_ahead (transfer_operation next.transfer) 1 + n)
             → HasOldRoom self.new.cache n }
         ensures rest { self.new ≡ record self.old
             { disk = record self.old.disk { store = self.new.disk.store }; cache = self.new.cache } }
@@ -214,33 +219,33 @@ impl<S: SectorStore> Bay<S> {
 
     /// The same with so many bytes of memory.
     #[inline(always)]
-    fn exchange_piece(&mut self, next: NextMove, piece: &mut [u8]) -> bool
+    fn transfer_within(&mut self, next: NextMove, piece: &mut [u8]) -> bool
         requires long { length piece.old ≡ 512 }
-        requires room { HasOldRoom self.old.cache (written_ahead (operation_of next.transfer) 1) }
+        requires room { HasOldRoom self.old.cache (written_ahead (transfer_operation next.transfer) 1) }
         ensures { Exchanges S.size S.told S.failures self.old self.new next piece.old piece.new result }
     {
         let Some(bytes) = piece.as_mut_array() else {
             unreachable!()
         };
-        self.exchange_bytes(next, bytes)
+        self.transfer_bytes(next, bytes)
     }
 
     /// Has the disk that is in and the memory exchange the next piece of a command, where it stands.
     #[inline(always)]
-    pub fn exchange(&mut self, hardware: &mut Hardware, next: NextMove) -> bool
+    pub fn transfer_piece(&mut self, hardware: &mut Hardware, next: NextMove) -> bool
         requires inside { next.address + 512 ≤ length hardware.old.memory.items }
-        requires room { HasOldRoom self.old.cache (written_ahead (operation_of next.transfer) 1) }
+        requires room { HasOldRoom self.old.cache (written_ahead (transfer_operation next.transfer) 1) }
         ensures exchanges { Exchanges S.size S.told S.failures self.old self.new next
             (piece_of hardware.old next) (piece_of hardware.new next) result }
         ensures memory { IsExchanged hardware.old hardware.new next }
         ensures stays { result ≡ false → (o : Outside) → device_of hardware.new o ≡ device_of hardware.old o }
     {
         let at = next.address as usize;
-        self.exchange_piece(next, &mut hardware.memory[at..at + PAGE_BYTES])
+        self.transfer_within(next, &mut hardware.memory[at..at + PAGE_BYTES])
     }
 
     /// Makes these sectors of the disk that is in zero, as `clear_sectors` does.
-    pub fn clear(&mut self, run: Run) -> u32
+    pub fn clear(&mut self, run: SectorExtent) -> u32
         requires inside { run.first + run.count ≤ S.size self.old.disk.store }
         requires room { HasOldRoom self.old.cache run.count }
         ensures few { result ≤ run.count }
@@ -262,7 +267,7 @@ impl<S: SectorStore> Bay<S> {
     }
 
     /// Begins to do a slot's command of the port to its end, as `Hardware::begin` does.
-    pub fn begin(&mut self, hardware: &mut Hardware, port: u8, slot: u8) -> Option<Begun>
+    pub fn begin(&mut self, hardware: &mut Hardware, port: u8, slot: u8) -> Option<CommandToFinish>
         requires port { port < 4 }
         requires slot { slot < 32 }
         ensures begun { IfSome result (λ b. IsBegun port slot b.rest.left b.rest.clears b.was_taken hardware.old
@@ -297,7 +302,7 @@ impl<S: SectorStore> Bay<S> {
     }
 
     /// Has the log name this command.
-    pub fn log_failed(&mut self, failed: FailedCommand)
+    pub fn log_failed(&mut self, failed: LoggedError)
         ensures { self.new ≡ record self.old { says = naming failed self.old.says } }
     {
         self.says.log = Some(failed);
@@ -324,7 +329,7 @@ impl<S: SectorStore> Bay<S> {
 
     /// Such a command has ended: a flush makes lasting what the disk that is in holds.
     pub fn end(&mut self, transfer: Transfer)
-        ensures { EndsCommand (operation_of transfer) self.old self.new }
+        ensures { EndsCommand (transfer_operation transfer) self.old self.new }
     {
         match transfer {
             Transfer::Flush => {
@@ -336,9 +341,9 @@ impl<S: SectorStore> Bay<S> {
     }
 
     /// Has a disk stand as the one that is in. It has the sectors that it had; of another one they are lasting.
-    fn turn_to(&mut self, which: Which)
+    fn select_disk(&mut self, which: DiskIndex)
         ensures which { self.new.which ≡ which }
-        ensures disks { (w : Which) → disk_in_bay self.new w ≡ disk_in_bay self.old w }
+        ensures disks { (w : DiskIndex) → disk_in_bay self.new w ≡ disk_in_bay self.old w }
         ensures lasting { lasting_of S.told self.new
             ≡ (if is_same which self.old.which then lasting_of S.told self.old else S.told self.new.disk.store) }
         ensures cached { self.new.cache.is_on ≡ self.old.cache.is_on }
@@ -359,10 +364,10 @@ impl<S: SectorStore> Bay<S> {
     }
 
     /// Puts a disk in, as it was when it was taken out.
-    pub fn put_in(&mut self, which: Which)
+    pub fn put_in(&mut self, which: DiskIndex)
         ensures which { self.new.which ≡ which }
-        ensures disks { (w : Which) → disk_in_bay self.new w ≡ disk_in_bay self.old w }
-        ensures later { (disk : Which → S → Disk) → plugged_as disk self.new.later
+        ensures disks { (w : DiskIndex) → disk_in_bay self.new w ≡ disk_in_bay self.old w }
+        ensures later { (disk : DiskIndex → S → Disk) → plugged_as disk self.new.later
             ≡ plugged_as disk self.old.later ++ disk which self.new.disk.store ∷ [] }
         ensures lasting { lasting_of S.told self.new
             ≡ (if is_same which self.old.which then lasting_of S.told self.old else S.told self.new.disk.store) }
@@ -376,7 +381,7 @@ impl<S: SectorStore> Bay<S> {
           cache = self.new.cache;
         } }
     {
-        self.turn_to(which);
+        self.select_disk(which);
         self.later.note(which, &self.disk.store);
     }
 
@@ -384,7 +389,7 @@ impl<S: SectorStore> Bay<S> {
     /// one that is put in so loses the same.
     pub fn put_back(&mut self)
         ensures loses { LosesCache S.size S.told S.failures self.old self.new }
-        ensures later { (disk : Which → S → Disk) → plugged_as disk self.new.later
+        ensures later { (disk : DiskIndex → S → Disk) → plugged_as disk self.new.later
             ≡ plugged_as disk self.old.later ++ disk self.old.which self.new.disk.store ∷ [] }
         ensures rest { self.new ≡ record self.old
             { disk = record self.old.disk { store = self.new.disk.store }; later = self.new.later } }
@@ -398,7 +403,7 @@ impl<S: SectorStore> Bay<S> {
 
 /// Has the disks of a port know that such a command of it has ended, if it has disks.
 pub fn end_in<S: SectorStore>(bays: &mut Vec<Option<Bay<S>>>, port: usize, transfer: Transfer)
-    ensures { EndsOnly (operation_of transfer) port bays.old.items bays.new.items }
+    ensures { EndsOnly (transfer_operation transfer) port bays.old.items bays.new.items }
 {
     if port < bays.len() {
         if let Some(bay) = &mut bays[port] {
@@ -408,11 +413,7 @@ pub fn end_in<S: SectorStore>(bays: &mut Vec<Option<Bay<S>>>, port: usize, trans
 }
 
 /// Has the log of a port's disks name this command, if it has disks.
-pub fn log_failed<S: SectorStore>(
-    bays: &mut Vec<Option<Bay<S>>>,
-    port: usize,
-    failed: FailedCommand,
-)
+pub fn log_failed<S: SectorStore>(bays: &mut Vec<Option<Bay<S>>>, port: usize, failed: LoggedError)
     ensures { SaysOnly (naming failed) port bays.old.items bays.new.items }
 {
     if port < bays.len() {

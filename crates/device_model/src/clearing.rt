@@ -2,7 +2,7 @@
 ghost use Rattle.std.specs.Prelude.{◌≡◌, ◌≢◌, ◌⊎◌, ◌+◌, ◌-◌, ◌*◌, ◌^◌, ◌<◌, ◌≤◌, length, min, take, drop, slice_index};
 ghost use Rattle.byteorder.specs.Endian.{little_from};
 ghost use Rattle.adapter.specs.Trim.{trim_sectors};
-ghost use Rattle.device_model.specs.Trims.{run_of, runs_of};
+ghost use Rattle.device_model.specs.Trims.{trim_extent, runs_of};
 
 use byteorder::{ByteOrder, LittleEndian};
 
@@ -11,20 +11,20 @@ const ENTRY_BYTES: usize = 8;
 
 /// Sectors that follow one another.
 #[derive(Clone, Copy, Debug)]
-pub struct Run {
+pub struct SectorExtent {
     pub first: u64,
     pub count: u32,
 }
 
-impl Run {
+impl SectorExtent {
     /// Those of it that are on a disk of so many sectors.
-    pub fn cut(self, sectors: u64) -> Run
+    pub fn cut(self, sectors: u64) -> SectorExtent
         ensures inside { result.first + result.count ≤ sectors }
         ensures count { result.count ≡ min self.count (sectors - self.first) }
         ensures first { 1 ≤ result.count → result.first ≡ self.first }
     {
         let room = sectors.saturating_sub(self.first);
-        Run {
+        SectorExtent {
             first: self.first.min(sectors),
             count: u64::from(self.count).min(room) as u32,
         }
@@ -32,14 +32,14 @@ impl Run {
 }
 
 /// The sectors of the entry at this place of a block.
-fn entry_at(block: &[u8], place: usize) -> Run
+fn entry_at(block: &[u8], place: usize) -> SectorExtent
     requires { 8 * place + 8 ≤ length block.now }
     ensures first { result.first ≡ little_from (8 * place) 6 block.now }
     ensures count { result.count ≡ little_from (8 * place + 6) 2 block.now }
     ensures range { (result.first < 2 ^ 48) × (result.count < 2 ^ 16) }
 {
     let at = ENTRY_BYTES * place;
-    Run {
+    SectorExtent {
         first: LittleEndian::read_u48(&block[at..]),
         count: u32::from(LittleEndian::read_u16(&block[at + 6..])),
     }
@@ -58,15 +58,15 @@ pub fn count_sectors(block: &[u8]) -> u32
 }
 
 /// The sectors of a block behind so many, as far as they follow one another, and so many at the most.
-pub fn next_run(block: &[u8], cleared: u32, most: u32) -> Run
+pub fn next_run(block: &[u8], cleared: u32, most: u32) -> SectorExtent
     requires { length block.now ≤ 512 }
-    ensures count { result.count ≡ run_of (take most (drop cleared (trim_sectors block.now))) }
+    ensures count { result.count ≡ trim_extent (take most (drop cleared (trim_sectors block.now))) }
     ensures few { result.count ≤ most }
     ensures fits { 1 ≤ result.count → cleared + result.count < 2 ^ 32 }
     ensures first { 1 ≤ result.count → result.first ≡ slice_index (drop cleared (trim_sectors block.now)) 0 }
 {
     let mut skip = cleared;
-    let mut run = Run { first: 0, count: 0 };
+    let mut run = SectorExtent { first: 0, count: 0 };
     for place in 0..block.len() / ENTRY_BYTES {
         let entry = entry_at(block, place);
         if entry.count <= skip {

@@ -2,7 +2,7 @@
 ghost use Rattle.std.specs.Prelude.{◌≡◌, ◌≤◌, ◌++◌, ◌∷◌, [], IfSome, Some, None};
 ghost use Rattle.adapter.specs.Device.{Disk};
 ghost use Rattle.sector_store.specs.Pages.{IsPage};
-ghost use Rattle.sector_store.specs.Stores.{IsSector};
+ghost use Rattle.sector_store.specs.Stores.{IsStoredSector};
 ghost use Rattle.device_model.specs.Disks.{disk_number, is_same, plugged_as, port_0_alone};
 
 use adapter::DiskNumber;
@@ -40,32 +40,32 @@ pub struct Disks<S> {
 
 /// One of the two disks of a port.
 #[derive(Clone, Copy, Debug, PartialEq, Eq)]
-pub enum Which {
+pub enum DiskIndex {
     /// The one that is in at first.
     Disk0,
     Disk1,
 }
 
-impl Which {
+impl DiskIndex {
     /// The disk of this number, if there is one.
-    pub fn of(number: DiskNumber) -> Option<Which>
+    pub fn of(number: DiskNumber) -> Option<DiskIndex>
         ensures found { IfSome result (λ which. disk_number which ≡ number.0) }
         ensures none { result ≡ None → 2 ≤ number.0 }
     {
         match number.0 {
-            0 => Some(Which::Disk0),
-            1 => Some(Which::Disk1),
+            0 => Some(DiskIndex::Disk0),
+            1 => Some(DiskIndex::Disk1),
             _ => None,
         }
     }
 
     /// Whether it is that one.
-    pub fn is(self, other: Which) -> bool
+    pub fn is(self, other: DiskIndex) -> bool
         ensures { result ≡ is_same self other }
     {
         match self {
-            Which::Disk0 => matches!(other, Which::Disk0),
-            Which::Disk1 => matches!(other, Which::Disk1),
+            DiskIndex::Disk0 => matches!(other, DiskIndex::Disk0),
+            DiskIndex::Disk1 => matches!(other, DiskIndex::Disk1),
         }
     }
 
@@ -74,8 +74,8 @@ impl Which {
         ensures { result ≡ disk_number self }
     {
         match self {
-            Which::Disk0 => 0,
-            Which::Disk1 => 1,
+            DiskIndex::Disk0 => 0,
+            DiskIndex::Disk1 => 1,
         }
     }
 }
@@ -84,7 +84,7 @@ impl<S: SectorStore> ModelDisk<S> {
     /// Its page of IDENTIFY DEVICE, with these abilities.
     pub fn page(&self, abilities: Abilities) -> [u8; 512]
         ensures page { IsPage self.now.serial (S.size self.now.store) abilities result }
-        ensures bytes { IsSector result }
+        ensures bytes { IsStoredSector result }
     {
         identify_page(&self.serial, self.store.sectors(), abilities)
     }
@@ -120,15 +120,15 @@ pub enum Plugged<S> {
     Nothing,
     After {
         before: Snapshot<Plugged<S>>,
-        which: Which,
+        which: DiskIndex,
         store: Snapshot<S>,
     },
 }
 
 impl<S> Plugged<S> {
     /// Notes one more.
-    pub fn note(&mut self, which: Which, store: &S)
-        ensures { (disk : Which → S → Disk) → plugged_as disk self.new
+    pub fn note(&mut self, which: DiskIndex, store: &S)
+        ensures { (disk : DiskIndex → S → Disk) → plugged_as disk self.new
             ≡ plugged_as disk self.old ++ disk which store.now ∷ [] }
     {
         let before = Snapshot::of(self);

@@ -2,13 +2,13 @@
 ghost use Rattle.std.specs.Prelude.{Bool, ◌≡◌, ◌<◌, ◌≤◌, ◌+◌, ◌*◌, ◌^◌, ◌%◌, ℕ, List, [], true, false, None, Some, All, IfSome, IsTrue, ◌↔◌, length, slice_index};
 ghost use Rattle.adapter.specs.Commands.{IsMeaning, Meaning, command_of, with_fields};
 ghost use Rattle.adapter.specs.Memory.{bytes_at};
-ghost use Rattle.adapter.specs.Says.{HasPrds, IsWhole, Says, pieces};
+ghost use Rattle.adapter.specs.Decoding.{HasPrds, IsWholePieces, DecodesTo, pieces};
 ghost use Rattle.adapter.specs.declared.command.Command.{Command};
-ghost use Rattle.adapter.specs.Spelling.{AreZero, SpellsCommand, SpellsHeader, SpellsPrd};
+ghost use Rattle.adapter.specs.Encoding.{AreZero, EncodesCommand, EncodesHeader, EncodesPrd};
 ghost use Rattle.byteorder.specs.Endian.{little_from};
-ghost use Rattle.device_model.specs.Fetched.{ArePrds, IsNew, bytes_of};
+ghost use Rattle.device_model.specs.Fetched.{ArePrds, IsUntouched, bytes_of};
 ghost use Rattle.device_model.specs.Finishing.{sends_page};
-ghost use Rattle.device_model.specs.View.{operation_of, taken_of};
+ghost use Rattle.device_model.specs.View.{transfer_operation, taken_of};
 
 use crate::port::{TakenCommand, Transfer};
 use crate::prds::PrdTable;
@@ -83,8 +83,8 @@ fn are_zero(bytes: &[u8], from: usize, to: usize) -> bool
 /// 1.3.1, 4.2.2).
 fn decode_header(bytes: &[u8], writes: bool) -> Option<Header>
     requires { length bytes.now ≡ 32 }
-    ensures found { IfSome result (λ h. SpellsHeader bytes.now writes h.entries h.table) }
-    ensures only { (h : Header) → SpellsHeader bytes.now writes h.entries h.table → result ≡ Some h }
+    ensures found { IfSome result (λ h. EncodesHeader bytes.now writes h.entries h.table) }
+    ensures only { (h : Header) → EncodesHeader bytes.now writes h.entries h.table → result ≡ Some h }
 {
     let first = if writes { 0x45 } else { 0x05 };
     let table = LittleEndian::read_u32(&bytes[8..]);
@@ -138,10 +138,10 @@ fn is_ranged_fis(bytes: &[u8], code: u8) -> bool
 /// The sectors that the bytes name, if they are the FIS of a plain command with this code that names some.
 fn decode_range(bytes: &[u8], code: u8) -> Option<Sectors>
     requires { length bytes.now ≡ 20 }
-    ensures found { IfSome result (λ s. SpellsCommand bytes.now (with_fields code 0 (s.count % 65536) s.first 0x40)) }
+    ensures found { IfSome result (λ s. EncodesCommand bytes.now (with_fields code 0 (s.count % 65536) s.first 0x40)) }
     ensures range { IfSome result (λ s. (1 ≤ s.count) × (s.count ≤ 65536) × (s.first < 2 ^ 48)) }
     ensures only { (s : Sectors) → 1 ≤ s.count → s.count ≤ 65536
-        → SpellsCommand bytes.now (with_fields code 0 (s.count % 65536) s.first 0x40) → result ≡ Some s }
+        → EncodesCommand bytes.now (with_fields code 0 (s.count % 65536) s.first 0x40) → result ≡ Some s }
 {
     if !is_ranged_fis(bytes, code) || bytes[3] != 0 || bytes[11] != 0 {
         return None;
@@ -158,10 +158,10 @@ fn decode_queued(bytes: &[u8], code: u8, tag: u8) -> Option<Sectors>
     requires size { length bytes.now ≡ 20 }
     requires tag { tag < 32 }
     ensures found { IfSome result
-        (λ s. SpellsCommand bytes.now (with_fields code (s.count % 65536) (8 * tag) s.first 0x40)) }
+        (λ s. EncodesCommand bytes.now (with_fields code (s.count % 65536) (8 * tag) s.first 0x40)) }
     ensures range { IfSome result (λ s. (1 ≤ s.count) × (s.count ≤ 65536) × (s.first < 2 ^ 48)) }
     ensures only { (s : Sectors) → 1 ≤ s.count → s.count ≤ 65536
-        → SpellsCommand bytes.now (with_fields code (s.count % 65536) (8 * tag) s.first 0x40) → result ≡ Some s }
+        → EncodesCommand bytes.now (with_fields code (s.count % 65536) (8 * tag) s.first 0x40) → result ≡ Some s }
 {
     if !is_ranged_fis(bytes, code) || bytes[12] != 8 * tag || bytes[13] != 0 {
         return None;
@@ -176,10 +176,10 @@ fn decode_queued(bytes: &[u8], code: u8, tag: u8) -> Option<Sectors>
 /// features and as count.
 fn decode_bare(bytes: &[u8], code: u8, number: u8) -> Option<Sectors>
     requires { length bytes.now ≡ 20 }
-    ensures found { IfSome result (λ s. SpellsCommand bytes.now (with_fields code number number 0 0x00) × (s.first ≡ 0)
+    ensures found { IfSome result (λ s. EncodesCommand bytes.now (with_fields code number number 0 0x00) × (s.first ≡ 0)
         × (s.count ≡ 0)) }
     ensures only { (s : Sectors) → s.first ≡ 0 → s.count ≡ 0
-        → SpellsCommand bytes.now (with_fields code number number 0 0x00) → result ≡ Some s }
+        → EncodesCommand bytes.now (with_fields code number number 0 0x00) → result ≡ Some s }
 {
     if bytes[0] == 0x27
         && bytes[1] == 0x80
@@ -198,9 +198,9 @@ fn decode_bare(bytes: &[u8], code: u8, number: u8) -> Option<Sectors>
 /// The sectors that the bytes name, none, if they are the FIS of READ LOG EXT of one page, the first of log 10h.
 fn decode_log(bytes: &[u8]) -> Option<Sectors>
     requires { length bytes.now ≡ 20 }
-    ensures found { IfSome result (λ s. SpellsCommand bytes.now (with_fields 0x2f 0 1 0x10 0x00) × (s.first ≡ 0)
+    ensures found { IfSome result (λ s. EncodesCommand bytes.now (with_fields 0x2f 0 1 0x10 0x00) × (s.first ≡ 0)
         × (s.count ≡ 0)) }
-    ensures only { (s : Sectors) → s.first ≡ 0 → s.count ≡ 0 → SpellsCommand bytes.now (with_fields 0x2f 0 1 0x10 0x00)
+    ensures only { (s : Sectors) → s.first ≡ 0 → s.count ≡ 0 → EncodesCommand bytes.now (with_fields 0x2f 0 1 0x10 0x00)
         → result ≡ Some s }
 {
     if bytes[0] == 0x27
@@ -223,12 +223,12 @@ fn decode_sectors(bytes: &[u8], slot: u8, transfer: Transfer) -> Option<Sectors>
     requires size { length bytes.now ≡ 20 }
     requires slot { slot < 32 }
     ensures found { IfSome result
-        (λ s. SpellsCommand bytes.now (command_of (operation_of transfer) slot s.first s.count)) }
+        (λ s. EncodesCommand bytes.now (command_of (transfer_operation transfer) slot s.first s.count)) }
     ensures meant { IfSome result
-        (λ s. IsMeaning (record { operation = operation_of transfer; first = s.first; count = s.count })) }
+        (λ s. IsMeaning (record { operation = transfer_operation transfer; first = s.first; count = s.count })) }
     ensures only { (s : Sectors)
-        → IsMeaning (record { operation = operation_of transfer; first = s.first; count = s.count }) →
-        SpellsCommand bytes.now (command_of (operation_of transfer) slot s.first s.count) → result ≡ Some s }
+        → IsMeaning (record { operation = transfer_operation transfer; first = s.first; count = s.count }) →
+        EncodesCommand bytes.now (command_of (transfer_operation transfer) slot s.first s.count) → result ≡ Some s }
 {
     match transfer {
         Transfer::Read => decode_range(bytes, READ_DMA_EXT),
@@ -245,8 +245,8 @@ fn decode_sectors(bytes: &[u8], slot: u8, transfer: Transfer) -> Option<Sectors>
 /// The PRD that the bytes are, if they are one of a whole number of pieces.
 fn decode_prd(bytes: &[u8]) -> Option<Prd>
     requires { length bytes.now ≡ 16 }
-    ensures found { IfSome result (λ e. SpellsPrd bytes.now e × IsWhole e) }
-    ensures only { (e : Prd) → SpellsPrd bytes.now e → IsWhole e → result ≡ Some e }
+    ensures found { IfSome result (λ e. EncodesPrd bytes.now e × IsWholePieces e) }
+    ensures only { (e : Prd) → EncodesPrd bytes.now e → IsWholePieces e → result ≡ Some e }
 {
     let address = LittleEndian::read_u32(bytes);
     let count = LittleEndian::read_u32(&bytes[12..]);
@@ -288,8 +288,8 @@ fn fis_bytes(memory: &[u8], header: &[u8; 32]) -> [u8; 20]
 /// The PRD at an address, if there is one of a whole number of pieces.
 fn prd_at(memory: &[u8], at: usize) -> Option<Prd>
     requires { at < 2 ^ 33 }
-    ensures found { IfSome result (λ e. SpellsPrd (bytes_at (bytes_of memory.now) at 16) e × IsWhole e) }
-    ensures only { (e : Prd) → SpellsPrd (bytes_at (bytes_of memory.now) at 16) e → IsWhole e → result ≡ Some e }
+    ensures found { IfSome result (λ e. EncodesPrd (bytes_at (bytes_of memory.now) at 16) e × IsWholePieces e) }
+    ensures only { (e : Prd) → EncodesPrd (bytes_at (bytes_of memory.now) at 16) e → IsWholePieces e → result ≡ Some e }
 {
     let mut bytes = [0; 16];
     copy_bytes(memory, at, &mut bytes);
@@ -303,7 +303,7 @@ fn read_prds(memory: &[u8], at: usize, number: usize, prds: &mut PrdTable) -> bo
     requires empty { prds.old ≡ [] }
     ensures found { result ≡ true → ArePrds (bytes_of memory.now) at number prds.new }
     ensures only { result ≡ false → (es : List Prd) → length es ≡ number → HasPrds (bytes_of memory.now) at es
-        → All IsWhole es → ⊥ }
+        → All IsWholePieces es → ⊥ }
 {
     for i in 0..number {
         let Some(prd) = prd_at(memory, at + 16 * i) else {
@@ -385,14 +385,14 @@ fn decode_command(
     requires slot { slot < 32 }
     requires fis { fis.now ≡ bytes_at (bytes_of memory.now) (little_from 8 4 header.now) 20 }
     requires empty { command.old.prds ≡ [] }
-    ensures found { result ≡ true → IsNew command.new
+    ensures found { result ≡ true → IsUntouched command.new
         × ((list : ℕ) → header.now ≡ bytes_at (bytes_of memory.now) (list + HEADER_BYTES * slot) HEADER_BYTES →
-        Says (bytes_of memory.now) list slot (taken_of command.new).meaning (taken_of command.new).places) }
+        DecodesTo (bytes_of memory.now) list slot (taken_of command.new).meaning (taken_of command.new).places) }
     ensures kind { result ≡ true → command.new.transfer ≡ transfer }
     ensures only { result ≡ false → (list : ℕ)
         → header.now ≡ bytes_at (bytes_of memory.now) (list + HEADER_BYTES * slot) HEADER_BYTES →
-        (m : Meaning) (places : List ℕ) → m.operation ≡ operation_of transfer
-        → Says (bytes_of memory.now) list slot m places → ⊥ }
+        (m : Meaning) (places : List ℕ) → m.operation ≡ transfer_operation transfer
+        → DecodesTo (bytes_of memory.now) list slot m places → ⊥ }
 {
     let Some(header) = decode_header(header, transfer.reads_memory()) else {
         return false;
@@ -429,7 +429,7 @@ fn decode_command(
 pub fn may_say_page(memory: &[u8], list: u32, slot: u8) -> bool
     requires { slot < 32 }
     ensures { result ≡ false → (m : Meaning) (places : List ℕ) → sends_page m.operation ≡ true
-        → Says (bytes_of memory.now) list slot m places → ⊥ }
+        → DecodesTo (bytes_of memory.now) list slot m places → ⊥ }
 {
     let header = header_bytes(memory, header_place(list, slot));
     let fis = fis_bytes(memory, &header);
@@ -442,11 +442,11 @@ pub fn may_say_page(memory: &[u8], list: u32, slot: u8) -> bool
 /// The command that the bytes of a slot say, if it is one that sends a page: its code tells.
 pub fn read_page(memory: &[u8], list: u32, slot: u8) -> Option<TakenCommand>
     requires { slot < 32 }
-    ensures found { IfSome result (λ t. IsNew t × Says (bytes_of memory.now) list slot (taken_of t).meaning
+    ensures found { IfSome result (λ t. IsUntouched t × DecodesTo (bytes_of memory.now) list slot (taken_of t).meaning
         (taken_of t).places) }
-    ensures kind { IfSome result (λ t. sends_page (operation_of t.transfer) ≡ true) }
+    ensures kind { IfSome result (λ t. sends_page (transfer_operation t.transfer) ≡ true) }
     ensures only { result ≡ None → (m : Meaning) (places : List ℕ) → sends_page m.operation ≡ true
-        → Says (bytes_of memory.now) list slot m places → ⊥ }
+        → DecodesTo (bytes_of memory.now) list slot m places → ⊥ }
 {
     let header = header_bytes(memory, header_place(list, slot));
     let fis = fis_bytes(memory, &header);
@@ -472,7 +472,8 @@ fn header_place(list: u32, slot: u8) -> usize
 
 /// The transfer whose command has this code (ACS-3, 7).
 fn transfer_coded(code: u8) -> Option<Transfer>
-    ensures { (transfer : Transfer) (slot first count : ℕ) → (command_of (operation_of transfer) slot first count).code
+    ensures { (transfer : Transfer) (slot first count : ℕ)
+        → (command_of (transfer_operation transfer) slot first count).code
         ≡ code → result ≡ Some transfer }
 {
     match code {
@@ -493,9 +494,9 @@ fn transfer_coded(code: u8) -> Option<Transfer>
 pub fn read_into(memory: &[u8], list: u32, slot: u8, command: &mut TakenCommand) -> bool
     requires slot { slot < 32 }
     requires empty { command.old.prds ≡ [] }
-    ensures found { result ≡ true → IsNew command.new
-        × Says (bytes_of memory.now) list slot (taken_of command.new).meaning (taken_of command.new).places }
-    ensures only { result ≡ false → (m : Meaning) (places : List ℕ) → Says (bytes_of memory.now) list slot m places
+    ensures found { result ≡ true → IsUntouched command.new
+        × DecodesTo (bytes_of memory.now) list slot (taken_of command.new).meaning (taken_of command.new).places }
+    ensures only { result ≡ false → (m : Meaning) (places : List ℕ) → DecodesTo (bytes_of memory.now) list slot m places
         → ⊥ }
 {
     let header = header_bytes(memory, header_place(list, slot));
@@ -509,9 +510,10 @@ pub fn read_into(memory: &[u8], list: u32, slot: u8, command: &mut TakenCommand)
 /// The command that the bytes of a slot say, if it is one that the model takes.
 pub fn read_command(memory: &[u8], list: u32, slot: u8) -> Option<TakenCommand>
     requires { slot < 32 }
-    ensures found { IfSome result (λ t. IsNew t × Says (bytes_of memory.now) list slot (taken_of t).meaning
+    ensures found { IfSome result (λ t. IsUntouched t × DecodesTo (bytes_of memory.now) list slot (taken_of t).meaning
         (taken_of t).places) }
-    ensures only { result ≡ None → (m : Meaning) (places : List ℕ) → Says (bytes_of memory.now) list slot m places → ⊥ }
+    ensures only { result ≡ None → (m : Meaning) (places : List ℕ) → DecodesTo (bytes_of memory.now) list slot m places
+        → ⊥ }
 {
     let mut command = TakenCommand::room();
     if read_into(memory, list, slot, &mut command) {
@@ -524,8 +526,9 @@ pub fn read_command(memory: &[u8], list: u32, slot: u8) -> Option<TakenCommand>
 /// Whether the bytes of a slot say a command.
 pub fn says_command(memory: &[u8], list: u32, slot: u8) -> bool
     requires { slot < 32 }
-    ensures said { result ≡ true → (m : Meaning) × (places : List ℕ) × Says (bytes_of memory.now) list slot m places }
-    ensures none { result ≡ false → (m : Meaning) (places : List ℕ) → Says (bytes_of memory.now) list slot m places
+    ensures said { result ≡ true → (m : Meaning) × (places : List ℕ)
+        × DecodesTo (bytes_of memory.now) list slot m places }
+    ensures none { result ≡ false → (m : Meaning) (places : List ℕ) → DecodesTo (bytes_of memory.now) list slot m places
         → ⊥ }
 {
     let mut command = TakenCommand::room();

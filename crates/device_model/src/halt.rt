@@ -1,7 +1,7 @@
 // Whether a fault has halted a port, and what goes on then (AHCI 1.3.1, 6.2.2; ACS-3, 4.15).
 ghost use Rattle.std.specs.Prelude.{◌≡◌};
 ghost use Rattle.adapter.specs.Steps.{admits, halted, restarted};
-ghost use Rattle.device_model.specs.View.{halt_of, operation_of};
+ghost use Rattle.device_model.specs.View.{halt_of, transfer_operation};
 
 use crate::port::Transfer;
 
@@ -22,7 +22,7 @@ pub enum Halting {
 impl Halting {
     /// Whether such a command goes on.
     pub fn admits(self, transfer: Transfer) -> bool
-        ensures { result ≡ admits (halt_of self) (operation_of transfer) }
+        ensures { result ≡ admits (halt_of self) (transfer_operation transfer) }
     {
         match self {
             Halting::Running => true,

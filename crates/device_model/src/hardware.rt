@@ -3,12 +3,12 @@ ghost use Rattle.std.specs.Prelude.{Bool, List, ◌≡◌, ◌≢◌, ◌+◌, �
 ghost use Rattle.adapter.specs.Access.{Shows, is_pending, noted, written, unacknowledged};
 ghost use Rattle.adapter.specs.Memory.{patched, bytes_at};
 ghost use Rattle.adapter.specs.Device.{Device};
-ghost use Rattle.adapter.specs.Steps.{after, with_reset};
-ghost use Rattle.adapter.specs.Steps.Step.{ResetEnds};
+ghost use Rattle.adapter.specs.Steps.{device_after, with_reset};
+ghost use Rattle.adapter.specs.Steps.DeviceTransition.{ResetEnds};
 ghost use Rattle.hba_regs.specs.Bits.{bit};
 ghost use Rattle.device_model.specs.Held.{IsPortLoose, all_held};
 ghost use Rattle.device_model.specs.Settled.{EndsReset, IsSettled, IsSettledPort, LeadsOwn, Settles};
-ghost use Rattle.device_model.specs.View.{Media, port_of, blank};
+ghost use Rattle.device_model.specs.View.{Media, port_of, blank_port};
 ghost use Rattle.device_model.specs.Whole.{Outside, device_of, HasRegister};
 
 use crate::bits::bit_if;
@@ -63,9 +63,9 @@ fn get(memory: &[u8], at: usize, out: &mut [u8])
 
 /// Bits of IS were written.
 fn unacknowledge(ports: &mut [PortModel; 4], value: u32)
-    ensures { (m : Media) (port : ℕ) → port_of (slice_index_or ports.new port blank) m ≡
-        (if bit value port then unacknowledged (port_of (slice_index_or ports.old port blank) m) else port_of
-        (slice_index_or ports.old port blank) m) }
+    ensures { (m : Media) (port : ℕ) → port_of (slice_index_or ports.new port blank_port) m ≡
+        (if bit value port then unacknowledged (port_of (slice_index_or ports.old port blank_port) m) else port_of
+        (slice_index_or ports.old port blank_port) m) }
 {
     for port in 0..4u32 {
         if is_set(value, port) {
@@ -77,8 +77,8 @@ fn unacknowledge(ports: &mut [PortModel; 4], value: u32)
 /// Each port, where a reset of the adapter has ended.
 fn reset_all(ports: &mut [PortModel; 4])
     ensures size { length ports.new ≡ length ports.old }
-    ensures each { (m : Media) (port : ℕ) → port_of (slice_index_or ports.new port blank) m
-        ≡ with_reset (port_of (slice_index_or ports.old port blank) m) }
+    ensures each { (m : Media) (port : ℕ) → port_of (slice_index_or ports.new port blank_port) m
+        ≡ with_reset (port_of (slice_index_or ports.old port blank_port) m) }
 {
     for port in 0..4 {
         ports[port].reset();
@@ -88,7 +88,7 @@ fn reset_all(ports: &mut [PortModel; 4])
 /// IS: the bits of the four ports (AHCI 1.3.1, 3.1.3).
 fn pending(ports: &[PortModel; 4]) -> u32
     ensures { (m : Media) (port : ℕ) → port < 32
-        → bit result port ≡ is_pending (port_of (slice_index_or ports.now port blank) m) }
+        → bit result port ≡ is_pending (port_of (slice_index_or ports.now port blank_port) m) }
 {
     bit_if(ports[0].is_pending(), 0)
         | bit_if(ports[1].is_pending(), 1)
@@ -174,7 +174,7 @@ impl Hardware {
     /// A reset that is pending ends (AHCI 1.3.1, 10.4.3).
     fn end_reset(&mut self)
         requires { self.old.hr ≡ true }
-        ensures resets { (o : Outside) → device_of self.new o ≡ after ResetEnds (device_of self.old o) }
+        ensures resets { (o : Outside) → device_of self.new o ≡ device_after ResetEnds (device_of self.old o) }
         ensures ended { self.new.hr ≡ false }
         ensures number { length self.new.ports ≡ length self.old.ports }
         ensures tape { self.new.tape ≡ self.old.tape }
@@ -187,7 +187,7 @@ impl Hardware {
     }
 
     /// A reset that is pending ends unless all ports are held, and ends all holds.
-    fn end_reset_unless_held(&mut self, held: &mut [bool; PORTS])
+    fn end_reset_unless_all_held(&mut self, held: &mut [bool; PORTS])
         ensures resets { (o : Outside) → EndsReset held.old held.new (device_of self.old o) (device_of self.new o) }
         ensures left { self.new.hr ≡ true → held.new ≡ all_held }
         ensures number { length self.new.ports ≡ length self.old.ports }
@@ -213,7 +213,7 @@ impl Hardware {
         ensures tape { self.new.tape ≡ self.old.tape }
         ensures starved { self.new.starved ≡ self.old.starved }
     {
-        self.ports[port].settle();
+        self.ports[port].settle_links();
         if self.ports[port].link() {
             self.send_signature(port);
         }
@@ -222,14 +222,14 @@ impl Hardware {
     /// What the adapter does by itself before a register is read: a pending reset ends unless all ports are held, and
     /// ends all holds; then each port that isn't held does what it does by itself. Afterwards none of this is possible
     /// any more.
-    pub fn settle(&mut self, held: &mut [bool; PORTS])
+    pub fn settle_links(&mut self, held: &mut [bool; PORTS])
         ensures own { (o : Outside) → (reset : Device) × EndsReset held.old held.new (device_of self.old o) reset
             × LeadsOwn (Settles held.new) reset (device_of self.new o) }
         ensures settled { (o : Outside) → IsSettled held.new (device_of self.new o) }
         ensures tape { self.new.tape ≡ self.old.tape }
         ensures starved { self.new.starved ≡ self.old.starved }
     {
-        self.end_reset_unless_held(held);
+        self.end_reset_unless_all_held(held);
         for port in 0..PORTS {
             if !held[port] {
                 self.settle_port(port);

@@ -3,14 +3,14 @@ ghost use Rattle.std.specs.Prelude.{◌≡◌, ◌≢◌, ◌+◌, ◌<◌, ◌�
 ghost use Rattle.ata_types.specs.declared.Port.{Port};
 ghost use Rattle.ata_types.specs.declared.Slot.{Slot};
 ghost use Rattle.adapter.specs.Commands.{Meaning, is_queued};
-ghost use Rattle.adapter.specs.Device.{Device, Taken};
+ghost use Rattle.adapter.specs.Device.{Device, FetchedCommand};
 ghost use Rattle.adapter.specs.Idle.{TellsDisks};
 ghost use Rattle.adapter.specs.Steps.{Can, IsFinished, WorksOn, next_place};
-ghost use Rattle.adapter.specs.Steps.Step.{Clear, Fetch, Move};
+ghost use Rattle.adapter.specs.Steps.DeviceTransition.{Clear, Fetch, Move};
 ghost use Rattle.adapter.specs.declared.access.DeviceStep.{DeviceStep};
 ghost use Rattle.adapter.specs.declared.access.DeviceStep.TheVariants as asked;
 ghost use Rattle.device_model.specs.Cached.{sector_told};
-ghost use Rattle.device_model.specs.Disks.{bay_of, disk_of, lasting_of, which_of};
+ghost use Rattle.device_model.specs.Disks.{bay_of, numbered_disk, lasting_of, which_of};
 ghost use Rattle.device_model.specs.Does.{Did, Possible, PutsIn};
 ghost use Rattle.device_model.specs.Finishing.{HasDisk};
 ghost use Rattle.device_model.specs.Held.{IsPortHeld};
@@ -18,14 +18,14 @@ ghost use Rattle.device_model.specs.Modelled.{device_at};
 ghost use Rattle.device_model.specs.Queue.{DoesEach};
 ghost use Rattle.device_model.specs.Settled.{DoesOwn};
 ghost use Rattle.device_model.specs.declared.bay.Bay.{Bay};
-ghost use Rattle.device_model.specs.declared.disks.Which.{Which};
+ghost use Rattle.device_model.specs.declared.disks.DiskIndex.{DiskIndex};
 
 use crate::Model;
 use sector_store::SectorStore;
 
 /// A model's disks tell their sectors if it is one that tells, whatever it did since it was made. Over stores that tell
 /// theirs at all times, as those in memory do, each model is one that tells.
-pub fn disks_are_told<S: SectorStore>()
+pub fn law_disks_are_told<S: SectorStore>()
     ensures tells { (m : Model S) → TellsDisks (device_at S.size S.told m) }
     ensures telling { ((store : S) → is_some (S.told store) ≡ true) → (m : Model S)
         → (device_at S.size S.told m).telling ≡ true }
@@ -33,8 +33,8 @@ pub fn disks_are_told<S: SectorStore>()
 
 /// A move that the device may make, on a port that has a disk, is possible for a model where its piece is in the
 /// memory.
-pub fn moves_are_possible<S: SectorStore>()
-    ensures { (m : Model S) (p : Port) (slot : Slot) (t : Taken) (bytes : List ℕ) → slot.0 < 32
+pub fn law_moves_are_possible<S: SectorStore>()
+    ensures { (m : Model S) (p : Port) (slot : Slot) (t : FetchedCommand) (bytes : List ℕ) → slot.0 < 32
         → HasDisk (device_at S.size S.told m) p.0 t.meaning.operation →
         next_place t + 512 ≤ (device_at S.size S.told m).size
         → Can (Move p.0 slot.0 t bytes) (device_at S.size S.told m)
@@ -42,8 +42,8 @@ pub fn moves_are_possible<S: SectorStore>()
 {}
 
 /// A clear that the device may make, of a sector at least, is possible for a model.
-pub fn clears_are_possible<S: SectorStore>()
-    ensures { (m : Model S) (p : Port) (slot : Slot) (t : Taken) (first count : ℕ) → slot.0 < 32 → 1 ≤ count →
+pub fn law_clears_are_possible<S: SectorStore>()
+    ensures { (m : Model S) (p : Port) (slot : Slot) (t : FetchedCommand) (first count : ℕ) → slot.0 < 32 → 1 ≤ count →
         Can (Clear p.0 slot.0 t first count) (device_at S.size S.told m)
         → Possible (asked.Clear p slot count) (device_at S.size S.told m) }
 {}
@@ -51,22 +51,22 @@ pub fn clears_are_possible<S: SectorStore>()
 /// Whatever steps are done or left, one after another, that don't put a disk in which isn't in: it stays out, with the
 /// sectors that it had. So it has these where it is put in. That holds of the disk that wasn't in last, which a
 /// LosePlug doesn't put in, and of the one that was, where none is in.
-pub fn disks_that_are_out_stay<S: SectorStore>()
-    ensures other { (steps : List DeviceStep) (old new : Model S) (port : ℕ) (which : Which)
+pub fn law_disks_that_are_out_stay<S: SectorStore>()
+    ensures other { (steps : List DeviceStep) (old new : Model S) (port : ℕ) (which : DiskIndex)
         → which_of old port ≢ Some which → All (λ s. PutsIn (which_of old port) port which s → ⊥) steps →
         DoesEach S.size S.told S.failures steps old new → (which_of new port ≢ Some which)
-        × (disk_of new port which ≡ disk_of old port which) }
-    ensures last_in { (steps : List DeviceStep) (old new : Model S) (port : ℕ) (which : Which)
+        × (numbered_disk new port which ≡ numbered_disk old port which) }
+    ensures last_in { (steps : List DeviceStep) (old new : Model S) (port : ℕ) (which : DiskIndex)
         → which_of old port ≡ Some which →
         ((device_at S.size S.told old).port port).present ≡ false
         → All (λ s. PutsIn (which_of old port) port which s → ⊥) steps
         → DoesEach S.size S.told S.failures steps old new →
         (which_of new port ≡ Some which → ((device_at S.size S.told new).port port).present ≡ false)
-        × (disk_of new port which ≡ disk_of old port which) }
+        × (numbered_disk new port which ≡ numbered_disk old port which) }
 {}
 
 /// What a model does by itself leaves a held port as it is.
-pub fn held_ports_stay()
+pub fn law_held_ports_stay()
     ensures { (held : List Bool) (old new : Device) (port : ℕ) → IsPortHeld held port → DoesOwn held old new
         → new.port port ≡ old.port port }
 {}
@@ -74,7 +74,7 @@ pub fn held_ports_stay()
 /// Queued commands go on side by side. One that may be taken beside those that are may be taken still, the same one,
 /// once another one was; and one of which nothing is left is taken still, and may end, once another one has ended,
 /// whichever of them does first.
-pub fn queued_commands_go_on_side_by_side<S: SectorStore>()
+pub fn law_queued_commands_go_on_side_by_side<S: SectorStore>()
     ensures taken { (old new : Model S) (p : Port) (slot other : Slot) (m n : Meaning) (xs ys : List ℕ) → slot.0 < 32
         → other.0 < 32 → other.0 ≢ slot.0 →
         p.0 < 4 → is_queued m.operation ≡ true → is_queued n.operation ≡ true →
@@ -84,7 +84,8 @@ pub fn queued_commands_go_on_side_by_side<S: SectorStore>()
         × (Did S.size S.told S.failures (asked.Fetch p slot) old new
         → Can (Fetch p.0 other.0 n ys) (device_at S.size S.told new)
         × Possible (asked.Fetch p other) (device_at S.size S.told new)) }
-    ensures ended { (old new : Model S) (p : Port) (slot other : Slot) (t u : Taken) → slot.0 < 32 → other.0 < 32
+    ensures ended { (old new : Model S) (p : Port) (slot other : Slot) (t u : FetchedCommand) → slot.0 < 32
+        → other.0 < 32
         → other.0 ≢ slot.0 → p.0 < 4 →
         WorksOn ((device_at S.size S.told old).port p.0) slot.0 t t.meaning.operation →
         WorksOn ((device_at S.size S.told old).port p.0) other.0 u u.meaning.operation → IsFinished t → IsFinished u →
@@ -97,7 +98,7 @@ pub fn queued_commands_go_on_side_by_side<S: SectorStore>()
 /// What a LosePlug leaves on a disk with a cache, of a store that tells its sectors: in each sector what is lasting of
 /// it, or what it held, and then some call on the store has failed. So all is lasting where none has. (Which sectors'
 /// writes have failed says `TurnsBack`.)
-pub fn lost_caches_leave_what_is_lasting<S: SectorStore>()
+pub fn law_lost_caches_leave_what_is_lasting<S: SectorStore>()
     ensures each { (old new : Model S) (p : Port) (a b : Bay S) → bay_of old p.0 ≡ Some a → bay_of new p.0 ≡ Some b
         → a.cache.is_on ≡ true → Did S.size S.told S.failures (asked.LosePlug p) old new → (sector : ℕ)
         → sector < S.size a.disk.store →

@@ -2,21 +2,21 @@
 ghost use Rattle.std.specs.Prelude.{◌≡◌, ◌≢◌, ◌↔◌, ◌<◌, ◌≤◌, ◌+◌, ◌-◌, ◌*◌, ◌^◌, ◌⊎◌, ◌++◌, ◌∷◌, [], ℕ, Bool, List, true, false, is_some, None, Some, ◌&&◌, min, max, map, length, slice_index, slice_index_or, slice_set, IsTrue, IfSome, IfOk, OnOk, OnErr};
 ghost use Rattle.std.specs.Vec.{vec_len, vec_capacity};
 ghost use Rattle.adapter.specs.Commands.{is_ranged, reads_memory};
-ghost use Rattle.adapter.specs.Device.{Disk, IsSector, Taken};
+ghost use Rattle.adapter.specs.Device.{Disk, IsSector, FetchedCommand};
 ghost use Rattle.adapter.specs.Access.{Reads, Writes, Loads, Stores, Shows, written};
 ghost use Rattle.adapter.specs.Memory.{bytes_at, patched};
-ghost use Rattle.adapter.specs.Rules.{MayRead, MayWrite, IsFree, Stays};
+ghost use Rattle.adapter.specs.Rules.{MayRead, MayWrite, IsFree, IsStable};
 ghost use Rattle.adapter.specs.Steps.{Steps, disk_after, disk_cleared, next_place};
 ghost use Rattle.adapter.specs.Asked.{Asked};
 ghost use Rattle.sector_store.specs.Stores.{FailsOn};
 ghost use Rattle.device_model.specs.Fetched.{bytes_of};
 ghost use Rattle.adapter.specs.OneCommand.{IsFreeSlot};
-ghost use Rattle.device_model.specs.Disks.{EndsOnly, HasOldRoomAt, SaysOnly, disk_of, given_for, port_0_alone};
-ghost use Rattle.device_model.specs.View.{operation_of};
-ghost use Rattle.device_model.specs.Finishing.{FindsPage, HasPage, HasMove, HasRoom, IsBusy, MayPage, sends_page};
+ghost use Rattle.device_model.specs.Disks.{EndsOnly, HasOldRoomAt, SaysOnly, numbered_disk, given_for, port_0_alone};
+ghost use Rattle.device_model.specs.View.{transfer_operation};
+ghost use Rattle.device_model.specs.Finishing.{LooksForPage, HasPageCommand, HasMove, TapeHasRoom, IsBusy, MayPage, sends_page};
 ghost use Rattle.device_model.specs.Held.{IsPortLoose};
 ghost use Rattle.device_model.specs.Paged.{lying, naming, truthful};
-ghost use Rattle.device_model.specs.Does.{AnswersStep, Completes, GoesOnSo, HasCleared, HasFailed, answer_of, asked_fault};
+ghost use Rattle.device_model.specs.Does.{AnswersStep, Completes, GoesOnSo, HasCleared, CommandFails, answer_of, asked_fault};
 ghost use Rattle.device_model.specs.Tells.{disks_told};
 ghost use Rattle.device_model.specs.Queue.{BeginsAccess, DoesRead, DoesThen};
 ghost use Rattle.device_model.specs.Modelled.{IsNewBay, IsNewMedia, IsNewModel, all_given_tell, all_tell, cap_of, device_at, given_tell, media_of, tells};
@@ -27,22 +27,22 @@ ghost use Rattle.device_model.specs.Trims.{span, written_ahead};
 ghost use Rattle.device_model.specs.Whole.{HasDisks, HasRegister};
 
 use crate::bay::{Bay, PAGE_BYTES, end_in, end_lies, lie_of, log_failed};
-use crate::clearing::Run;
+use crate::clearing::SectorExtent;
 use crate::config::{ModelConfig, NoMemory};
-use crate::disks::{Disks, PortDisks, Which};
+use crate::disks::{DiskIndex, Disks, PortDisks};
 use crate::hardware::Hardware;
 use crate::port::{PortModel, Transfer};
-use crate::steps::{Begun, FoundPage, NextMove};
+use crate::steps::{CommandToFinish, NextMove, PendingPage};
 use adapter::{Accesses, Adapter, DeviceStep, DiskNumber, DiskPage, Entry, FatalError, Stepped};
 use ata_types::{FEWEST_FRAMES, FRAME_BYTES, MOST_FRAMES, PORTS, Port, Slot};
 use hba_regs::Reg;
 use sector_store::SectorStore;
-use sector_store::pages::{Abilities, FailedCommand};
+use sector_store::pages::{Abilities, LoggedError};
 use std::alloc::Global;
 
 /// What came of a move or a clear that was to be done.
 #[derive(Clone, Copy, Debug)]
-enum Outcome {
+enum StepOutcome {
     /// It is left, and nothing is another.
     Left,
     /// Its command failed on a sector.
@@ -51,14 +51,14 @@ enum Outcome {
     Done,
 }
 
-impl Outcome {
+impl StepOutcome {
     /// Whether something came of it.
     fn is_told(self) -> bool
         ensures { result ≡ answer_of self }
     {
         match self {
-            Outcome::Left => false,
-            Outcome::Failed | Outcome::Done => true,
+            StepOutcome::Left => false,
+            StepOutcome::Failed | StepOutcome::Done => true,
         }
     }
 }
@@ -126,7 +126,7 @@ fn bay_for<S: SectorStore>(
 }
 
 /// Adds the bay of the next port, for which there is memory.
-fn seat<S: SectorStore>(bays: &mut Vec<Option<Bay<S>>>, bay: Option<Bay<S>>)
+fn push_bay<S: SectorStore>(bays: &mut Vec<Option<Bay<S>>>, bay: Option<Bay<S>>)
     requires { vec_len bays.old < vec_capacity bays.old }
     ensures items { bays.new.items ≡ bays.old.items ++ bay ∷ [] }
     ensures left { (n : ℕ) → vec_len bays.old + (n + 1) ≤ vec_capacity bays.old
@@ -148,10 +148,10 @@ fn bays_for<S: SectorStore>(
     ensures tells { IfOk result (λ bays. all_tell S.told bays.items ≡ all_given_tell S.told disks) }
 {
     let mut bays = Vec::with_capacity(alloc, PORTS)?;
-    seat(&mut bays, bay_for(alloc, disks.port0, config));
-    seat(&mut bays, bay_for(alloc, disks.port1, config));
-    seat(&mut bays, bay_for(alloc, disks.port2, config));
-    seat(&mut bays, bay_for(alloc, disks.port3, config));
+    push_bay(&mut bays, bay_for(alloc, disks.port0, config));
+    push_bay(&mut bays, bay_for(alloc, disks.port1, config));
+    push_bay(&mut bays, bay_for(alloc, disks.port2, config));
+    push_bay(&mut bays, bay_for(alloc, disks.port3, config));
     Ok(bays)
 }
 
@@ -263,7 +263,7 @@ impl<S: SectorStore> Model<S> {
         if self.hardware.fetch(port.0, slot.0) {
             return true;
         }
-        if !self.hardware.fail_senseless(port.0, slot.0) {
+        if !self.hardware.abort_invalid(port.0, slot.0) {
             return false;
         }
         self.hardware.send_fault(usize::from(port.0), false);
@@ -301,7 +301,7 @@ impl<S: SectorStore> Model<S> {
             log_failed(
                 &mut self.bays,
                 usize::from(port.0),
-                FailedCommand { tag, error },
+                LoggedError { tag, error },
             );
         }
         true
@@ -309,10 +309,10 @@ impl<S: SectorStore> Model<S> {
 
     /// Has a port meet a fatal error, while its engine runs: the interface's or the host bus's (IFS, HBFS), with a disk
     /// or without. HBDS isn't told, since a driver handles the three alike.
-    fn meet(&mut self, port: Port, error: FatalError) -> bool
+    fn raise_fatal(&mut self, port: Port, error: FatalError) -> bool
         ensures { AnswersStep S.size S.told S.failures (DeviceStep.Fatal port error) result self.old self.new }
     {
-        port.0 < 4 && self.hardware.meet(port.0, error)
+        port.0 < 4 && self.hardware.raise_fatal(port.0, error)
     }
 
     /// Fills the received FIS area of a port that receives FISes with a byte, and PRDBC of each command that is taken.
@@ -334,7 +334,7 @@ impl<S: SectorStore> Model<S> {
         ensures { AnswersStep S.size S.told S.failures (DeviceStep.Plug port disk) result self.old self.new }
     {
         let place = usize::from(port.0);
-        let Some(which) = Which::of(disk) else {
+        let Some(which) = DiskIndex::of(disk) else {
             return false;
         };
         if place >= PORTS || !has_disks(self.bays.as_slice(), place) {
@@ -361,57 +361,59 @@ impl<S: SectorStore> Model<S> {
     /// taken to end at 4 GiB. The move may be known; the one after it is told then. It is entered for each sector, so
     /// it stands in its callers' code, with what it calls for each.
     #[inline(always)]
-    fn move_piece(&mut self, port: Port, slot: Slot, known: &mut Option<NextMove>) -> Outcome
+    fn move_piece(&mut self, port: Port, slot: Slot, known: &mut Option<NextMove>) -> StepOutcome
         requires small { slot.0 < 32 }
         requires known { IfSome known.old (λ n. (t : TakenCommand) × IsNext self.old.hardware port.0 slot.0 n t) }
         ensures answers { AnswersStep S.size S.told S.failures (DeviceStep.Move port slot) (answer_of result) self.old
             self.new }
-        ensures whole { result ≡ Outcome.Done → Completes S.size S.told S.failures (DeviceStep.Move port slot) self.old
+        ensures whole { result ≡ StepOutcome.Done
+            → Completes S.size S.told S.failures (DeviceStep.Move port slot) self.old
             self.new }
-        ensures failed { result ≡ Outcome.Failed → HasFailed S.size S.told S.failures (DeviceStep.Move port slot)
+        ensures failed { result ≡ StepOutcome.Failed → CommandFails S.size S.told S.failures (DeviceStep.Move port slot)
             self.old self.new }
-        ensures left { result ≡ Outcome.Done → (n : ℕ) → HasRoom self.old.hardware (n + 1)
-            → HasRoom self.new.hardware n }
-        ensures old_room { result ≡ Outcome.Done → (t : Taken)
+        ensures left { result ≡ StepOutcome.Done → (n : ℕ) → TapeHasRoom self.old.hardware (n + 1)
+            → TapeHasRoom self.new.hardware n }
+        ensures old_room { result ≡ StepOutcome.Done → (t : FetchedCommand)
             → ((device_at S.size S.told self.old).port port.0).taken slot.0 ≡ Some t → (n : ℕ)
             → HasOldRoomAt self.old port.0 (written_ahead t.meaning.operation 1 + n) → HasOldRoomAt self.new port.0 n }
-        ensures page { (t : Taken) → ((device_at S.size S.told self.old).port port.0).taken slot.0 ≡ Some t
+        ensures page { (t : FetchedCommand) → ((device_at S.size S.told self.old).port port.0).taken slot.0 ≡ Some t
             → sends_page t.meaning.operation ≡ true →
-            result ≡ Outcome.Left → HasMove (device_at S.size S.told self.old) port.0 slot.0 t → next_place t < 2 ^ 32
-            → HasRoom self.old.hardware 1 → ⊥ }
-        ensures known { result ≡ Outcome.Done
+            result ≡ StepOutcome.Left → HasMove (device_at S.size S.told self.old) port.0 slot.0 t
+            → next_place t < 2 ^ 32
+            → TapeHasRoom self.old.hardware 1 → ⊥ }
+        ensures known { result ≡ StepOutcome.Done
             → IfSome known.new (λ n. (t : TakenCommand) × IsNext self.new.hardware port.0 slot.0 n t) }
     {
         let place = usize::from(port.0);
         if place >= PORTS || !has_disks(self.bays.as_slice(), place) {
-            return Outcome::Left;
+            return StepOutcome::Left;
         }
         // A sector that was written can't be taken back, so the memory of its entry is found first.
         let room = self.hardware.reserve(1);
         let Some(next) = self.hardware.next_move(port.0, slot.0, *known) else {
-            return Outcome::Left;
+            return StepOutcome::Left;
         };
         if !room {
             self.hardware.starved = true;
-            return Outcome::Left;
+            return StepOutcome::Left;
         }
         let Some(bay) = &mut self.bays[place] else {
-            return Outcome::Left;
+            return StepOutcome::Left;
         };
         if !next.is_on(bay.sectors()) {
             let _failed = self.fail(port, slot, PAST_THE_DISK, false);
-            return Outcome::Failed;
+            return StepOutcome::Failed;
         }
         if !bay.reserve(next.transfer.written(1)) {
             self.hardware.starved = true;
-            return Outcome::Left;
+            return StepOutcome::Left;
         }
-        if !bay.exchange(&mut self.hardware, next) {
+        if !bay.transfer_piece(&mut self.hardware, next) {
             let _failed = self.fail(port, slot, STORE_FAILED, false);
-            return Outcome::Failed;
+            return StepOutcome::Failed;
         }
         *known = self.hardware.note_move(port.0, slot.0, next);
-        Outcome::Done
+        StepOutcome::Done
     }
 
     /// Moves the next piece alone; `false` says that nothing came of it.
@@ -426,47 +428,49 @@ impl<S: SectorStore> Model<S> {
     /// Clears the next sectors of a slot's trim, so many at the most: those that follow one another. It fails on the
     /// first one past the disk, or on which the store fails, once those before it are cleared. What they hold is kept
     /// before, if the disks have a cache.
-    fn clear_run(&mut self, port: Port, slot: Slot, most: u32) -> Outcome
+    fn clear_run(&mut self, port: Port, slot: Slot, most: u32) -> StepOutcome
         requires { slot.0 < 32 }
         ensures answers { AnswersStep S.size S.told S.failures (DeviceStep.Clear port slot most) (answer_of result)
             self.old self.new }
-        ensures whole { result ≡ Outcome.Done
+        ensures whole { result ≡ StepOutcome.Done
             → HasCleared (device_at S.size S.told self.old) (device_at S.size S.told self.new) port.0 slot.0 most
             × Completes S.size S.told S.failures (DeviceStep.Clear port slot most) self.old self.new }
-        ensures failed { result ≡ Outcome.Failed → HasFailed S.size S.told S.failures (DeviceStep.Clear port slot most)
+        ensures failed { result ≡ StepOutcome.Failed
+            → CommandFails S.size S.told S.failures (DeviceStep.Clear port slot most)
             self.old self.new }
-        ensures left { result ≡ Outcome.Done → (n : ℕ) → HasRoom self.old.hardware (n + 1)
-            → HasRoom self.new.hardware n }
-        ensures old_room { result ≡ Outcome.Done → (t : Taken)
+        ensures left { result ≡ StepOutcome.Done → (n : ℕ) → TapeHasRoom self.old.hardware (n + 1)
+            → TapeHasRoom self.new.hardware n }
+        ensures old_room { result ≡ StepOutcome.Done → (t : FetchedCommand)
             → ((device_at S.size S.told self.old).port port.0).taken slot.0 ≡ Some t → (n : ℕ)
             → HasOldRoomAt self.old port.0 (span most t + n) → HasOldRoomAt self.new port.0 n }
     {
         let place = usize::from(port.0);
         if place >= PORTS || !has_disks(self.bays.as_slice(), place) {
-            return Outcome::Left;
+            return StepOutcome::Left;
         }
         // A sector that was cleared can't be taken back, so the memory of the entries is found first.
         let room = self.hardware.reserve(2);
         let Some(run) = self.hardware.run_to_clear(port.0, slot.0, most) else {
-            return Outcome::Left;
+            return StepOutcome::Left;
         };
         if !room {
             self.hardware.starved = true;
-            return Outcome::Left;
+            return StepOutcome::Left;
         }
         let Some(bay) = &mut self.bays[place] else {
-            return Outcome::Left;
+            return StepOutcome::Left;
         };
         let on_disk = run.cut(bay.sectors());
         if !bay.reserve(on_disk.count) {
             self.hardware.starved = true;
-            return Outcome::Left;
+            return StepOutcome::Left;
         }
         let count = bay.clear(on_disk);
         let first = run.first;
-        self.hardware.clear(port.0, slot.0, Run { first, count });
+        self.hardware
+            .clear(port.0, slot.0, SectorExtent { first, count });
         if count == run.count {
-            return Outcome::Done;
+            return StepOutcome::Done;
         }
         let error = if count < on_disk.count {
             STORE_FAILED
@@ -474,7 +478,7 @@ impl<S: SectorStore> Model<S> {
             PAST_THE_DISK
         };
         let _failed = self.fail(port, slot, error, false);
-        Outcome::Failed
+        StepOutcome::Failed
     }
 
     /// Takes a slot's command if it isn't taken, moves and clears all that is left of it, and ends it. The tape's
@@ -485,9 +489,10 @@ impl<S: SectorStore> Model<S> {
         requires { slot.0 < 32 }
         ensures answers { AnswersStep S.size S.told S.failures (DeviceStep.Finish port slot) result self.old self.new }
         ensures sends { HasDisks (device_at S.size S.told self.old) port.0
-            → (has : HasPage (device_at S.size S.told self.old) port.0 slot.0) →
+            → (has : HasPageCommand (device_at S.size S.told self.old) port.0 slot.0) →
             (result ≡ true → IsFreeSlot ((device_at S.size S.told self.new).port port.0) slot.0)
-            × (result ≡ false → (self.new.hardware.starved ≡ true) × (HasRoom self.new.hardware (has.left + 1) → ⊥)) }
+            × (result ≡ false → (self.new.hardware.starved ≡ true)
+            × (TapeHasRoom self.new.hardware (has.left + 1) → ⊥)) }
     {
         if port.0 >= 4 || !has_disks(self.bays.as_slice(), usize::from(port.0)) {
             return false;
@@ -495,24 +500,28 @@ impl<S: SectorStore> Model<S> {
         let Some(bay) = &mut self.bays[usize::from(port.0)] else {
             return false;
         };
-        let Some(Begun { rest, was_taken }) = bay.begin(&mut self.hardware, port.0, slot.0) else {
+        let Some(CommandToFinish { rest, was_taken }) = bay.begin(
+            &mut self.hardware,
+            port.0,
+            slot.0,
+        ) else {
             return false;
         };
         let mut did = was_taken;
         let mut known = None;
         for _piece in 0..rest.left {
             match self.move_piece(port, slot, &mut known) {
-                Outcome::Left => return did,
-                Outcome::Failed => return true,
-                Outcome::Done => did = true,
+                StepOutcome::Left => return did,
+                StepOutcome::Failed => return true,
+                StepOutcome::Done => did = true,
             }
         }
         for _run in 0..rest.clears {
             let most = self.hardware.count_uncleared(port.0, slot.0);
             match self.clear_run(port, slot, most) {
-                Outcome::Left => return did,
-                Outcome::Failed => return true,
-                Outcome::Done => did = true,
+                StepOutcome::Left => return did,
+                StepOutcome::Failed => return true,
+                StepOutcome::Done => did = true,
             }
         }
         self.done(port, slot) || did
@@ -524,22 +533,22 @@ impl<S: SectorStore> Model<S> {
         requires port { port < 4 }
         requires small { slot < 32 }
         requires there { MayPage (device_at S.size S.told self.old) port slot
-            ⊎ HasPage (device_at S.size S.told self.old) port slot }
+            ⊎ HasPageCommand (device_at S.size S.told self.old) port slot }
         ensures own { (held : List Bool) → IsPortLoose held port
             → LeadsOwn (SendsPages held) (device_at S.size S.told self.old) (device_at S.size S.told self.new) }
         ensures settled { (held : List Bool) → IsSettled held (device_at S.size S.told self.old)
             → IsSettled held (device_at S.size S.told self.new) }
         ensures taken { IsBusy (device_at S.size S.told self.new) port }
         ensures stuck { MayPage (device_at S.size S.told self.old) port slot → (other : ℕ)
-            → HasPage (device_at S.size S.told self.new) port other →
-            HasPage (device_at S.size S.told self.old) port slot }
-        ensures left { (has : HasPage (device_at S.size S.told self.old) port slot) →
-            (now : HasPage (device_at S.size S.told self.new) port slot) × (now.left ≡ has.left) }
+            → HasPageCommand (device_at S.size S.told self.new) port other →
+            HasPageCommand (device_at S.size S.told self.old) port slot }
+        ensures left { (has : HasPageCommand (device_at S.size S.told self.old) port slot) →
+            (now : HasPageCommand (device_at S.size S.told self.new) port slot) × (now.left ≡ has.left) }
         ensures others { (q : ℕ) → q ≢ port → (device_at S.size S.told self.new).port q
             ≡ (device_at S.size S.told self.old).port q }
         ensures size { (device_at S.size S.told self.new).size ≡ (device_at S.size S.told self.old).size }
         ensures rest { GoesOnSo S.size self.old self.new }
-        ensures room { (n : ℕ) → HasRoom self.new.hardware n → HasRoom self.old.hardware n }
+        ensures room { (n : ℕ) → TapeHasRoom self.new.hardware n → TapeHasRoom self.old.hardware n }
         ensures starved { self.new.hardware.starved ≡ self.old.hardware.starved }
         ensures bays { self.new.bays ≡ self.old.bays }
     {
@@ -548,15 +557,15 @@ impl<S: SectorStore> Model<S> {
 
     /// The first slot with an IDENTIFY DEVICE or READ LOG EXT that may be taken, or can be done to its end, of a port
     /// that has disks and isn't left out.
-    fn next_page(&self, left_out: &[bool; PORTS]) -> Option<FoundPage>
+    fn next_page(&self, left_out: &[bool; PORTS]) -> Option<PendingPage>
         ensures port { IfSome result (λ found. (found.port < 4) × IsPortLoose left_out.now found.port
             × HasDisks (device_at S.size S.told self.now) found.port) }
         ensures small { IfSome result (λ found. found.slot < 32) }
-        ensures found { IfSome result (λ found. FindsPage (device_at S.size S.told self.now) found.port found.slot
+        ensures found { IfSome result (λ found. LooksForPage (device_at S.size S.told self.now) found.port found.slot
             (Some found.ends)) }
         ensures none { result ≡ None → (port slot : ℕ) → port < 4 → IsPortLoose left_out.now port
             → HasDisks (device_at S.size S.told self.now) port → slot < 32 →
-            FindsPage (device_at S.size S.told self.now) port slot None }
+            LooksForPage (device_at S.size S.told self.now) port slot None }
     {
         for port in 0..4u8 {
             if !left_out[usize::from(port)] && has_disks(self.bays.as_slice(), usize::from(port)) {
@@ -583,7 +592,8 @@ impl<S: SectorStore> Model<S> {
         ensures rest { GoesOnSo S.size self.old self.new }
         ensures told { self.new.hardware.starved ≡ true → (self.old.hardware.starved ≡ true)
             ⊎ LeavesOne self.new.hardware (device_at S.size S.told self.new) }
-        ensures disks { (port : ℕ) (which : Which) → disk_of self.new port which ≡ disk_of self.old port which }
+        ensures disks { (port : ℕ) (which : DiskIndex)
+            → numbered_disk self.new port which ≡ numbered_disk self.old port which }
     {
         let mut left_out = self.held;
         let mut lacks = false;
@@ -672,7 +682,7 @@ impl<S: SectorStore> Model<S> {
             DeviceStep::Finish(port, slot) => slot.0 < 32 && self.finish(port, slot),
             DeviceStep::Fault(port, slot, error) => self.fail(port, slot, error, false),
             DeviceStep::FaultBusy(port, slot, error) => self.fail(port, slot, error, true),
-            DeviceStep::Fatal(port, error) => self.meet(port, error),
+            DeviceStep::Fatal(port, error) => self.raise_fatal(port, error),
             DeviceStep::Scribble(port, byte) => self.scribble(port, byte),
             DeviceStep::Lie(port, page, offset, bits) => self.lie(port, page, offset, bits),
             DeviceStep::Truth(port) => self.tell_truth(port),
@@ -731,7 +741,7 @@ impl<S: SectorStore> Adapter for Model<S> {
         ensures alone { DoesRead S.size S.told S.failures r result self.old self.new }
     {
         self.do_queued();
-        self.hardware.settle(&mut self.held);
+        self.hardware.settle_links(&mut self.held);
         self.send_pages();
         let value = self.hardware.shown(r);
         self.hardware.note(r, value);
@@ -739,7 +749,7 @@ impl<S: SectorStore> Adapter for Model<S> {
     }
 
     fn write(&mut self, r: Reg, v: u32)
-        requires { Stays (MayWrite r v) (device_at S.size S.told self.old) }
+        requires { IsStable (MayWrite r v) (device_at S.size S.told self.old) }
         ensures writes { Writes r v (device_at S.size S.told self.old) (device_at S.size S.told self.new) }
         ensures counted { self.new.accesses.count.made ≡ self.old.accesses.count.made + 1 }
         ensures alone { DoesThen S.size S.told S.failures (written r v) self.old self.new }
@@ -749,7 +759,7 @@ impl<S: SectorStore> Adapter for Model<S> {
     }
 
     fn load(&mut self, addr: u32, out: &mut [u8])
-        requires { Stays (IsFree addr (length out.old)) (device_at S.size S.told self.old) }
+        requires { IsStable (IsFree addr (length out.old)) (device_at S.size S.told self.old) }
         ensures loads { Loads addr out.new (device_at S.size S.told self.old) (device_at S.size S.told self.new) }
         ensures counted { self.new.accesses.count.made ≡ self.old.accesses.count.made + 1 }
         ensures alone { BeginsAccess S.size S.told S.failures self.old self.new }
@@ -759,7 +769,7 @@ impl<S: SectorStore> Adapter for Model<S> {
     }
 
     fn store(&mut self, addr: u32, bytes: &[u8])
-        requires { Stays (IsFree addr (length bytes.now)) (device_at S.size S.told self.old) }
+        requires { IsStable (IsFree addr (length bytes.now)) (device_at S.size S.told self.old) }
         ensures stores { Stores addr bytes.now (device_at S.size S.told self.old) (device_at S.size S.told self.new) }
         ensures counted { self.new.accesses.count.made ≡ self.old.accesses.count.made + 1 }
         ensures alone { DoesThen S.size S.told S.failures (λ d. record d { memory = patched d.memory addr bytes.now })

@@ -7,7 +7,7 @@ ghost use Rattle.adapter.specs.Steps.{lasting_after};
 ghost use Rattle.device_model.specs.Finishing.{sends_page};
 ghost use Rattle.device_model.specs.Modelled.{IsReset};
 ghost use Rattle.device_model.specs.Trims.{written_ahead};
-ghost use Rattle.device_model.specs.View.{Media, cause_of, operation_of, port_of};
+ghost use Rattle.device_model.specs.View.{Media, cause_of, transfer_operation, port_of};
 
 use crate::halt::Halting;
 use crate::prds::PrdTable;
@@ -79,7 +79,7 @@ const SDBS: u32 = 3;
 impl Transfer {
     /// The command that it is.
     pub fn operation(self) -> Operation
-        ensures { result ≡ operation_of self }
+        ensures { result ≡ transfer_operation self }
     {
         match self {
             Transfer::Read => Operation::Read,
@@ -95,7 +95,7 @@ impl Transfer {
 
     /// Whether its device reads memory.
     pub fn reads_memory(self) -> bool
-        ensures { result ≡ reads_memory (operation_of self) }
+        ensures { result ≡ reads_memory (transfer_operation self) }
     {
         match self {
             Transfer::Write | Transfer::WriteQueued | Transfer::Trim => true,
@@ -109,7 +109,7 @@ impl Transfer {
 
     /// How many sectors it writes to the disk, of so many pieces that are left to move.
     pub fn written(self, left: u32) -> u32
-        ensures { result ≡ written_ahead (operation_of self) left }
+        ensures { result ≡ written_ahead (transfer_operation self) left }
     {
         match self {
             Transfer::Write | Transfer::WriteQueued => left,
@@ -124,7 +124,7 @@ impl Transfer {
 
     /// Whether it is one of several in flight.
     pub fn is_queued(self) -> bool
-        ensures { result ≡ is_queued (operation_of self) }
+        ensures { result ≡ is_queued (transfer_operation self) }
     {
         match self {
             Transfer::ReadQueued | Transfer::WriteQueued => true,
@@ -139,7 +139,7 @@ impl Transfer {
 
     /// How many pieces it moves, for so many sectors.
     pub fn pieces(self, count: u32) -> u32
-        ensures { result ≡ pieces_moved (operation_of self) count }
+        ensures { result ≡ pieces_moved (transfer_operation self) count }
     {
         match self {
             Transfer::Flush => 0,
@@ -162,7 +162,7 @@ impl Transfer {
 
     /// Whether it names sectors that it moves.
     pub fn is_ranged(self) -> bool
-        ensures { result ≡ is_ranged (operation_of self) }
+        ensures { result ≡ is_ranged (transfer_operation self) }
     {
         match self {
             Transfer::Read | Transfer::Write | Transfer::ReadQueued | Transfer::WriteQueued => true,
@@ -172,7 +172,7 @@ impl Transfer {
 
     /// Whether it sends a page to the driver itself.
     pub fn sends_page(self) -> bool
-        ensures { result ≡ sends_page (operation_of self) }
+        ensures { result ≡ sends_page (transfer_operation self) }
     {
         matches!(self, Transfer::Identify | Transfer::ReadLog)
     }
@@ -181,7 +181,7 @@ impl Transfer {
     /// before.
     pub fn lasting_at(self, was: usize, here: usize) -> usize
         ensures { (lasting : Lasting) (disk : Disk) → lasting.since ≡ was
-            → result ≡ (lasting_after (operation_of self) lasting disk here).since }
+            → result ≡ (lasting_after (transfer_operation self) lasting disk here).since }
     {
         match self {
             Transfer::Flush => here,
@@ -198,7 +198,7 @@ impl Transfer {
 
     /// Where the bytes of its moves go.
     pub fn direction(self) -> Direction
-        ensures { result ≡ direction_of (operation_of self) }
+        ensures { result ≡ direction_of (transfer_operation self) }
     {
         match self {
             Transfer::Read

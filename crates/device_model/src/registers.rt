@@ -219,7 +219,7 @@ impl PortModel {
     }
 
     /// A fatal error stops the port, and PxIS tells of it (AHCI 1.3.1, 6.2.2).
-    pub fn break_down(&mut self, error: FatalError)
+    pub fn enter_fatal(&mut self, error: FatalError)
         ensures { (m : Media) → port_of self.new m ≡ record (port_of self.old m)
             { is = changed (port_of self.old m).is (fatal_bit error) true; broken = true } }
     {

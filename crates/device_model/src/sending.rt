@@ -1,8 +1,8 @@
 // The FISes that the model sends, in the received FIS area of a port (Serial ATA; AHCI 1.3.1, 4.2.1).
 ghost use Rattle.std.specs.Prelude.{◌≡◌, ◌+◌, ◌<◌, ◌≤◌, ◌/◌, ◌%◌, true, false, length};
 ghost use Rattle.ata_types.specs.declared.memory.TheConstants.{RECEIVED_BYTES};
-ghost use Rattle.device_model.specs.Sent.{IsSent, SendsEnd, SendsFault, SendsRegisters, end_of, no_tag_of, page_setup, signature_of, tag_of};
-ghost use Rattle.device_model.specs.View.{Media, cause_of, operation_of, port_of};
+ghost use Rattle.device_model.specs.Sent.{IsSent, SendsEnd, SendsFault, SendsRegisters, end_fis, no_tag_of, page_setup, signature_of, tag_of};
+ghost use Rattle.device_model.specs.View.{Media, cause_of, transfer_operation, port_of};
 ghost use Rattle.device_model.specs.Whole.{Outside, device_of};
 
 use crate::hardware::{Hardware, put};
@@ -57,7 +57,7 @@ impl PortModel {
 
     /// What a Register FIS tells of a command that has ended or failed.
     fn end_registers(&self) -> DeviceToHost
-        ensures { (m : Media) → result ≡ end_of (port_of self.now m) }
+        ensures { (m : Media) → result ≡ end_fis (port_of self.now m) }
     {
         let (status, error) = self.status_and_error();
         DeviceToHost {
@@ -133,7 +133,7 @@ impl Hardware {
     pub fn send_end(&mut self, port: usize, slot: u8, transfer: Transfer)
         requires port { port < 4 }
         requires slot { slot < 32 }
-        ensures sent { (o : Outside) → SendsEnd slot port (cause_of transfer) (operation_of transfer)
+        ensures sent { (o : Outside) → SendsEnd slot port (cause_of transfer) (transfer_operation transfer)
             (device_of self.old o) (device_of self.new o) }
         ensures rest { self.new ≡ record self.old { memory = self.new.memory } }
     {

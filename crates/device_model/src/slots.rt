@@ -2,14 +2,14 @@
 ghost use Rattle.std.specs.Prelude.{◌≡◌, ◌↔◌, ◌<◌, ◌≤◌, ◌^◌, ◌+◌, ◌||◌, ℕ, IsTrue, None, Some, true, false, is_some, slice_index_or, IfSome, List};
 ghost use Rattle.adapter.specs.Steps.{IsAlone, IsFetchable, IsWorking, admits, with_clear, with_done, with_fault, with_fetch, with_flush, with_move};
 ghost use Rattle.adapter.specs.declared.command.Operation.{Operation};
-ghost use Rattle.device_model.specs.Bits.{bits_of};
-ghost use Rattle.device_model.specs.Fetched.{IsNew};
-ghost use Rattle.device_model.specs.Slots.{IsOpenTo, MayTake, HasUntaken, HoldsAt};
-ghost use Rattle.device_model.specs.View.{Media, cause_of, halt_of, held_in, kept_by, media_after, media_cleared, media_ended, operation_of, port_of, taken_of, blank};
+ghost use Rattle.device_model.specs.Bits.{word_bits};
+ghost use Rattle.device_model.specs.Fetched.{IsUntouched};
+ghost use Rattle.device_model.specs.Slots.{IsOpenTo, MayTake, HasUntaken, WorksOnIn};
+ghost use Rattle.device_model.specs.View.{Media, cause_of, halt_of, held_in, kept_by, media_after, media_cleared, media_ended, transfer_operation, port_of, taken_of, blank_port};
 ghost use Rattle.device_model.specs.declared.port.TakenCommand.{TakenCommand};
 
 use crate::bits::{is_clear_from, with_bit_as};
-use crate::clearing::Run;
+use crate::clearing::SectorExtent;
 use crate::halt::Halting;
 use crate::port::{PortModel, TakenCommand, Transfer};
 use hba_regs::is_set;
@@ -38,8 +38,8 @@ impl PortModel {
     /// A command is taken in a slot: a queued one leaves PxCI, and a plain one sets BSY.
     pub fn take(&mut self, slot: u8, command: TakenCommand)
         requires slot { slot < 32 }
-        requires new { IsNew command }
-        requires alone { (m : Media) → IsAlone (port_of self.old m) (operation_of command.transfer) }
+        requires new { IsUntouched command }
+        requires alone { (m : Media) → IsAlone (port_of self.old m) (transfer_operation command.transfer) }
         ensures { (m : Media) → port_of self.new m ≡ with_fetch (port_of self.old m) slot (taken_of command).meaning
             (taken_of command).places }
     {
@@ -73,7 +73,7 @@ impl PortModel {
     }
 
     /// Sectors of a slot's trim were cleared.
-    pub fn clear(&mut self, slot: u8, run: Run)
+    pub fn clear(&mut self, slot: u8, run: SectorExtent)
         requires slot { slot < 32 }
         requires room { IfSome (held_in self.old.taken slot) (λ t. t.cleared + run.count < 2 ^ 32) }
         ensures { (m : Media) (t : TakenCommand) → held_in self.old.taken slot ≡ Some t →
@@ -87,8 +87,9 @@ impl PortModel {
     /// PxCI.
     pub fn end(&mut self, slot: u8, transfer: Transfer, here: usize)
         requires { slot < 32 }
-        ensures { (m : Media) → port_of self.new (media_ended m (operation_of transfer)) ≡ with_flush
-            (with_done (port_of self.old m) slot (cause_of transfer) (operation_of transfer)) (operation_of transfer)
+        ensures { (m : Media) → port_of self.new (media_ended m (transfer_operation transfer)) ≡ with_flush
+            (with_done (port_of self.old m) slot (cause_of transfer) (transfer_operation transfer))
+            (transfer_operation transfer)
             here }
     {
         self.lasting_at = transfer.lasting_at(self.lasting_at, here);
@@ -116,7 +117,7 @@ impl PortModel {
     /// Whether a command is issued or taken in a slot.
     pub fn is_used(&self, slot: u8) -> bool
         requires { slot < 32 }
-        ensures { result ≡ (bits_of self.now.ci slot || is_some (held_in self.now.taken slot)) }
+        ensures { result ≡ (word_bits self.now.ci slot || is_some (held_in self.now.taken slot)) }
     {
         is_set(self.ci, u32::from(slot)) || self.taken.is_taken(slot)
     }
@@ -125,25 +126,26 @@ impl PortModel {
     pub fn is_unused_from(&self, slot: u8) -> bool
         requires { slot < 32 }
         ensures { IsTrue result ↔ ((k : ℕ) → slot ≤ k
-            → (bits_of self.now.ci k ≡ false) × (held_in self.now.taken k ≡ None)) }
+            → (word_bits self.now.ci k ≡ false) × (held_in self.now.taken k ≡ None)) }
     {
         is_clear_from(self.ci, u32::from(slot)) && self.taken.is_empty_from(slot)
     }
 
     /// Whether the port works on such commands.
-    pub fn works_on(&self, transfer: Transfer) -> bool
-        ensures works { result ≡ true → (m : Media) → IsWorking (port_of self.now m) (operation_of transfer) }
-        ensures only { result ≡ false → (m : Media) → IsWorking (port_of self.now m) (operation_of transfer) → ⊥ }
+    pub fn is_working_on(&self, transfer: Transfer) -> bool
+        ensures works { result ≡ true → (m : Media) → IsWorking (port_of self.now m) (transfer_operation transfer) }
+        ensures only { result ≡ false → (m : Media) → IsWorking (port_of self.now m) (transfer_operation transfer) → ⊥ }
     {
         self.cr && self.present && self.fresh && !self.broken && self.halting.admits(transfer)
     }
 
     /// Whether such a command may be taken now, if the port works: no fault keeps it waiting, and it goes beside those
     /// that are taken.
-    pub fn is_open_to(&self, transfer: Transfer) -> bool
-        ensures open { result ≡ true → IsOpenTo self.now (operation_of transfer) }
-        ensures only { result ≡ false → (m : Media) → admits (halt_of self.now.halting) (operation_of transfer) ≡ true
-            → IsAlone (port_of self.now m) (operation_of transfer) → ⊥ }
+    pub fn may_take_command(&self, transfer: Transfer) -> bool
+        ensures open { result ≡ true → IsOpenTo self.now (transfer_operation transfer) }
+        ensures only { result ≡ false → (m : Media)
+            → admits (halt_of self.now.halting) (transfer_operation transfer) ≡ true
+            → IsAlone (port_of self.now m) (transfer_operation transfer) → ⊥ }
     {
         self.halting.admits(transfer) && self.is_alone(transfer)
     }
@@ -151,8 +153,8 @@ impl PortModel {
     /// Whether such a command may be taken beside those that are: a queued one beside queued ones, and a plain one
     /// alone.
     fn is_alone(&self, transfer: Transfer) -> bool
-        ensures alone { result ≡ true → (m : Media) → IsAlone (port_of self.now m) (operation_of transfer) }
-        ensures only { result ≡ false → (m : Media) → IsAlone (port_of self.now m) (operation_of transfer) → ⊥ }
+        ensures alone { result ≡ true → (m : Media) → IsAlone (port_of self.now m) (transfer_operation transfer) }
+        ensures only { result ≡ false → (m : Media) → IsAlone (port_of self.now m) (transfer_operation transfer) → ⊥ }
     {
         if transfer.is_queued() {
             self.taken.are_queued()
@@ -167,12 +169,12 @@ impl PortModel {
 pub fn has_untaken(ports: &[PortModel; 4], port: usize, slot: u8) -> bool
     requires port { port < 4 }
     requires slot { slot < 32 }
-    ensures may { result ≡ true → HasUntaken (slice_index_or ports.now port blank) slot }
+    ensures may { result ≡ true → HasUntaken (slice_index_or ports.now port blank_port) slot }
     ensures only { result ≡ false → (m : Media) (operation : Operation)
-        → MayTake (port_of (slice_index_or ports.now port blank) m) slot operation → ⊥ }
+        → MayTake (port_of (slice_index_or ports.now port blank_port) m) slot operation → ⊥ }
     ensures none { result ≡ false → (m : Media) (operation : Operation)
-        → IsFetchable (port_of (slice_index_or ports.now port blank) m) slot →
-        IsWorking (port_of (slice_index_or ports.now port blank) m) operation → ⊥ }
+        → IsFetchable (port_of (slice_index_or ports.now port blank_port) m) slot →
+        IsWorking (port_of (slice_index_or ports.now port blank_port) m) operation → ⊥ }
 {
     ports[port].st
         && ports[port].cr
@@ -187,12 +189,13 @@ pub fn has_untaken(ports: &[PortModel; 4], port: usize, slot: u8) -> bool
 pub fn working_on(ports: &[PortModel; 4], port: usize, slot: u8) -> Option<&TakenCommand>
     requires port { port < 4 }
     requires slot { slot < 32 }
-    ensures found { IfSome result (λ t. HoldsAt (slice_index_or ports.now port blank) slot t.now) }
+    ensures found { IfSome result (λ t. WorksOnIn (slice_index_or ports.now port blank_port) slot t.now) }
     ensures low { IfSome result (λ t. t.now.first < 2 ^ 48) }
-    ensures none { result ≡ None → (t : TakenCommand) → HoldsAt (slice_index_or ports.now port blank) slot t → ⊥ }
+    ensures none { result ≡ None → (t : TakenCommand) → WorksOnIn (slice_index_or ports.now port blank_port) slot t
+        → ⊥ }
 {
     let command = ports[port].taken.get(slot)?;
-    if ports[port].works_on(command.transfer) {
+    if ports[port].is_working_on(command.transfer) {
         Some(command)
     } else {
         None

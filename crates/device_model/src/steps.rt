@@ -2,21 +2,21 @@
 ghost use Rattle.std.specs.Prelude.{◌≡◌, ◌↔◌, IsTrue, ◌<◌, ◌≤◌, ◌+◌, ◌-◌, ◌*◌, ◌^◌, ◌++◌, ◌∷◌, [], true, false, ℕ, List, None, Some, IfSome, IsSomeAnd, if◌then◌else◌, length, nat_eq, slice_index, slice_index_or};
 ghost use Rattle.std.specs.Vec.{vec_len, vec_capacity};
 ghost use Rattle.adapter.specs.Commands.{Meaning, is_queued, is_ranged, reads_memory};
-ghost use Rattle.adapter.specs.Device.{Disk, Taken};
+ghost use Rattle.adapter.specs.Device.{Disk, FetchedCommand};
 ghost use Rattle.adapter.specs.Memory.{bytes_at};
-ghost use Rattle.adapter.specs.Says.{pieces};
-ghost use Rattle.adapter.specs.Steps.{Can, IsFinished, after, next_sector};
-ghost use Rattle.adapter.specs.Steps.Step.{Fetch as FetchStep, FetchFault as FetchFaultStep, Move as MoveStep, Done as DoneStep, Fault as FaultStep, Fatal as FatalStep, Unplug as UnplugStep, Plug as PlugStep};
-ghost use Rattle.adapter.specs.Asked.{DoesFatal, DoesFault, DoesFetch, Ends, fatal_bit};
+ghost use Rattle.adapter.specs.Decoding.{pieces};
+ghost use Rattle.adapter.specs.Steps.{Can, IsFinished, device_after, next_sector};
+ghost use Rattle.adapter.specs.Steps.DeviceTransition.{Fetch as FetchStep, FetchFault as FetchFaultStep, Move as MoveStep, Done as DoneStep, Fault as FaultStep, Fatal as FatalStep, Unplug as UnplugStep, Plug as PlugStep};
+ghost use Rattle.adapter.specs.Asked.{DoesFatal, DoesFault, DoesFetch, EndsAndPosts, fatal_bit};
 ghost use Rattle.device_model.specs.Block.{brought};
 ghost use Rattle.device_model.specs.Cached.{HasOldRoom, KeepsTheSame};
 ghost use Rattle.device_model.specs.Exchanged.{IsExchanged, piece_of};
 ghost use Rattle.device_model.specs.Fetched.{bytes_of};
-ghost use Rattle.device_model.specs.Finishing.{HasRoom, HasRoomAhead, FindsPage, IsInside, AreInside, IsBegun, IsCovered, IsPassed, IsRest, IsUnbegun};
+ghost use Rattle.device_model.specs.Finishing.{TapeHasRoom, HasRoomAhead, LooksForPage, IsInside, AreInside, IsBegun, IsCovered, IsPassed, IsRest, IsUnbegun};
 ghost use Rattle.device_model.specs.Sent.{SendsEnd};
-ghost use Rattle.device_model.specs.Slots.{HoldsAt, IsNext, HasUntaken};
+ghost use Rattle.device_model.specs.Slots.{WorksOnIn, IsNext, HasUntaken};
 ghost use Rattle.device_model.specs.Trims.{changes_ahead};
-ghost use Rattle.device_model.specs.View.{held_in, kept_by, operation_of, taken_of, blank};
+ghost use Rattle.device_model.specs.View.{held_in, kept_by, transfer_operation, taken_of, blank_port};
 ghost use Rattle.device_model.specs.Whole.{Outside, device_of, outside_after, outside_ended, outside_plugged};
 ghost use Rattle.device_model.specs.declared.port.TakenCommand.{TakenCommand};
 
@@ -49,7 +49,7 @@ pub struct NextMove {
 
 /// What is left of a command, but for its end: so many moves, and then so many clears.
 #[derive(Clone, Copy, Debug)]
-pub struct Rest {
+pub struct Remaining {
     pub left: u32,
     pub clears: u32,
     /// How many sectors of the disk these change: each sector that is written, and each one that is cleared.
@@ -58,15 +58,15 @@ pub struct Rest {
 
 /// A command that is to be done to its end.
 #[derive(Clone, Copy, Debug)]
-pub struct Begun {
-    pub rest: Rest,
+pub struct CommandToFinish {
+    pub rest: Remaining,
     /// Whether it was taken just now.
     pub was_taken: bool,
 }
 
 /// An IDENTIFY DEVICE or READ LOG EXT that the model goes on with by itself.
 #[derive(Clone, Copy, Debug)]
-pub struct FoundPage {
+pub struct PendingPage {
     pub port: u8,
     pub slot: u8,
     /// Whether it can be done to its end. Else it may be taken, and no more.
@@ -76,7 +76,7 @@ pub struct FoundPage {
 impl NextMove {
     /// Whether it names no sector, or one of so many.
     pub fn is_on(self, sectors: u64) -> bool
-        ensures { IsTrue result ↔ (is_ranged (operation_of self.transfer) ≡ true → self.sector < sectors) }
+        ensures { IsTrue result ↔ (is_ranged (transfer_operation self.transfer) ≡ true → self.sector < sectors) }
     {
         !self.transfer.is_ranged() || self.sector < sectors
     }
@@ -108,7 +108,7 @@ fn behind(transfer: Transfer, place: PiecePlace, size: usize) -> u32
     requires { place.address < 2 ^ 33 }
     ensures few { result ≤ place.behind }
     ensures inside { place.address + 512 ≤ size → place.address + 512 * result + 512 ≤ size }
-    ensures ranged { 1 ≤ result → is_ranged (operation_of transfer) ≡ true }
+    ensures ranged { 1 ≤ result → is_ranged (transfer_operation transfer) ≡ true }
 {
     let end = place.address + 512 * u64::from(place.behind) + 512;
     if transfer.is_ranged() && end <= size as u64 {
@@ -171,18 +171,19 @@ fn left_of(command: &TakenCommand, size: usize) -> Option<u32>
 }
 
 /// What is left of a command, whose block is this, if each of its moves has a place in the memory.
-fn rest_of(command: &TakenCommand, block: &[u8], memory: &[u8]) -> Option<Rest>
+fn rest_of(command: &TakenCommand, block: &[u8], memory: &[u8]) -> Option<Remaining>
     requires block { block.now ≡ brought command.now.block }
     requires few { length block.now ≤ 512 }
     ensures rest { IfSome result (λ rest. IsRest command.now memory.now rest.left rest.clears) }
     ensures changes { IfSome result (λ rest. rest.changes
-        ≡ changes_ahead (operation_of command.now.transfer) (bytes_of memory.now) (taken_of command.now) rest.left) }
+        ≡ changes_ahead (transfer_operation command.now.transfer) (bytes_of memory.now)
+        (taken_of command.now) rest.left) }
     ensures only { (left clears : ℕ) → IsRest command.now memory.now left clears
         → IsSomeAnd result (λ rest. (rest.left ≡ left) × (rest.clears ≡ clears)) }
 {
     let left = left_of(command, memory.len())?;
     let clears = clears_of(command, block, memory)?;
-    Some(Rest {
+    Some(Remaining {
         left,
         clears: clears.runs,
         changes: command.transfer.written(left) as usize + clears.sectors as usize,
@@ -199,7 +200,7 @@ pub struct Growths {
 
 /// What a command needs to be done to its end: an entry of each move and each clear, and one of the end; and the old
 /// bytes of each sector that it changes.
-fn growths_of(rest: Rest) -> Growths
+fn growths_of(rest: Remaining) -> Growths
     ensures entries { result.entries ≡ rest.left + rest.clears + 1 }
     ensures old_sectors { result.old_sectors ≡ rest.changes }
 {
@@ -293,7 +294,7 @@ impl Hardware {
     fn fetch_said(&mut self, port: u8, slot: u8) -> bool
         requires port { port < 4 }
         requires slot { slot < 32 }
-        requires may { HasUntaken (slice_index_or self.old.ports port blank) slot }
+        requires may { HasUntaken (slice_index_or self.old.ports port blank_port) slot }
         ensures did { result ≡ true → (o : Outside)
             → DoesFetch port slot (device_of self.old o) (device_of self.new o) }
         ensures refused { result ≡ false → self.new ≡ self.old }
@@ -307,7 +308,7 @@ impl Hardware {
         let Some(command) = read_command(&self.memory, list, slot) else {
             return false;
         };
-        if !self.ports[place].is_open_to(command.transfer) {
+        if !self.ports[place].may_take_command(command.transfer) {
             return false;
         }
         self.ports[place].take(slot, command);
@@ -320,12 +321,12 @@ impl Hardware {
     fn says_page(&self, port: usize, slot: u8) -> Option<bool>
         requires port { port < 4 }
         requires slot { slot < 32 }
-        requires may { HasUntaken (slice_index_or self.now.ports port blank) slot }
-        ensures { (o : Outside) → FindsPage (device_of self.now o) port slot result }
+        requires may { HasUntaken (slice_index_or self.now.ports port blank_port) slot }
+        ensures { (o : Outside) → LooksForPage (device_of self.now o) port slot result }
     {
         let list = self.ports[port].addresses.clb;
         let command = read_page(&self.memory, list, slot)?;
-        if self.ports[port].is_open_to(command.transfer) {
+        if self.ports[port].may_take_command(command.transfer) {
             Some(can_end(&command, self.memory.len()))
         } else {
             None
@@ -337,7 +338,7 @@ impl Hardware {
     fn has_page(&self, port: usize, slot: u8) -> Option<bool>
         requires port { port < 4 }
         requires slot { slot < 32 }
-        ensures { (o : Outside) → FindsPage (device_of self.now o) port slot result }
+        ensures { (o : Outside) → LooksForPage (device_of self.now o) port slot result }
     {
         if !self.ports[port].is_used(slot) {
             return None;
@@ -361,16 +362,16 @@ impl Hardware {
 
     /// The first slot of a port with an IDENTIFY DEVICE or READ LOG EXT that may be taken, or can be done to its end.
     /// It is looked for as far as commands are issued or taken.
-    pub fn next_page(&self, port: u8) -> Option<FoundPage>
+    pub fn next_page(&self, port: u8) -> Option<PendingPage>
         requires { port < 4 }
         ensures port { IfSome result (λ found. found.port ≡ port) }
         ensures small { IfSome result (λ found. found.slot < 32) }
-        ensures found { IfSome result (λ found. (o : Outside) → FindsPage (device_of self.now o) port found.slot
+        ensures found { IfSome result (λ found. (o : Outside) → LooksForPage (device_of self.now o) port found.slot
             (Some found.ends)) }
         ensures first { IfSome result (λ found. (o : Outside) (slot : ℕ) → slot < found.slot
-            → FindsPage (device_of self.now o) port slot None) }
+            → LooksForPage (device_of self.now o) port slot None) }
         ensures none { result ≡ None → (o : Outside) (slot : ℕ) → slot < 32
-            → FindsPage (device_of self.now o) port slot None }
+            → LooksForPage (device_of self.now o) port slot None }
     {
         let place = usize::from(port);
         for slot in 0..32 {
@@ -378,7 +379,7 @@ impl Hardware {
                 return None;
             }
             if let Some(ends) = self.has_page(place, slot) {
-                return Some(FoundPage { port, slot, ends });
+                return Some(PendingPage { port, slot, ends });
             }
         }
         None
@@ -392,7 +393,8 @@ impl Hardware {
         requires slot { slot < 32 }
         requires known { IfSome known (λ n. (t : TakenCommand) × IsNext self.now port slot n t) }
         ensures found { IfSome result (λ n. (t : TakenCommand) × IsNext self.now port slot n t) }
-        ensures none { result ≡ None → (t : TakenCommand) → HoldsAt (slice_index_or self.now.ports port blank) slot t
+        ensures none { result ≡ None → (t : TakenCommand)
+            → WorksOnIn (slice_index_or self.now.ports port blank_port) slot t
             → t.moved < length (pieces t.prds) →
             slice_index (pieces t.prds) t.moved < 2 ^ 32 → slice_index (pieces t.prds) t.moved + 512
             ≤ length self.now.memory.items → ⊥ }
@@ -409,7 +411,8 @@ impl Hardware {
         requires port { port < 4 }
         requires slot { slot < 32 }
         ensures found { IfSome result (λ n. (t : TakenCommand) × IsNext self.now port slot n t) }
-        ensures none { result ≡ None → (t : TakenCommand) → HoldsAt (slice_index_or self.now.ports port blank) slot t
+        ensures none { result ≡ None → (t : TakenCommand)
+            → WorksOnIn (slice_index_or self.now.ports port blank_port) slot t
             → t.moved < length (pieces t.prds) →
             slice_index (pieces t.prds) t.moved < 2 ^ 32 → slice_index (pieces t.prds) t.moved + 512
             ≤ length self.now.memory.items → ⊥ }
@@ -435,12 +438,12 @@ impl Hardware {
         requires port { port < 4 }
         requires slot { slot < 32 }
         requires next { (t : TakenCommand) × IsNext self.old port slot next t }
-        requires room { HasRoom self.old 1 }
+        requires room { TapeHasRoom self.old 1 }
         ensures moved { (old : Hardware) (o : Outside) (t : TakenCommand) → IsExchanged old self.old next →
             IsNext old port slot next t →
             device_of self.new (outside_after o port (taken_of t) (piece_of self.old next))
-            ≡ after (MoveStep port slot (taken_of t) (piece_of self.old next)) (device_of old o) }
-        ensures left { (n : ℕ) → HasRoom self.old (n + 1) → HasRoom self.new n }
+            ≡ device_after (MoveStep port slot (taken_of t) (piece_of self.old next)) (device_of old o) }
+        ensures left { (n : ℕ) → TapeHasRoom self.old (n + 1) → TapeHasRoom self.new n }
         ensures starved { self.new.starved ≡ self.old.starved }
         ensures after { IfSome result (λ n. (t : TakenCommand) × IsNext self.new port slot n t) }
     {
@@ -464,9 +467,10 @@ impl Hardware {
         requires port { port < 4 }
         requires slot { slot < 32 }
         ensures found { IfSome result (λ transfer. (t : TakenCommand)
-            × HoldsAt (slice_index_or self.now.ports port blank) slot t × IsFinished (taken_of t)
+            × WorksOnIn (slice_index_or self.now.ports port blank_port) slot t × IsFinished (taken_of t)
             × (transfer ≡ t.transfer)) }
-        ensures none { result ≡ None → (t : TakenCommand) → HoldsAt (slice_index_or self.now.ports port blank) slot t
+        ensures none { result ≡ None → (t : TakenCommand)
+            → WorksOnIn (slice_index_or self.now.ports port blank_port) slot t
             → IsFinished (taken_of t) → ⊥ }
     {
         let command = working_on(&self.ports, usize::from(port), slot)?;
@@ -478,16 +482,18 @@ impl Hardware {
     }
 
     /// What is left of a slot's command that is taken, if each move and each clear is possible.
-    fn rest_at(&self, port: u8, slot: u8) -> Option<Rest>
+    fn rest_at(&self, port: u8, slot: u8) -> Option<Remaining>
         requires port { port < 4 }
         requires slot { slot < 32 }
-        ensures found { IfSome result (λ rest. (t : TakenCommand) × HoldsAt (slice_index_or self.now.ports port blank)
+        ensures found { IfSome result
+            (λ rest. (t : TakenCommand) × WorksOnIn (slice_index_or self.now.ports port blank_port)
             slot t
             × IsRest t self.now.memory.items rest.left rest.clears) }
         ensures changes { IfSome result (λ rest. (t : TakenCommand)
-            → HoldsAt (slice_index_or self.now.ports port blank) slot t → rest.changes ≡ changes_ahead
-            (operation_of t.transfer) (bytes_of self.now.memory.items) (taken_of t) rest.left) }
-        ensures only { (t : TakenCommand) (left clears : ℕ) → HoldsAt (slice_index_or self.now.ports port blank) slot t
+            → WorksOnIn (slice_index_or self.now.ports port blank_port) slot t → rest.changes ≡ changes_ahead
+            (transfer_operation t.transfer) (bytes_of self.now.memory.items) (taken_of t) rest.left) }
+        ensures only { (t : TakenCommand) (left clears : ℕ)
+            → WorksOnIn (slice_index_or self.now.ports port blank_port) slot t
             → IsRest t self.now.memory.items left clears
             → IsSomeAnd result (λ rest. (rest.left ≡ left) × (rest.clears ≡ clears)) }
     {
@@ -501,10 +507,11 @@ impl Hardware {
     pub fn done(&mut self, port: u8, slot: u8) -> Option<Transfer>
         requires port { port < 4 }
         requires slot { slot < 32 }
-        ensures did { IfSome result (λ transfer. (o : Outside) → Ends (SendsEnd slot) port slot (device_of self.old o)
-            (device_of self.new (outside_ended o port (operation_of transfer)))) }
+        ensures did { IfSome result
+            (λ transfer. (o : Outside) → EndsAndPosts (SendsEnd slot) port slot (device_of self.old o)
+            (device_of self.new (outside_ended o port (transfer_operation transfer)))) }
         ensures refused { result ≡ None → (o : Outside) → device_of self.new o ≡ device_of self.old o }
-        ensures left { result ≡ None → (o : Outside) → IsPassed self.old self.new ((flag : ℕ) × (t : Taken)
+        ensures left { result ≡ None → (o : Outside) → IsPassed self.old self.new ((flag : ℕ) × (t : FetchedCommand)
             × Can (DoneStep port slot flag t) (device_of self.old o)) }
         ensures fed { IfSome result (λ transfer. self.new.starved ≡ self.old.starved) }
     {
@@ -531,11 +538,13 @@ impl Hardware {
         requires port { port < 4 }
         requires slot { slot < 32 }
         ensures found { IfSome result (λ queued. (t : TakenCommand)
-            × (held_in (slice_index_or self.now.ports port blank).taken slot ≡ Some t)
-            × ((slice_index_or self.now.ports port blank).cr ≡ true) × (queued ≡ is_queued (operation_of t.transfer))) }
-        ensures none { result ≡ None → (t : TakenCommand) → held_in (slice_index_or self.now.ports port blank).taken
+            × (held_in (slice_index_or self.now.ports port blank_port).taken slot ≡ Some t)
+            × ((slice_index_or self.now.ports port blank_port).cr ≡ true)
+            × (queued ≡ is_queued (transfer_operation t.transfer))) }
+        ensures none { result ≡ None → (t : TakenCommand)
+            → held_in (slice_index_or self.now.ports port blank_port).taken
             slot ≡ Some t →
-            (slice_index_or self.now.ports port blank).cr ≡ true → ⊥ }
+            (slice_index_or self.now.ports port blank_port).cr ≡ true → ⊥ }
     {
         let command = self.ports[usize::from(port)].taken.get(slot)?;
         if self.ports[usize::from(port)].cr {
@@ -555,7 +564,7 @@ impl Hardware {
             × (queued ≡ is_queued f.t.meaning.operation)) }
         ensures refused { result ≡ None → (o : Outside) → device_of self.new o ≡ device_of self.old o }
         ensures left { result ≡ None → (o : Outside)
-            → IsPassed self.old self.new ((t : Taken) × Can (FaultStep port slot error (kept_by busy) t)
+            → IsPassed self.old self.new ((t : FetchedCommand) × Can (FaultStep port slot error (kept_by busy) t)
             (device_of self.old o)) }
         ensures fed { IfSome result (λ _. self.new.starved ≡ self.old.starved) }
     {
@@ -576,11 +585,11 @@ impl Hardware {
     /// Fails what is issued in a slot, and may be taken, if its bytes mean no command that there is (AHCI 1.3.1, 6.2.2;
     /// ACS-3, 6.2): with ABRT. `false` says that they mean one, that there is none, or that the tape found no memory.
     #[inline(never)]
-    pub fn fail_senseless(&mut self, port: u8, slot: u8) -> bool
+    pub fn abort_invalid(&mut self, port: u8, slot: u8) -> bool
         requires port { port < 4 }
         requires slot { slot < 32 }
         ensures did { result ≡ true → (o : Outside) → Can (FetchFaultStep port slot false 0) (device_of self.old o)
-            × (device_of self.new o ≡ after (FetchFaultStep port slot false 0) (device_of self.old o)) }
+            × (device_of self.new o ≡ device_after (FetchFaultStep port slot false 0) (device_of self.old o)) }
         ensures refused { result ≡ false → (o : Outside) → device_of self.new o ≡ device_of self.old o }
         ensures left { result ≡ false → (o : Outside)
             → IsPassed self.old self.new (Can (FetchFaultStep port slot false 0) (device_of self.old o)) }
@@ -614,10 +623,10 @@ impl Hardware {
     /// possible, the tape finds memory for them and the end, and the cache of the port's disks for what the sectors
     /// held that they change. Want of memory is told.
     #[inline(never)]
-    fn begin_said(&mut self, port: u8, slot: u8, cache: &mut Cache) -> Option<Begun>
+    fn begin_said(&mut self, port: u8, slot: u8, cache: &mut Cache) -> Option<CommandToFinish>
         requires port { port < 4 }
         requires slot { slot < 32 }
-        requires may { HasUntaken (slice_index_or self.old.ports port blank) slot }
+        requires may { HasUntaken (slice_index_or self.old.ports port blank_port) slot }
         ensures begun { IfSome result (λ b. IsBegun port slot b.rest.left b.rest.clears b.was_taken self.old self.new) }
         ensures ahead { IfSome result (λ b. (o : Outside)
             → HasRoomAhead cache.new port slot b.rest.left (device_of self.new o)) }
@@ -630,7 +639,7 @@ impl Hardware {
         if !read_into(&self.memory, list, slot, &mut command) {
             return None;
         }
-        if !self.ports[place].is_open_to(command.transfer) {
+        if !self.ports[place].may_take_command(command.transfer) {
             return None;
         }
         let rest = rest_of(&command, &[], &self.memory)?;
@@ -639,7 +648,7 @@ impl Hardware {
             return None;
         }
         self.ports[place].take(slot, command);
-        Some(Begun {
+        Some(CommandToFinish {
             rest,
             was_taken: true,
         })
@@ -648,7 +657,7 @@ impl Hardware {
     /// Begins to do a slot's command to its end, where each move and each clear that it has left is possible: the tape
     /// finds memory for them and the end, and the cache of the port's disks for what the sectors held that they change,
     /// and the command is taken, unless it is already. Want of memory is told.
-    pub fn begin(&mut self, port: u8, slot: u8, cache: &mut Cache) -> Option<Begun>
+    pub fn begin(&mut self, port: u8, slot: u8, cache: &mut Cache) -> Option<CommandToFinish>
         requires port { port < 4 }
         requires slot { slot < 32 }
         ensures begun { IfSome result (λ b. IsBegun port slot b.rest.left b.rest.clears b.was_taken self.old self.new) }
@@ -666,14 +675,14 @@ impl Hardware {
             self.starved = true;
             return None;
         }
-        Some(Begun {
+        Some(CommandToFinish {
             rest,
             was_taken: false,
         })
     }
 
     /// A port meets a fatal error; `false` says that its engine has fallen, or that the tape found no memory.
-    pub fn meet(&mut self, port: u8, error: FatalError) -> bool
+    pub fn raise_fatal(&mut self, port: u8, error: FatalError) -> bool
         requires { port < 4 }
         ensures did { result ≡ true → (o : Outside)
             → DoesFatal port error (device_of self.old o) (device_of self.new o) }
@@ -689,7 +698,7 @@ impl Hardware {
         if !record(&mut self.tape, &mut self.starved, Entry::Fatal(Port(port))) {
             return false;
         }
-        self.ports[place].break_down(error);
+        self.ports[place].enter_fatal(error);
         true
     }
 
@@ -697,7 +706,7 @@ impl Hardware {
     pub fn unplug(&mut self, port: u8) -> bool
         requires { port < 4 }
         ensures did { result ≡ true → (o : Outside) → Can (UnplugStep port) (device_of self.old o)
-            × (device_of self.new o ≡ after (UnplugStep port) (device_of self.old o)) }
+            × (device_of self.new o ≡ device_after (UnplugStep port) (device_of self.old o)) }
         ensures refused { result ≡ false → (o : Outside) → device_of self.new o ≡ device_of self.old o }
         ensures left { result ≡ false → (o : Outside)
             → IsPassed self.old self.new (Can (UnplugStep port) (device_of self.old o)) }
@@ -721,7 +730,8 @@ impl Hardware {
         ensures free { result ≡ true → (o : Outside) → ((device_of self.old o).port port).present ≡ false }
         ensures did { result ≡ true → (o : Outside) (disk : Disk) → disk.name ≡ number →
             same ≡ nat_eq disk.name (o.media port).disk.name →
-            device_of self.new (outside_plugged o port disk) ≡ after (PlugStep port disk) (device_of self.old o) }
+            device_of self.new (outside_plugged o port disk) ≡ device_after (PlugStep port disk)
+            (device_of self.old o) }
         ensures refused { result ≡ false → (o : Outside) → device_of self.new o ≡ device_of self.old o }
         ensures left { result ≡ false → (o : Outside)
             → IsPassed self.old self.new (((device_of self.old o).port port).present ≡ false) }
@@ -745,10 +755,10 @@ impl Hardware {
     /// that is not told yet.
     pub fn reserve(&mut self, entries: usize) -> bool
         ensures same { (o : Outside) → device_of self.new o ≡ device_of self.old o }
-        ensures room { result ≡ true → HasRoom self.new entries }
-        ensures kept { (n : ℕ) → HasRoom self.old n → HasRoom self.new n }
-        ensures enough { HasRoom self.old entries → result ≡ true }
-        ensures lacks { result ≡ false → HasRoom self.new entries → ⊥ }
+        ensures room { result ≡ true → TapeHasRoom self.new entries }
+        ensures kept { (n : ℕ) → TapeHasRoom self.old n → TapeHasRoom self.new n }
+        ensures enough { TapeHasRoom self.old entries → result ≡ true }
+        ensures lacks { result ≡ false → TapeHasRoom self.new entries → ⊥ }
         ensures starved { self.new.starved ≡ self.old.starved }
         ensures rest { self.new ≡ record self.old { tape = self.new.tape } }
     {

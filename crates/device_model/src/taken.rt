@@ -4,7 +4,7 @@ ghost use Rattle.adapter.specs.Commands.{is_queued};
 ghost use Rattle.adapter.specs.Memory.{changed};
 ghost use Rattle.adapter.specs.Steps.{noted_bytes};
 ghost use Rattle.device_model.specs.Block.{brought};
-ghost use Rattle.device_model.specs.View.{held_in, operation_of};
+ghost use Rattle.device_model.specs.View.{held_in, transfer_operation};
 ghost use Rattle.device_model.specs.declared.port.TakenCommand.{TakenCommand};
 
 use crate::bits::{is_clear_from, with_bit_as};
@@ -27,7 +27,7 @@ pub struct TakenCommands {
 
 impl Model for TakenCommands {
     ghost use Rattle.std.specs.Prelude.{◌≡◌, List, Option, None, is_some, length, slice_index_or};
-    ghost use Rattle.device_model.specs.Bits.{bits_of};
+    ghost use Rattle.device_model.specs.Bits.{word_bits};
     ghost use Rattle.device_model.specs.Block.{HasBlock};
     ghost use Rattle.device_model.specs.declared.port.TakenCommand.{TakenCommand};
 
@@ -36,7 +36,7 @@ impl Model for TakenCommands {
     ghost view = { λ s. s.slots.items };
 
     ghost invariant = { λ s. (length s.slots.items ≡ 32)
-        × (bits_of s.filled ≡ (λ slot. is_some (slice_index_or s.slots.items slot None)))
+        × (word_bits s.filled ≡ (λ slot. is_some (slice_index_or s.slots.items slot None)))
         × HasBlock s.slots.items s.block };
 }
 
@@ -174,7 +174,7 @@ impl TakenCommands {
     /// Whether each that is taken is queued.
     pub fn are_queued(&self) -> bool
         ensures { IsTrue result ↔ ((slot : ℕ) (t : TakenCommand) → held_in self.now slot ≡ Some t
-            → is_queued (operation_of t.transfer) ≡ true) }
+            → is_queued (transfer_operation t.transfer) ≡ true) }
     {
         self.is_empty() || hold_queued(&self.slots)
     }
@@ -226,7 +226,7 @@ fn count_clear(taken: &mut Option<TakenCommand>, count: u32)
 /// Whether each command in these slots is queued.
 fn hold_queued(slots: &[Option<TakenCommand>]) -> bool
     ensures { IsTrue result ↔ ((slot : ℕ) (t : TakenCommand) → held_in slots.now slot ≡ Some t
-        → is_queued (operation_of t.transfer) ≡ true) }
+        → is_queued (transfer_operation t.transfer) ≡ true) }
 {
     for slot in slots {
         if let Some(command) = slot

@@ -1,19 +1,19 @@
 // Trims: what is left to clear of one, and that it is cleared.
 ghost use Rattle.std.specs.Prelude.{◌≡◌, ◌↔◌, ◌+◌, ◌^◌, ◌<◌, ◌≤◌, ℕ, IsTrue, IfSome, IsSomeAnd, None, Some, length, drop, slice_index_or};
-ghost use Rattle.adapter.specs.Says.{pieces};
-ghost use Rattle.adapter.specs.Steps.{IsFinished, after};
-ghost use Rattle.adapter.specs.Steps.Step.{Clear as ClearStep};
+ghost use Rattle.adapter.specs.Decoding.{pieces};
+ghost use Rattle.adapter.specs.Steps.{IsFinished, device_after};
+ghost use Rattle.adapter.specs.Steps.DeviceTransition.{Clear as ClearStep};
 ghost use Rattle.adapter.specs.Trim.{trim_sectors};
 ghost use Rattle.device_model.specs.Block.{brought};
 ghost use Rattle.device_model.specs.Fetched.{bytes_of};
-ghost use Rattle.device_model.specs.Finishing.{HasRoom};
-ghost use Rattle.device_model.specs.Slots.{CanClear, HoldsAt, IsNextRun};
+ghost use Rattle.device_model.specs.Finishing.{TapeHasRoom};
+ghost use Rattle.device_model.specs.Slots.{CanClear, WorksOnIn, IsNextRun};
 ghost use Rattle.device_model.specs.Trims.{HasRuns, WillClear, block_ahead, cleared_ahead, next_uncleared, span, uncleared};
-ghost use Rattle.device_model.specs.View.{blank, operation_of, taken_of};
+ghost use Rattle.device_model.specs.View.{blank_port, transfer_operation, taken_of};
 ghost use Rattle.device_model.specs.Whole.{Outside, device_of, outside_cleared};
 ghost use Rattle.device_model.specs.declared.port.TakenCommand.{TakenCommand};
 
-use crate::clearing::{Run, count_runs, count_sectors, next_run};
+use crate::clearing::{SectorExtent, count_runs, count_sectors, next_run};
 use crate::fetch::{copy_bytes, count_pieces, piece_at};
 use crate::hardware::Hardware;
 use crate::port::TakenCommand;
@@ -90,11 +90,11 @@ fn clears_of_trim(command: &TakenCommand, block: &[u8], memory: &[u8]) -> Option
 pub fn clears_of(command: &TakenCommand, block: &[u8], memory: &[u8]) -> Option<Clears>
     requires block { block.now ≡ brought command.now.block }
     requires few { length block.now ≤ 512 }
-    ensures found { IfSome result (λ clears. WillClear (operation_of command.now.transfer) (bytes_of memory.now)
+    ensures found { IfSome result (λ clears. WillClear (transfer_operation command.now.transfer) (bytes_of memory.now)
         (taken_of command.now) clears.runs) }
-    ensures sectors { IfSome result (λ clears. clears.sectors ≡ cleared_ahead (operation_of command.now.transfer)
+    ensures sectors { IfSome result (λ clears. clears.sectors ≡ cleared_ahead (transfer_operation command.now.transfer)
         (bytes_of memory.now) (taken_of command.now)) }
-    ensures only { (runs : ℕ) → WillClear (operation_of command.now.transfer) (bytes_of memory.now)
+    ensures only { (runs : ℕ) → WillClear (transfer_operation command.now.transfer) (bytes_of memory.now)
         (taken_of command.now) runs → IsSomeAnd result (λ clears. clears.runs ≡ runs) }
 {
     if command.transfer.is_trim() {
@@ -109,7 +109,7 @@ pub fn clears_of(command: &TakenCommand, block: &[u8], memory: &[u8]) -> Option<
 
 /// The sectors of a trim, whose block is this, that are cleared at once: of its next so many those that follow one
 /// another. `None` where there is none, and where fewer than so many are left.
-fn run_of_trim(command: &TakenCommand, block: &[u8], most: u32) -> Option<Run>
+fn run_of_trim(command: &TakenCommand, block: &[u8], most: u32) -> Option<SectorExtent>
     requires block { block.now ≡ brought command.now.block }
     requires few { length block.now ≤ 512 }
     ensures can { IfSome result (λ run. CanClear command.now most) }
@@ -137,7 +137,7 @@ impl Hardware {
     pub fn count_uncleared(&self, port: u8, slot: u8) -> u32
         requires port { port < 4 }
         requires slot { slot < 32 }
-        ensures { (t : TakenCommand) → HoldsAt (slice_index_or self.now.ports port blank) slot t
+        ensures { (t : TakenCommand) → WorksOnIn (slice_index_or self.now.ports port blank_port) slot t
             → result ≡ length (uncleared (taken_of t)) }
     {
         match working_on(&self.ports, usize::from(port), slot) {
@@ -149,11 +149,12 @@ impl Hardware {
     }
 
     /// What a slot's trim clears next, of so many sectors.
-    pub fn run_to_clear(&self, port: u8, slot: u8, most: u32) -> Option<Run>
+    pub fn run_to_clear(&self, port: u8, slot: u8, most: u32) -> Option<SectorExtent>
         requires port { port < 4 }
         requires slot { slot < 32 }
         ensures found { IfSome result (λ run. (t : TakenCommand) × IsNextRun self.now port slot most run t) }
-        ensures none { result ≡ None → (t : TakenCommand) → HoldsAt (slice_index_or self.now.ports port blank) slot t
+        ensures none { result ≡ None → (t : TakenCommand)
+            → WorksOnIn (slice_index_or self.now.ports port blank_port) slot t
             → CanClear t most → ⊥ }
     {
         let command = working_on(&self.ports, usize::from(port), slot)?;
@@ -162,18 +163,18 @@ impl Hardware {
     }
 
     /// Sectors of a slot's trim were cleared: that is noted on the tape. Where there are none, nothing is.
-    pub fn clear(&mut self, port: u8, slot: u8, run: Run)
+    pub fn clear(&mut self, port: u8, slot: u8, run: SectorExtent)
         requires port { port < 4 }
         requires slot { slot < 32 }
-        requires held { (t : TakenCommand) × HoldsAt (slice_index_or self.old.ports port blank) slot t
+        requires held { (t : TakenCommand) × WorksOnIn (slice_index_or self.old.ports port blank_port) slot t
             × (t.cleared + run.count < 2 ^ 32) }
-        requires room { HasRoom self.old 1 }
+        requires room { TapeHasRoom self.old 1 }
         ensures none { run.count ≡ 0 → self.new ≡ self.old }
         ensures cleared { 1 ≤ run.count → (o : Outside) (t : TakenCommand)
-            → HoldsAt (slice_index_or self.old.ports port blank) slot t →
+            → WorksOnIn (slice_index_or self.old.ports port blank_port) slot t →
             device_of self.new (outside_cleared o port run.first run.count)
-            ≡ after (ClearStep port slot (taken_of t) run.first run.count) (device_of self.old o) }
-        ensures left { (n : ℕ) → HasRoom self.old (n + 1) → HasRoom self.new n }
+            ≡ device_after (ClearStep port slot (taken_of t) run.first run.count) (device_of self.old o) }
+        ensures left { (n : ℕ) → TapeHasRoom self.old (n + 1) → TapeHasRoom self.new n }
         ensures starved { self.new.starved ≡ self.old.starved }
     {
         if run.count == 0 {

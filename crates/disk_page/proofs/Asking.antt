@@ -13,31 +13,31 @@ use Rattle.hba_regs.specs.declared.reg.PortReg.TheVariants.{Ci, Sact}
 use Rattle.adapter.specs.Access.{Access, Does, Reads, Writes, Loads, counted}
 use Rattle.adapter.specs.Access.Access.{Reading, Writing, Loading, Storing}
 use Rattle.adapter.specs.Commands.{Meaning, command_of, is_ranged, pieces_moved}
-use Rattle.adapter.specs.Device.{Bases, Notes, PortState, Device}
+use Rattle.adapter.specs.Device.{Bases, Notes, DevicePort, Device}
 use Rattle.adapter.specs.Device.Halt.{NotHalted}
 use Rattle.adapter.specs.Kept.{Keeps, KeepsControls, KeepsPort}
-use Rattle.adapter.specs.Rules.{IsOn, HasPort, IsFree, Stays, MayWrite}
-use Rattle.adapter.specs.Says.{pieces, IsWhole}
+use Rattle.adapter.specs.Rules.{IsOn, HasPort, IsFree, IsStable, MayWrite}
+use Rattle.adapter.specs.Decoding.{pieces, IsWholePieces}
 use Rattle.adapter.specs.declared.command.Command.{Command}
 use Rattle.adapter.specs.declared.command.Operation.{Operation}
 use Rattle.adapter.specs.declared.command.Prd.{Prd}
 use Rattle.adapter.specs.Seen.{SeenAt, PutAt}
 use Rattle.adapter.specs.declared.tape.Entry.{Entry}
-use Rattle.agreement.specs.Driven.{IsAgreed, IsDrivenBy, IsFollowed, IsFollowedTo, IsOf, IsTold, IsToldTo, AnyUse, NoneWrites, AnyAccess, SendsNone}
-use Rattle.agreement.specs.Driver.{IsOwnPrepared}
-use Rattle.agreement.specs.Facts.{IsClear}
-use Rattle.agreement.specs.Places.{list_of, scratch_of}
-use Rattle.agreement.specs.Slots.{Free, Own, Uses, put as used, Told, IsOver, op_of, Brought}
+use Rattle.refinement.specs.Driven.{IsRelated, IsDrivenBy, IsSimulated, IsSimulatedTo, IsOf, IsSimulatedAlong, IsSimulatedAlongTo, AnyUse, NoneWrites, AnyAccess, SendsNone}
+use Rattle.refinement.specs.Driver.{IsOwnPrepared}
+use Rattle.refinement.specs.Facts.{IsClear}
+use Rattle.refinement.specs.Places.{list_of, scratch_of}
+use Rattle.refinement.specs.Slots.{Free, Own, SlotStates, put as used, SlotDecodesTo, IsOver, op_of, Brought}
 use Rattle.command_table.specs.Places.{places_of}
 use Rattle.command_table.specs.Written.{IsTableFor, IsTableStore, IsUnused}
-use Rattle.disk_page.specs.Asking.{operation_of, AreInVain, MayAsk, IsAsking, Brings, ShowsIssued, WaitsInVain}
-use Rattle.disk_page.specs.Waiting.{IsWaiting}
+use Rattle.disk_page.specs.Asking.{page_operation, AreInVain, MayAsk, IsAsking, BringsLastPage, ShowsIssued, WaitsInVain}
+use Rattle.disk_page.specs.Waiting.{IsPageAwaited}
 use Rattle.disk_page.specs.declared.Page.{Page}
 use Rattle.disk_page.specs.declared.Page.TheVariants.{Identity, Errors}
 use Rattle.disk_page.specs.Laws.{Laws}
 use Rattle.std.proofs.lemmas.List.Elements.{All-nil, All-cons, All-append, All-weaker}
-use Rattle.disk_page.specs.Laws.Stretch.{Asking, Awaiting, Storing as Stored}
-use Rattle.agreement.specs.Links.{SameAdapter}
+use Rattle.disk_page.specs.Laws.Fragment.{Asking, Awaiting, Storing as Stored}
+use Rattle.refinement.specs.Links.{SameAdapter}
 use Rattle.std.proofs.lemmas.Nat.Bits.{bit_at_ones_above}
 
 -- The adapter is what it was, the port's controls and its slots are as the device leaves them, and the tape has only gained.
@@ -49,24 +49,24 @@ pub record Leaves (port : ℕ) (old new : Device) : Type 0 where
   pub later : length old.tape ≤ length new.tape
 
 abbrev pub meaning_of : Page → Meaning
-meaning_of page = record { operation = operation_of page; first = 0; count = 0 }
+meaning_of page = record { operation = page_operation page; first = 0; count = 0 }
 
 -- so many readings of PxCI showed bit 0
 pub record IsPending (port : Port) (start : Device) (n : ℕ) (d : Device) : Type 0 where
   pub on : IsOn d
   pub there : HasPort d port.0
   pub det : (d.port port.0).sctl_det ≡ 0
-  pub told : IsTold (AreInVain port n) (IsAsking port) AnyUse start d
-  pub waiting : (o : Operation) (since : ℕ) (uses : Uses) (begun : Device) → IsWaiting port o since uses begun start → IsWaiting port o since uses begun d
+  pub told : IsSimulatedAlong (AreInVain port n) (IsAsking port) AnyUse start d
+  pub waiting : (o : Operation) (since : ℕ) (uses : SlotStates) (begun : Device) → IsPageAwaited port o since uses begun start → IsPageAwaited port o since uses begun d
   pub low : n ≤ (d.port port.0).notes.command_count
   pub high : 0 < n → (d.port port.0).notes.command_count ≤ READINGS
 
 -- and one without it
 pub record IsFoundOver (port : Port) (start d : Device) : Type 0 where
   pub on : IsOn d
-  pub followed : IsFollowed (IsAsking port) AnyUse start d
-  pub waiting : (o : Operation) (since : ℕ) (uses : Uses) (begun : Device) → IsWaiting port o since uses begun start → IsWaiting port o since uses begun d
-  pub over : (o : Operation) (since : ℕ) (uses : Uses) (begun : Device) → IsWaiting port o since uses begun start → IsClear (d.port port.0) 0
+  pub followed : IsSimulated (IsAsking port) AnyUse start d
+  pub waiting : (o : Operation) (since : ℕ) (uses : SlotStates) (begun : Device) → IsPageAwaited port o since uses begun start → IsPageAwaited port o since uses begun d
+  pub over : (o : Operation) (since : ℕ) (uses : SlotStates) (begun : Device) → IsPageAwaited port o since uses begun start → IsClear (d.port port.0) 0
 
 abbrev next : Port → Port
 next port = record { 0 = port.0 + 1 }
@@ -85,15 +85,15 @@ asking_is_of port (Writing r v) is = subst (λ (q : Reg). IsOf port (Writing q v
 asking_is_of port (Loading at bytes) is = tt
 asking_is_of port (Storing at bytes) is = tt
 
-own : (page : Page) → op_of (operation_of page) ≡ None
+own : (page : Page) → op_of (page_operation page) ≡ None
 own Identity = refl
 own Errors = refl
 
-pub unranged : (page : Page) → is_ranged (operation_of page) ≡ false
+pub unranged : (page : Page) → is_ranged (page_operation page) ≡ false
 unranged Identity = refl
 unranged Errors = refl
 
-pub one_piece : (page : Page) → pieces_moved (operation_of page) 0 ≡ 1
+pub one_piece : (page : Page) → pieces_moved (page_operation page) 0 ≡ 1
 one_piece Identity = refl
 one_piece Errors = refl
 
@@ -109,7 +109,7 @@ may_after port old new l may =
     }
 
 -- one frame, of which the page takes the first 512 bytes
-pub table_for : (page : Page) (command : Command) (prds : List Prd) (port n : ℕ) → n ≡ port → command ≡ command_of (operation_of page) 0 0 0 → All IsWhole prds →
+pub table_for : (page : Page) (command : Command) (prds : List Prd) (port n : ℕ) → n ≡ port → command ≡ command_of (page_operation page) 0 0 0 → All IsWholePieces prds →
     pieces prds ≡ places_of (record { 0 = PORT_FRAMES * n + SCRATCH_FRAME } ∷ []) 1 → IsTableFor 0 command prds (meaning_of page) (scratch_of port ∷ [])
 table_for page command prds port n same is whole places = record {
   meaning = record { ranged = λ ranged. absurd (true≢false (sym ranged ∙ (unranged page))); not_ranged = λ _. (refl, refl) };
@@ -120,10 +120,10 @@ table_for page command prds port n same is whole places = record {
 }
 
 -- so they say the command
-pub page_is_told : (page : Page) (command : Command) (prds written : List Prd) (port n : ℕ) (memory : ℕ → ℕ) → n ≡ port → command ≡ command_of (operation_of page) 0 0 0 → All IsWhole prds →
+pub page_is_told : (page : Page) (command : Command) (prds written : List Prd) (port n : ℕ) (memory : ℕ → ℕ) → n ≡ port → command ≡ command_of (page_operation page) 0 0 0 → All IsWholePieces prds →
     pieces prds ≡ places_of (record { 0 = PORT_FRAMES * n + SCRATCH_FRAME } ∷ []) 1 → written ≡ prds →
-    ((m : Meaning) (places : List ℕ) → IsTableFor 0 command written m places → Told memory (list_of port) port 0 m places) →
-    Told memory (list_of port) port 0 (meaning_of page) (scratch_of port ∷ [])
+    ((m : Meaning) (places : List ℕ) → IsTableFor 0 command written m places → SlotDecodesTo memory (list_of port) port 0 m places) →
+    SlotDecodesTo memory (list_of port) port 0 (meaning_of page) (scratch_of port ∷ [])
 page_is_told page command prds written port n memory same is whole places value says =
     let P : List Prd → Type 0 = λ es. IsTableFor 0 command es (meaning_of page) (scratch_of port ∷ []) in
     says (meaning_of page) (scratch_of port ∷ []) (subst P (sym value) (table_for page command prds port n same is whole places))
@@ -186,7 +186,7 @@ module _ (laws : Laws) where
   pub reading_leaves : (port : Port) (v : ℕ) (old new : Device) → IsOn old → Reads (Px port Ci) v old new → Leaves port.0 old new
   reading_leaves port v old new on x =
       let s : SeenAt port.0 Ci v old new = laws.seen_at port Ci v old new x on.no_reset in
-      let k : Keeps old x.mid = laws.steps_keep _ _ x.steps in
+      let k : Keeps old x.mid = laws.law_steps_keep _ _ x.steps in
       record {
         same = laws.access_same (Reading (Px port Ci) v) old new x;
         keeps = s.keeps.port port.0;
@@ -199,24 +199,24 @@ module _ (laws : Laws) where
   asking_spares_ghc port access is = laws.of_spares_ghc port access (asking_is_of port access is)
 
   -- an access brings a page of the command in slot 0 alone
-  access_silent : (port : Port) (uses : Uses) (other : Operation) (access : Access) (old new : Device) → IsAgreed uses old → op_of other ≡ None → (uses port.0 0 ≡ Own other → ⊥) → Does access old new →
+  access_silent : (port : Port) (uses : SlotStates) (other : Operation) (access : Access) (old new : Device) → IsRelated uses old → op_of other ≡ None → (uses port.0 0 ≡ Own other → ⊥) → Does access old new →
       SendsNone port.0 other old new
   access_silent port uses other access old new a page none x =
       let g = laws.tape.access_grows access old new x in
       (g.0, g.1, laws.access_pages uses a.machine access old new port.0 other g.0 a.reached a.knows.agrees x g.1 page (λ is. absurd (none is)))
 
   -- slot 0 has another command
-  other_own : (port : ℕ) (o other : Operation) (uses : Uses) → uses port 0 ≡ Own o → other ≢ o → uses port 0 ≡ Own other → ⊥
+  other_own : (port : ℕ) (o other : Operation) (uses : SlotStates) → uses port 0 ≡ Own o → other ≢ o → uses port 0 ≡ Own other → ⊥
   other_own port o other uses own differs is = let both : Own other ≡ Own o = sym is ∙ own in let same : other ≡ o = cc in differs same
 
   module _ (port : Port) (page : Page) (mid new : Device) (on : IsOn mid) (there : HasPort mid port.0) (room : DRIVER_BYTES ≤ mid.size) (may : MayAsk port.0 mid)
-      (told : Told mid.memory (list_of port.0) port.0 0 (meaning_of page) (scratch_of port.0 ∷ [])) where
+      (told : SlotDecodesTo mid.memory (list_of port.0) port.0 0 (meaning_of page) (scratch_of port.0 ∷ [])) where
     o : Operation
-    o = operation_of page
+    o = page_operation page
 
-    prepared : (uses : Uses) → IsUnused port.0 0 uses → IsOwnPrepared uses mid port.0 (operation_of page) 1
+    prepared : (uses : SlotStates) → IsUnused port.0 0 uses → IsOwnPrepared uses mid port.0 (page_operation page) 1
     prepared uses free =
-        let T : ℕ → Type 0 = λ list. Told mid.memory list port.0 0 (meaning_of page) (scratch_of port.0 ∷ []) in
+        let T : ℕ → Type 0 = λ list. SlotDecodesTo mid.memory list port.0 0 (meaning_of page) (scratch_of port.0 ∷ []) in
         record {
           own = own page;
           free = free;
@@ -230,18 +230,18 @@ module _ (laws : Laws) where
           alone = bit_one_other;
         }
 
-    pub ask_permitted : (uses : Uses) → IsUnused port.0 0 uses → IsAgreed uses mid → Stays (MayWrite (Px port Ci) 1) mid
-    ask_permitted uses free a = laws.own_is_permitted uses a.machine mid a.reached a.knows.agrees port (operation_of page) 1 on there (prepared uses free)
+    pub ask_permitted : (uses : SlotStates) → IsUnused port.0 0 uses → IsRelated uses mid → IsStable (MayWrite (Px port Ci) 1) mid
+    ask_permitted uses free a = laws.own_is_permitted uses a.machine mid a.reached a.knows.agrees port (page_operation page) 1 on there (prepared uses free)
 
     module _ (call : Writes (Px port Ci) 1 mid new) where
-      pub asked_to : IsFollowedTo (IsAsking port) (IsUnused port.0 0) (λ uses. used uses port.0 0 (Own (operation_of page))) mid new
-      asked_to = laws.asks (Asking port) port (operation_of page) 1 mid new (refl, refl) on.no_reset prepared call
+      pub asked_to : IsSimulatedTo (IsAsking port) (IsUnused port.0 0) (λ uses. used uses port.0 0 (Own (page_operation page))) mid new
+      asked_to = laws.asks (Asking port) port (page_operation page) 1 mid new (refl, refl) on.no_reset prepared call
 
       put_ci : PutAt port.0 Ci 1 mid new
       put_ci = laws.put_at port Ci 1 mid new call on.no_reset
 
       pub asked_det : (new.port port.0).sctl_det ≡ 0
-      asked_det = ap (λ (p : PortState). p.sctl_det) put_ci.here ∙ (put_ci.keeps.on.controls port.0).sctl_det ∙ may.det
+      asked_det = ap (λ (p : DevicePort). p.sctl_det) put_ci.here ∙ (put_ci.keeps.on.controls port.0).sctl_det ∙ may.det
 
       pub asked_on : IsOn new
       asked_on = laws.access_on (Writing (Px port Ci) 1) mid new on (λ v e. absurd cc) call
@@ -251,19 +251,19 @@ module _ (laws : Laws) where
 
       pub asked_later : length mid.tape ≤ length new.tape
       asked_later =
-          let k : Keeps mid put_ci.mid = laws.steps_keep _ _ put_ci.steps in
+          let k : Keeps mid put_ci.mid = laws.law_steps_keep _ _ put_ci.steps in
           let l = grown mid.tape put_ci.mid.tape k.gained k.tape in
           let same = ap (λ (es : List Entry). length es) put_ci.tape in omega (arith, l, same)
 
-      pub asked_waits : (start : Device) (uses : Uses) → IsUnused port.0 0 uses → IsAgreed uses mid → ((other : Operation) → op_of other ≡ None → SendsNone port.0 other start mid) →
-          IsWaiting port (operation_of page) (length new.tape) (used uses port.0 0 (Own (operation_of page))) start new
+      pub asked_waits : (start : Device) (uses : SlotStates) → IsUnused port.0 0 uses → IsRelated uses mid → ((other : Operation) → op_of other ≡ None → SendsNone port.0 other start mid) →
+          IsPageAwaited port (page_operation page) (length new.tape) (used uses port.0 0 (Own (page_operation page))) start new
       asked_waits start uses free a before = record {
         on = laws.access_on (Writing (Px port Ci) 1) mid new on (λ v e. absurd cc) call;
         room = let same = (laws.access_same (Writing (Px port Ci) 1) mid new call).size in omega (arith, same, room);
-        agreed = laws.stretches.agreed (Asking port) (λ uses. used uses port.0 0 (Own (operation_of page))) uses mid new free asked_to a;
-        awaits = laws.page_is_issued uses a.machine port (operation_of page) 1 mid new a.reached a.knows.agrees on.no_reset (prepared uses free) call;
-        ends = λ alone. laws.halt_is_issued uses a.machine port (operation_of page) 1 mid new a.reached a.knows.agrees on.no_reset
-            (λ slot other. sym (laws.put_others uses port.0 0 (Own (operation_of page)) port.0 slot (λ same here. other here)) ∙ alone slot other) (prepared uses free) call;
+        agreed = laws.fragments.agreed (Asking port) (λ uses. used uses port.0 0 (Own (page_operation page))) uses mid new free asked_to a;
+        awaits = laws.page_is_issued uses a.machine port (page_operation page) 1 mid new a.reached a.knows.agrees on.no_reset (prepared uses free) call;
+        ends = λ alone. laws.halt_is_issued uses a.machine port (page_operation page) 1 mid new a.reached a.knows.agrees on.no_reset
+            (λ slot other. sym (laws.put_others uses port.0 0 (Own (page_operation page)) port.0 slot (λ same here. other here)) ∙ alone slot other) (prepared uses free) call;
         silent = λ other page differs. laws.silent_more port.0 other start mid new (before other page)
             (access_silent port uses other (Writing (Px port Ci) 1) mid new a page (λ is. let e : Free ≡ Own other = sym free ∙ is in absurd cc) call);
       }
@@ -271,20 +271,20 @@ module _ (laws : Laws) where
   -- ---- stretches, one after another
 
   -- it is asked for after the stores
-  pub stored_then : (port : Port) (next : Uses → Uses) (old mid new : Device) → IsFollowed (IsAsking port) (IsUnused port.0 0) old mid → IsFollowedTo (IsAsking port) (IsUnused port.0 0) next mid new →
-      IsFollowedTo (IsAsking port) (IsUnused port.0 0) next old new
-  stored_then port next old mid new a b = (laws.stretches.both (Asking port) (Asking port) (λ uses. uses) next (λ access may. may) (λ uses free. free) old mid new a b).followed
+  pub stored_then : (port : Port) (next : SlotStates → SlotStates) (old mid new : Device) → IsSimulated (IsAsking port) (IsUnused port.0 0) old mid → IsSimulatedTo (IsAsking port) (IsUnused port.0 0) next mid new →
+      IsSimulatedTo (IsAsking port) (IsUnused port.0 0) next old new
+  stored_then port next old mid new a b = (laws.fragments.both (Asking port) (Asking port) (λ uses. uses) next (λ access may. may) (λ uses free. free) old mid new a b).followed
 
   -- what was asked for is awaited
-  pub asked_then : (port : Port) (next : Uses → Uses) (old mid new : Device) → IsFollowedTo (IsAsking port) (IsUnused port.0 0) next old mid → IsFollowed (IsAsking port) AnyUse mid new →
-      IsFollowedTo (IsAsking port) (IsUnused port.0 0) next old new
-  asked_then port next old mid new a b = (laws.stretches.both (Asking port) (Awaiting port) next (λ uses. uses) (λ access may. may) (λ uses free. tt) old mid new a b).followed
+  pub asked_then : (port : Port) (next : SlotStates → SlotStates) (old mid new : Device) → IsSimulatedTo (IsAsking port) (IsUnused port.0 0) next old mid → IsSimulated (IsAsking port) AnyUse mid new →
+      IsSimulatedTo (IsAsking port) (IsUnused port.0 0) next old new
+  asked_then port next old mid new a b = (laws.fragments.both (Asking port) (Awaiting port) next (λ uses. uses) (λ access may. may) (λ uses free. tt) old mid new a b).followed
 
   -- in vain, as is told of the accesses
-  pub asked_in_vain : (port : Port) (next : Uses → Uses) (old mid new : Device) → IsFollowedTo (IsAsking port) (IsUnused port.0 0) next old mid → IsTold (AreInVain port READINGS) (IsAsking port) AnyUse mid new →
-      IsToldTo (WaitsInVain port) (IsAsking port) (IsUnused port.0 0) next old new
+  pub asked_in_vain : (port : Port) (next : SlotStates → SlotStates) (old mid new : Device) → IsSimulatedTo (IsAsking port) (IsUnused port.0 0) next old mid → IsSimulatedAlong (AreInVain port READINGS) (IsAsking port) AnyUse mid new →
+      IsSimulatedAlongTo (WaitsInVain port) (IsAsking port) (IsUnused port.0 0) next old new
   asked_in_vain port next old mid new a b =
-      let both = laws.stretches.both (Asking port) (Awaiting port) next (λ uses. uses) (λ access may. may) (λ uses free. tt) old mid new a b.followed in
+      let both = laws.fragments.both (Asking port) (Awaiting port) next (λ uses. uses) (λ access may. may) (λ uses free. tt) old mid new a b.followed in
       let early = a.driven.accesses in
       let waits = b.followed.driven.accesses in
       record {
@@ -293,22 +293,22 @@ module _ (laws : Laws) where
             (record { before = early; waits = waits; later = []; here = ap (λ (rest : List Access). early ++ rest) (sym (append-nil waits)); vain = b.tells });
       }
 
-  awaited_then : (port : Port) (old mid new : Device) → IsFollowed (IsAsking port) AnyUse old mid → IsFollowed (IsAsking port) AnyUse mid new → IsFollowed (IsAsking port) AnyUse old new
-  awaited_then port old mid new a b = (laws.stretches.both (Awaiting port) (Awaiting port) (λ uses. uses) (λ uses. uses) (λ access may. may) (λ uses any. tt) old mid new a b).followed
+  awaited_then : (port : Port) (old mid new : Device) → IsSimulated (IsAsking port) AnyUse old mid → IsSimulated (IsAsking port) AnyUse mid new → IsSimulated (IsAsking port) AnyUse old new
+  awaited_then port old mid new a b = (laws.fragments.both (Awaiting port) (Awaiting port) (λ uses. uses) (λ uses. uses) (λ access may. may) (λ uses any. tt) old mid new a b).followed
 
   -- a page that came leaves its slot
-  pub asked_back : (port : Port) (o : Operation) (old new : Device) → IsOver (new.port port.0) 0 → IsFollowedTo (IsAsking port) (IsUnused port.0 0) (λ uses. used uses port.0 0 (Own o)) old new →
-      IsFollowed (IsAsking port) (IsUnused port.0 0) old new
-  asked_back port o old new over a = (laws.stretches.over (Asking port) port o 1 old new (refl, refl) (λ uses free. free) over a).followed
+  pub asked_back : (port : Port) (o : Operation) (old new : Device) → IsOver (new.port port.0) 0 → IsSimulatedTo (IsAsking port) (IsUnused port.0 0) (λ uses. used uses port.0 0 (Own o)) old new →
+      IsSimulated (IsAsking port) (IsUnused port.0 0) old new
+  asked_back port o old new over a = (laws.fragments.over (Asking port) port o 1 old new (refl, refl) (λ uses free. free) over a).followed
 
   -- ---- header and table are stored first
 
-  module _ (port : Port) (old mid : Device) (on : IsOn old) (stores : IsFollowed (IsTableStore port.0 0) (IsUnused port.0 0) old mid) where
+  module _ (port : Port) (old mid : Device) (on : IsOn old) (stores : IsSimulated (IsTableStore port.0 0) (IsUnused port.0 0) old mid) where
     pub stores_leave : Leaves port.0 old mid
     stores_leave = tables_leave port old mid on stores.driven
 
-    pub stores_asking : IsFollowed (IsAsking port) (IsUnused port.0 0) old mid
-    stores_asking = (laws.stretches.wider (Stored port) (Asking port) (λ uses. uses) kind (λ uses free. free) old mid stores).followed
+    pub stores_asking : IsSimulated (IsAsking port) (IsUnused port.0 0) old mid
+    stores_asking = (laws.fragments.wider (Stored port) (Asking port) (λ uses. uses) kind (λ uses free. free) old mid stores).followed
       where
         kind : (access : Access) → IsTableStore port.0 0 access → IsAsking port access
         kind (Storing at bytes) here = here
@@ -316,11 +316,11 @@ module _ (laws : Laws) where
         kind (Writing r v) here = absurd here
         kind (Loading at bytes) here = absurd here
 
-    pub stores_agree : (uses : Uses) → IsUnused port.0 0 uses → IsAgreed uses old → IsAgreed uses mid
-    stores_agree uses free = laws.stretches.agreed (Stored port) (λ uses. uses) uses old mid free stores
+    pub stores_agree : (uses : SlotStates) → IsUnused port.0 0 uses → IsRelated uses old → IsRelated uses mid
+    stores_agree uses free = laws.fragments.agreed (Stored port) (λ uses. uses) uses old mid free stores
 
-    pub stores_silent : (uses : Uses) (other : Operation) → IsUnused port.0 0 uses → IsAgreed uses old → op_of other ≡ None → SendsNone port.0 other old mid
-    stores_silent uses other free a page = laws.stretches.silent (Stored port) (λ uses. uses) uses port other old mid free (laws.stores_spare port.0 0 (Px port Ci)) (laws.stores_spare port.0 0 (Px port Sact)) page
+    pub stores_silent : (uses : SlotStates) (other : Operation) → IsUnused port.0 0 uses → IsRelated uses old → op_of other ≡ None → SendsNone port.0 other old mid
+    stores_silent uses other free a page = laws.fragments.silent (Stored port) (λ uses. uses) uses port other old mid free (laws.stores_spare port.0 0 (Px port Ci)) (laws.stores_spare port.0 0 (Px port Sact)) page
         (λ is. let e : Free ≡ Own other = sym free ∙ is in absurd cc) stores a
 
     pub stores_there : HasPort old port.0 → HasPort mid port.0
@@ -333,17 +333,17 @@ module _ (laws : Laws) where
     reads_on : IsOn e
     reads_on = laws.access_on (Reading (Px port Ci) v) d e on (λ w f. absurd cc) call
 
-    reads_followed : IsFollowed (IsAsking port) AnyUse d e
-    reads_followed = (laws.stretches.reads (Awaiting port) (Px port Ci) v d e refl call).followed
+    reads_followed : IsSimulated (IsAsking port) AnyUse d e
+    reads_followed = (laws.fragments.reads (Awaiting port) (Px port Ci) v d e refl call).followed
 
     -- the driver goes on to wait
-    reads_wait : (o : Operation) (since : ℕ) (uses : Uses) (begun : Device) → IsWaiting port o since uses begun d → IsWaiting port o since uses begun e
+    reads_wait : (o : Operation) (since : ℕ) (uses : SlotStates) (begun : Device) → IsPageAwaited port o since uses begun d → IsPageAwaited port o since uses begun e
     reads_wait o since uses begun w =
         let a = w.agreed in
         record {
           on = reads_on;
           room = let same = (laws.access_same (Reading (Px port Ci) v) d e call).size in let room = w.room in omega (arith, same, room);
-          agreed = laws.stretches.agreed (Awaiting port) (λ uses. uses) uses d e tt reads_followed a;
+          agreed = laws.fragments.agreed (Awaiting port) (λ uses. uses) uses d e tt reads_followed a;
           awaits = laws.access_waits uses a.machine port o since (Reading (Px port Ci) v) d e a.reached a.knows.agrees (λ w f. absurd cc) reads_on.no_reset call w.awaits;
           ends = λ alone. laws.access_ends_halt uses a.machine port (Reading (Px port Ci) v) d e a.reached a.knows.agrees (λ w f. absurd cc) tt reads_on.no_reset call (w.ends alone);
           silent = λ other page differs. laws.silent_more port.0 other begun d e (w.silent other page differs)
@@ -351,7 +351,7 @@ module _ (laws : Laws) where
         }
 
     -- or it finds the command over
-    reads_over : bit v 0 ≡ false → (o : Operation) (since : ℕ) (uses : Uses) (begun : Device) → IsWaiting port o since uses begun d → IsClear (e.port port.0) 0
+    reads_over : bit v 0 ≡ false → (o : Operation) (since : ℕ) (uses : SlotStates) (begun : Device) → IsPageAwaited port o since uses begun d → IsClear (e.port port.0) 0
     reads_over clear o since uses begun w =
         let a = w.agreed in
         (laws.page_is_found uses a.machine port o since v d e a.reached a.knows.agrees w.awaits call clear).0.clear
@@ -373,7 +373,7 @@ module _ (laws : Laws) where
     on = on;
     there = there;
     det = det;
-    told = let none = laws.stretches.none (Awaiting port) d in
+    told = let none = laws.fragments.none (Awaiting port) d in
         record { followed = none.followed; tells = subst (AreInVain port 0) (sym none.tells) (refl, All-nil (ShowsIssued port)) };
     waiting = λ o since uses begun w. w;
     low = omega arith;
@@ -391,8 +391,8 @@ module _ (laws : Laws) where
         there = reads_there port v d e p.on call p.there;
         det = reads_det port v d e p.on call p.det;
         told =
-            let more = laws.stretches.reads (Awaiting port) (Px port Ci) v d e refl call in
-            let both = laws.stretches.both (Awaiting port) (Awaiting port) (λ uses. uses) (λ uses. uses) (λ access may. may) (λ uses any. tt) start d e p.told.followed more.followed in
+            let more = laws.fragments.reads (Awaiting port) (Px port Ci) v d e refl call in
+            let both = laws.fragments.both (Awaiting port) (Awaiting port) (λ uses. uses) (λ uses. uses) (λ access may. may) (λ uses any. tt) start d e p.told.followed more.followed in
             record {
               followed = both.followed;
               tells = subst (AreInVain port (n + 1)) (sym both.tells) (vain_more port n v p.told.followed.driven.accesses more.followed.driven.accesses p.told.tells more.tells set);
@@ -420,8 +420,8 @@ module _ (laws : Laws) where
     same,
   )
 
-  module _ (port : Port) (o : Operation) (since : ℕ) (uses : Uses) (begun old : Device) (below : port.0 < 4) (w : IsWaiting port o since uses begun old) (clear : IsClear (old.port port.0) 0) where
-    pub page_free : Stays (IsFree (scratch_of port.0) 512) old
+  module _ (port : Port) (o : Operation) (since : ℕ) (uses : SlotStates) (begun old : Device) (below : port.0 < 4) (w : IsPageAwaited port o since uses begun old) (clear : IsClear (old.port port.0) 0) where
+    pub page_free : IsStable (IsFree (scratch_of port.0) 512) old
     page_free =
         let a = w.agreed in
         let room = w.room in
@@ -434,18 +434,18 @@ module _ (laws : Laws) where
       pub load_clear : IsClear (new.port port.0) 0
       load_clear = laws.access_clear port 0 (Loading (scratch_of port.0) bytes) old new (λ v e. absurd cc) (λ v e. absurd cc) call clear
 
-      pub load_followed : IsFollowed (IsAsking port) AnyUse old new
+      pub load_followed : IsSimulated (IsAsking port) AnyUse old new
       load_followed = (laws.loads (Awaiting port) (scratch_of port.0) bytes old new (refl, size) call).followed
 
-      pub load_brings : (early : ℕ) → early ≤ since → Brings port.0 o early bytes new
+      pub load_brings : (early : ℕ) → early ≤ since → BringsLastPage port.0 o early bytes new
       load_brings early le =
           let a = w.agreed in
           let x = laws.awaited_is_loaded uses a.machine port.0 o since bytes old new a.reached a.knows.agrees w.awaits clear.over call size in
           let y = sooner new.memory new.tape port.0 o since early le x.0 bytes x.1 in
           record { brought = y.0; same = y.1; clear = load_clear }
 
-      pub load_agrees : IsAgreed uses new
-      load_agrees = laws.stretches.agreed (Awaiting port) (λ uses. uses) uses old new tt load_followed w.agreed
+      pub load_agrees : IsRelated uses new
+      load_agrees = laws.fragments.agreed (Awaiting port) (λ uses. uses) uses old new tt load_followed w.agreed
 
       pub load_running : ((slot : ℕ) → slot ≢ 0 → uses port.0 slot ≡ Free) → (new.port port.0).halt ≡ NotHalted
       load_running alone =

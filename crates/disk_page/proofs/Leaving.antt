@@ -6,7 +6,7 @@ use Rattle.hba_regs.specs.declared.reg.Reg.TheVariants.{Px, Ghc}
 use Rattle.hba_regs.specs.declared.reg.PortReg.TheVariants.{Ci}
 use Rattle.adapter.specs.Access.{Access, Does, Reads, Writes, note, port_written, DoesAll}
 use Rattle.adapter.specs.Access.Access.{Reading, Writing, Loading, Storing}
-use Rattle.adapter.specs.Device.{Notes, PortState, Device}
+use Rattle.adapter.specs.Device.{Notes, DevicePort, Device}
 use Rattle.adapter.specs.Kept.{Keeps, KeepsPort, KeepsControls}
 use Rattle.adapter.specs.Memory.{patched}
 use Rattle.adapter.specs.Rules.{IsOn}
@@ -14,18 +14,18 @@ use Rattle.adapter.specs.Steps.{Steps}
 use Rattle.adapter.specs.declared.tape.Entry.{Entry}
 use Rattle.adapter.specs.Seen.{SeenAt}
 use Rattle.adapter.specs.Seen.{PutAt}
-use Rattle.agreement.specs.Driven.{HasNoCommand, IsDrivenBy}
-use Rattle.agreement.specs.Slots.{IsOver}
+use Rattle.refinement.specs.Driven.{HasNoCommand, IsDrivenBy}
+use Rattle.refinement.specs.Slots.{IsOver}
 use Rattle.disk_page.specs.Asking.{IsAsking, LeavesRunning, SameButIssued}
 use Rattle.disk_page.proofs.Asking.{reading_leaves, grown, asking_spares_ghc, bit_one_other}
 use Rattle.disk_page.specs.Laws.{Laws}
 use Rattle.std.specs.List.{All}
 use Rattle.std.proofs.lemmas.Bool.{cases_eq}
 use Rattle.std.proofs.lemmas.List.Elements.{All-head, All-tail}
-use Rattle.agreement.specs.Links.{SparesRegister}
+use Rattle.refinement.specs.Links.{SparesRegister}
 
 -- the same of one port's state
-record HasAfter (port : ℕ) (old : Device) (p : PortState) : Type 0 where
+record HasAfter (port : ℕ) (old : Device) (p : DevicePort) : Type 0 where
   controls : KeepsControls (old.port port) p
   bases : p.bases ≡ (old.port port).bases
   ci : (slot : ℕ) → slot ≢ 0 → (old.port port).ci slot ≡ false → p.ci slot ≡ false
@@ -48,7 +48,7 @@ with_memory port at bytes old mid l =
     record { controls = l.controls; bases = l.bases; ci = l.ci; taken = l.taken; sact = l.sact; notes = l.notes; later = l.later; recorded = l.recorded }
 
 -- a reading of PxCI noted its value alone
-same_read : (v : ℕ) (old : Notes) (p : PortState) → p.notes ≡ note Ci v (record p { notes = old }) → SameButIssued old p.notes
+same_read : (v : ℕ) (old : Notes) (p : DevicePort) → p.notes ≡ note Ci v (record p { notes = old }) → SameButIssued old p.notes
 same_read v old p is =
     let P : Notes → Type 0 = λ n. SameButIssued old n in
     subst P (sym is) refl
@@ -88,7 +88,7 @@ module _ (laws : Laws) where
   -- what the device alone leaves
   by_device : (port : ℕ) (old new : Device) → old.hr ≡ false → Steps old new → LeavesRunning port old new
   by_device port old new off steps =
-      let k : Keeps old new = laws.steps_keep _ _ steps in
+      let k : Keeps old new = laws.law_steps_keep _ _ steps in
       let p : KeepsPort (old.port port) (new.port port) = k.port port in
       record {
         controls = (k.on off).controls port;
@@ -136,7 +136,7 @@ module _ (laws : Laws) where
       let call : Writes (Px port Ci) 1 old new = subst V here.1 (subst R here.0 x) in
       let w : PutAt port.0 Ci 1 old new = laws.put_at port Ci 1 old new call on.no_reset in
       let d : LeavesRunning port.0 old w.mid = by_device port.0 old w.mid on.no_reset w.steps in
-      let P : PortState → Type 0 = λ p. HasAfter port.0 old p in
+      let P : DevicePort → Type 0 = λ p. HasAfter port.0 old p in
       let h : HasAfter port.0 old (new.port port.0) = subst P (sym w.here) (issued_leaves port.0 old w.mid d) in
       record {
         controls = h.controls;

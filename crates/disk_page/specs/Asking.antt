@@ -14,19 +14,19 @@ use Rattle.adapter.specs.Kept.{KeepsControls}
 use Rattle.adapter.specs.Rules.{IsOn, HasPort}
 use Rattle.adapter.specs.declared.command.Operation.{Operation}
 use Rattle.adapter.specs.declared.command.Operation.TheVariants.{Identify, ReadLog}
-use Rattle.agreement.specs.Driven.{AgreesWith, IsAgreed, IsFollowed, IsToldTo, SendsNone}
-use Rattle.agreement.specs.Driver.{AllFree}
-use Rattle.agreement.specs.Facts.{IsClear, IsRecorded}
-use Rattle.agreement.specs.Places.{list_of, scratch_of}
-use Rattle.agreement.specs.Slots.{Own, Uses, op_of, put, Brought}
+use Rattle.refinement.specs.Driven.{RelatesWith, IsRelated, IsSimulated, IsSimulatedAlongTo, SendsNone}
+use Rattle.refinement.specs.Driver.{AllFree}
+use Rattle.refinement.specs.Facts.{IsClear, IsRecorded}
+use Rattle.refinement.specs.Places.{list_of, scratch_of}
+use Rattle.refinement.specs.Slots.{Own, SlotStates, op_of, put, Brought}
 use Rattle.command_table.specs.Written.{IsTableStore, IsUnused}
 use Rattle.disk_page.specs.declared.Page.{Page}
 use Rattle.disk_page.specs.declared.Page.TheVariants.{Identity, Errors}
 
 -- the command that brings the page
-abbrev pub operation_of : Page → Operation
-operation_of Identity = Identify
-operation_of Errors = ReadLog
+abbrev pub page_operation : Page → Operation
+page_operation Identity = Identify
+page_operation Errors = ReadLog
 
 -- The port runs with its command list in its place and no COMRESET being sent, and ST was set before now.
 pub record MayAsk (port : ℕ) (d : Device) : Type 0 where
@@ -40,7 +40,7 @@ pub record MayGetPage (port : Port) (d : Device) : Type 0 where
   pub on : IsOn d
   pub there : HasPort d port.0
   pub room : DRIVER_BYTES ≤ d.size
-  pub agreed : AgreesWith (IsUnused port.0 0) d
+  pub agreed : RelatesWith (IsUnused port.0 0) d
   pub may : MayAsk port.0 d
 
 -- all that readings noted is as it was, but for those of PxCI
@@ -89,31 +89,32 @@ pub record WaitsInVain (port : Port) (accesses : List Access) : Type 0 where
 
 -- What is said of the page: it is the last that the port's command of this operation has moved, the command came after
 -- the tape was so long, and it is over.
-pub record Brings (port : ℕ) (o : Operation) (since : ℕ) (bytes : List ℕ) (d : Device) : Type 0 where
+pub record BringsLastPage (port : ℕ) (o : Operation) (since : ℕ) (bytes : List ℕ) (d : Device) : Type 0 where
   pub brought : Brought d.memory d.tape port o since
   pub same : bytes ≡ brought.move.bytes.value
   pub clear : IsClear (d.port port) 0
 
 -- The page came: slot 0 isn't used any more. Or 64 readings of PxCI showed its bit, as the accesses tell: then the
 -- command may be in slot 0 still.
-abbrev pub Reads : Port → Operation → Option (List ℕ) → Device → Device → Type 0
-Reads port o (Some bytes) old new = Brings port.0 o (length old.tape) bytes new
-    × IsFollowed (IsAsking port) (IsUnused port.0 0) old new
-Reads port o None old new = ((new.port port.0).notes.command_count ≡ READINGS)
-    × IsToldTo (WaitsInVain port) (IsAsking port) (IsUnused port.0 0) (λ uses. put uses port.0 0 (Own o)) old new
+abbrev pub ReadsPage : Port → Operation → Option (List ℕ) → Device → Device → Type 0
+ReadsPage port o (Some bytes) old new = BringsLastPage port.0 o (length old.tape) bytes new
+    × IsSimulated (IsAsking port) (IsUnused port.0 0) old new
+ReadsPage port o None old new = ((new.port port.0).notes.command_count ≡ READINGS)
+    × IsSimulatedAlongTo (WaitsInVain port) (IsAsking port) (IsUnused port.0 0)
+    (λ uses. put uses port.0 0 (Own o)) old new
 
 -- Some machine agrees with the slots used as they were; or with the command in slot 0.
-abbrev pub AgreesAfter : Port → Operation → Option (List ℕ) → Uses → Device → Type 0
-AgreesAfter port o (Some bytes) uses new = IsAgreed uses new
-AgreesAfter port o None uses new = IsAgreed (put uses port.0 0 (Own o)) new
+abbrev pub AgreesAfter : Port → Operation → Option (List ℕ) → SlotStates → Device → Type 0
+AgreesAfter port o (Some bytes) uses new = IsRelated uses new
+AgreesAfter port o None uses new = IsRelated (put uses port.0 0 (Own o)) new
 
 -- The page was asked for, and came or didn't. The port is left as asking leaves it. Where no slot was used, no fault
 -- halts the port once a page has come; and no page of another command comes.
 pub record GetsPage (port : Port) (page : Page) (result : Option (List ℕ)) (old new : Device) : Type 0 where
   pub leaves : LeavesRunning port.0 old new
-  pub agrees : (uses : Uses) → IsUnused port.0 0 uses → IsAgreed uses old
-      → AgreesAfter port (operation_of page) result uses new
-  pub reads : Reads port (operation_of page) result old new
-  pub running : IfSome result (λ _. AgreesWith (λ uses. AllFree uses port.0) old
+  pub agrees : (uses : SlotStates) → IsUnused port.0 0 uses → IsRelated uses old
+      → AgreesAfter port (page_operation page) result uses new
+  pub reads : ReadsPage port (page_operation page) result old new
+  pub running : IfSome result (λ _. RelatesWith (λ uses. AllFree uses port.0) old
       → (new.port port.0).halt ≡ NotHalted)
-  pub silent : (o : Operation) → op_of o ≡ None → o ≢ operation_of page → SendsNone port.0 o old new
+  pub silent : (o : Operation) → op_of o ≡ None → o ≢ page_operation page → SendsNone port.0 o old new

@@ -2,22 +2,22 @@
 use Rattle.std.specs.Prelude.{ℕ, true, false, ◌≡◌, ◌≢◌, ◌+◌, ◌≤◌, ◌<◌, ◌++◌, List, [], ◌∷◌, All, None, length}
 use Rattle.ata_types.specs.declared.Port.{Port}
 use Rattle.adapter.specs.Access.{Access, Does, Loads, Reads, Writes}
-use Rattle.agreement.specs.Laws.{StretchLaws, TapeLaws}
-use Rattle.agreement.specs.Agrees.{Agrees}
-use Rattle.agreement.specs.Driven.{AnyAccess, AnyUse, IsAgreed, IsDrivenBy, IsFollowedTo, IsOf, IsTold, LeavesPort, NoneWrites, SendsNone}
-use Rattle.agreement.specs.Awaits.{AwaitsPage}
-use Rattle.agreement.specs.Recovering.{EndsHalt}
-use Rattle.agreement.specs.Slots.{Brought, Free, IsMove, IsOver, Own, Use, Uses, op_of, put}
+use Rattle.refinement.specs.Laws.{FragmentLaws, TapeLaws}
+use Rattle.refinement.specs.Relation.{StateRelation}
+use Rattle.refinement.specs.Driven.{AnyAccess, AnyUse, IsRelated, IsDrivenBy, IsSimulatedTo, IsOf, IsSimulatedAlong, LeavesPort, NoneWrites, SendsNone}
+use Rattle.refinement.specs.Awaits.{AwaitsPage}
+use Rattle.refinement.specs.Recovering.{EndsHalt}
+use Rattle.refinement.specs.Slots.{Brought, Free, IsMove, IsOver, Own, SlotState, SlotStates, op_of, put}
 use Rattle.hba_regs.specs.declared.reg.PortReg.TheVariants.{Ci, Sact}
-use Rattle.agreement.specs.Started.{ClearsNoStart}
-use Rattle.adapter.specs.Device.{Device, PortState}
+use Rattle.refinement.specs.Started.{ClearsNoStart}
+use Rattle.adapter.specs.Device.{Device, DevicePort}
 use Rattle.adapter.specs.declared.tape.Entry.{Entry}
-use Rattle.agreement.specs.Facts.{FindsPage, IsClear, IsRecorded}
+use Rattle.refinement.specs.Facts.{FindsOwnPage, IsClear, IsRecorded}
 use Rattle.hba_regs.specs.declared.reg.Reg.TheVariants.{Ghc, Px}
-use Rattle.adapter.specs.Rules.{HasPort, IsFree, IsOn, MayWrite, Stays}
+use Rattle.adapter.specs.Rules.{HasPort, IsFree, IsOn, MayWrite, IsStable}
 use Rattle.disk_page.specs.Asking.{IsAsking}
-use Rattle.agreement.specs.Driver.{IsOwnPrepared}
-use Rattle.block_machine.specs.Histories.{IsReached}
+use Rattle.refinement.specs.Driver.{IsOwnPrepared}
+use Rattle.block_machine.specs.Histories.{IsReachable}
 use Rattle.command_table.specs.Written.{IsTableStore, IsUnused}
 use Rattle.adapter.specs.Kept.{Keeps, KeepsControls}
 use Rattle.adapter.specs.Access.Access.{Loading, Writing}
@@ -26,26 +26,26 @@ use Rattle.adapter.specs.declared.command.Operation.{Operation}
 use Rattle.hba_regs.specs.declared.reg.PortReg.{PortReg}
 use Rattle.adapter.specs.Seen.{PutAt, SeenAt}
 use Rattle.hba_regs.specs.declared.reg.Reg.{Reg}
-use Rattle.agreement.specs.Links.{SameAdapter, SparesRegister}
+use Rattle.refinement.specs.Links.{SameAdapter, SparesRegister}
 use Rattle.adapter.specs.Steps.{Steps}
 use Rattle.hba_regs.specs.Bits.{bit}
-use Rattle.agreement.specs.Places.{scratch_of}
+use Rattle.refinement.specs.Places.{scratch_of}
 
 -- ---- kinds of accesses
 
 -- A page is asked for in slot 0, which isn't used; or it is awaited and loaded, whatever the slots are used for; or
 -- header and table of slot 0 are stored first.
-pub data Stretch : Type 0 where
-  Asking : Port → Stretch
-  Awaiting : Port → Stretch
-  Storing : Port → Stretch
+pub data Fragment : Type 0 where
+  Asking : Port → Fragment
+  Awaiting : Port → Fragment
+  Storing : Port → Fragment
 
-abbrev pub may_of : Stretch → Access → Type 0
+abbrev pub may_of : Fragment → Access → Type 0
 may_of (Asking port) = IsAsking port
 may_of (Awaiting port) = IsAsking port
 may_of (Storing port) = IsTableStore port.0 0
 
-abbrev pub fits_of : Stretch → Uses → Type 0
+abbrev pub fits_of : Fragment → SlotStates → Type 0
 fits_of (Asking port) = IsUnused port.0 0
 fits_of (Awaiting port) = AnyUse
 fits_of (Storing port) = IsUnused port.0 0
@@ -58,9 +58,9 @@ pub record Laws : Type 0 where
       → SeenAt port.0 r v old new
   pub put_at : (port : Port) (r : PortReg) (v : ℕ) (old new : Device) → Writes (Px port r) v old new → old.hr ≡ false
       → PutAt port.0 r v old new
-  pub steps_keep : (old new : Device) → Steps old new → Keeps old new
-  pub controls_none : (p : PortState) → KeepsControls p p
-  pub controls_more : (old mid new : PortState) → KeepsControls old mid → KeepsControls mid new → KeepsControls old new
+  pub law_steps_keep : (old new : Device) → Steps old new → Keeps old new
+  pub controls_none : (p : DevicePort) → KeepsControls p p
+  pub controls_more : (old mid new : DevicePort) → KeepsControls old mid → KeepsControls mid new → KeepsControls old new
   pub access_on : (access : Access) (old new : Device) → IsOn old
       → ((v : ℕ) → access ≡ Writing Ghc v → (bit v 31 ≡ true) × (bit v 0 ≡ false)) → Does access old new → IsOn new
   pub access_same : (access : Access) (old new : Device) → Does access old new → SameAdapter old new
@@ -84,47 +84,52 @@ pub record Laws : Type 0 where
       × (new.tape ≡ old.tape ++ gained)
   pub of_spares_ghc : (port : Port) (access : Access) → IsOf port access → SparesRegister Ghc access
   -- the page
-  pub own_is_permitted : (uses : Uses) (m : Machine) (d : Device) → IsReached m → Agrees uses m d
+  pub own_is_permitted : (uses : SlotStates) (m : Machine) (d : Device) → IsReachable m → StateRelation uses m d
       → (port : Port) (o : Operation) (v : ℕ) → IsOn d → HasPort d port.0 → IsOwnPrepared uses d port.0 o v
-      → Stays (MayWrite (Px port Ci) v) d
-  pub page_is_issued : (uses : Uses) (m : Machine) (port : Port) (o : Operation) (v : ℕ) (old new : Device)
-      → IsReached m → Agrees uses m old → old.hr ≡ false → IsOwnPrepared uses old port.0 o v
+      → IsStable (MayWrite (Px port Ci) v) d
+  pub page_is_issued : (uses : SlotStates) (m : Machine) (port : Port) (o : Operation) (v : ℕ) (old new : Device)
+      → IsReachable m → StateRelation uses m old → old.hr ≡ false → IsOwnPrepared uses old port.0 o v
       → Writes (Px port Ci) v old new → AwaitsPage (put uses port.0 0 (Own o)) port.0 o (length new.tape) new
-  pub access_waits : (uses : Uses) (m : Machine) (port : Port) (o : Operation) (since : ℕ) (access : Access)
-      (old new : Device) → IsReached m → Agrees uses m old → ClearsNoStart port access → new.hr ≡ false
+  pub access_waits : (uses : SlotStates) (m : Machine) (port : Port) (o : Operation) (since : ℕ) (access : Access)
+      (old new : Device) → IsReachable m → StateRelation uses m old → ClearsNoStart port access → new.hr ≡ false
       → Does access old new → AwaitsPage uses port.0 o since old → AwaitsPage uses port.0 o since new
-  pub page_is_found : (uses : Uses) (m : Machine) (port : Port) (o : Operation) (since v : ℕ) (old new : Device)
-      → IsReached m → Agrees uses m old → AwaitsPage uses port.0 o since old → Reads (Px port Ci) v old new
-      → bit v 0 ≡ false → FindsPage uses m port.0 o old new × Brought new.memory new.tape port.0 o since
-  pub awaited_is_loaded : (uses : Uses) (m : Machine) (port : ℕ) (o : Operation) (since : ℕ) (bytes : List ℕ)
-      (old new : Device) → IsReached m → Agrees uses m old → AwaitsPage uses port o since old → IsOver (old.port port) 0
+  pub page_is_found : (uses : SlotStates) (m : Machine) (port : Port) (o : Operation) (since v : ℕ) (old new : Device)
+      → IsReachable m → StateRelation uses m old → AwaitsPage uses port.0 o since old → Reads (Px port Ci) v old new
+      → bit v 0 ≡ false → FindsOwnPage uses m port.0 o old new × Brought new.memory new.tape port.0 o since
+  pub awaited_is_loaded : (uses : SlotStates) (m : Machine) (port : ℕ) (o : Operation) (since : ℕ) (bytes : List ℕ)
+      (old new : Device) → IsReachable m → StateRelation uses m old → AwaitsPage uses port o since old
+      → IsOver (old.port port) 0
       → Loads (scratch_of port) bytes old new → length bytes ≡ 512 → (b : Brought new.memory new.tape port o since)
       × (bytes ≡ b.move.bytes.value)
-  pub page_is_free : (uses : Uses) (m : Machine) (d : Device) → IsReached m → Agrees uses m d → (port : ℕ) → port < 4
-      → scratch_of port + 512 ≤ d.size → IsOver (d.port port) 0 → Stays (IsFree (scratch_of port) 512) d
-  pub agrees_released : (uses : Uses) (port : ℕ) (o : Operation) (d : Device) → uses port 0 ≡ Free
-      → IsOver (d.port port) 0 → IsAgreed (put uses port 0 (Own o)) d → IsAgreed uses d
-  pub halt_is_issued : (uses : Uses) (m : Machine) (port : Port) (o : Operation) (v : ℕ) (old new : Device)
-      → IsReached m → Agrees uses m old → old.hr ≡ false → ((slot : ℕ) → slot ≢ 0 → uses port.0 slot ≡ Free)
+  pub page_is_free : (uses : SlotStates) (m : Machine) (d : Device) → IsReachable m → StateRelation uses m d
+      → (port : ℕ) → port < 4
+      → scratch_of port + 512 ≤ d.size → IsOver (d.port port) 0 → IsStable (IsFree (scratch_of port) 512) d
+  pub agrees_released : (uses : SlotStates) (port : ℕ) (o : Operation) (d : Device) → uses port 0 ≡ Free
+      → IsOver (d.port port) 0 → IsRelated (put uses port 0 (Own o)) d → IsRelated uses d
+  pub halt_is_issued : (uses : SlotStates) (m : Machine) (port : Port) (o : Operation) (v : ℕ) (old new : Device)
+      → IsReachable m → StateRelation uses m old → old.hr ≡ false → ((slot : ℕ) → slot ≢ 0 → uses port.0 slot ≡ Free)
       → IsOwnPrepared uses old port.0 o v → Writes (Px port Ci) v old new
       → EndsHalt (put uses port.0 0 (Own o)) port.0 new
-  pub access_ends_halt : (uses : Uses) (m : Machine) (port : Port) (access : Access) (old new : Device) → IsReached m
-      → Agrees uses m old → ClearsNoStart port access → SparesRegister (Px port Sact) access → new.hr ≡ false
+  pub access_ends_halt : (uses : SlotStates) (m : Machine) (port : Port) (access : Access) (old new : Device)
+      → IsReachable m
+      → StateRelation uses m old → ClearsNoStart port access → SparesRegister (Px port Sact) access → new.hr ≡ false
       → Does access old new → EndsHalt uses port.0 old → EndsHalt uses port.0 new
   pub tape : TapeLaws
-  pub access_pages : (uses : Uses) (m : Machine) (access : Access) (old new : Device) (port : ℕ) (o : Operation)
-      (gained : List Entry) → IsReached m → Agrees uses m old → Does access old new → new.tape ≡ old.tape ++ gained
+  pub access_pages : (uses : SlotStates) (m : Machine) (access : Access) (old new : Device) (port : ℕ) (o : Operation)
+      (gained : List Entry) → IsReachable m → StateRelation uses m old → Does access old new
+      → new.tape ≡ old.tape ++ gained
       → op_of o ≡ None → (uses port 0 ≡ Own o → IsOver (old.port port) 0) → All (λ e. IsMove port o e → ⊥) gained
   pub silent_more : (port : ℕ) (o : Operation) (old mid new : Device) → SendsNone port o old mid
       → SendsNone port o mid new → SendsNone port o old new
-  pub put_others : (uses : Uses) (port slot : ℕ) (u : Use) (other_port other_slot : ℕ)
+  pub put_others : (uses : SlotStates) (port slot : ℕ) (u : SlotState) (other_port other_slot : ℕ)
       → (other_port ≡ port → other_slot ≡ slot → ⊥) → put uses port slot u other_port other_slot ≡ uses other_port
       other_slot
   -- this crate's kinds of accesses
-  pub stretches : StretchLaws Stretch may_of fits_of
-  pub loads : (kind : Stretch) (at : ℕ) (bytes : List ℕ) (old new : Device) → may_of kind (Loading at bytes)
-      → Loads at bytes old new → IsTold (λ made. made ≡ Loading at bytes ∷ []) (may_of kind) (fits_of kind) old new
-  pub asks : (kind : Stretch) (port : Port) (o : Operation) (v : ℕ) (old new : Device)
+  pub fragments : FragmentLaws Fragment may_of fits_of
+  pub loads : (kind : Fragment) (at : ℕ) (bytes : List ℕ) (old new : Device) → may_of kind (Loading at bytes)
+      → Loads at bytes old new
+      → IsSimulatedAlong (λ made. made ≡ Loading at bytes ∷ []) (may_of kind) (fits_of kind) old new
+  pub asks : (kind : Fragment) (port : Port) (o : Operation) (v : ℕ) (old new : Device)
       → may_of kind (Writing (Px port Ci) v) → old.hr ≡ false
-      → ((uses : Uses) → fits_of kind uses → IsOwnPrepared uses old port.0 o v) → Writes (Px port Ci) v old new
-      → IsFollowedTo (may_of kind) (fits_of kind) (λ uses. put uses port.0 0 (Own o)) old new
+      → ((uses : SlotStates) → fits_of kind uses → IsOwnPrepared uses old port.0 o v) → Writes (Px port Ci) v old new
+      → IsSimulatedTo (may_of kind) (fits_of kind) (λ uses. put uses port.0 0 (Own o)) old new

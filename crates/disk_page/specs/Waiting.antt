@@ -5,30 +5,32 @@ use Rattle.ata_types.specs.declared.memory.TheConstants.{DRIVER_BYTES}
 use Rattle.adapter.specs.Device.{Device}
 use Rattle.adapter.specs.Rules.{IsOn, HasPort}
 use Rattle.adapter.specs.declared.command.Operation.{Operation}
-use Rattle.agreement.specs.Awaits.{AwaitsPage}
-use Rattle.agreement.specs.Driven.{IsAgreed, IsFollowedTo, SendsNone}
-use Rattle.agreement.specs.Recovering.{EndsHalt}
-use Rattle.agreement.specs.Slots.{Free, Own, Uses, op_of, put}
+use Rattle.refinement.specs.Awaits.{AwaitsPage}
+use Rattle.refinement.specs.Driven.{IsRelated, IsSimulatedTo, SendsNone}
+use Rattle.refinement.specs.Recovering.{EndsHalt}
+use Rattle.refinement.specs.Slots.{Free, Own, SlotStates, op_of, put}
 use Rattle.command_table.specs.Written.{IsUnused}
-use Rattle.disk_page.specs.Asking.{IsAsking, operation_of}
+use Rattle.disk_page.specs.Asking.{IsAsking, page_operation}
 use Rattle.disk_page.specs.declared.Page.{Page}
 
 -- Slot 0 has the command, which was issued when the tape was so long; and some machine agrees. Where no other slot of
 -- the port is used, its end ends a halt. No page of another command came since this device.
-pub record IsWaiting (port : Port) (o : Operation) (since : ℕ) (uses : Uses) (start d : Device) : Type 0 where
+pub record IsPageAwaited (port : Port) (o : Operation) (since : ℕ) (uses : SlotStates) (start d : Device) : Type 0 where
   pub on : IsOn d
   pub room : DRIVER_BYTES ≤ d.size
-  pub agreed : IsAgreed uses d
+  pub agreed : IsRelated uses d
   pub awaits : AwaitsPage uses port.0 o since d
   pub ends : ((slot : ℕ) → slot ≢ 0 → uses port.0 slot ≡ Free) → EndsHalt uses port.0 d
   pub silent : (other : Operation) → op_of other ≡ None → other ≢ o → SendsNone port.0 other start d
 
 -- The command that brings the page was issued in slot 0, as an access of asking: from then on it is waited for.
-pub record Asks (port : Port) (page : Page) (old new : Device) : Type 0 where
-  pub followed : IsFollowedTo (IsAsking port) (IsUnused port.0 0) (λ uses. put uses port.0 0 (Own (operation_of page)))
+pub record AsksForPage (port : Port) (page : Page) (old new : Device) : Type 0 where
+  pub followed : IsSimulatedTo (IsAsking port) (IsUnused port.0 0)
+      (λ uses. put uses port.0 0 (Own (page_operation page)))
       old new
-  pub waiting : (uses : Uses) → IsUnused port.0 0 uses → IsAgreed uses old
-      → IsWaiting port (operation_of page) (length new.tape) (put uses port.0 0 (Own (operation_of page))) old new
+  pub waiting : (uses : SlotStates) → IsUnused port.0 0 uses → IsRelated uses old
+      → IsPageAwaited port (page_operation page) (length new.tape)
+      (put uses port.0 0 (Own (page_operation page))) old new
   pub there : HasPort new port.0
   pub later : length old.tape ≤ length new.tape
   pub det : (new.port port.0).sctl_det ≡ 0

@@ -1,23 +1,26 @@
 // What laws of the crates below say of this crate's accesses, for its proofs. Nothing comes of calling it.
-ghost use Rattle.disk_page.specs.Laws.{Laws, Stretch, fits_of, may_of};
+ghost use Rattle.disk_page.specs.Laws.{Laws, Fragment, fits_of, may_of};
 
-use adapter::laws::{controls_are_kept, port_registers_are_accessed, steps_keep};
-use agreement::facts::{adapter_stays, faults_are_recorded, over_stays, page_is_awaited};
-use agreement::kinds::{Kinds, accesses_are_followed, stretch_laws_hold};
-use agreement::laws::{
-    own_issuing_is_permitted, pages_are_free, pages_come_when_asked, putting_is_of_one_slot,
+use adapter::laws::{law_controls_are_kept, law_port_registers_are_accessed, law_steps_keep};
+use command_table::laws::law_stores_are_of_one_port;
+use refinement::facts::{
+    law_adapter_stays, law_faults_are_recorded, law_over_stays, law_page_is_awaited,
 };
-use agreement::recovering::halt_is_ended;
-use agreement::stretches::{
-    agreeing_goes_on, other_ports_are_left, tape_laws_hold, unused_slots_are_silent,
+use refinement::fragments::{
+    law_agreeing_goes_on, law_other_ports_are_left, law_tapes, law_unused_slots_are_silent,
 };
-use command_table::laws::stores_are_of_one_port;
+use refinement::kinds::{Kinds, law_accesses_are_followed, law_fragments};
+use refinement::laws::{
+    law_own_issuing_is_permitted, law_pages_are_free, law_pages_come_when_asked,
+    law_putting_is_of_one_slot,
+};
+use refinement::recovering::law_halt_is_ended;
 
 /// This crate's kinds of accesses.
 enum Pages {}
 
 impl Kinds for Pages {
-    ghost Kind = { Stretch };
+    ghost Kind = { Fragment };
 
     ghost may = { may_of };
 
@@ -25,26 +28,26 @@ impl Kinds for Pages {
 }
 
 /// The laws that the proofs of this crate rest on.
-pub fn laws_hold()
+pub fn law_base()
     ensures { Laws }
 {
-    controls_are_kept();
-    port_registers_are_accessed();
-    steps_keep();
-    adapter_stays();
-    faults_are_recorded();
-    over_stays();
-    page_is_awaited();
-    accesses_are_followed::<Pages>();
-    stretch_laws_hold::<Pages>();
-    own_issuing_is_permitted();
-    pages_are_free();
-    pages_come_when_asked();
-    putting_is_of_one_slot();
-    halt_is_ended();
-    tape_laws_hold();
-    unused_slots_are_silent();
-    agreeing_goes_on();
-    other_ports_are_left();
-    stores_are_of_one_port();
+    law_controls_are_kept();
+    law_port_registers_are_accessed();
+    law_steps_keep();
+    law_adapter_stays();
+    law_faults_are_recorded();
+    law_over_stays();
+    law_page_is_awaited();
+    law_accesses_are_followed::<Pages>();
+    law_fragments::<Pages>();
+    law_own_issuing_is_permitted();
+    law_pages_are_free();
+    law_pages_come_when_asked();
+    law_putting_is_of_one_slot();
+    law_halt_is_ended();
+    law_tapes();
+    law_unused_slots_are_silent();
+    law_agreeing_goes_on();
+    law_other_ports_are_left();
+    law_stores_are_of_one_port();
 }

@@ -10,11 +10,11 @@ ghost use Rattle.adapter.specs.Commands.{command_of};
 ghost use Rattle.adapter.specs.Device.{Device};
 ghost use Rattle.adapter.specs.Rules.{IsOn, HasPort};
 ghost use Rattle.adapter.specs.declared.command.Operation.{Operation};
-ghost use Rattle.agreement.specs.Driven.{AnyUse, IsFollowed, IsTold};
-ghost use Rattle.agreement.specs.Facts.{IsClear};
-ghost use Rattle.agreement.specs.Slots.{Uses};
-ghost use Rattle.disk_page.specs.Asking.{GetsPage, MayGetPage, operation_of, AreInVain, IsAsking};
-ghost use Rattle.disk_page.specs.Waiting.{Asks, IsWaiting};
+ghost use Rattle.refinement.specs.Driven.{AnyUse, IsSimulated, IsSimulatedAlong};
+ghost use Rattle.refinement.specs.Facts.{IsClear};
+ghost use Rattle.refinement.specs.Slots.{SlotStates};
+ghost use Rattle.disk_page.specs.Asking.{GetsPage, MayGetPage, page_operation, AreInVain, IsAsking};
+ghost use Rattle.disk_page.specs.Waiting.{AsksForPage, IsPageAwaited};
 ghost use Rattle.adapter.specs.Counted.{MakesAtMost};
 ghost use Rattle.disk_page.specs.Costs.{ASK_ACCESSES, PAGE_ACCESSES};
 
@@ -28,7 +28,7 @@ use ata_types::{
 };
 use command_table::{prds, write_table};
 use hba_regs::{PortReg, Reg, is_set};
-use lawful::laws_hold;
+use lawful::law_base;
 
 /// The log of errors of queued commands (ACS-3, 9.14; Serial ATA).
 const QUEUED_ERROR_LOG: u64 = 0x10;
@@ -46,7 +46,7 @@ pub enum Page {
 
 /// The command that brings the page (ACS-3).
 fn command(page: Page) -> Command
-    ensures { result ≡ command_of (operation_of page) 0 0 0 }
+    ensures { result ≡ command_of (page_operation page) 0 0 0 }
 {
     let (code, count, lba) = match page {
         Page::Identity => (IDENTIFY_DEVICE, 0, 0),
@@ -65,10 +65,10 @@ fn command(page: Page) -> Command
 fn ask<A: Adapter>(adapter: &mut A, port: Port, page: Page)
     requires may { MayGetPage port (A.device adapter.old) }
     ensures on { IsOn (A.device adapter.new) }
-    ensures asks { Asks port page (A.device adapter.old) (A.device adapter.new) }
+    ensures asks { AsksForPage port page (A.device adapter.old) (A.device adapter.new) }
     ensures cost { MakesAtMost ASK_ACCESSES (A.access_count adapter.old) (A.access_count adapter.new) }
 {
-    laws_hold();
+    law_base();
     let scratch = Frame(PORT_FRAMES * u16::from(port.0) + SCRATCH_FRAME);
     let prds = prds(&[scratch], PAGE_BYTES);
     write_table(adapter, port, Slot(0), &command(page), prds.as_slice());
@@ -80,19 +80,21 @@ fn wait<A: Adapter>(adapter: &mut A, port: Port) -> bool
     requires on { IsOn (A.device adapter.old) }
     requires there { HasPort (A.device adapter.old) port.0 }
     requires det { ((A.device adapter.old).port port.0).sctl_det ≡ 0 }
-    ensures followed { IsFollowed (IsAsking port) AnyUse (A.device adapter.old) (A.device adapter.new) }
+    ensures followed { IsSimulated (IsAsking port) AnyUse (A.device adapter.old) (A.device adapter.new) }
     ensures on { IsOn (A.device adapter.new) }
-    ensures waiting { (o : Operation) (since : ℕ) (uses : Uses) (start : Device)
-        → IsWaiting port o since uses start (A.device adapter.old)
-        → IsWaiting port o since uses start (A.device adapter.new) }
-    ensures over { result ≡ true → (o : Operation) (since : ℕ) (uses : Uses) (start : Device)
-        → IsWaiting port o since uses start (A.device adapter.old) → IsClear ((A.device adapter.new).port port.0) 0 }
+    ensures waiting { (o : Operation) (since : ℕ) (uses : SlotStates) (start : Device)
+        → IsPageAwaited port o since uses start (A.device adapter.old)
+        → IsPageAwaited port o since uses start (A.device adapter.new) }
+    ensures over { result ≡ true → (o : Operation) (since : ℕ) (uses : SlotStates) (start : Device)
+        → IsPageAwaited port o since uses start (A.device adapter.old)
+        → IsClear ((A.device adapter.new).port port.0) 0 }
     ensures still { result ≡ false → ((A.device adapter.new).port port.0).notes.command_count ≡ READINGS }
-    ensures vain { result ≡ false → IsTold (AreInVain port READINGS) (IsAsking port) AnyUse (A.device adapter.old)
+    ensures vain { result ≡ false
+        → IsSimulatedAlong (AreInVain port READINGS) (IsAsking port) AnyUse (A.device adapter.old)
         (A.device adapter.new) }
     ensures cost { MakesAtMost READINGS (A.access_count adapter.old) (A.access_count adapter.new) }
 {
-    laws_hold();
+    law_base();
     for _reading in 0..READINGS {
         let issued = adapter.read(Reg::Px(port, PortReg::Ci));
         if !is_set(issued, 0) {
@@ -112,7 +114,7 @@ pub fn read_page<A: Adapter>(adapter: &mut A, port: Port, page: Page) -> Option<
     ensures gets { GetsPage port page result (A.device adapter.old) (A.device adapter.new) }
     ensures cost { MakesAtMost PAGE_ACCESSES (A.access_count adapter.old) (A.access_count adapter.new) }
 {
-    laws_hold();
+    law_base();
     ask(adapter, port, page);
     if !wait(adapter, port) {
         return None;

@@ -8,18 +8,18 @@ use Rattle.ata_types.specs.declared.request.ClientId.{ClientId}
 use Rattle.ata_types.specs.declared.request.Frame.{Frame}
 use Rattle.ata_types.specs.declared.request.RequestId.{RequestId}
 use Rattle.block_machine.specs.Rules.{IsForeignAt}
-use Rattle.dma_frames.specs.Table.{Run, HasFrame, AreApart, owner_of, lent_to, Table}
+use Rattle.dma_frames.specs.Table.{FrameExtent, ExtentHasFrame, ExtentsApart, owner_of, lent_to, Table}
 
 -- the frames of the first i runs are their owners'
-abbrev pub Owned : List Run → List (Option ClientId) → ℕ → Type 0
-Owned runs owners i = (k : ℕ) (d : Run) (f : Frame) → k < i → HasFrame (get_or runs k d) f → get_or owners f.0 None ≡ Some (get_or runs k d).0
+abbrev pub Owned : List FrameExtent → List (Option ClientId) → ℕ → Type 0
+Owned runs owners i = (k : ℕ) (d : FrameExtent) (f : Frame) → k < i → ExtentHasFrame (get_or runs k d) f → get_or owners f.0 None ≡ Some (get_or runs k d).0
 
 -- a frame that has an owner is of one of the first i runs, and that run is the owner's
-abbrev pub Only : List Run → List (Option ClientId) → ℕ → Type 0
+abbrev pub Only : List FrameExtent → List (Option ClientId) → ℕ → Type 0
 Only runs owners i = (f : Frame) (client : ClientId) → get_or owners f.0 None ≡ Some client
-    → (k : ℕ) × (k < i) × ((d : Run) → HasFrame (get_or runs k d) f × ((get_or runs k d).0 ≡ client))
+    → (k : ℕ) × (k < i) × ((d : FrameExtent) → ExtentHasFrame (get_or runs k d) f × ((get_or runs k d).0 ≡ client))
 
-cases_frame : (run : Run) (f : Frame) → HasFrame run f ⊎ (HasFrame run f → ⊥)
+cases_frame : (run : FrameExtent) (f : Frame) → ExtentHasFrame run f ⊎ (ExtentHasFrame run f → ⊥)
 cases_frame run f = elim (cases_lt f.0 run.1.0) [
   | inl low ↦ inr (λ has. absurd (omega (arith, has.0)))
   | inr high ↦ elim (cases_lt f.0 (run.1.0 + run.2)) [
@@ -28,10 +28,10 @@ cases_frame run f = elim (cases_lt f.0 run.1.0) [
   ]
 ]
 
-module _ (runs : List Run) (old new : List (Option ClientId)) (i : ℕ) (z : Run) (within : i < length runs)
-    (these : (f : Frame) → HasFrame (get_or runs i z) f → get_or new f.0 None ≡ Some (get_or runs i z).0)
-    (others : (f : Frame) → (HasFrame (get_or runs i z) f → ⊥) → get_or new f.0 None ≡ get_or old f.0 None) where
-  pub owned_more : AllPairs AreApart runs → Owned runs old i → Owned runs new (i + 1)
+module _ (runs : List FrameExtent) (old new : List (Option ClientId)) (i : ℕ) (z : FrameExtent) (within : i < length runs)
+    (these : (f : Frame) → ExtentHasFrame (get_or runs i z) f → get_or new f.0 None ≡ Some (get_or runs i z).0)
+    (others : (f : Frame) → (ExtentHasFrame (get_or runs i z) f → ⊥) → get_or new f.0 None ≡ get_or old f.0 None) where
+  pub owned_more : AllPairs ExtentsApart runs → Owned runs old i → Owned runs new (i + 1)
   owned_more apart owned k d f lt has = elim (cases_eq k i) [
     | inl e ↦ let same : get_or runs k d ≡ get_or runs i z = ap (λ n. get_or runs n d) e ∙ get_or_default runs i d z within in
         let there = rw same at has in rw same (these f there)
@@ -72,8 +72,8 @@ get_or-copies (suc n) zero x = refl
 get_or-copies (suc n) (suc k) x = get_or-copies n k x
 
 -- a frame of one more run is nobody's yet
-pub nobody_yet : (runs : List Run) (owners : List (Option ClientId)) (i : ℕ) (z : Run) → i < length runs → AllPairs AreApart runs → Only runs owners i
-    → (f : Frame) → HasFrame (get_or runs i z) f → get_or owners f.0 None ≡ None
+pub nobody_yet : (runs : List FrameExtent) (owners : List (Option ClientId)) (i : ℕ) (z : FrameExtent) → i < length runs → AllPairs ExtentsApart runs → Only runs owners i
+    → (f : Frame) → ExtentHasFrame (get_or runs i z) f → get_or owners f.0 None ≡ None
 nobody_yet runs owners i z within apart only f has = by (get_or owners f.0 None) refl
   where
     by : (o : Option ClientId) → get_or owners f.0 None ≡ o → get_or owners f.0 None ≡ None

@@ -25,24 +25,24 @@ pub record LendsOnly (old new : Table) (frames : List Frame) (to : Option Reques
   pub others : (f : Frame) → (Contains frames f → ⊥) → lent_to new f ≡ lent_to old f
 
 -- frames in a row, of one owner: the owner, the first frame, how many
-abbrev pub Run : Type 0
-Run = ClientId × Frame × ℕ
+abbrev pub FrameExtent : Type 0
+FrameExtent = ClientId × Frame × ℕ
 
 -- the frame is one of the run
-abbrev pub HasFrame : Run → Frame → Type 0
-HasFrame run f = (run.1.0 ≤ f.0) × (f.0 < run.1.0 + run.2)
+abbrev pub ExtentHasFrame : FrameExtent → Frame → Type 0
+ExtentHasFrame run f = (run.1.0 ≤ f.0) × (f.0 < run.1.0 + run.2)
 
 -- The owner is one of 1 to 8, and each frame is one of the largest memory's. A run of no frames may begin anywhere.
-abbrev pub IsRun : Run → Type 0
-IsRun run = (1 ≤ run.0.0) × (run.0.0 ≤ 8) × ((f : Frame) → HasFrame run f → f.0 < MOST_FRAMES)
+abbrev pub IsOwnerExtent : FrameExtent → Type 0
+IsOwnerExtent run = (1 ≤ run.0.0) × (run.0.0 ≤ 8) × ((f : Frame) → ExtentHasFrame run f → f.0 < MOST_FRAMES)
 
 -- no frame is in both
-abbrev pub AreApart : Run → Run → Type 0
-AreApart a b = (f : Frame) → HasFrame a f → HasFrame b f → ⊥
+abbrev pub ExtentsApart : FrameExtent → FrameExtent → Type 0
+ExtentsApart a b = (f : Frame) → ExtentHasFrame a f → ExtentHasFrame b f → ⊥
 
 -- Each frame of a run is its owner's, a frame of no run is nobody's, and nothing is lent.
-pub record IsTableOf (runs : List Run) (t : Table) : Type 0 where
-  pub owned : (run : Run) (f : Frame) → Contains runs run → HasFrame run f → owner_of t f ≡ Some run.0
-  pub only : (f : Frame) (client : ClientId) → owner_of t f ≡ Some client → (run : Run) × Contains runs run
-      × HasFrame run f × (run.0 ≡ client)
+pub record IsTableOf (runs : List FrameExtent) (t : Table) : Type 0 where
+  pub owned : (run : FrameExtent) (f : Frame) → Contains runs run → ExtentHasFrame run f → owner_of t f ≡ Some run.0
+  pub only : (f : Frame) (client : ClientId) → owner_of t f ≡ Some client → (run : FrameExtent) × Contains runs run
+      × ExtentHasFrame run f × (run.0 ≡ client)
   pub free : (f : Frame) → lent_to t f ≡ None

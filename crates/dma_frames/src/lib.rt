@@ -8,7 +8,7 @@
 ghost use Rattle.std.specs.Prelude.{◌≡◌, ℕ, ◌<◌, ◌≤◌, length, All, AllPairs, Contains, None, Some, IsSome, IsTrue, ◌↔◌, OnOk, IfOk, IfErr, slice_index_or};
 ghost use Rattle.block_machine.specs.Rules.{IsForeignAt, IsTwiceAt, IsLentAt, HasNoFault, IsFirstFault};
 ghost use Rattle.dma_frames.specs.Places.{IsLeastPlace};
-ghost use Rattle.dma_frames.specs.Table.{Run, owner_of, lent_to, LendsOnly, HasFrame, IsRun, IsTableOf, AreApart};
+ghost use Rattle.dma_frames.specs.Table.{FrameExtent, owner_of, lent_to, LendsOnly, ExtentHasFrame, IsOwnerExtent, IsTableOf, ExtentsApart};
 ghost use Rattle.dma_frames.specs.Words.{AreMarked};
 
 mod words;
@@ -84,12 +84,12 @@ impl FrameTable {
     /// A table of runs of frames, each by its owner (1 to 8), its first frame and its number of frames, all of them
     /// below `FRAMES`. Frames of no run are owned by nobody. Nothing is lent.
     pub fn new(runs: &[(ClientId, Frame, u16)]) -> Self
-        requires runs { All IsRun runs.now }
-        requires apart { AllPairs AreApart runs.now }
-        ensures owned { (run : Run) (f : Frame) → Contains runs.now run → HasFrame run f
+        requires runs { All IsOwnerExtent runs.now }
+        requires apart { AllPairs ExtentsApart runs.now }
+        ensures owned { (run : FrameExtent) (f : Frame) → Contains runs.now run → ExtentHasFrame run f
             → owner_of result f ≡ Some run.0 }
         ensures only { (f : Frame) (client : ClientId) → owner_of result f ≡ Some client
-            → (run : Run) × Contains runs.now run × HasFrame run f × (run.0 ≡ client) }
+            → (run : FrameExtent) × Contains runs.now run × ExtentHasFrame run f × (run.0 ≡ client) }
         ensures free { (f : Frame) → lent_to result f ≡ None }
     {
         let mut table = FrameTable::of_nobody();
@@ -102,8 +102,8 @@ impl FrameTable {
         alloc: Global,
         runs: &[(ClientId, Frame, u16)],
     ) -> Result<Box<FrameTable>, AllocError>
-        requires runs { All IsRun runs.now }
-        requires apart { AllPairs AreApart runs.now }
+        requires runs { All IsOwnerExtent runs.now }
+        requires apart { AllPairs ExtentsApart runs.now }
         ensures { IfOk result (λ table. IsTableOf runs.now table.value) }
     {
         let mut table = Box::new(alloc, FrameTable::of_nobody())?;
@@ -125,8 +125,8 @@ impl FrameTable {
 
     /// Notes the owners of the runs' frames, where nobody owned a frame.
     fn mark_all(&mut self, runs: &[(ClientId, Frame, u16)])
-        requires runs { All IsRun runs.now }
-        requires apart { AllPairs AreApart runs.now }
+        requires runs { All IsOwnerExtent runs.now }
+        requires apart { AllPairs ExtentsApart runs.now }
         requires nobody { (f : Frame) → owner_of self.old f ≡ None }
         requires free { (f : Frame) → lent_to self.old f ≡ None }
         ensures { IsTableOf runs.now self.new }

@@ -1,6 +1,6 @@
 // Owners and bits of frames in words of 64 bits.
 ghost use Rattle.std.specs.Prelude.{◌≡◌, ◌≢◌, ℕ, ◌<◌, length, None, Some, IsTrue, ◌↔◌, slice_index, slice_index_or};
-ghost use Rattle.dma_frames.specs.Table.{HasFrame, IsRun};
+ghost use Rattle.dma_frames.specs.Table.{ExtentHasFrame, IsOwnerExtent};
 ghost use Rattle.dma_frames.specs.Words.{bit_of, client_of, owners_of};
 
 use super::FRAMES;
@@ -40,12 +40,12 @@ fn client_of(number: u8) -> Option<ClientId>
 
 /// Notes the owner of the run's frames, which nobody owned.
 pub fn mark(owners: &mut [u64], run: &(ClientId, Frame, u16))
-    requires run { IsRun run.now }
+    requires run { IsOwnerExtent run.now }
     requires memory { length owners.old ≡ OWNER_WORDS }
-    requires nobody { (f : Frame) → HasFrame run.now f → slice_index_or (owners_of owners.old) f.0 None ≡ None }
-    ensures these { (f : Frame) → HasFrame run.now f
+    requires nobody { (f : Frame) → ExtentHasFrame run.now f → slice_index_or (owners_of owners.old) f.0 None ≡ None }
+    ensures these { (f : Frame) → ExtentHasFrame run.now f
         → slice_index_or (owners_of owners.new) f.0 None ≡ Some run.now.0 }
-    ensures others { (f : Frame) → (HasFrame run.now f → ⊥)
+    ensures others { (f : Frame) → (ExtentHasFrame run.now f → ⊥)
         → slice_index_or (owners_of owners.new) f.0 None ≡ slice_index_or (owners_of owners.old) f.0 None }
 {
     let (client, first, count) = *run;

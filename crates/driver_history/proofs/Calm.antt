@@ -6,16 +6,16 @@ use Rattle.std.proofs.lemmas.List.{append_cancel_left}
 use Rattle.std.proofs.lemmas.List.Elements.{All-contains, Contains-append_right}
 use Rattle.ata_types.specs.declared.Port.{Port}
 use Rattle.ata_types.specs.declared.PortState.TheVariants.{Ready}
-use Rattle.adapter.specs.Device.{Device, PortState}
+use Rattle.adapter.specs.Device.{Device, DevicePort}
 use Rattle.adapter.specs.declared.access.DeviceStep.{DeviceStep}
 use Rattle.adapter.specs.declared.tape.Entry.{Entry}
 use Rattle.adapter.specs.declared.tape.Entry.TheVariants as entry
-use Rattle.agreement.specs.Errors.{IsFatalOf}
-use Rattle.agreement.specs.Facts.{Undisturbed, IsDisturbance, IsFaultOf, ShowsNoTrouble}
-use Rattle.agreement.specs.Links.{IsPlugging}
-use Rattle.agreement.specs.Tape.{TellsAmong}
-use Rattle.block_machine.specs.Events.{Ask, Moment, Submit, StoreAt, LoadAt, Service, Tick, Reset, RevokeOf, State, Device as Told, Said, Submitted, Stored, Loaded, Served, WasReset, WasRevoked, Shown, Stepped, IsAnswered, IsHung, RestartsHung, changes_disk, moment_after}
-use Rattle.block_machine.specs.Histories.{Instant, Happening}
+use Rattle.refinement.specs.Errors.{IsFatalOf}
+use Rattle.refinement.specs.Facts.{Undisturbed, IsDisturbance, IsFaultOf, ShowsNoTrouble}
+use Rattle.refinement.specs.Links.{IsPlugging}
+use Rattle.refinement.specs.Tape.{TellsAmong}
+use Rattle.block_machine.specs.Events.{Ask, AbstractState, Submit, StoreAt, LoadAt, Service, Tick, Reset, RevokeOf, State, Device as Told, CallResult, Submitted, Stored, Loaded, Served, WasReset, WasRevoked, Shown, Stepped, IsAnswered, HasTimedOut, RestartsTimedOut, changes_disk, moment_after}
+use Rattle.block_machine.specs.Histories.{JointState, Happening}
 use Rattle.block_machine.specs.Ports.{Ports, Evidence, IsInterrupted}
 use Rattle.block_machine.specs.State.{Machine}
 use Rattle.block_machine.specs.Steps.{Step}
@@ -24,7 +24,7 @@ use Rattle.driver_history.specs.Heeding.{IsDisturbed, IsLeftAlone, ServesReady, 
 use Rattle.driver_history.specs.Claims.{IsCalmlyTold, IsSpared}
 use Rattle.driver_history.specs.Evidence.{Gains, HasErrors, HasFatalErrors, IsEvidencedOf, IsGone, ShowsFailure, StaysHealthy}
 use Rattle.error_recovery.specs.Evidence.{GainsRunning, ShowsFatal}
-use Rattle.driver_history.specs.Histories.{LosesNoTrouble, Ties}
+use Rattle.driver_history.specs.Histories.{LosesNoPortError, CallCorresponds}
 use Rattle.driver_history.specs.Trace.{LeavesEngine}
 
 -- what the law on disks says
@@ -67,10 +67,10 @@ none_gained port Is old new disturbs u g =
     let same : g.gained ≡ u.gained = append_cancel_left old.tape g.gained u.gained (sym g.tape ∙ u.tape) in
     All-contains (λ e. IsDisturbance port e → ⊥) u.gained g.entry u.calm (subst (λ (xs : List Entry). Contains xs g.entry) same g.here) (disturbs g.entry g.is)
 
-no_fatal : (p : PortState) → ShowsNoTrouble p → ShowsFatal p → ⊥
+no_fatal : (p : DevicePort) → ShowsNoTrouble p → ShowsFatal p → ⊥
 no_fatal p quiet f = let low = f.from in let high = f.to in false≢true (sym (quiet.quiet f.place low (omega (arith, high))) ∙ f.set)
 
-no_failure : (p : PortState) → ShowsNoTrouble p → ShowsFailure p → ⊥
+no_failure : (p : DevicePort) → ShowsNoTrouble p → ShowsFailure p → ⊥
 no_failure p quiet f = ⊎_elim (no_fatal p quiet) (λ fault. false≢true (sym (quiet.quiet 30 (omega arith) (omega arith)) ∙ fault)) f
 
 -- what was gained while ST was one was gained
@@ -84,26 +84,26 @@ gains_of port Is old new g = record {
 }
 
 -- a port that stays healthy has no trouble that could be lost
-pub untroubled : (evidence : Evidence) (old : Instant Device) (ports : Ports) (new : Device) (port : Port) → StaysHealthy port.0 old.device new → LosesNoTrouble evidence old ports new port
+pub untroubled : (evidence : Evidence) (old : JointState Device) (ports : Ports) (new : Device) (port : Port) → StaysHealthy port.0 old.device new → LosesNoPortError evidence old ports new port
 untroubled evidence old ports new port healthy = record {
-  errors = λ ready trouble. absurd (⊎_elim
+  errors = λ ready port_error. absurd (⊎_elim
       (no_failure (old.device.port port.0) healthy.well.quiet)
       (λ g. ⊎_elim
       (none_gained port.0 (IsFaultOf port.0) old.device new (fault_disturbs port.0) healthy.undisturbed)
       (none_gained port.0 (IsFatalOf port.0) old.device new (fatal_disturbs port.0) healthy.undisturbed)
       g)
-      trouble);
+      port_error);
   fault = λ ready g. absurd (none_gained port.0 (IsFaultOf port.0) old.device new (fault_disturbs port.0) healthy.undisturbed (gains_of port.0 (IsFaultOf port.0) old.device new g));
   fatal = λ ready g. absurd (none_gained port.0 (IsFatalOf port.0) old.device new (fatal_disturbs port.0) healthy.undisturbed (gains_of port.0 (IsFatalOf port.0) old.device new g));
   disk = λ ready g. absurd (none_gained port.0 (IsPlugging port.0) old.device new (plugging_disturbs port.0) healthy.undisturbed (gains_of port.0 (IsPlugging port.0) old.device new g));
-  changes = λ ready trouble. absurd (⊎_elim
+  changes = λ ready port_error. absurd (⊎_elim
       (λ change. ⊎_elim (λ n. false≢true (sym healthy.well.quiet.serr_n ∙ n)) (λ x. false≢true (sym healthy.well.quiet.serr_x ∙ x)) change)
       (none_gained port.0 (IsPlugging port.0) old.device new (plugging_disturbs port.0) healthy.undisturbed)
-      trouble);
+      port_error);
 }
 
 -- nothing of what trouble is named for is so of it
-module _ (port : Port) (old : Instant Device) (new : Device) (healthy : StaysHealthy port.0 old.device new) where
+module _ (port : Port) (old : JointState Device) (new : Device) (healthy : StaysHealthy port.0 old.device new) where
   pub no_errors : HasErrors port old new → ⊥
   no_errors e = ⊎_elim
       (no_failure (old.device.port port.0) healthy.well.quiet)
@@ -130,9 +130,9 @@ module _ (port : Port) (old : Instant Device) (new : Device) (healthy : StaysHea
 
 -- ---- a call in which a port stays healthy
 
-module _ (told : EntryIsTold) (wanted : List Wanted) (old : Instant Device) (h : Happening Device DeviceStep) (t : Ties wanted old h) (port : Port)
+module _ (told : EntryIsTold) (wanted : List Wanted) (old : JointState Device) (h : Happening Device DeviceStep) (t : CallCorresponds wanted old h) (port : Port)
     (healthy : StaysHealthy port.0 old.device h.device) where
-  p : PortState
+  p : DevicePort
   p = old.device.port port.0
 
   ev : IsEvidencedOf h.event.ask h.event.said t.accesses old h.event.ports h.device h.event.evidence port
@@ -179,7 +179,7 @@ module _ (told : EntryIsTold) (wanted : List Wanted) (old : Instant Device) (h :
   pub engine_left : h.event.ask ≢ Reset → (h.event.ask ≡ Tick → IsInterrupted h.event.evidence port → ⊥) → old.moment.ports.state port ≡ Ready → All (LeavesEngine port) t.accesses
   engine_left other spares ready = ⊎_elim (λ a. a) (λ i. absurd (no_interrupt h.event.ask (t.port port).heeds other spares ready i)) ev.stopped_all
 
-tick_restarts : (said : Said) (old : Moment) (evidence : Evidence) (steps : List Step) (new : Moment) → IsAnswered {D = DeviceStep} Tick said old evidence steps new → RestartsHung old evidence steps new
+tick_restarts : (said : CallResult) (old : AbstractState) (evidence : Evidence) (steps : List Step) (new : AbstractState) → IsAnswered {D = DeviceStep} Tick said old evidence steps new → RestartsTimedOut old evidence steps new
 tick_restarts (Served replies) old evidence steps new a = a.restarts
 tick_restarts (Submitted r) old evidence steps new a = absurd a
 tick_restarts (Stored r) old evidence steps new a = absurd a
@@ -189,11 +189,11 @@ tick_restarts (WasRevoked r) old evidence steps new a = absurd a
 tick_restarts (Shown r) old evidence steps new a = absurd a
 tick_restarts (Stepped r) old evidence steps new a = absurd a
 
-pub restarts_of : (ask : Ask DeviceStep) (said : Said) (old : Moment) (evidence : Evidence) (steps : List Step) (new : Moment) → IsAnswered ask said old evidence steps new → ask ≡ Tick
-    → RestartsHung old evidence steps new
+pub restarts_of : (ask : Ask DeviceStep) (said : CallResult) (old : AbstractState) (evidence : Evidence) (steps : List Step) (new : AbstractState) → IsAnswered ask said old evidence steps new → ask ≡ Tick
+    → RestartsTimedOut old evidence steps new
 restarts_of ask said old evidence steps new answered asks = tick_restarts said old evidence steps new (subst (λ (a : Ask DeviceStep). IsAnswered a said old evidence steps new) asks answered)
 
 -- a tick interrupts none that it doesn't bring to its limit
-pub tick_spares : (ask : Ask DeviceStep) (said : Said) (old : Moment) (evidence : Evidence) (steps : List Step) (new : Moment) (port : Port) → IsAnswered ask said old evidence steps new
-    → (ask ≡ Tick → IsHung old port → ⊥) → ask ≡ Tick → IsInterrupted evidence port → ⊥
+pub tick_spares : (ask : Ask DeviceStep) (said : CallResult) (old : AbstractState) (evidence : Evidence) (steps : List Step) (new : AbstractState) (port : Port) → IsAnswered ask said old evidence steps new
+    → (ask ≡ Tick → HasTimedOut old port → ⊥) → ask ≡ Tick → IsInterrupted evidence port → ⊥
 tick_spares ask said old evidence steps new port answered young asks i = young asks ((restarts_of ask said old evidence steps new answered asks).spares port i)

@@ -10,13 +10,13 @@ use Rattle.hba_regs.specs.declared.reg.Reg.TheVariants.{Px}
 use Rattle.hba_regs.specs.declared.reg.PortReg.{PortReg}
 use Rattle.hba_regs.specs.declared.reg.PortReg.TheVariants.{Is, Serr}
 use Rattle.adapter.specs.Access.{Access, Does}
-use Rattle.adapter.specs.Device.{Device, PortState}
+use Rattle.adapter.specs.Device.{Device, DevicePort}
 use Rattle.adapter.specs.Steps.{Steps}
 use Rattle.adapter.specs.declared.tape.Entry.{Entry}
-use Rattle.agreement.specs.Driven.{Grows}
-use Rattle.agreement.specs.Errors.{IsFatalOf, NoneFails, NoneFatal}
-use Rattle.agreement.specs.Facts.{IsFaultOf}
-use Rattle.agreement.specs.Links.{IsPlugging, PlugsNone, SparesRegister}
+use Rattle.refinement.specs.Driven.{Grows}
+use Rattle.refinement.specs.Errors.{IsFatalOf, NoneFails, NoneFatal}
+use Rattle.refinement.specs.Facts.{IsFaultOf}
+use Rattle.refinement.specs.Links.{IsPlugging, PlugsNone, SparesRegister}
 use Rattle.error_recovery.specs.Evidence.{ShowsFatal}
 use Rattle.driver_history.specs.Evidence.{Gains, ShowsChange, ShowsFailure}
 use Rattle.driver_history.specs.Laws.{Laws}
@@ -46,7 +46,7 @@ pub data TroubleKind : Type 0 where
   faults fatals disks links : TroubleKind
 
 -- the port shows one
-abbrev pub Shows : TroubleKind → PortState → Type 0
+abbrev pub Shows : TroubleKind → DevicePort → Type 0
 Shows faults p = p.is 30 ≡ true
 Shows fatals p = ShowsFatal p
 Shows disks p = p.serr_n ≡ true
@@ -67,21 +67,21 @@ register_of disks = Serr
 register_of links = Serr
 
 -- the port shows a failure; or a change, where the kind is one of those
-abbrev pub Tells : TroubleKind → PortState → Type 0
+abbrev pub Tells : TroubleKind → DevicePort → Type 0
 Tells faults p = ShowsFailure p
 Tells fatals p = ShowsFailure p
 Tells disks p = ShowsChange p
 Tells links p = ShowsChange p
 
 -- where one is shown, that is
-pub told : (kind : TroubleKind) (p : PortState) → Shows kind p → Tells kind p
+pub told : (kind : TroubleKind) (p : DevicePort) → Shows kind p → Tells kind p
 told faults p set = inr set
 told fatals p shown = inl shown
 told disks p set = inl set
 told links p set = inr set
 
 -- which is trouble
-pub is_trouble : (kind : TroubleKind) (p : PortState) → Tells kind p → ShowsFailure p ⊎ ShowsChange p
+pub is_trouble : (kind : TroubleKind) (p : DevicePort) → Tells kind p → ShowsFailure p ⊎ ShowsChange p
 is_trouble faults p tells = inl tells
 is_trouble fatals p tells = inl tells
 is_trouble disks p tells = inr tells

@@ -5,14 +5,14 @@ use Rattle.ata_types.specs.declared.Port.{Port}
 use Rattle.ata_types.specs.declared.request.Outcome.{Outcome}
 use Rattle.adapter.specs.Device.{Device}
 use Rattle.adapter.specs.declared.access.DeviceStep.{DeviceStep}
-use Rattle.block_machine.specs.Events.{Ask, Submit, StoreAt, LoadAt, Service, Tick, Reset, RevokeOf, State, Device as Told, Said, Submitted, Stored, Loaded, WasRevoked, Shown, Stepped, Moment, IsAnswered, IsHung, IsServers, moment_after}
-use Rattle.block_machine.specs.Histories.{Instant, Happening, now}
+use Rattle.block_machine.specs.Events.{Ask, Submit, StoreAt, LoadAt, Service, Tick, Reset, RevokeOf, State, Device as Told, CallResult, Submitted, Stored, Loaded, WasRevoked, Shown, Stepped, AbstractState, IsAnswered, HasTimedOut, IsByServer, moment_after}
+use Rattle.block_machine.specs.Histories.{JointState, Happening, now}
 use Rattle.block_machine.specs.Ports.{Ports, Evidence, SamePort}
 use Rattle.block_machine.specs.State.{Pending}
 use Rattle.block_machine.specs.Steps.{Step, Answer}
 use Rattle.identify.specs.declared.wanted.Wanted.{Wanted}
 use Rattle.driver_history.specs.Claims.{GoesWellFor, IsCalmlyTold, IsHealthyFor, IsSpared}
-use Rattle.driver_history.specs.Histories.{IsHistory, Ties}
+use Rattle.driver_history.specs.Histories.{IsDriverHistory, CallCorresponds}
 use Rattle.driver_history.specs.Trace.{LeavesEngine}
 use Rattle.driver_history.proofs.Calm.{EntryIsTold, engine_left, restarts_of, spared, tick_spares}
 use Rattle.driver_history.proofs.Lasting.{KeepsWell}
@@ -20,7 +20,7 @@ use Rattle.driver_history.proofs.Leaving.{left_well}
 use Rattle.driver_history.proofs.Resting.{belongs_of}
 
 -- calls that are neither a service, nor a tick, nor a reset leave each port what it is, and answer nobody but where a grant is revoked
-same_port : (ask : Ask DeviceStep) (said : Said) (old : Moment) (evidence : Evidence) (steps : List Step) (new : Moment) (port : Port) → IsAnswered ask said old evidence steps new
+same_port : (ask : Ask DeviceStep) (said : CallResult) (old : AbstractState) (evidence : Evidence) (steps : List Step) (new : AbstractState) (port : Port) → IsAnswered ask said old evidence steps new
     → ask ≢ Service → ask ≢ Tick → ask ≢ Reset → SamePort old.ports new.ports port
 same_port (Submit r) (Submitted (Ok id)) old evidence steps new port a one two three = a.2 port
 same_port (Submit r) (Submitted (Err refusal)) old evidence steps new port a one two three = a.2 port
@@ -38,7 +38,7 @@ same_port Tick said old evidence steps new port a one two three = absurd (two re
 same_port Reset said old evidence steps new port a one two three = absurd (three refl)
 same_port ask said old evidence steps new port a one two three = absurd a
 
-tells_calmly : (ask : Ask DeviceStep) (ports : Ports) (e : Pending) (o : Outcome) → IsServers ask ports (Answer e o) → ask ≢ Service → ask ≢ Tick → ask ≢ Reset → IsCalmlyTold ask o
+tells_calmly : (ask : Ask DeviceStep) (ports : Ports) (e : Pending) (o : Outcome) → IsByServer ask ports (Answer e o) → ask ≢ Service → ask ≢ Tick → ask ≢ Reset → IsCalmlyTold ask o
 tells_calmly (RevokeOf client number) ports e o s one two three = s
 tells_calmly (Submit r) ports e o s one two three = absurd s
 tells_calmly (StoreAt client frame offset bytes) ports e o s one two three = absurd s
@@ -70,12 +70,12 @@ kind_of (RevokeOf client number) =
 kind_of (State at) = other (λ e. let z : State at ≡ Service = e in absurd cc) (λ e. let z : State at ≡ Tick = e in absurd cc) (λ e. let z : State at ≡ Reset = e in absurd cc)
 kind_of (Told step) = other (λ e. let z : Told step ≡ Service = e in absurd cc) (λ e. let z : Told step ≡ Tick = e in absurd cc) (λ e. let z : Told step ≡ Reset = e in absurd cc)
 
-module _ (told : EntryIsTold) (steps : KeepsWell) (wanted : List Wanted) (first : Instant Device) (port : Port) where
-  module _ (past : List (Happening Device DeviceStep)) (h : Happening Device DeviceStep) (history : IsHistory wanted first (h ∷ past)) (healthy : IsHealthyFor (now first past) h port) where
-    abbrev old : Instant Device
+module _ (told : EntryIsTold) (steps : KeepsWell) (wanted : List Wanted) (first : JointState Device) (port : Port) where
+  module _ (past : List (Happening Device DeviceStep)) (h : Happening Device DeviceStep) (history : IsDriverHistory wanted first (h ∷ past)) (healthy : IsHealthyFor (now first past) h port) where
+    abbrev old : JointState Device
     old = now first past
 
-    t : Ties wanted old h
+    t : CallCorresponds wanted old h
     t = history.2
 
     engine : All (LeavesEngine port) t.accesses
@@ -89,7 +89,7 @@ module _ (told : EntryIsTold) (steps : KeepsWell) (wanted : List Wanted) (first 
         let r = restarts_of h.event.ask h.event.said old.moment h.event.evidence h.event.steps (moment_after old.moment h.event) history.1.answered asks in
         record {
           same = ⊎_elim (λ (calm : _ × _). calm.1) (λ (hung : _ × _). absurd (healthy.young asks hung.0)) (r.ports port);
-          told = λ e o here own. absurd (healthy.young asks (subst (IsHung old.moment) own (r.answer e o here)));
+          told = λ e o here own. absurd (healthy.young asks (subst (HasTimedOut old.moment) own (r.answer e o here)));
           engine = engine;
         }
     left_alone (other one two three) = record {

@@ -9,31 +9,31 @@ use Rattle.ata_types.specs.declared.PortState.TheVariants.{Absent, Ready}
 use Rattle.ata_types.specs.declared.request.RequestId.{RequestId}
 use Rattle.adapter.specs.Device.{Device}
 use Rattle.adapter.specs.declared.access.DeviceStep.{DeviceStep}
-use Rattle.agreement.specs.Acts.{InSlots}
-use Rattle.agreement.specs.Slots.{Free, Serves, ServesRequest, IsServed, Use}
-use Rattle.block_machine.specs.Histories.{Instant, Happening, now}
+use Rattle.refinement.specs.Acts.{InSlots}
+use Rattle.refinement.specs.Slots.{Free, Serves, ServesRequest, RelatesSlot, SlotState}
+use Rattle.block_machine.specs.Histories.{JointState, Happening, now}
 use Rattle.block_machine.specs.Histories as histories
 use Rattle.block_machine.specs.Ports.{AreFit}
 use Rattle.block_machine.specs.State.{Pending}
 use Rattle.host_boot.specs.Taken.{wanted_of}
 use Rattle.identify.specs.declared.wanted.Wanted.{Wanted}
-use Rattle.driver_history.specs.Histories.{IsHistory}
+use Rattle.driver_history.specs.Histories.{IsDriverHistory}
 use Rattle.driver_history.specs.Holds.{HoldsAt, HoldsOf, HoldsWith, IsReadyAt}
 
 -- the ports of a history are fit
-pub history_fit : {D E : Type 0} (Begins : Instant D → Type 0) (Agrees : Instant D → Happening D E → Type 0) (first : Instant D) (past : List (Happening D E))
-    → histories.IsHistory Begins Agrees first past → AreFit (now first past).moment.ports
-history_fit Begins Agrees first [] h = h.0.1
-history_fit Begins Agrees first (x ∷ past) h = h.1.fit
+pub history_fit : {D E : Type 0} (Begins : JointState D → Type 0) (Relation : JointState D → Happening D E → Type 0) (first : JointState D) (past : List (Happening D E))
+    → histories.IsHistory Begins Relation first past → AreFit (now first past).moment.ports
+history_fit Begins Relation first [] h = h.0.1
+history_fit Begins Relation first (x ∷ past) h = h.1.fit
 
 -- a port that is ready is served, and one of the four
-pub ready_low : (i : Instant Device) (port : Port) → AreFit i.moment.ports → i.moment.ports.state port ≡ Ready → (i.moment.ports.served port ≡ true) × (port.0 < 4)
+pub ready_low : (i : JointState Device) (port : Port) → AreFit i.moment.ports → i.moment.ports.state port ≡ Ready → (i.moment.ports.served port ≡ true) × (port.0 < 4)
 ready_low i port fit ready = ⊎_elim
     (λ (served : i.moment.ports.served port ≡ true). (served, fit.few port served))
     (λ (other : i.moment.ports.served port ≡ false). let z : Absent ≡ Ready = sym (fit.absent port other) ∙ ready in absurd cc)
     (cases_Bool (i.moment.ports.served port))
 
-pub ready_at : (wanted : List Wanted) (i : Instant Device) (port : Port) → AreFit i.moment.ports → (s : InSlots) → HoldsWith wanted s i → i.moment.ports.state port ≡ Ready
+pub ready_at : (wanted : List Wanted) (i : JointState Device) (port : Port) → AreFit i.moment.ports → (s : InSlots) → HoldsWith wanted s i → i.moment.ports.state port ≡ Ready
     → IsReadyAt (wanted_of wanted port.0) s i port
 ready_at wanted i port fit s holds ready =
     let low = ready_low i port fit ready in
@@ -41,17 +41,17 @@ ready_at wanted i port fit s holds ready =
     (subst (λ (b : Bool). HoldsOf (wanted_of wanted port.0) s i port b (i.moment.ports.state port)) low.0 (holds.port port low.1))
 
 module _ (wanted : List Wanted) where
-  pub holds_at : (first : Instant Device) (past : List (Happening Device DeviceStep)) → IsHistory wanted first past → HoldsAt wanted (now first past)
+  pub holds_at : (first : JointState Device) (past : List (Happening Device DeviceStep)) → IsDriverHistory wanted first past → HoldsAt wanted (now first past)
   holds_at first [] h = h.1.0
   holds_at first (x ∷ past) h = h.2.holds
 
-  pub fit_at : (first : Instant Device) (past : List (Happening Device DeviceStep)) → IsHistory wanted first past → AreFit (now first past).moment.ports
+  pub fit_at : (first : JointState Device) (past : List (Happening Device DeviceStep)) → IsDriverHistory wanted first past → AreFit (now first past).moment.ports
   fit_at first [] h = h.0.1
   fit_at first (x ∷ past) h = h.1.fit
 
-  module _ (first : Instant Device) (past : List (Happening Device DeviceStep)) (e : Pending) (h : IsHistory wanted first past) (is_ready : (now first past).moment.ports.state e.request.port ≡ Ready)
+  module _ (first : JointState Device) (past : List (Happening Device DeviceStep)) (e : Pending) (h : IsDriverHistory wanted first past) (is_ready : (now first past).moment.ports.state e.request.port ≡ Ready)
       (here : Contains (now first past).moment.machine.book e) (issued : e.issued ≡ true) where
-    abbrev i : Instant Device
+    abbrev i : JointState Device
     i = now first past
 
     abbrev s : InSlots
@@ -81,6 +81,6 @@ module _ (wanted : List Wanted) where
     has_slot = (
       slot.0,
       usable,
-      subst (λ (u : Use). IsServed i.moment.machine i.device.memory i.device.tape (i.device.port e.request.port.0) e.request.port.0 slot.0 u) slot.1 (holds.knows.agrees.slot e.request.port.0 slot.0),
+      subst (λ (u : SlotState). RelatesSlot i.moment.machine i.device.memory i.device.tape (i.device.port e.request.port.0) e.request.port.0 slot.0 u) slot.1 (holds.knows.agrees.slot e.request.port.0 slot.0),
       ready.runs.st,
     )

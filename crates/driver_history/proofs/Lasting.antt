@@ -13,9 +13,9 @@ use Rattle.adapter.specs.Rules.{IsOn}
 use Rattle.adapter.specs.Steps.{Steps}
 use Rattle.adapter.specs.declared.access.DeviceStep.{DeviceStep}
 use Rattle.adapter.proofs.Going.{asked_steps}
-use Rattle.agreement.specs.Facts.{RunsWell, Undisturbed}
-use Rattle.agreement.specs.Links.{SparesRegister}
-use Rattle.block_machine.specs.Events.{Ask, Submit, StoreAt, LoadAt, Service, Tick, Reset, RevokeOf, Device as Told, Said, Submitted, Stored, Loaded, Served, WasRevoked, Stepped, IsHung, Moment}
+use Rattle.refinement.specs.Facts.{RunsWell, Undisturbed}
+use Rattle.refinement.specs.Links.{SparesRegister}
+use Rattle.block_machine.specs.Events.{Ask, Submit, StoreAt, LoadAt, Service, Tick, Reset, RevokeOf, Device as Told, CallResult, Submitted, Stored, Loaded, Served, WasRevoked, Stepped, HasTimedOut, AbstractState}
 use Rattle.driver_history.specs.Histories.{CameBy, IssuesOn, TendsPort}
 use Rattle.driver_history.specs.Trace.{IsServing, LeavesEngine}
 use Rattle.port_boot.specs.States.{RunsOn}
@@ -44,7 +44,7 @@ one_leaves port access is = All-cons (LeavesRunning port) access [] is (All-nil 
 abbrev pub IsNoReset : Ask DeviceStep → Type 0
 IsNoReset ask = ask ≢ Reset
 
-module _ (port : Port) (m : Moment) (accesses : List Access) (old new : Device) where
+module _ (port : Port) (m : AbstractState) (accesses : List Access) (old new : Device) where
   abbrev Calm : Type 0
   Calm = IsCalm port accesses old new
 
@@ -55,7 +55,7 @@ module _ (port : Port) (m : Moment) (accesses : List Access) (old new : Device) 
   none made same = inl (subst (λ (list : List Access). All (LeavesRunning port) list × DoesAll list old new) (sym made) (All-nil (LeavesRunning port), same))
 
   -- how the call came there, if it leaves the engine alone
-  pub came_calmly : (ask : Ask DeviceStep) (said : Said) → CameBy m ask said accesses old new → IsNoReset ask → All (LeavesEngine port) accesses → Calm
+  pub came_calmly : (ask : Ask DeviceStep) (said : CallResult) → CameBy m ask said accesses old new → IsNoReset ask → All (LeavesEngine port) accesses → Calm
   came_calmly (Told step) (Stepped true) c other leaves = inr (asked_steps step old new c.1)
   came_calmly (Submit r) (Submitted (Ok id)) c other leaves = inl ((λ i e small. issuing_leaves port c.1.0.port _ (c.1.2 i e small)), c.0)
   came_calmly (RevokeOf client number) (WasRevoked (Some replies)) c other leaves = inl ((λ i e small. issuing_leaves port c.1.0.0.port _ (c.1.1 i e small)), c.0)
@@ -64,7 +64,7 @@ module _ (port : Port) (m : Moment) (accesses : List Access) (old new : Device) 
   came_calmly (LoadAt client frame offset count) (Loaded (Ok bytes)) c other leaves =
       inl (subst (All (LeavesRunning port)) (sym c.1) (one_leaves port (Loading (FRAME_BYTES * frame.0 + offset) bytes) (tt, (tt, tt))), c.0)
   came_calmly Service (Served replies) c other leaves = inl (serving (TendsPort m.ports) c.1 leaves, c.0)
-  came_calmly Tick (Served replies) c other leaves = inl (serving (IsHung m) c.1 leaves, c.0)
+  came_calmly Tick (Served replies) c other leaves = inl (serving (HasTimedOut m) c.1 leaves, c.0)
   came_calmly Reset said c other leaves = absurd (other refl)
   came_calmly ask said c other leaves = none c.0 c.1
 

@@ -4,22 +4,22 @@ use Rattle.ata_types.specs.declared.Port.{Port}
 use Rattle.ata_types.specs.declared.PortState.TheVariants.{Ready}
 use Rattle.adapter.specs.Device.{Device}
 use Rattle.adapter.specs.declared.access.DeviceStep.{DeviceStep}
-use Rattle.agreement.specs.Facts.{RunsWell}
-use Rattle.block_machine.specs.Events.{Tick, Reset, IsHung, moment_after}
-use Rattle.block_machine.specs.Histories.{Instant, Happening, now}
+use Rattle.refinement.specs.Facts.{RunsWell}
+use Rattle.block_machine.specs.Events.{Tick, Reset, HasTimedOut, moment_after}
+use Rattle.block_machine.specs.Histories.{JointState, Happening, now}
 use Rattle.identify.specs.declared.wanted.Wanted.{Wanted}
 use Rattle.driver_history.specs.Evidence.{StaysHealthy}
-use Rattle.driver_history.specs.Histories.{IsHistory, Ties}
+use Rattle.driver_history.specs.Histories.{IsDriverHistory, CallCorresponds}
 use Rattle.driver_history.proofs.Calm.{EntryIsTold, engine_left, tick_spares}
 use Rattle.driver_history.proofs.Instants.{fit_at, holds_at, ready_at}
 use Rattle.driver_history.proofs.Lasting.{KeepsWell, came_calmly, runs_well}
 
-pub left_well : EntryIsTold → KeepsWell → (wanted : List Wanted) (first : Instant Device) (past : List (Happening Device DeviceStep)) (h : Happening Device DeviceStep)
-    (port : Port) → IsHistory wanted first (h ∷ past) → (now first past).moment.ports.state port ≡ Ready → h.event.ask ≢ Reset
-    → (h.event.ask ≡ Tick → IsHung (now first past).moment port → ⊥) → StaysHealthy port.0 (now first past).device h.device → RunsWell (h.device.port port.0)
+pub left_well : EntryIsTold → KeepsWell → (wanted : List Wanted) (first : JointState Device) (past : List (Happening Device DeviceStep)) (h : Happening Device DeviceStep)
+    (port : Port) → IsDriverHistory wanted first (h ∷ past) → (now first past).moment.ports.state port ≡ Ready → h.event.ask ≢ Reset
+    → (h.event.ask ≡ Tick → HasTimedOut (now first past).moment port → ⊥) → StaysHealthy port.0 (now first past).device h.device → RunsWell (h.device.port port.0)
 left_well told steps wanted first past h port history ready other young healthy =
-    let old : Instant Device = now first past in
-    let t : Ties wanted old h = history.2 in
+    let old : JointState Device = now first past in
+    let t : CallCorresponds wanted old h = history.2 in
     let holds = holds_at wanted first past history.0 in
     let at = ready_at wanted old port (fit_at wanted first past history.0) holds.0 holds.1 ready in
     let leaves = engine_left told wanted old h t port healthy other

@@ -10,16 +10,16 @@ use Rattle.hba_regs.specs.declared.reg.PortReg.{PortReg}
 use Rattle.hba_regs.specs.declared.reg.PortReg.TheVariants as register
 use Rattle.adapter.specs.Access.{Access, Does, DoesAll, Writes}
 use Rattle.adapter.specs.Access.Access.{Loading, Reading, Storing, Writing}
-use Rattle.adapter.specs.Device.{Device, PortState}
+use Rattle.adapter.specs.Device.{Device, DevicePort}
 use Rattle.adapter.specs.Rules.{IsOn}
 use Rattle.adapter.proofs.Changed.{changed_same}
-use Rattle.agreement.specs.Agrees.{port_at}
-use Rattle.agreement.specs.Errors.{IsFatalOf}
-use Rattle.agreement.specs.Facts.{IsFaultOf}
-use Rattle.agreement.specs.Links.{IsPlugging, SparesRegister}
-use Rattle.block_machine.specs.Histories.{Instant}
+use Rattle.refinement.specs.Relation.{port_at}
+use Rattle.refinement.specs.Errors.{IsFatalOf}
+use Rattle.refinement.specs.Facts.{IsFaultOf}
+use Rattle.refinement.specs.Links.{IsPlugging, SparesRegister}
+use Rattle.block_machine.specs.Histories.{JointState}
 use Rattle.block_machine.specs.Ports.{Evidence, Ports}
-use Rattle.driver_history.specs.Histories.{LosesNoTrouble}
+use Rattle.driver_history.specs.Histories.{LosesNoPortError}
 use Rattle.driver_history.specs.Laws.{Laws}
 use Rattle.driver_history.specs.Trace.{ClearsNone}
 use Rattle.driver_history.proofs.Calm.{gains_of}
@@ -70,18 +70,18 @@ module _ (laws : Laws) (port : Port) where
     module _ (x : Writes (Px port register.Is) v old new) (leaves : ClearsNone port (Writing (Px port register.Is) v)) where
       cause_left : (place : ℕ) → 27 ≤ place → place ≤ 30 → (x.mid.port port.0).is place ≡ true → (new.port port.0).is place ≡ true
       cause_left place low high set =
-          ap (λ (d : Device). (d.port port.0).is place) x.effect ∙ ap (λ (p : PortState). p.is place) (changed_same x.mid.port port.0 _)
+          ap (λ (d : Device). (d.port port.0).is place) x.effect ∙ ap (λ (p : DevicePort). p.is place) (changed_same x.mid.port port.0 _)
           ∙ cleared_of ((x.mid.port port.0).is place) (bit v place) (leaves.is refl place low high) set
 
     module _ (x : Writes (Px port register.Serr) v old new) (leaves : ClearsNone port (Writing (Px port register.Serr) v)) where
       disk_left : (x.mid.port port.0).serr_n ≡ true → (new.port port.0).serr_n ≡ true
       disk_left set =
-          ap (λ (d : Device). (d.port port.0).serr_n) x.effect ∙ ap (λ (p : PortState). p.serr_n) (changed_same x.mid.port port.0 _)
+          ap (λ (d : Device). (d.port port.0).serr_n) x.effect ∙ ap (λ (p : DevicePort). p.serr_n) (changed_same x.mid.port port.0 _)
           ∙ cleared_of (x.mid.port port.0).serr_n (bit v 16) (leaves.serr refl).0 set
 
       link_left : (x.mid.port port.0).serr_x ≡ true → (new.port port.0).serr_x ≡ true
       link_left set =
-          ap (λ (d : Device). (d.port port.0).serr_x) x.effect ∙ ap (λ (p : PortState). p.serr_x) (changed_same x.mid.port port.0 _)
+          ap (λ (d : Device). (d.port port.0).serr_x) x.effect ∙ ap (λ (p : DevicePort). p.serr_x) (changed_same x.mid.port port.0 _)
           ∙ cleared_of (x.mid.port port.0).serr_x (bit v 26) (leaves.serr refl).1 set
 
     left_set : (kind : TroubleKind) → ClearsNone port (Writing (Px port (register_of kind)) v) → (x : Writes (Px port (register_of kind)) v old new) → Shows kind (x.mid.port port.0) → Shows kind (new.port port.0)
@@ -119,13 +119,13 @@ module _ (laws : Laws) (port : Port) where
   -- ---- trouble is shown
 
   -- what was shown is shown still, and so is what came
-  pub loses_none : (old : Instant Device) (new : Device) → ((kind : TroubleKind) → AreShown kind port.0 old.device new) → (evidence : Evidence) (ports : Ports) → LosesNoTrouble evidence old ports new port
+  pub loses_none : (old : JointState Device) (new : Device) → ((kind : TroubleKind) → AreShown kind port.0 old.device new) → (evidence : Evidence) (ports : Ports) → LosesNoPortError evidence old ports new port
   loses_none old new shows evidence ports = record {
-    errors = λ ready trouble. inr (⊎_elim
+    errors = λ ready port_error. inr (⊎_elim
         (failure_still port.0 old.device new shows)
         (λ came. ⊎_elim (λ g. inr ((shows faults).came g)) (λ g. inl ((shows fatals).came g)) came)
-        trouble);
-    changes = λ tends trouble. inr (⊎_elim (change_still port.0 old.device new shows) (λ g. inl ((shows disks).came g)) trouble);
+        port_error);
+    changes = λ tends port_error. inr (⊎_elim (change_still port.0 old.device new shows) (λ g. inl ((shows disks).came g)) port_error);
     fault = λ ready g. (shows faults).came (gains_of port.0 (IsFaultOf port.0) old.device new g);
     fatal = λ ready g. (shows fatals).came (gains_of port.0 (IsFatalOf port.0) old.device new g);
     disk = λ ready g. (shows disks).came (gains_of port.0 (IsPlugging port.0) old.device new g);

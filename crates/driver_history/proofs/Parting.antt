@@ -14,13 +14,13 @@ use Rattle.adapter.specs.declared.tape.Entry.{Entry}
 use Rattle.adapter.specs.declared.tape.Entry.TheVariants as entry
 use Rattle.adapter.specs.declared.tape.Fault as tape_fault
 use Rattle.adapter.specs.declared.command.Operation.TheVariants.{ReadLog}
-use Rattle.agreement.specs.Driven.{IsDrivenBy, IsOf, Grows, LeavesPort, SendsNone}
-use Rattle.agreement.specs.Slots.{IsMove}
-use Rattle.agreement.specs.Errors.{ChangesByDisks, ChangesByErrors, IsFatalOf}
-use Rattle.agreement.specs.Facts.{IsFaultOf}
-use Rattle.agreement.specs.Links.{ComesUp, IsPlugging, PlugsNone, SameLink}
-use Rattle.block_machine.specs.Events.{Ask, Moment, Said}
-use Rattle.block_machine.specs.Histories.{Instant}
+use Rattle.refinement.specs.Driven.{IsDrivenBy, IsOf, Grows, LeavesPort, SendsNone}
+use Rattle.refinement.specs.Slots.{IsMove}
+use Rattle.refinement.specs.Errors.{ChangesByDisks, ChangesByErrors, IsFatalOf}
+use Rattle.refinement.specs.Facts.{IsFaultOf}
+use Rattle.refinement.specs.Links.{ComesUp, IsPlugging, PlugsNone, SameLink}
+use Rattle.block_machine.specs.Events.{Ask, AbstractState, CallResult}
+use Rattle.block_machine.specs.Histories.{JointState}
 use Rattle.block_machine.specs.Ports.{Ports, SamePort, Evidence, IsInterrupted}
 use Rattle.driver_history.specs.Evidence.{Gains, HasErrors, HasFatalErrors, IsEvidencedOf, IsGone, IsLost, ShowsChange, ShowsLoss}
 use Rattle.error_recovery.specs.Evidence.{BringsLog, HasFailed, ShowsFatal}
@@ -218,7 +218,7 @@ module _ (laws : Laws) (port : Port) where
       since : Grows t.start new
       since = laws.tape.grows_more t.start t.end new middle last
 
-  module _ (old : Instant Device) (begun : Moment) (ended ports : Ports) (new : Device) (turn call : Evidence) (ask : Ask DeviceStep) (said : Said)
+  module _ (old : JointState Device) (begun : AbstractState) (ended ports : Ports) (new : Device) (turn call : Evidence) (ask : Ask DeviceStep) (said : CallResult)
       (on : IsOn old.device) (linked : (old.moment.ports.state port ≡ Ready) ⊎ Contains turn.lost port → (old.device.port port.0).link_due ≡ false) (t : HasTurnIn port old.device new) (on_then : IsOn t.end)
       (was : SamePort old.moment.ports begun.ports port) (stays : SamePort ended ports port) (alike : NamesAlike port turn call)
       (its : IsEvidencedOf ask said t.turn (record { device = t.start; moment = begun }) ended t.end turn port) where

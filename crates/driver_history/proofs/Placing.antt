@@ -9,20 +9,20 @@ use Rattle.adapter.specs.declared.tape.Entry.{Entry}
 use Rattle.adapter.specs.declared.tape.Entry.TheVariants as entry
 use Rattle.adapter.specs.declared.tape.Move as tape_move
 use Rattle.adapter.specs.declared.tape.Clear as tape_clear
-use Rattle.agreement.specs.Slots.{op_of}
-use Rattle.agreement.specs.Places.{scratch_of}
-use Rattle.agreement.specs.Tape.{IsTouch, IsClear, TellsAmong, TellsEntry, TellsMove}
+use Rattle.refinement.specs.Slots.{op_of}
+use Rattle.refinement.specs.Places.{scratch_of}
+use Rattle.refinement.specs.Tape.{MovesSector, ClearsSectors, TellsAmong, TellsEntry, TellsMove}
 use Rattle.block_machine.specs.Events.{IsRun, steps_of}
-use Rattle.block_machine.specs.Histories.{Instant, Happening, IsHistory, events_of, now}
+use Rattle.block_machine.specs.Histories.{JointState, Happening, IsHistory, events_of, now}
 use Rattle.block_machine.specs.Left.{after, IsLegal}
 use Rattle.block_machine.specs.State.{Machine}
 use Rattle.block_machine.specs.Steps.{Step, Touch}
-use Rattle.block_machine.proofs.Accepts.{living_accepted, touch_is_confined}
+use Rattle.block_machine.proofs.Accepts.{living_accepted, law_touch_is_confined}
 use Rattle.block_machine.proofs.EventLemmas.{after-append, run_legal, run_starts, step_of_run}
 use Rattle.block_machine.proofs.Trace.{runs_lives}
 use Rattle.block_machine.proofs.Members.{contains_cases, contains_none}
 use Rattle.identify.specs.declared.wanted.Wanted.{Wanted}
-use Rattle.driver_history.specs.Histories.{Begins, Ties}
+use Rattle.driver_history.specs.Histories.{Begins, CallCorresponds}
 use Rattle.driver_history.specs.Moves.{IsConfinedClear, IsConfinedMove, KeepsMoves, KeepsTo}
 use Rattle.driver_history.proofs.Telling.{history_runs, machine_is}
 
@@ -34,7 +34,7 @@ record IsAmong (m : Machine) (steps : List Step) (op : Op) (move : tape_move.Mov
   step : Step
   before : List Step
   here : steps ≡ later ++ step ∷ before
-  touch : IsTouch (after m before) op move (step ∷ [])
+  touch : MovesSector (after m before) op move (step ∷ [])
 
 -- The move goes on as the tape tells it.
 abbrev Goes : Option Op → Machine → List Step → tape_move.Move → Type 0
@@ -42,13 +42,13 @@ Goes (Some Read) m steps move = IsAmong m steps Read move
 Goes (Some Write) m steps move = IsAmong m steps Write move
 Goes other m steps move = move.address ≡ scratch_of move.port.0
 
-among_first : (m : Machine) (op : Op) (move : tape_move.Move) (own first rest : List Step) → IsTouch (after m own) op move first → IsAmong m (rest ++ (first ++ own)) op move
+among_first : (m : Machine) (op : Op) (move : tape_move.Move) (own first rest : List Step) → MovesSector (after m own) op move first → IsAmong m (rest ++ (first ++ own)) op move
 among_first m op move own first rest t = record {
   later = rest;
   step = Touch t.pending t.number (slice_index move.bytes.value);
   before = own;
   here = ap (λ (steps : List Step). rest ++ (steps ++ own)) t.step;
-  touch = subst (IsTouch (after m own) op move) t.step t;
+  touch = subst (MovesSector (after m own) op move) t.step t;
 }
 
 goes_first : (o : Option Op) (m : Machine) (move : tape_move.Move) (own first rest : List Step) → TellsMove o (after m own) move first → Goes o m (rest ++ (first ++ own)) move
@@ -64,7 +64,7 @@ among_later m op move rest early a = record {
   step = a.step;
   before = a.before ++ early;
   here = ap (λ (steps : List Step). steps ++ early) a.here ∙ append_assoc a.later (a.step ∷ a.before) early;
-  touch = subst (λ (n : Machine). IsTouch n op move (a.step ∷ [])) (sym (after-append m a.before early)) a.touch;
+  touch = subst (λ (n : Machine). MovesSector n op move (a.step ∷ [])) (sym (after-append m a.before early)) a.touch;
 }
 
 goes_later : (o : Option Op) (m : Machine) (move : tape_move.Move) (rest early : List Step) → Goes o (after m early) rest move → Goes o m (rest ++ early) move
@@ -89,9 +89,9 @@ record IsCleared (m : Machine) (steps : List Step) (clear : tape_clear.Clear) : 
   touches : List Step
   before : List Step
   here : steps ≡ later ++ (touches ++ before)
-  clears : IsClear (after m before) clear touches
+  clears : ClearsSectors (after m before) clear touches
 
-cleared_first : (m : Machine) (clear : tape_clear.Clear) (own first rest : List Step) → IsClear (after m own) clear first → IsCleared m (rest ++ (first ++ own)) clear
+cleared_first : (m : Machine) (clear : tape_clear.Clear) (own first rest : List Step) → ClearsSectors (after m own) clear first → IsCleared m (rest ++ (first ++ own)) clear
 cleared_first m clear own first rest c = record { later = rest; touches = first; before = own; here = refl; clears = c }
 
 cleared_later : (m : Machine) (clear : tape_clear.Clear) (rest early : List Step) → IsCleared (after m early) rest clear → IsCleared m (rest ++ early) clear
@@ -101,7 +101,7 @@ cleared_later m clear rest early c = record {
   before = c.before ++ early;
   here = ap (λ (steps : List Step). steps ++ early) c.here ∙ append_assoc c.later (c.touches ++ c.before) early
       ∙ ap (λ (steps : List Step). c.later ++ steps) (append_assoc c.touches c.before early);
-  clears = subst (λ (n : Machine). IsClear n clear c.touches) (sym (after-append m c.before early)) c.clears;
+  clears = subst (λ (n : Machine). ClearsSectors n clear c.touches) (sym (after-append m c.before early)) c.clears;
 }
 
 cleared : (m : Machine) (entries : List Entry) (steps : List Step) → TellsAmong m entries steps → (clear : tape_clear.Clear) → Contains entries (entry.Clear clear) → IsCleared m steps clear
@@ -119,7 +119,7 @@ legal_before start (step ∷ late) early legal = legal_before start late early l
 
 -- ---- in a history
 
-module _ (wanted : List Wanted) (first : Instant Device) (past : List (Happening Device DeviceStep)) (h : Happening Device DeviceStep) (history : IsHistory (Begins wanted) (Ties wanted) first (h ∷ past)) where
+module _ (wanted : List Wanted) (first : JointState Device) (past : List (Happening Device DeviceStep)) (h : Happening Device DeviceStep) (history : IsHistory (Begins wanted) (CallCorresponds wanted) first (h ∷ past)) where
   abbrev start : Machine
   start = first.moment.machine
 
@@ -141,11 +141,11 @@ module _ (wanted : List Wanted) (first : Instant Device) (past : List (Happening
     touch = then;
     confined =
         let s = step_of_run first.moment (events_of (h ∷ past)) a.later (Touch then.pending then.number (slice_index move.bytes.value)) (a.before ++ early) run split in
-        touch_is_confined start (a.before ++ early) then.pending then.number (slice_index move.bytes.value) (run_starts first.moment (events_of (h ∷ past)) run) s.0 s.1;
+        law_touch_is_confined start (a.before ++ early) then.pending then.number (slice_index move.bytes.value) (run_starts first.moment (events_of (h ∷ past)) run) s.0 s.1;
   }
     where
-      then : IsTouch (after start (a.before ++ early)) op move (a.step ∷ [])
-      then = subst (λ (n : Machine). IsTouch n op move (a.step ∷ [])) (ap (λ (n : Machine). after n a.before) (machine_is wanted first past) ∙ sym (after-append start a.before early)) a.touch
+      then : MovesSector (after start (a.before ++ early)) op move (a.step ∷ [])
+      then = subst (λ (n : Machine). MovesSector n op move (a.step ∷ [])) (ap (λ (n : Machine). after n a.before) (machine_is wanted first past) ∙ sym (after-append start a.before early)) a.touch
 
       split : h.event.steps ++ early ≡ a.later ++ Touch then.pending then.number (slice_index move.bytes.value) ∷ (a.before ++ early)
       split = ap (λ (steps : List Step). steps ++ early) a.here ∙ append_assoc a.later (a.step ∷ a.before) early
@@ -170,8 +170,8 @@ module _ (wanted : List Wanted) (first : Instant Device) (past : List (Happening
         then.pending (runs_lives (after start (c.before ++ early)) then.pending then.moves);
   }
     where
-      then : IsClear (after start (c.before ++ early)) clear c.touches
-      then = subst (λ (n : Machine). IsClear n clear c.touches) (ap (λ (n : Machine). after n c.before) (machine_is wanted first past) ∙ sym (after-append start c.before early)) c.clears
+      then : ClearsSectors (after start (c.before ++ early)) clear c.touches
+      then = subst (λ (n : Machine). ClearsSectors n clear c.touches) (ap (λ (n : Machine). after n c.before) (machine_is wanted first past) ∙ sym (after-append start c.before early)) c.clears
 
       split : h.event.steps ++ early ≡ (c.later ++ c.touches) ++ (c.before ++ early)
       split = ap (λ (steps : List Step). steps ++ early) (c.here ∙ sym (append_assoc c.later c.touches c.before)) ∙ append_assoc (c.later ++ c.touches) c.before early

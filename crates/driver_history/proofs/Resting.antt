@@ -11,8 +11,8 @@ use Rattle.ata_types.specs.declared.request.Outcome.{Outcome}
 use Rattle.ata_types.specs.declared.request.Outcome.TheVariants as outcome
 use Rattle.adapter.specs.Device.{Device}
 use Rattle.adapter.specs.declared.access.DeviceStep.{DeviceStep}
-use Rattle.block_machine.specs.Events.{Ask, Submit, StoreAt, LoadAt, Service, Tick, Reset, RevokeOf, State, Device as Told, Said, Moment, AllLawful, AllMay, Belong, Happens, IsDevices, IsLawful, IsServers, moment_after}
-use Rattle.block_machine.specs.Histories.{Instant, Happening}
+use Rattle.block_machine.specs.Events.{Ask, Submit, StoreAt, LoadAt, Service, Tick, Reset, RevokeOf, State, Device as Told, CallResult, AbstractState, AllLawful, AllMay, Belong, Happens, IsByDevice, IsLawful, IsByServer, moment_after}
+use Rattle.block_machine.specs.Histories.{JointState, Happening}
 use Rattle.block_machine.specs.Ports.{Ports, Evidence, AreFit}
 use Rattle.block_machine.specs.State.{Pending, Machine}
 use Rattle.block_machine.specs.Steps.{Step, Again, Answer, HasGrant, May}
@@ -22,11 +22,11 @@ use Rattle.host_boot.specs.Taken.{wanted_of}
 use Rattle.identify.specs.declared.wanted.Wanted.{Wanted}
 use Rattle.driver_history.specs.Claims.{AnswerRests}
 use Rattle.driver_history.specs.Evidence.{IsEndedReset, IsLost}
-use Rattle.driver_history.specs.Histories.{Ties}
+use Rattle.driver_history.specs.Histories.{CallCorresponds}
 use Rattle.driver_history.specs.Holds.{HoldsAt, HoldsOf, IsDeadAt}
 
 -- a dead port is one of the four, and dead
-dead_at : (wanted : List Wanted) (i : Instant Device) (port : Port) → AreFit i.moment.ports → HoldsAt wanted i → i.moment.ports.state port ≡ Dead → IsDeadAt (wanted_of wanted port.0) i port
+dead_at : (wanted : List Wanted) (i : JointState Device) (port : Port) → AreFit i.moment.ports → HoldsAt wanted i → i.moment.ports.state port ≡ Dead → IsDeadAt (wanted_of wanted port.0) i port
 dead_at wanted i port fit (s, holds) dead = ⊎_elim
     (λ (served : i.moment.ports.served port ≡ true).
     subst (λ (state : PortState). HoldsOf (wanted_of wanted port.0) s i port true state) dead
@@ -36,12 +36,12 @@ dead_at wanted i port fit (s, holds) dead = ⊎_elim
 
 -- ---- a step of a call
 
-lawful_rest : (old : Moment) (evidence : Evidence) (ports : Ports) (step : Step) (before : List Step) → AllLawful old evidence ports (step ∷ before) → AllLawful old evidence ports before
+lawful_rest : (old : AbstractState) (evidence : Evidence) (ports : Ports) (step : Step) (before : List Step) → AllLawful old evidence ports (step ∷ before) → AllLawful old evidence ports before
 lawful_rest old evidence ports (Answer e o) before l = l.0
 lawful_rest old evidence ports (Again e) before l = l.0
 lawful_rest old evidence ports _ before l = l
 
-lawful_of : (old : Moment) (evidence : Evidence) (ports : Ports) (steps : List Step) → AllLawful old evidence ports steps → (e : Pending) (o : Outcome)
+lawful_of : (old : AbstractState) (evidence : Evidence) (ports : Ports) (steps : List Step) → AllLawful old evidence ports steps → (e : Pending) (o : Outcome)
     → Contains steps (Answer e o) → IsLawful old evidence ports e o
 lawful_of old evidence ports [] l e o h = absurd (contains_none (Answer e o) h)
 lawful_of old evidence ports (step ∷ before) l e o h = ⊎_elim
@@ -51,15 +51,15 @@ lawful_of old evidence ports (step ∷ before) l e o h = ⊎_elim
     (λ i. lawful_of old evidence ports before (lawful_rest old evidence ports step before l) e o i)
     (contains_cases step before (Answer e o) h)
 
-pub belongs_of : (ask : Ask DeviceStep) (ports : Ports) (steps : List Step) → Belong ask ports steps → (step : Step) → Contains steps step → IsDevices step ⊎ IsServers ask ports step
+pub belongs_of : (ask : Ask DeviceStep) (ports : Ports) (steps : List Step) → Belong ask ports steps → (step : Step) → Contains steps step → IsByDevice step ⊎ IsByServer ask ports step
 belongs_of ask ports [] l step h = absurd (contains_none step h)
 belongs_of ask ports (x ∷ before) l step h = ⊎_elim
-    (λ (same : step ≡ x). subst (λ (y : Step). IsDevices y ⊎ IsServers ask ports y) (sym same) l.1)
+    (λ (same : step ≡ x). subst (λ (y : Step). IsByDevice y ⊎ IsByServer ask ports y) (sym same) l.1)
     (λ i. belongs_of ask ports before l.0 step i)
     (contains_cases x before step h)
 
 -- a reset tells no fault
-no_fault : (ask : Ask DeviceStep) (said : Said) (ports : Ports) (e : Pending) (status error : _) → IsEndedReset ask said → IsServers ask ports (Answer e (outcome.DeviceError status error)) → ⊥
+no_fault : (ask : Ask DeviceStep) (said : CallResult) (ports : Ports) (e : Pending) (status error : _) → IsEndedReset ask said → IsByServer ask ports (Answer e (outcome.DeviceError status error)) → ⊥
 no_fault Reset said ports e status error ends s = s
 no_fault (Submit r) said ports e status error ends s = ends
 no_fault (RevokeOf c n) said ports e status error ends s = ends
@@ -85,7 +85,7 @@ grant_gone shrink m (step ∷ before) e may h has =
     (λ i. grant_gone shrink m before e may.0 i had)
     (contains_cases step before (Answer e outcome.Revoked) h)
 
-module _ (wanted : List Wanted) (old : Instant Device) (h : Happening Device DeviceStep) (x : Happens old.moment h.event) (t : Ties wanted old h) where
+module _ (wanted : List Wanted) (old : JointState Device) (h : Happening Device DeviceStep) (x : Happens old.moment h.event) (t : CallCorresponds wanted old h) where
   lawful : (e : Pending) (o : Outcome) → Contains h.event.steps (Answer e o) → IsLawful old.moment h.event.evidence h.event.ports e o
   lawful e o here = lawful_of old.moment h.event.evidence h.event.ports h.event.steps x.lawful e o here
 

@@ -5,10 +5,10 @@ use Rattle.std.proofs.lemmas.List.Elements.{All-cons, All-head, All-nil, All-tai
 use Rattle.adapter.specs.Device.{Device}
 use Rattle.adapter.specs.declared.tape.Entry.{Entry}
 use Rattle.adapter.specs.declared.tape.Entry.TheVariants as entry
-use Rattle.agreement.specs.Driven.{Grows}
-use Rattle.agreement.specs.Errors.{IsFatalOf}
-use Rattle.agreement.specs.Facts.{IsDisturbance, IsFaultOf, Undisturbed}
-use Rattle.agreement.specs.Links.{IsPlugging, PlugsNone}
+use Rattle.refinement.specs.Driven.{Grows}
+use Rattle.refinement.specs.Errors.{IsFatalOf}
+use Rattle.refinement.specs.Facts.{IsDisturbance, IsFaultOf, Undisturbed}
+use Rattle.refinement.specs.Links.{IsPlugging, PlugsNone}
 use Rattle.error_recovery.specs.Evidence.{GainsRunning}
 use Rattle.driver_history.specs.Laws.{Laws}
 

@@ -11,16 +11,16 @@ use Rattle.ata_types.specs.declared.request.Frame.{Frame}
 use Rattle.ata_types.specs.declared.request.Outcome.TheVariants as outcome
 use Rattle.ata_types.specs.declared.request.RequestId.{RequestId}
 use Rattle.adapter.specs.Commands.{Meaning, is_queued}
-use Rattle.adapter.specs.Device.{PortState, Device}
-use Rattle.adapter.specs.Rules.{Stays}
+use Rattle.adapter.specs.Device.{DevicePort, Device}
+use Rattle.adapter.specs.Rules.{IsStable}
 use Rattle.adapter.specs.declared.access.DeviceStep.{DeviceStep}
 use Rattle.adapter.specs.declared.tape.Entry.{Entry}
-use Rattle.agreement.specs.Agrees.{Agrees, port_at}
-use Rattle.agreement.specs.Facts.{IsStill}
-use Rattle.agreement.specs.Links.{IsPlugging, PlugsNone}
-use Rattle.agreement.specs.Slots.{ServesRequest, Stage, Uses}
+use Rattle.refinement.specs.Relation.{StateRelation, port_at}
+use Rattle.refinement.specs.Facts.{IsStill}
+use Rattle.refinement.specs.Links.{IsPlugging, PlugsNone}
+use Rattle.refinement.specs.Slots.{ServesRequest, Stage, SlotStates}
 use Rattle.block_machine.specs.Events.{Ask, Service, moment_after}
-use Rattle.block_machine.specs.Histories.{Instant, Happening, IsReached, now}
+use Rattle.block_machine.specs.Histories.{JointState, Happening, IsReachable, now}
 use Rattle.block_machine.specs.Ports.{SameDisk}
 use Rattle.block_machine.specs.State.{Accepted, Machine, Pending}
 use Rattle.block_machine.specs.Steps.{Answer}
@@ -28,20 +28,20 @@ use Rattle.block_machine.proofs.HistoryLemmas.{history_reaches}
 use Rattle.identify.specs.declared.wanted.Wanted.{Wanted}
 use Rattle.driver_history.specs.Heeding.{HeedsAt}
 use Rattle.driver_history.specs.Evidence.{Gains, ShowsChange}
-use Rattle.driver_history.specs.Histories.{Begins, IsHistory, Ties}
+use Rattle.driver_history.specs.Histories.{Begins, IsDriverHistory, CallCorresponds}
 use Rattle.driver_history.proofs.Instants.{fit_at, holds_at, ready_at}
 use Rattle.driver_history.proofs.Resting.{lost_then}
 
 -- what the law on frames says
 abbrev pub UnlentIsStill : Type 0
-UnlentIsStill = (uses : Uses) (m : Machine) (d : Device) (frame : Frame) → IsReached m → Agrees uses m d → m.lent frame ≡ None → DRIVER_FRAMES ≤ frame.0 → Stays (IsStill frame) d
+UnlentIsStill = (uses : SlotStates) (m : Machine) (d : Device) (frame : Frame) → IsReachable m → StateRelation uses m d → m.lent frame ≡ None → DRIVER_FRAMES ≤ frame.0 → IsStable (IsStill frame) d
 
 -- the machine of a history is reached
-pub history_reached : (wanted : List Wanted) (first : Instant Device) (past : List (Happening Device DeviceStep)) → IsHistory wanted first past → IsReached (now first past).moment.machine
-history_reached wanted first past history = history_reaches (Begins wanted) (Ties wanted) first past history
+pub history_reached : (wanted : List Wanted) (first : JointState Device) (past : List (Happening Device DeviceStep)) → IsDriverHistory wanted first past → IsReachable (now first past).moment.machine
+history_reached wanted first past history = history_reaches (Begins wanted) (CallCorresponds wanted) first past history
 
-pub unlent_still : UnlentIsStill → (wanted : List Wanted) (first : Instant Device) (past : List (Happening Device DeviceStep)) (frame : Frame) → IsHistory wanted first past
-    → DRIVER_FRAMES ≤ frame.0 → (now first past).moment.machine.lent frame ≡ None → Stays (IsStill frame) (now first past).device
+pub unlent_still : UnlentIsStill → (wanted : List Wanted) (first : JointState Device) (past : List (Happening Device DeviceStep)) (frame : Frame) → IsDriverHistory wanted first past
+    → DRIVER_FRAMES ≤ frame.0 → (now first past).moment.machine.lent frame ≡ None → IsStable (IsStill frame) (now first past).device
 unlent_still law wanted first past frame history low free =
     let h = holds_at wanted first past history in
     law h.0.uses (now first past).moment.machine (now first past).device frame (history_reached wanted first past history) h.1.knows.agrees free low
@@ -54,21 +54,21 @@ taken_bits true true ci sact on i s a b = false≢true (sym b ∙ s)
 taken_bits true false ci sact on i s a b = false≢true (sym a ∙ i)
 taken_bits false queued ci sact on i s a b = false≢true on
 
-ended_of : (memory : ℕ → ℕ) (p : PortState) (port slot : ℕ) (e : Pending) (c : Meaning) (places : List ℕ) → Stage memory p port slot e c places → p.st ≡ true
+ended_of : (memory : ℕ → ℕ) (p : DevicePort) (port slot : ℕ) (e : Pending) (c : Meaning) (places : List ℕ) → Stage memory p port slot e c places → p.st ≡ true
     → p.ci slot ≡ false → p.sact slot ≡ false → e.ended ≡ true
 ended_of memory p port slot e c places (inl waits) st ci sact = absurd (false≢true (sym ci ∙ waits.issued))
 ended_of memory p port slot e c places (inr (inl taken)) st ci sact = absurd (taken_bits p.st (is_queued c.operation) (p.ci slot) (p.sact slot) st taken.issued taken.sact ci sact)
 ended_of memory p port slot e c places (inr (inr (inl ended))) st ci sact = ended.ended
 ended_of memory p port slot e c places (inr (inr (inr dropped))) st ci sact = absurd (false≢true (sym dropped.stopped ∙ st))
 
-pub seen_answered : (wanted : List Wanted) (first : Instant Device) (past : List (Happening Device DeviceStep)) (h : Happening Device DeviceStep) (port : Port) (slot : ℕ) (id : RequestId)
-    → IsHistory wanted first (h ∷ past) → h.event.ask ≡ Service → (now first past).moment.ports.state port ≡ Ready
+pub seen_answered : (wanted : List Wanted) (first : JointState Device) (past : List (Happening Device DeviceStep)) (h : Happening Device DeviceStep) (port : Port) (slot : ℕ) (id : RequestId)
+    → IsDriverHistory wanted first (h ∷ past) → h.event.ask ≡ Service → (now first past).moment.ports.state port ≡ Ready
     → ServesRequest (now first past).moment.machine (now first past).device.memory ((now first past).device.port port.0) port.0 slot id
     → ((now first past).device.port port.0).ci slot ≡ false → ((now first past).device.port port.0).sact slot ≡ false
     → (done : Pending) × (done.request.id ≡ id) × Contains h.event.steps (Answer done outcome.Ok)
 seen_answered wanted first past h port slot id history asks asked serves ci sact =
-    let old : Instant Device = now first past in
-    let t : Ties wanted old h = history.2 in
+    let old : JointState Device = now first past in
+    let t : CallCorresponds wanted old h = history.2 in
     let holds = holds_at wanted first past history.0 in
     let at = ready_at wanted old port (fit_at wanted first past history.0) holds.0 holds.1 asked in
     let same_port : serves.pending.request.port ≡ port = ap port_at serves.port_is in
@@ -87,8 +87,8 @@ none_of port old new u g =
     let same : g.gained ≡ u.gained = append_cancel_left old.tape g.gained u.gained (sym g.tape ∙ u.tape) in
     All-contains (λ e. IsPlugging port e → ⊥) u.gained g.entry u.none (subst (λ (xs : List Entry). Contains xs g.entry) same g.here) g.is
 
-pub unplugged_refused : (wanted : List Wanted) (first : Instant Device) (past : List (Happening Device DeviceStep)) (h : Happening Device DeviceStep) (e : Pending)
-    → IsHistory wanted first (h ∷ past) → (ShowsChange ((now first past).device.port e.request.port.0) → ⊥) → ((now first past).device.port e.request.port.0).ssts_det ≡ 3
+pub unplugged_refused : (wanted : List Wanted) (first : JointState Device) (past : List (Happening Device DeviceStep)) (h : Happening Device DeviceStep) (e : Pending)
+    → IsDriverHistory wanted first (h ∷ past) → (ShowsChange ((now first past).device.port e.request.port.0) → ⊥) → ((now first past).device.port e.request.port.0).ssts_det ≡ 3
     → PlugsNone e.request.port.0 (now first past).device h.device
     → (h.event.ports.state e.request.port ≡ Dead) ⊎ ((h.event.ports.state e.request.port ≡ Ready) × SameDisk (now first past).moment.ports h.event.ports e.request.port)
     → Contains h.event.steps (Answer e outcome.Unplugged) → ⊥

@@ -9,20 +9,20 @@ use Rattle.ata_types.specs.declared.PortState.TheVariants.{Absent, Dead, Ready}
 use Rattle.hba_regs.specs.declared.reg.Reg.TheVariants.{Ghc, Px}
 use Rattle.hba_regs.specs.declared.reg.PortReg.TheVariants.{Cmd, Sctl}
 use Rattle.adapter.specs.Access.{Access, Does, DoesAll}
-use Rattle.adapter.specs.Device.{Device, PortState}
+use Rattle.adapter.specs.Device.{Device, DevicePort}
 use Rattle.adapter.specs.Rules.{IsOn}
 use Rattle.adapter.specs.declared.tape.Entry.{Entry}
-use Rattle.agreement.specs.Driven.{Grows}
-use Rattle.agreement.specs.Errors.{ChangesByErrors, IsFatalOf, NoneComes, NoneFatal}
-use Rattle.agreement.specs.Facts.{IsFaultOf}
-use Rattle.agreement.specs.Links.{HasDeviceOrNone, IsPlugging, PlugsNone, SparesRegister}
-use Rattle.agreement.specs.Vacant.{IsFreshIfShown, IsVacant}
-use Rattle.block_machine.specs.Events.{Moment, Said, Service}
-use Rattle.block_machine.specs.Histories.{Instant}
+use Rattle.refinement.specs.Driven.{Grows}
+use Rattle.refinement.specs.Errors.{ChangesByErrors, IsFatalOf, NoneComes, NoneFatal}
+use Rattle.refinement.specs.Facts.{IsFaultOf}
+use Rattle.refinement.specs.Links.{HasDeviceOrNone, IsPlugging, PlugsNone, SparesRegister}
+use Rattle.refinement.specs.Vacant.{IsFreshIfShown, IsVacant}
+use Rattle.block_machine.specs.Events.{AbstractState, CallResult, Service}
+use Rattle.block_machine.specs.Histories.{JointState}
 use Rattle.block_machine.specs.Ports.{Evidence, IsInterrupted, Ports, SamePort}
 use Rattle.error_recovery.specs.Evidence.{GainsRunning, ShowsFatal}
 use Rattle.driver_history.specs.Evidence.{Gains, ShowsChange, ShowsFailure}
-use Rattle.driver_history.specs.Histories.{BootsAnew, IsUnfitOrForeign, HasFaultAlone, IsFreshOrUnshown, LosesNoTrouble, RunsWellAnew, TendsPort, TriesDisk}
+use Rattle.driver_history.specs.Histories.{BootsAnew, IsUnfitOrForeign, HasFaultAlone, IsFreshOrUnshown, LosesNoPortError, RunsWellAnew, TendsPort, ProbesDisk}
 use Rattle.driver_history.specs.Laws.{Laws}
 use Rattle.driver_history.specs.Parts.{EndsLinked, HasTurnIn, IsOfOther, NamesAlike, all_of}
 use Rattle.driver_history.specs.Trace.{ResetsLink}
@@ -41,15 +41,15 @@ gained_at Such old new before e later tape is = record {
   is = is;
 }
 
-fresh_or_gone : (p : PortState) → IsFreshIfShown p → IsFreshOrUnshown p
+fresh_or_gone : (p : DevicePort) → IsFreshIfShown p → IsFreshOrUnshown p
 fresh_or_gone p fresh = ⊎_elim (λ (shows : p.ssts_det ≡ 3). inl (fresh shows)) (λ gone. inr gone) (cases_eq p.ssts_det 3)
 
-fresh_if_shown : (p : PortState) → IsFreshOrUnshown p → IsFreshIfShown p
+fresh_if_shown : (p : DevicePort) → IsFreshOrUnshown p → IsFreshIfShown p
 fresh_if_shown p fresh shows = ⊎_elim (λ came. came) (λ gone. absurd (gone shows)) fresh
 
 module _ (laws : Laws) (port : Port) where
   -- what each access leaves of the port where no disk of it comes, accesses one after another do
-  stays_over : (P : PortState → Type 0) → ((access : Access) (old new : Device) → NoneComes port.0 old new → Does access old new → P (old.port port.0) → P (new.port port.0))
+  stays_over : (P : DevicePort → Type 0) → ((access : Access) (old new : Device) → NoneComes port.0 old new → Does access old new → P (old.port port.0) → P (new.port port.0))
       → (accesses : List Access) (old new : Device) → DoesAll accesses old new → NoneComes port.0 old new → P (old.port port.0) → P (new.port port.0)
   stays_over P one [] old new same none so = subst (λ (d : Device). P (d.port port.0)) (sym same) so
   stays_over P one (access ∷ accesses) old new (mid, does, rest) none so =
@@ -68,7 +68,7 @@ module _ (laws : Laws) (port : Port) where
       (λ (off : (old.port port.0).is shown.place ≡ false). false≢true (sym (rises.fatal none shown.place low high off) ∙ shown.set))
       (cases_Bool ((old.port port.0).is shown.place))
 
-  module _ (old : Instant Device) (begun : Moment) (new : Device) (on : IsOn old.device) (t : HasTurnIn port old.device new) (on_then : IsOn t.end) where
+  module _ (old : JointState Device) (begun : AbstractState) (new : Device) (on : IsOn old.device) (t : HasTurnIn port old.device new) (on_then : IsOn t.end) where
     first : IsLeft laws port old.device t.start
     first = others_leave laws port t.before old.device t.start on t.first t.others
 
@@ -81,7 +81,7 @@ module _ (laws : Laws) (port : Port) where
     since : Grows t.start new
     since = laws.tape.grows_more t.start t.end new middle last.grows
 
-    abbrev began : Instant Device
+    abbrev began : JointState Device
     began = record { device = t.start; moment = begun }
 
     -- ---- what didn't come in the call didn't in the turn
@@ -105,13 +105,13 @@ module _ (laws : Laws) (port : Port) where
       reset_in_turn : ResetsLink port (all_of t) → ResetsLink port t.turn
       reset_in_turn r = reset_before port t.turn t.later (spares_other t.later t.others_later) (reset_after port t.before (t.turn ++ t.later) (spares_other t.before t.others) r)
 
-      pub boots_are_the_calls : (one other : Said) → (old.moment.ports.state port ≡ Ready → (old.device.port port.0).link_due ≡ false) → SamePort old.moment.ports begun.ports port → BootsAnew Service one t.turn began ended t.end port
+      pub boots_are_the_calls : (one other : CallResult) → (old.moment.ports.state port ≡ Ready → (old.device.port port.0).link_due ≡ false) → SamePort old.moment.ports begun.ports port → BootsAnew Service one t.turn began ended t.end port
           → BootsAnew Service other (all_of t) old ports new port
       boots_are_the_calls one other undue was its = (
-        λ ready trouble. booted (its.0 (was.1 ∙ ready) (⊎_elim
+        λ ready port_error. booted (its.0 (was.1 ∙ ready) (⊎_elim
             (λ fatal. inl ((first.trouble_shown fatals).still fatal))
             (λ loss. inr (loss_then laws port old.device new on (undue ready) t loss))
-            trouble)),
+            port_error)),
         ⊎_elim
             (λ (same : SamePort begun.ports ended port). inl (
               stays.0 ∙ same.0 ∙ was.0,
@@ -157,7 +157,7 @@ module _ (laws : Laws) (port : Port) where
       fresh_still none fresh = fresh_or_gone (new.port port.0) (stays_over IsFreshIfShown (laws.fresh port) t.later t.end new t.last none (fresh_if_shown (t.end.port port.0) fresh))
 
       pub tries_are_the_calls : SamePort old.moment.ports begun.ports port → (IsUnfitOrForeign old.moment.ports port → HasDeviceOrNone (old.device.port port.0)) → EndsLinked port began ended t.end
-          → (NoneComes port.0 t.start t.end → TriesDisk t.turn began ended t.end port) → NoneComes port.0 old.device new → TriesDisk (all_of t) old ports new port
+          → (NoneComes port.0 t.start t.end → ProbesDisk t.turn began ended t.end port) → NoneComes port.0 old.device new → ProbesDisk (all_of t) old ports new port
       tries_are_the_calls was there linked tried none = record {
         shown = λ absent shows. ⊎_elim
             (λ gained. inr (inr (gains_within (IsPlugging port.0) old.device old.device t.start new (laws.tape.grows_none old.device) since gained)))
@@ -192,7 +192,7 @@ module _ (laws : Laws) (port : Port) where
           parts : NoneComes port.0 old.device t.start × NoneComes port.0 t.start t.end × NoneComes port.0 t.end new
           parts = comes none
 
-          its : TriesDisk t.turn began ended t.end port
+          its : ProbesDisk t.turn began ended t.end port
           its = tried parts.1
 
           -- what is so of the disk's first FIS when the turn begins is so at the call's end
@@ -241,7 +241,7 @@ module _ (laws : Laws) (port : Port) where
               (parts_at first.grows.0 (middle.0 ++ last.grows.0) before later e (append_cancel_left old.device.tape (first.grows.0 ++ (middle.0 ++ last.grows.0)) (before ++ e ∷ later) (sym whole_tape ∙ tape)))
 
         module _ (was : SamePort old.moment.ports begun.ports port) (set_since : ended.state port ≡ Ready → IsInterrupted turn port → length t.start.tape ≤ (t.end.port port.0).notes.st_set_at)
-            (stops : (begun.ports.state port ≡ Ready) ⊎ (ended.state port ≡ Ready) → ShowsFailure (t.start.port port.0) ⊎ ShowsChange (t.start.port port.0) → IsInterrupted turn port) (its : LosesNoTrouble turn began ended t.end port) where
+            (stops : (begun.ports.state port ≡ Ready) ⊎ (ended.state port ≡ Ready) → ShowsFailure (t.start.port port.0) ⊎ ShowsChange (t.start.port port.0) → IsInterrupted turn port) (its : LosesNoPortError turn began ended t.end port) where
           -- trouble that came before the turn stopped a ready port in it
           stopped : (begun.ports.state port ≡ Ready) ⊎ (ended.state port ≡ Ready) → (kind : TroubleKind) → Gains (IsOne kind port.0) old.device t.start → IsInterrupted turn port
           stopped ready kind early = stops ready (is_trouble kind (t.start.port port.0) (told kind (t.start.port port.0) ((first.trouble_shown kind).came early)))
@@ -274,21 +274,21 @@ module _ (laws : Laws) (port : Port) where
               (last.trouble_shown kind).still (its_own is_ready (record { before = ahead; entry = g.entry; later = rest; tape = tape; is = g.is; since = omega (arith, at, least, place) })))
               (last.trouble_shown kind).came
 
-          pub trouble_is_the_calls : LosesNoTrouble call old ports new port
+          pub trouble_is_the_calls : LosesNoPortError call old ports new port
           trouble_is_the_calls = record {
-            errors = λ ready trouble. ⊎_elim
+            errors = λ ready port_error. ⊎_elim
                 (λ shown. still faults (its.errors (was.1 ∙ ready) (inl (failure_still port.0 old.device t.start first.trouble_shown shown))))
                 (λ g. ⊎_elim
                 (came faults (λ it. its.errors (was.1 ∙ ready) (⊎_elim (λ tells. inl tells) (λ g. inr (inl g)) it)))
                 (came fatals (λ it. its.errors (was.1 ∙ ready) (⊎_elim (λ tells. inl tells) (λ g. inr (inr g)) it)))
                 g)
-                trouble;
-            changes = λ tends trouble.
+                port_error;
+            changes = λ tends port_error.
                 let tends_then : TendsPort begun.ports port = (was.0 ∙ tends.0, λ dead. tends.1 (sym was.1 ∙ dead)) in
                 ⊎_elim
                 (λ shown. still disks (its.changes tends_then (inl (change_still port.0 old.device t.start first.trouble_shown shown))))
                 (came disks (its.changes tends_then))
-                trouble;
+                port_error;
             fault = came_since faults its.fault;
             fatal = came_since fatals its.fatal;
             disk = came_since disks its.disk;
@@ -315,7 +315,7 @@ module _ (laws : Laws) (port : Port) where
 
 -- ---- a plain request's fault
 
-module _ (laws : Laws) (port : Port) (old : Instant Device) (begun : Moment) (new : Device) (on : IsOn old.device) (undue : (old.device.port port.0).link_due ≡ false) (t : HasTurnIn port old.device new) (on_then : IsOn t.end)
+module _ (laws : Laws) (port : Port) (old : JointState Device) (begun : AbstractState) (new : Device) (on : IsOn old.device) (undue : (old.device.port port.0).link_due ≡ false) (t : HasTurnIn port old.device new) (on_then : IsOn t.end)
     (ready_then : begun.ports.state port ≡ Ready) (alone : HasFaultAlone port old new) where
   first_left : IsLeft laws port old.device t.start
   first_left = others_leave laws port t.before old.device t.start on t.first t.others

@@ -9,12 +9,12 @@ use Rattle.hba_regs.specs.declared.reg.Reg.TheVariants.{Ghc, Px}
 use Rattle.hba_regs.specs.declared.reg.PortReg.TheVariants.{Cmd, Sctl}
 use Rattle.adapter.specs.Access.{Access, Does, DoesAll, Writes, port_written, with_st}
 use Rattle.adapter.specs.Access.Access.{Loading, Reading, Storing, Writing}
-use Rattle.adapter.specs.Device.{Device, PortState}
+use Rattle.adapter.specs.Device.{Device, DevicePort}
 use Rattle.adapter.specs.Rules.{IsOn}
 use Rattle.adapter.specs.declared.tape.Entry.{Entry}
 use Rattle.adapter.proofs.Changed.{changed_same}
-use Rattle.agreement.specs.Agrees.{port_at}
-use Rattle.agreement.specs.Links.{SparesRegister}
+use Rattle.refinement.specs.Relation.{port_at}
+use Rattle.refinement.specs.Links.{SparesRegister}
 use Rattle.port_control.specs.Engines.{Stops}
 use Rattle.driver_history.specs.Laws.{Laws}
 use Rattle.driver_history.specs.Trace.{ResetsLink}
@@ -102,7 +102,7 @@ module _ (laws : Laws) (port : Port) where
   -- ---- when ST was set
 
   -- ST is zero, or was set when the tape was so long
-  abbrev SetSince : ℕ → PortState → Type 0
+  abbrev SetSince : ℕ → DevicePort → Type 0
   SetSince least p = (p.st ≡ false) ⊎ (least ≤ p.notes.st_set_at)
 
   command_or_spares : (access : Access) → SparesRegister (Px port Cmd) access ⊎ ((v : ℕ) × (access ≡ Writing (Px port Cmd) v))
@@ -121,10 +121,10 @@ module _ (laws : Laws) (port : Port) where
   stays_set v old new on runs set x =
       let k = laws.steps old x.mid x.steps in
       let here : (new.port port.0).notes.st_set_at ≡ (port_written Cmd v (length x.mid.tape) (x.mid.port port.0)).notes.st_set_at =
-      ap (λ (d : Device). (d.port port.0).notes.st_set_at) x.effect ∙ ap (λ (p : PortState). p.notes.st_set_at) (changed_same x.mid.port port.0 _) in
-      here ∙ ap (λ (p : PortState). p.notes.st_set_at) (left (bit v 0) (length x.mid.tape) (x.mid.port port.0) set (((k.on on).controls port.0).st ∙ runs)) ∙ ap (λ n. n.st_set_at) (k.notes port.0)
+      ap (λ (d : Device). (d.port port.0).notes.st_set_at) x.effect ∙ ap (λ (p : DevicePort). p.notes.st_set_at) (changed_same x.mid.port port.0 _) in
+      here ∙ ap (λ (p : DevicePort). p.notes.st_set_at) (left (bit v 0) (length x.mid.tape) (x.mid.port port.0) set (((k.on on).controls port.0).st ∙ runs)) ∙ ap (λ n. n.st_set_at) (k.notes port.0)
     where
-      left : (b : Bool) (tape : ℕ) (p : PortState) → b ≡ true → p.st ≡ true → with_st b tape p ≡ p
+      left : (b : Bool) (tape : ℕ) (p : DevicePort) → b ≡ true → p.st ≡ true → with_st b tape p ≡ p
       left b tape p one other = cond-true b _ _ one ∙ cond-true p.st p _ other
 
   since_access : (least : ℕ) (access : Access) (old new : Device) → old.hr ≡ false → least ≤ length old.tape → Does access old new → SetSince least (old.port port.0) → SetSince least (new.port port.0)

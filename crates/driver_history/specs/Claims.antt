@@ -9,9 +9,9 @@ use Rattle.adapter.specs.Access.{Access}
 use Rattle.adapter.specs.Device.{Device}
 use Rattle.adapter.specs.Rules.{IsOn}
 use Rattle.adapter.specs.declared.access.DeviceStep.{DeviceStep}
-use Rattle.agreement.specs.Facts.{RunsWell}
-use Rattle.block_machine.specs.Events.{Ask, Reset, RevokeOf, Service, Tick, AnswersEnded, IsHung, NoneKeepsIssue, WasIssued, moment_after}
-use Rattle.block_machine.specs.Histories.{Instant, Happening}
+use Rattle.refinement.specs.Facts.{RunsWell}
+use Rattle.block_machine.specs.Events.{Ask, Reset, RevokeOf, Service, Tick, AnswersEnded, HasTimedOut, NoneKeepsIssue, WasIssued, moment_after}
+use Rattle.block_machine.specs.Histories.{JointState, Happening}
 use Rattle.block_machine.specs.Ports.{IsInterrupted, SamePort}
 use Rattle.block_machine.specs.State.{Pending}
 use Rattle.block_machine.specs.Steps.{Answer, AllTouched, HasGrant}
@@ -29,7 +29,7 @@ IsCalmlyTold ask o = o ≡ outcome.Ok
 
 -- A call that made these accesses leaves a port alone: it is what it was, what it tells there is told calmly, and
 -- neither PxCMD nor PxSCTL of it is written.
-pub record IsSpared (old : Instant Device) (h : Happening Device DeviceStep) (accesses : List Access)
+pub record IsSpared (old : JointState Device) (h : Happening Device DeviceStep) (accesses : List Access)
     (port : Port) : Type 0 where
   pub same : SamePort old.moment.ports h.event.ports port
   pub told : (e : Pending) (o : Outcome) → Contains h.event.steps (Answer e o) → e.request.port ≡ port
@@ -41,7 +41,7 @@ pub record IsSpared (old : Instant Device) (h : Happening Device DeviceStep) (ac
 -- that fault, and the port was stopped. Aborted: four issues, on a port that is ready. Unplugged: the port was lost.
 -- PortDead: its engine was awaited in vain, or the adapter isn't on. Revoked: the grant isn't there any more, and the
 -- request wasn't issued, or the port was stopped.
-abbrev pub AnswerRests : Instant Device → Happening Device DeviceStep → List Access → Pending → Outcome → Type 0
+abbrev pub AnswerRests : JointState Device → Happening Device DeviceStep → List Access → Pending → Outcome → Type 0
 AnswerRests old h accesses e outcome.Ok =
     WasIssued old.moment.machine e.request.id × (e.issued ≡ true) × AllTouched e × (e.ended ≡ true)
 AnswerRests old h accesses e (outcome.DeviceError status error) =
@@ -58,15 +58,15 @@ AnswerRests old h accesses e outcome.Revoked = (HasGrant (moment_after old.momen
 
 -- A call is healthy for a port that is ready, runs well when it begins, and on which nothing goes wrong meanwhile; it
 -- isn't a reset, nor a tick that brings a request of the port to its age of three.
-pub record IsHealthyFor (old : Instant Device) (h : Happening Device DeviceStep) (port : Port) : Type 0 where
+pub record IsHealthyFor (old : JointState Device) (h : Happening Device DeviceStep) (port : Port) : Type 0 where
   pub ready : old.moment.ports.state port ≡ Ready
   pub healthy : StaysHealthy port.0 old.device h.device
   pub no_reset : h.event.ask ≢ Reset
-  pub young : h.event.ask ≡ Tick → IsHung old.moment port → ⊥
+  pub young : h.event.ask ≡ Tick → HasTimedOut old.moment port → ⊥
 
 -- Such a call goes well for it: the port is left alone, and runs well after it; a service has read the masks, and
 -- answered exactly what they show done; and what is due is issued.
-pub record GoesWellFor (old : Instant Device) (h : Happening Device DeviceStep) (port : Port) : Type 0 where
+pub record GoesWellFor (old : JointState Device) (h : Happening Device DeviceStep) (port : Port) : Type 0 where
   pub accesses : List Access
   pub came : CameBy old.moment h.event.ask h.event.said accesses old.device h.device
   pub spared : IsSpared old h accesses port
@@ -81,7 +81,7 @@ pub record GoesWellFor (old : Instant Device) (h : Happening Device DeviceStep) 
 -- told a fault at most, and none where a fatal error was shown. And where TFES alone was, with no fatal error in the
 -- call, and no disk that goes or comes, a plain one that was outstanding, and hadn't ended, is told its fault, unless
 -- the port ends dead. So it isn't tried again.
-pub record HeedsFailure (port : Port) (old : Instant Device) (h : Happening Device DeviceStep) : Type 0 where
+pub record HeedsFailure (port : Port) (old : JointState Device) (h : Happening Device DeviceStep) : Type 0 where
   pub ended : AnswersEnded old.moment.machine h.event.steps port
   pub stopped : IsInterrupted h.event.evidence port
   pub anew : NoneKeepsIssue h.event.steps (moment_after old.moment h.event).machine port
@@ -94,7 +94,7 @@ pub record HeedsFailure (port : Port) (old : Instant Device) (h : Happening Devi
 -- A service heeds that a port showed when it began that its disk was lost: what had ended on the port is answered Ok,
 -- and each of its other requests is answered, too, all with Unplugged, or all with PortDead. The port was stopped, or
 -- got stuck.
-pub record HeedsLoss (port : Port) (old : Instant Device) (h : Happening Device DeviceStep) : Type 0 where
+pub record HeedsLoss (port : Port) (old : JointState Device) (h : Happening Device DeviceStep) : Type 0 where
   pub ended : AnswersEnded old.moment.machine h.event.steps port
   pub emptied : (e : Pending) → Contains (moment_after old.moment h.event).machine.book e → e.request.port ≢ port
   pub told : AreTold outcome.Unplugged h.event.steps port ⊎ AreTold outcome.PortDead h.event.steps port

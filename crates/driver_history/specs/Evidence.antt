@@ -6,17 +6,17 @@ use Rattle.ata_types.specs.declared.PortState.TheVariants.{Ready, Dead}
 use Rattle.ata_types.specs.declared.limits.TheConstants.{READINGS}
 use Rattle.adapter.specs.Access.{Access}
 use Rattle.adapter.specs.Commands.{is_queued}
-use Rattle.adapter.specs.Device.{PortState, Device}
+use Rattle.adapter.specs.Device.{DevicePort, Device}
 use Rattle.adapter.specs.declared.access.DeviceStep.{DeviceStep}
 use Rattle.adapter.specs.declared.tape.Entry.{Entry}
 use Rattle.adapter.specs.declared.tape.Fault as tape_fault
-use Rattle.agreement.specs.Errors.{IsFatalOf, NoneComes}
-use Rattle.agreement.specs.Facts.{IsFaultOf, RunsWell, Undisturbed}
-use Rattle.agreement.specs.Links.{IsPlugging}
-use Rattle.agreement.specs.Slots.{ServesRequest}
-use Rattle.block_machine.specs.Events.{Ask, Reset, Said, WasReset}
-use Rattle.block_machine.specs.Histories.{Instant}
-use Rattle.block_machine.specs.Ports.{Ports, SameDisk, Fault, Evidence, IsInterrupted}
+use Rattle.refinement.specs.Errors.{IsFatalOf, NoneComes}
+use Rattle.refinement.specs.Facts.{IsFaultOf, RunsWell, Undisturbed}
+use Rattle.refinement.specs.Links.{IsPlugging}
+use Rattle.refinement.specs.Slots.{ServesRequest}
+use Rattle.block_machine.specs.Events.{Ask, Reset, CallResult, WasReset}
+use Rattle.block_machine.specs.Histories.{JointState}
+use Rattle.block_machine.specs.Ports.{Ports, SameDisk, RequestFault, Evidence, IsInterrupted}
 use Rattle.block_machine.specs.State.{Pending}
 use Rattle.port_control.specs.Engines.{Stops, Sticks}
 use Rattle.error_log.specs.Log.{TellsError}
@@ -39,18 +39,18 @@ pub record StaysHealthy (port : ℕ) (old new : Device) : Type 0 where
 -- ---- what a port shows
 
 -- N or X of PxSERR is set: the link has told of a change
-abbrev pub ShowsChange : PortState → Type 0
+abbrev pub ShowsChange : DevicePort → Type 0
 ShowsChange p = (p.serr_n ≡ true) ⊎ (p.serr_x ≡ true)
 
 -- an error of the interface or of the host's bus is shown (IFS, HBDS or HBFS), or TFES is set
-abbrev pub ShowsFailure : PortState → Type 0
+abbrev pub ShowsFailure : DevicePort → Type 0
 ShowsFailure p = ShowsFatal p ⊎ (p.is 30 ≡ true)
 
 -- ---- a fault that is told of a request
 
 -- A plain request is the one of its port that is issued, and status and error are those of such a fault of its slot.
-pub record FailsPlain (old : Instant Device) (new : Device) (accesses : List Access) (e : Pending) (slot : ℕ)
-    (told : Fault) : Type 0 where
+pub record FailsPlain (old : JointState Device) (new : Device) (accesses : List Access) (e : Pending) (slot : ℕ)
+    (told : RequestFault) : Type 0 where
   pub alone : (other : Pending) → Contains old.moment.machine.book other → other.request.port ≡ e.request.port
       → other.issued ≡ true → other.request.id ≡ e.request.id
   pub fault : tape_fault.Fault
@@ -60,8 +60,8 @@ pub record FailsPlain (old : Instant Device) (new : Device) (accesses : List Acc
   pub error_is : fault.error ≡ told.error
 
 -- Of a queued one, such a fault of the port stands there, and the log's page names the slot, with status and error.
-pub record FailsQueued (old : Instant Device) (new : Device) (accesses : List Access) (e : Pending) (slot : ℕ)
-    (told : Fault) : Type 0 where
+pub record FailsQueued (old : JointState Device) (new : Device) (accesses : List Access) (e : Pending) (slot : ℕ)
+    (told : RequestFault) : Type 0 where
   pub fault : tape_fault.Fault
   pub failed : HasFailed e.request.port accesses old.device new fault
   pub page : List ℕ
@@ -69,7 +69,8 @@ pub record FailsQueued (old : Instant Device) (new : Device) (accesses : List Ac
   pub tells : TellsError page slot told.status told.error
 
 -- The fault is of a request that was issued when the call began, in the slot that served it then.
-pub record IsFaultTold (old : Instant Device) (new : Device) (accesses : List Access) (told : Fault) : Type 0 where
+pub record IsFaultTold (old : JointState Device) (new : Device) (accesses : List Access)
+    (told : RequestFault) : Type 0 where
   pub pending : Pending
   pub here : Contains old.moment.machine.book pending
   pub issued : pending.issued ≡ true
@@ -84,7 +85,7 @@ pub record IsFaultTold (old : Instant Device) (new : Device) (accesses : List Ac
 
 -- The port had told of a change, or showed no device, when the call began; a disk of it went or came in the call; or it
 -- ends the call neither dead nor ready with serial and size as when it was last ready.
-abbrev pub IsLost : Port → Instant Device → Ports → Device → Type 0
+abbrev pub IsLost : Port → JointState Device → Ports → Device → Type 0
 IsLost port old ports new =
     ShowsChange (old.device.port port.0)
     ⊎ (((old.device.port port.0).ssts_det ≢ 3)
@@ -96,32 +97,32 @@ abbrev pub ShowsLoss : Port → Device → Device → Type 0
 ShowsLoss port old new = ShowsChange (old.port port.0) ⊎ (((old.port port.0).ssts_det ≢ 3) × NoneComes port.0 old new)
 
 -- It was ready, and showed that when the call began, or a disk went or came in it.
-abbrev pub IsGone : Port → Instant Device → Device → Type 0
+abbrev pub IsGone : Port → JointState Device → Device → Type 0
 IsGone port old new = (old.moment.ports.state port ≡ Ready)
     × (ShowsChange (old.device.port port.0)
     ⊎ (((old.device.port port.0).ssts_det ≢ 3)
     ⊎ Gains (IsPlugging port.0) old.device new))
 
 -- It was ready, and showed an error when the call began, or had one in it.
-abbrev pub HasErrors : Port → Instant Device → Device → Type 0
+abbrev pub HasErrors : Port → JointState Device → Device → Type 0
 HasErrors port old new = (old.moment.ports.state port ≡ Ready)
     × (ShowsFailure (old.device.port port.0)
     ⊎ (Gains (IsFaultOf port.0) old.device new ⊎ Gains (IsFatalOf port.0) old.device new))
 
 -- It was ready, and showed a fatal error then, or had one in the call.
-abbrev pub HasFatalErrors : Port → Instant Device → Device → Type 0
+abbrev pub HasFatalErrors : Port → JointState Device → Device → Type 0
 HasFatalErrors port old new = (old.moment.ports.state port ≡ Ready)
     × (ShowsFatal (old.device.port port.0) ⊎ Gains (IsFatalOf port.0) old.device new)
 
 -- ---- resets
 
 -- the call is a reset that ended
-abbrev pub IsEndedReset : Ask DeviceStep → Said → Type 0
+abbrev pub IsEndedReset : Ask DeviceStep → CallResult → Type 0
 IsEndedReset Reset (WasReset (Some replies)) = Unit {0}
 IsEndedReset ask said = ⊥
 
 -- the call is a reset that the adapter didn't end
-abbrev pub IsStuckReset : Ask DeviceStep → Said → Type 0
+abbrev pub IsStuckReset : Ask DeviceStep → CallResult → Type 0
 IsStuckReset Reset (WasReset None) = Unit {0}
 IsStuckReset ask said = ⊥
 
@@ -131,7 +132,7 @@ IsStuckReset ask said = ⊥
 -- named where it showed that when the call began, and only where it showed it then or had it in the call (what comes
 -- after the driver's look is nobody's to heed in that call). `stopped`: it is named only where it was stopped; and
 -- where PxCMD or PxSCTL was written at all, it is stopped or stuck.
-pub record IsEvidencedOf (ask : Ask DeviceStep) (said : Said) (accesses : List Access) (old : Instant Device)
+pub record IsEvidencedOf (ask : Ask DeviceStep) (said : CallResult) (accesses : List Access) (old : JointState Device)
     (ports : Ports) (new : Device)
     (evidence : Evidence) (port : Port) : Type 0 where
   pub lost : Contains evidence.lost port → IsLost port old ports new
@@ -151,8 +152,8 @@ pub record IsEvidencedOf (ask : Ask DeviceStep) (said : Said) (accesses : List A
       ⊎ (IsStuckReset ask said × (old.moment.ports.served port ≡ true))
 
 -- Each fault that is named was told by the device, and so it is with each port.
-pub record IsEvidenced (ask : Ask DeviceStep) (said : Said) (accesses : List Access) (old : Instant Device)
+pub record IsEvidenced (ask : Ask DeviceStep) (said : CallResult) (accesses : List Access) (old : JointState Device)
     (ports : Ports) (new : Device)
     (evidence : Evidence) : Type 0 where
-  pub faults : (told : Fault) → Contains evidence.faults told → IsFaultTold old new accesses told
+  pub faults : (told : RequestFault) → Contains evidence.faults told → IsFaultTold old new accesses told
   pub port : (port : Port) → IsEvidencedOf ask said accesses old ports new evidence port

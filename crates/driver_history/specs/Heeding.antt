@@ -5,7 +5,7 @@ use Rattle.ata_types.specs.declared.Port.{Port}
 use Rattle.ata_types.specs.declared.PortState.TheVariants.{Ready}
 use Rattle.ata_types.specs.declared.request.Outcome.{Outcome}
 use Rattle.ata_types.specs.declared.request.Outcome.TheVariants as outcome
-use Rattle.block_machine.specs.Events.{Ask, Service, Tick, Reset, Moment, AnswersEnded, HadDisk, NoneKeepsIssue, changes_disk}
+use Rattle.block_machine.specs.Events.{Ask, Service, Tick, Reset, AbstractState, AnswersEnded, HadDisk, NoneKeepsIssue, changes_disk}
 use Rattle.block_machine.specs.Ports.{Ports, SamePort, Evidence, IsInterrupted}
 use Rattle.block_machine.specs.State.{Pending}
 use Rattle.block_machine.specs.Steps.{Step, Again, Answer}
@@ -55,7 +55,7 @@ pub record IsLeftAlone (old : Ports) (evidence : Evidence) (steps : List Step) (
 -- its issue. One fault is told at most, and none where an error was fatal, which is a failure, too. It shows a disk
 -- after the call only where one was in. And where nothing disturbs it, the port is left alone. (That it is what it was
 -- unless it was interrupted, `IsServiced` has of each port.)
-pub record ServesReady (old : Moment) (evidence : Evidence) (steps : List Step) (new : Moment)
+pub record ServesReady (old : AbstractState) (evidence : Evidence) (steps : List Step) (new : AbstractState)
     (port : Port) : Type 0 where
   pub ended : AnswersEnded old.machine steps port
   pub emptied : Contains evidence.gone port → (e : Pending) → Contains new.machine.book e → e.request.port ≢ port
@@ -69,7 +69,7 @@ pub record ServesReady (old : Moment) (evidence : Evidence) (steps : List Step) 
 
 -- A call heeds what it finds of a port: a service serves one that was ready when it began. A tick and a reset are bound
 -- by what they answer; and no other call stops a port, or gets one stuck.
-abbrev pub HeedsAt : {D : Type 0} → Port → Ask D → Moment → Evidence → List Step → Moment → Type 0
+abbrev pub HeedsAt : {D : Type 0} → Port → Ask D → AbstractState → Evidence → List Step → AbstractState → Type 0
 HeedsAt port Service old evidence steps new = old.ports.state port ≡ Ready → ServesReady old evidence steps new port
 HeedsAt port Tick old evidence steps new = Unit {0}
 HeedsAt port Reset old evidence steps new = Unit {0}

@@ -13,23 +13,23 @@ use Rattle.adapter.specs.Access.{Access, DoesAll}
 use Rattle.adapter.specs.Access.Access.{Writing, Loading, Storing}
 use Rattle.adapter.specs.Asked.{Asked}
 use Rattle.adapter.specs.Commands.{is_queued}
-use Rattle.adapter.specs.Device.{PortState, Device}
+use Rattle.adapter.specs.Device.{DevicePort, Device}
 use Rattle.adapter.specs.Rules.{IsOn}
 use Rattle.adapter.specs.declared.access.DeviceStep.{DeviceStep}
-use Rattle.agreement.specs.Driver.{IsBacked}
-use Rattle.agreement.specs.Errors.{IsFatalOf, NoneComes, NoneFatal}
-use Rattle.agreement.specs.Facts.{RunsWell, IsFaultOf}
-use Rattle.agreement.specs.Links.{IsPlugging, PlugsNone}
-use Rattle.agreement.specs.Slots.{ServesRequest}
-use Rattle.block_machine.specs.Events.{Ask, Submit, StoreAt, LoadAt, Service, Tick, Reset, RevokeOf, Device as Told, Said, Submitted, Stored, Loaded, Served, WasReset, WasRevoked, Stepped, Moment, IsHung, IsIssuedIn, issues_it, moment_after}
+use Rattle.refinement.specs.Driver.{IsBacked}
+use Rattle.refinement.specs.Errors.{IsFatalOf, NoneComes, NoneFatal}
+use Rattle.refinement.specs.Facts.{RunsWell, IsFaultOf}
+use Rattle.refinement.specs.Links.{IsPlugging, PlugsNone}
+use Rattle.refinement.specs.Slots.{ServesRequest}
+use Rattle.block_machine.specs.Events.{Ask, Submit, StoreAt, LoadAt, Service, Tick, Reset, RevokeOf, Device as Told, CallResult, Submitted, Stored, Loaded, Served, WasReset, WasRevoked, Stepped, AbstractState, HasTimedOut, IsIssuedIn, issues_it, moment_after}
 use Rattle.block_machine.specs.Due.{IsDue}
-use Rattle.block_machine.specs.Histories.{Instant, Happening}
+use Rattle.block_machine.specs.Histories.{JointState, Happening}
 use Rattle.block_machine.specs.Histories as histories
 use Rattle.block_machine.specs.Ports.{Ports, SamePort, Evidence, IsInterrupted}
 use Rattle.block_machine.specs.Rules.{HasRow, IsNamed}
 use Rattle.block_machine.specs.State.{Pending, Machine, unanswered}
 use Rattle.block_machine.specs.Steps.{Step, Answer}
-use Rattle.block_machine.specs.declared.due.Mode.{Mode}
+use Rattle.block_machine.specs.declared.due.QueueMode.{QueueMode}
 use Rattle.block_machine.specs.declared.due.Unanswered.{Unanswered}
 use Rattle.identify.specs.declared.wanted.Wanted.{Wanted}
 use Rattle.host_boot.specs.Resets.{AwaitsReset, BeginsReset}
@@ -51,12 +51,12 @@ IssuesOn port (Storing at bytes) = at + length bytes ≤ DRIVER_BYTES
 IssuesOn port access = ⊥
 
 -- the server serves the port
-abbrev pub ServesPort : Ports → Port → Type 0
-ServesPort ports port = ports.served port ≡ true
+abbrev pub IsPortServed : Ports → Port → Type 0
+IsPortServed ports port = ports.served port ≡ true
 
 -- and it isn't dead
 abbrev pub TendsPort : Ports → Port → Type 0
-TendsPort ports port = ServesPort ports port × (ports.state port ≢ Dead)
+TendsPort ports port = IsPortServed ports port × (ports.state port ≢ Dead)
 
 -- The adapter is on, and tells of its causes (AHCI 1.3.1, 3.1.2: AE and IE).
 abbrev pub IsOnAndTells : Device → Type 0
@@ -69,7 +69,7 @@ IsOnAndTells d = IsOn d × (d.ie ≡ true)
 -- alone, a service of those that aren't dead, and a tick of those that are hung. Neither a service nor a tick writes
 -- GHC. A reset that ends leaves the adapter on; of one that doesn't, no more is seen than that (how often HR was read
 -- is the server's own contract). Each other call makes none, a refused one among them.
-abbrev pub CameBy : Moment → Ask DeviceStep → Said → List Access → Device → Device → Type 0
+abbrev pub CameBy : AbstractState → Ask DeviceStep → CallResult → List Access → Device → Device → Type 0
 CameBy now (Told step) (Stepped true) accesses old new = (accesses ≡ []) × Asked step old new
 CameBy now (Submit r) (Submitted (Ok id)) accesses old new =
     DoesAll accesses old new × ((row : GrantRow) × IsNamed now.machine.rows r row × All (IssuesOn row.port) accesses)
@@ -82,9 +82,10 @@ CameBy now (LoadAt client frame offset count) (Loaded (Ok bytes)) accesses old n
     DoesAll accesses old new × (accesses ≡ Loading (FRAME_BYTES * frame.0 + offset) bytes ∷ [])
 CameBy now Service (Served replies) accesses old new = DoesAll accesses old new
     × All (IsServing (TendsPort now.ports)) accesses
-CameBy now Tick (Served replies) accesses old new = DoesAll accesses old new × All (IsServing (IsHung now)) accesses
+CameBy now Tick (Served replies) accesses old new = DoesAll accesses old new
+    × All (IsServing (HasTimedOut now)) accesses
 CameBy now Reset (WasReset (Some replies)) accesses old new =
-    DoesAll accesses old new × All IsDriversOwn accesses × All (IsOfPorts (ServesPort now.ports)) accesses
+    DoesAll accesses old new × All IsDriversOwn accesses × All (IsOfPorts (IsPortServed now.ports)) accesses
     × BeginsReset accesses
     × IsOnAndTells new
 CameBy now Reset (WasReset None) accesses old new = DoesAll accesses old new × AwaitsReset accesses
@@ -98,7 +99,7 @@ unissued steps book = map (λ (r : Unanswered). if list_any (issues_it r.id) ste
     else r) book
 
 -- Of the unanswered requests of a port the steps issue exactly those that are due once all else is done.
-abbrev pub IssuesDue : Mode → List Step → Machine → Port → Type 0
+abbrev pub IssuesDue : QueueMode → List Step → Machine → Port → Type 0
 IssuesDue mode steps later port = (r : Unanswered) → Contains (unissued steps (map unanswered later.book)) r
     → r.port ≡ port → IsIssuedIn r.id steps ↔ IsDue mode (unissued steps (map unanswered later.book)) r
 
@@ -126,7 +127,7 @@ pub record IsIssuedOn (port : Port) (m : Machine) (e : Pending) : Type 0 where
 
 -- The masks were read, at some time in the call; and of the port's requests that were issued then, exactly those are
 -- answered Ok whose bits were clear in both.
-pub record FindsDone (port : Port) (accesses : List Access) (old : Instant Device) (steps : List Step) : Type 0 where
+pub record FindsDone (port : Port) (accesses : List Access) (old : JointState Device) (steps : List Step) : Type 0 where
   pub ci : ℕ
   pub sact : ℕ
   pub reads : ReadsMasks port ci sact accesses
@@ -135,24 +136,24 @@ pub record FindsDone (port : Port) (accesses : List Access) (old : Instant Devic
       → IsAnsweredOk e steps ↔ ((bit ci slot ≡ false) × (bit sact slot ≡ false))
 
 -- A service finds what is done on each port that was ready and has something issued; a tick does on each that is hung.
-abbrev pub FindsIn : Ask DeviceStep → List Access → Instant Device → List Step → Port → Type 0
+abbrev pub FindsIn : Ask DeviceStep → List Access → JointState Device → List Step → Port → Type 0
 FindsIn Service accesses old steps port =
     old.moment.ports.state port ≡ Ready → (e : Pending) → IsIssuedOn port old.moment.machine e
     → FindsDone port accesses old steps
-FindsIn Tick accesses old steps port = IsHung old.moment port → FindsDone port accesses old steps
+FindsIn Tick accesses old steps port = HasTimedOut old.moment port → FindsDone port accesses old steps
 FindsIn ask accesses old steps port = Unit {0}
 
 -- ---- a plain request's fault
 
 -- The port shows TFES, and no other trouble: no change of its link, no fatal error, and a device.
-pub record ShowsFaultAlone (p : PortState) : Type 0 where
+pub record ShowsFaultAlone (p : DevicePort) : Type 0 where
   pub fault : p.is 30 ≡ true
   pub fatal : ShowsFatal p → ⊥
   pub change : ShowsChange p → ⊥
   pub device : p.ssts_det ≡ 3
 
 -- so it was of a ready port when the call began, and no fatal error came in it, nor a disk, nor went one
-pub record HasFaultAlone (port : Port) (old : Instant Device) (new : Device) : Type 0 where
+pub record HasFaultAlone (port : Port) (old : JointState Device) (new : Device) : Type 0 where
   pub ready : old.moment.ports.state port ≡ Ready
   pub shows : ShowsFaultAlone (old.device.port port.0)
   pub fatal : NoneFatal port.0 old.device new
@@ -164,17 +165,17 @@ IsAnsweredFaulty e steps = (done : Pending) × (status : ℕ) × (error : ℕ)
     × (done.request ≡ e.request) × Contains steps (Answer done (outcome.DeviceError status error))
 
 -- Then a plain request that is outstanding is answered with its fault, unless the port ends dead: it isn't tried again.
-abbrev pub TellsPlainFaults : Ask DeviceStep → Instant Device → Ports → Device → List Step → Port → Type 0
+abbrev pub TellsPlainFaults : Ask DeviceStep → JointState Device → Ports → Device → List Step → Port → Type 0
 TellsPlainFaults Service old ports new steps port = HasFaultAlone port old new
     → (e : Pending) (slot : ℕ) → IsIssuedOn port old.moment.machine e → e.ended ≡ false
     → (s : ServesRequest old.moment.machine old.device.memory (old.device.port port.0) port.0 slot e.request.id)
     → is_queued s.command.operation ≡ false → IsAnsweredFaulty e steps ⊎ (ports.state port ≡ Dead)
 TellsPlainFaults ask old ports new steps port = Unit {0}
 
--- ---- disks that are there are tried
+-- ---- disks that are there are probed
 
 -- its first FIS has come, or no device shows
-abbrev pub IsFreshOrUnshown : PortState → Type 0
+abbrev pub IsFreshOrUnshown : DevicePort → Type 0
 IsFreshOrUnshown p = (p.fresh ≡ true) ⊎ (p.ssts_det ≢ 3)
 
 -- a service finds the port unfit or foreign
@@ -185,7 +186,7 @@ IsUnfitOrForeign ports port = (ports.state port ≡ Foreign) ⊎ ((cause : ℕ) 
 -- shows a device, unless a disk of it goes in the call; and an unfit or foreign one with X set, unless it ends absent.
 -- One of these without a device ends absent, or dead. Where the link was reset so, the disk's first FIS has come when
 -- the call ends, or no device shows.
-pub record TriesDisk (accesses : List Access) (old : Instant Device) (ports : Ports) (new : Device)
+pub record ProbesDisk (accesses : List Access) (old : JointState Device) (ports : Ports) (new : Device)
     (port : Port) : Type 0 where
   pub shown : old.moment.ports.state port ≡ Absent → (old.device.port port.0).ssts_det ≡ 3
       → (ports.state port ≡ Dead) ⊎ (ResetsLink port accesses ⊎ Gains (IsPlugging port.0) old.device new)
@@ -197,21 +198,21 @@ pub record TriesDisk (accesses : List Access) (old : Instant Device) (ports : Po
       → (ports.state port ≡ Absent) ⊎ ((ports.state port ≡ Dead)
       ⊎ (ResetsLink port accesses × ((new.port port.0).serr_x ≡ false) × IsFreshOrUnshown (new.port port.0)))
 
-abbrev pub Tries : Ask DeviceStep → List Access → Instant Device → Ports → Device → Port → Type 0
-Tries Service accesses old ports new port =
-    old.moment.ports.served port ≡ true → NoneComes port.0 old.device new → TriesDisk accesses old ports new port
-Tries ask accesses old ports new port = Unit {0}
+abbrev pub Probes : Ask DeviceStep → List Access → JointState Device → Ports → Device → Port → Type 0
+Probes Service accesses old ports new port =
+    old.moment.ports.served port ≡ true → NoneComes port.0 old.device new → ProbesDisk accesses old ports new port
+Probes ask accesses old ports new port = Unit {0}
 
 -- ---- boots are made anew
 
 -- A reset that ends boots each served port, unless that gets stuck; so does a tick with each that is hung; and a
 -- service with each ready one that showed a fatal error when the call began or has lost its disk, and with each that it
 -- shows anew, but as absent or dead.
-abbrev pub BootsAnew : Ask DeviceStep → Said → List Access → Instant Device → Ports → Device → Port → Type 0
+abbrev pub BootsAnew : Ask DeviceStep → CallResult → List Access → JointState Device → Ports → Device → Port → Type 0
 BootsAnew Reset (WasReset (Some replies)) accesses old ports new port =
     old.moment.ports.served port ≡ true → (ports.state port ≡ Dead) ⊎ ResetsLink port accesses
 BootsAnew Tick said accesses old ports new port =
-    IsHung old.moment port → (ports.state port ≡ Dead) ⊎ ResetsLink port accesses
+    HasTimedOut old.moment port → (ports.state port ≡ Dead) ⊎ ResetsLink port accesses
 BootsAnew Service said accesses old ports new port =
     (old.moment.ports.state port ≡ Ready → ShowsFatal (old.device.port port.0) ⊎ ShowsLoss port old.device new
     → (ports.state port ≡ Dead) ⊎ ((ports.state port ≡ Absent) ⊎ ResetsLink port accesses))
@@ -225,7 +226,7 @@ BootsAnew ask said accesses old ports new port = Unit {0}
 -- it, are shown still at its end, unless it stopped the port (or its engine got stuck). Whatever it did, on a port that
 -- is ready after it there is shown what came since ST was last set: a fault, a fatal error, and a disk that went or
 -- came.
-pub record LosesNoTrouble (evidence : Evidence) (old : Instant Device) (ports : Ports) (new : Device)
+pub record LosesNoPortError (evidence : Evidence) (old : JointState Device) (ports : Ports) (new : Device)
     (port : Port) : Type 0 where
   pub errors : old.moment.ports.state port ≡ Ready
       → ShowsFailure (old.device.port port.0)
@@ -244,7 +245,7 @@ pub record LosesNoTrouble (evidence : Evidence) (old : Instant Device) (ports : 
 -- Where a port was stopped and is ready after the call, its boot or its recovery has taken the trouble away, what came
 -- meanwhile too: it runs well, if no disk went or came in the call, and no fault and no fatal error came since ST was
 -- last set; and if its link was reset, as a boot does, or its disk's first FIS had come when the call began.
-abbrev pub RunsWellAnew : Evidence → List Access → Instant Device → Ports → Device → Port → Type 0
+abbrev pub RunsWellAnew : Evidence → List Access → JointState Device → Ports → Device → Port → Type 0
 RunsWellAnew evidence accesses old ports new port =
     IsInterrupted evidence port → ports.state port ≡ Ready → PlugsNone port.0 old.device new
     → (GainsRunning (IsFaultOf port.0) port.0 old.device new → ⊥)
@@ -255,20 +256,21 @@ RunsWellAnew evidence accesses old ports new port =
 
 -- What a call has done of a port: what was found done, a plain request's fault, a disk that is there, boots, and
 -- trouble; and it heeds what the evidence names of the port.
-pub record TiesPort (old : Instant Device) (h : Happening Device DeviceStep) (accesses : List Access)
+pub record PortCorresponds (old : JointState Device) (h : Happening Device DeviceStep) (accesses : List Access)
     (port : Port) : Type 0 where
   pub finds : FindsIn h.event.ask accesses old h.event.steps port
   pub faults : TellsPlainFaults h.event.ask old h.event.ports h.device h.event.steps port
-  pub tries : Tries h.event.ask accesses old h.event.ports h.device port
+  pub probes : Probes h.event.ask accesses old h.event.ports h.device port
   pub boots : BootsAnew h.event.ask h.event.said accesses old h.event.ports h.device port
-  pub trouble : LosesNoTrouble h.event.evidence old h.event.ports h.device port
+  pub port_error : LosesNoPortError h.event.evidence old h.event.ports h.device port
   pub well : RunsWellAnew h.event.evidence accesses old h.event.ports h.device port
   pub heeds : HeedsAt port h.event.ask old.moment h.event.evidence h.event.steps (moment_after old.moment h.event)
 
 -- The device's part in a call. Its accesses led there, and the tape backs the machine's steps. What stands behind the
 -- evidence is so, and what rests on it is grounded. It has issued what is due. Of each port it has done its part. And
 -- after it there holds what holds at each instant.
-pub record Ties (wanted : List Wanted) (old : Instant Device) (h : Happening Device DeviceStep) : Type 0 where
+pub record CallCorresponds (wanted : List Wanted) (old : JointState Device)
+    (h : Happening Device DeviceStep) : Type 0 where
   pub accesses : List Access
   pub came : CameBy old.moment h.event.ask h.event.said accesses old.device h.device
   pub backed : IsBacked old.device h.device old.moment.machine h.event.steps
@@ -276,14 +278,14 @@ pub record Ties (wanted : List Wanted) (old : Instant Device) (h : Happening Dev
   pub grounded : IsGrounded h.event.ask h.event.evidence h.event.steps
   pub issues : (port : Port) → Issues h.event.ask h.event.steps (moment_after old.moment h.event).machine h.event.ports
       port
-  pub port : (port : Port) → TiesPort old h accesses port
+  pub port : (port : Port) → PortCorresponds old h accesses port
   pub holds : HoldsAt wanted (record { device = h.device; moment = moment_after old.moment h.event })
 
 -- What a new server leaves is what holds at each instant, with the adapter on. (Its book is empty, since the machine is
 -- a start.)
-abbrev pub Begins : List Wanted → Instant Device → Type 0
+abbrev pub Begins : List Wanted → JointState Device → Type 0
 Begins wanted first = HoldsAt wanted first × IsOnAndTells first.device
 
 -- calls one after another, from what a new server left
-abbrev pub IsHistory : List Wanted → Instant Device → List (Happening Device DeviceStep) → Type 0
-IsHistory wanted first past = histories.IsHistory (Begins wanted) (Ties wanted) first past
+abbrev pub IsDriverHistory : List Wanted → JointState Device → List (Happening Device DeviceStep) → Type 0
+IsDriverHistory wanted first past = histories.IsHistory (Begins wanted) (CallCorresponds wanted) first past

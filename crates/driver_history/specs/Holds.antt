@@ -10,17 +10,17 @@ use Rattle.adapter.specs.Commands.{Meaning, is_queued}
 use Rattle.adapter.specs.Device.{Device}
 use Rattle.adapter.specs.Idle.{IsIdlePort}
 use Rattle.adapter.specs.Rules.{IsOn}
-use Rattle.agreement.specs.Acts.{InSlots, at}
-use Rattle.agreement.specs.Driver.{AllFree, Knows}
-use Rattle.agreement.specs.Facts.{HasFaults}
-use Rattle.agreement.specs.Links.{HasDeviceOrNone}
-use Rattle.agreement.specs.Slots.{Use, Free, Serves, Told}
+use Rattle.refinement.specs.Acts.{InSlots, at_slots}
+use Rattle.refinement.specs.Driver.{AllFree, DriverRelation}
+use Rattle.refinement.specs.Facts.{HasFaults}
+use Rattle.refinement.specs.Links.{HasDeviceOrNone}
+use Rattle.refinement.specs.Slots.{SlotState, Free, Serves, SlotDecodesTo}
 use Rattle.block_machine.specs.Due.{is_plain}
-use Rattle.block_machine.specs.Histories.{Instant}
+use Rattle.block_machine.specs.Histories.{JointState}
 use Rattle.block_machine.specs.Ports.{Ports}
 use Rattle.block_machine.specs.State.{Pending, Machine}
 use Rattle.block_machine.specs.Steps.{NoneKept}
-use Rattle.block_machine.specs.declared.due.Mode.{Mode}
+use Rattle.block_machine.specs.declared.due.QueueMode.{QueueMode}
 use Rattle.host_boot.specs.Taken.{wanted_of, FoundBadDisk, IsServed}
 use Rattle.identify.specs.Wanted.{serial_of}
 use Rattle.identify.specs.declared.DiskInfo.{DiskInfo}
@@ -32,7 +32,7 @@ use Rattle.port_control.specs.Ports.{programmed}
 
 -- How a port takes commands with this disk: queued where adapter and disk both do, and then in as many slots as
 -- adapter, disk and the tag's 32 values allow; else one at a time (CAP: AHCI 1.3.1, 3.1.1).
-abbrev pub mode_of : ℕ → DiskInfo → Mode
+abbrev pub mode_of : ℕ → DiskInfo → QueueMode
 mode_of cap info =
     if bit cap 30 && info.ncq
     then record { queued = true; usable = min (cap / 256 % 32 + 1) (min info.depth 32) }
@@ -57,24 +57,24 @@ pub record Runs (port : ℕ) (d : Device) : Type 0 where
   pub recorded : HasFaults d.tape (d.port port) port
 
 -- the slot is free, or serves a client's request
-abbrev pub IsClients : Use → Type 0
+abbrev pub IsClients : SlotState → Type 0
 IsClients u = (u ≡ Free) ⊎ ((id : RequestId) × (u ≡ Serves id))
 
 -- the slot serves an unanswered request
-pub record ServesIn (s : InSlots) (i : Instant Device) (port : Port) (slot : ℕ) (e : Pending) : Type 0 where
+pub record ServesIn (s : InSlots) (i : JointState Device) (port : Port) (slot : ℕ) (e : Pending) : Type 0 where
   pub here : Contains i.moment.machine.book e
   pub serves : s.uses port.0 slot ≡ Serves e.request.id
 
 -- the command that header and table of the slot say is queued exactly if the request isn't plain
-pub record IsOfKind (mode : Mode) (d : Device) (port slot : ℕ) (e : Pending) : Type 0 where
+pub record IsOfKind (mode : QueueMode) (d : Device) (port slot : ℕ) (e : Pending) : Type 0 where
   pub command : Meaning
   pub places : List ℕ
-  pub told : Told d.memory (d.port port).bases.clb port slot command places
+  pub told : SlotDecodesTo d.memory (d.port port).bases.clb port slot command places
   pub kind : is_queued command.operation ≡ not (is_plain mode e.request.asked.op)
 
 -- What the driver has in the slots of a port that runs: clients' requests alone, in usable slots, by commands of their
 -- kind (of one that has ended nobody asks); a plain one is in slot 0, and alone. No request is parked.
-pub record HasRequests (s : InSlots) (i : Instant Device) (port : Port) (mode : Mode) : Type 0 where
+pub record HasRequests (s : InSlots) (i : JointState Device) (port : Port) (mode : QueueMode) : Type 0 where
   pub clients : (slot : ℕ) → IsClients (s.uses port.0 slot)
   pub low : (slot : ℕ) → mode.usable ≤ slot → s.uses port.0 slot ≡ Free
   pub unparked : s.parked port.0 ≡ []
@@ -94,7 +94,7 @@ NoneWaits m port = (e : Pending) → Contains m.book e → e.request.port ≢ po
 
 -- A ready port runs, and its disk's last page, which came after PxSCTL was last written, says what clients are told.
 -- Clients' requests are in its slots, and no request is kept.
-pub record IsReadyAt (wanted : Wanted) (s : InSlots) (i : Instant Device) (port : Port) : Type 0 where
+pub record IsReadyAt (wanted : Wanted) (s : InSlots) (i : JointState Device) (port : Port) : Type 0 where
   pub on : IsOn i.device
   pub runs : Runs port.0 i.device
   pub info : DiskInfo
@@ -107,7 +107,7 @@ pub record IsReadyAt (wanted : Wanted) (s : InSlots) (i : Instant Device) (port 
 
 -- An absent, unfit or foreign port is stopped, with nothing in its slots, and what was read last, or its disk's last
 -- page, says why. In one with a disk a device shows, or none is in. Nobody waits for it, and no request is kept.
-pub record IsStoppedAt (wanted : Wanted) (s : InSlots) (i : Instant Device) (port : Port)
+pub record IsStoppedAt (wanted : Wanted) (s : InSlots) (i : JointState Device) (port : Port)
     (state : PortState) : Type 0 where
   pub on : IsOn i.device
   pub ends : EndsAs (serial_of wanted) state port.0 i.device
@@ -118,12 +118,12 @@ pub record IsStoppedAt (wanted : Wanted) (s : InSlots) (i : Instant Device) (por
 
 -- A dead port: its engine was awaited in vain; or the adapter isn't on, since its last reset wasn't seen to end. Nobody
 -- waits for it, but between such a reset and the service that tells it.
-pub record IsDeadAt (wanted : Wanted) (i : Instant Device) (port : Port) : Type 0 where
+pub record IsDeadAt (wanted : Wanted) (i : JointState Device) (port : Port) : Type 0 where
   pub why : EndsAs (serial_of wanted) Dead port.0 i.device ⊎ (IsOn i.device → ⊥)
   pub waits : IsOn i.device → NoneWaits i.moment.machine port
 
 -- A port that isn't served is idle, with nothing in its slots, and absent to clients: nobody waits for it.
-pub record IsUnservedAt (s : InSlots) (i : Instant Device) (port : Port) : Type 0 where
+pub record IsUnservedAt (s : InSlots) (i : JointState Device) (port : Port) : Type 0 where
   pub absent : i.moment.ports.state port ≡ Absent
   pub idle : IsIdlePort (i.device.port port.0)
   pub slots : HasNothing s port.0
@@ -131,7 +131,7 @@ pub record IsUnservedAt (s : InSlots) (i : Instant Device) (port : Port) : Type 
   pub kept : NoneKept i.moment.machine port
 
 -- what holds of a port, whether it is served, and in which state
-abbrev pub HoldsOf : Wanted → InSlots → Instant Device → Port → Bool → PortState → Type 0
+abbrev pub HoldsOf : Wanted → InSlots → JointState Device → Port → Bool → PortState → Type 0
 HoldsOf wanted s i port false state = IsUnservedAt s i port
 HoldsOf wanted s i port true Ready = IsReadyAt wanted s i port
 HoldsOf wanted s i port true Dead = IsDeadAt wanted i port
@@ -143,8 +143,8 @@ HoldsOf wanted s i port true (Unfit cause) = IsStoppedAt wanted s i port (Unfit 
 
 -- What holds at each instant of a history, of the device, the ports as clients see them, the machine, and what the
 -- driver has in its slots. (A server has ports 0 to 3.)
-pub record HoldsWith (wanted : List Wanted) (s : InSlots) (i : Instant Device) : Type 0 where
-  pub knows : Knows i.moment.machine (at s i.device)
+pub record HoldsWith (wanted : List Wanted) (s : InSlots) (i : JointState Device) : Type 0 where
+  pub knows : DriverRelation i.moment.machine (at_slots s i.device)
   pub served : (port : Port) → port.0 < 4 → (i.moment.ports.served port ≡ true)
       ↔ IsServed (wanted_of wanted port.0) port.0 i.device
   pub on : IsOn i.device ⊎ ((port : Port) → i.moment.ports.served port ≡ true → i.moment.ports.state port ≡ Dead)
@@ -152,5 +152,5 @@ pub record HoldsWith (wanted : List Wanted) (s : InSlots) (i : Instant Device) :
       → HoldsOf (wanted_of wanted port.0) s i port (i.moment.ports.served port) (i.moment.ports.state port)
 
 -- with something in the slots
-abbrev pub HoldsAt : List Wanted → Instant Device → Type 0
+abbrev pub HoldsAt : List Wanted → JointState Device → Type 0
 HoldsAt wanted i = (s : InSlots) × HoldsWith wanted s i

@@ -6,16 +6,16 @@ use Rattle.hba_regs.specs.declared.reg.PortReg.{PortReg}
 use Rattle.hba_regs.specs.declared.reg.PortReg.TheVariants.{Cmd, Is, Sctl, Serr}
 use Rattle.hba_regs.specs.declared.reg.Reg.TheVariants.{Ghc, Px}
 use Rattle.adapter.specs.Access.{Access, Does, DoesAll, Writes}
-use Rattle.adapter.specs.Device.{PortState, Device}
+use Rattle.adapter.specs.Device.{DevicePort, Device}
 use Rattle.adapter.specs.Kept.{Keeps}
 use Rattle.adapter.specs.Rules.{IsOn}
 use Rattle.adapter.specs.Steps.{Steps}
-use Rattle.agreement.specs.Laws.{TapeLaws}
-use Rattle.agreement.specs.Driven.{IsDrivenBy, IsOf, LeavesPort}
-use Rattle.agreement.specs.Errors.{ChangesByErrors, KeepsErrors, NoneComes, NoneFails, NoneFatal}
-use Rattle.agreement.specs.Facts.{RunsWell, Undisturbed}
-use Rattle.agreement.specs.Links.{LeavesControls, LeavesLink, PlugsNone, SparesRegister}
-use Rattle.agreement.specs.Vacant.{IsFreshIfShown, IsVacant}
+use Rattle.refinement.specs.Laws.{TapeLaws}
+use Rattle.refinement.specs.Driven.{IsDrivenBy, IsOf, LeavesPort}
+use Rattle.refinement.specs.Errors.{ChangesByErrors, KeepsErrors, NoneComes, NoneFails, NoneFatal}
+use Rattle.refinement.specs.Facts.{RunsWell, Undisturbed}
+use Rattle.refinement.specs.Links.{LeavesControls, LeavesLink, PlugsNone, SparesRegister}
+use Rattle.refinement.specs.Vacant.{IsFreshIfShown, IsVacant}
 use Rattle.error_recovery.specs.Evidence.{ShowsFatal}
 use Rattle.port_boot.specs.States.{RunsOn}
 use Rattle.port_control.specs.Engines.{Falls, Sticks}
@@ -23,8 +23,8 @@ use Rattle.port_control.specs.Engines.{Falls, Sticks}
 pub record Laws : Type 0 where
   pub left : (port : Port) (q : ℕ) (old new : Device) → q ≢ port.0 → IsOn old → IsDrivenBy (IsOf port) old new
       → LeavesPort (old.port q) (new.port q)
-  pub left_none : (p : PortState) → LeavesPort p p
-  pub left_more : (old mid new : PortState) → LeavesPort old mid → LeavesPort mid new → LeavesPort old new
+  pub left_none : (p : DevicePort) → LeavesPort p p
+  pub left_more : (old mid new : DevicePort) → LeavesPort old mid → LeavesPort mid new → LeavesPort old new
   pub spares : (port q : Port) (r : PortReg) → q.0 ≢ port.0 → (access : Access) → IsOf port access
       → SparesRegister (Px q r) access
   pub on : (port : Port) (old new : Device) → IsOn old → IsDrivenBy (IsOf port) old new → IsOn new
@@ -67,7 +67,8 @@ pub record Laws : Type 0 where
       → SparesRegister (Px port Serr) access → Does access old new
       → ((old.port port.0).serr_n ≡ true → (new.port port.0).serr_n ≡ true)
       × ((old.port port.0).serr_x ≡ true → (new.port port.0).serr_x ≡ true)
-  pub fatal_unless : (p : PortState) → (((place : ℕ) → 27 ≤ place → place ≤ 29 → p.is place ≡ false) → ⊥) → ShowsFatal p
+  pub fatal_unless : (p : DevicePort) → (((place : ℕ) → 27 ≤ place → place ≤ 29 → p.is place ≡ false) → ⊥)
+      → ShowsFatal p
   pub controls : (port : Port) (access : Access) (old new : Device) → old.hr ≡ false → Does access old new
       → LeavesControls access port (old.port port.0) (new.port port.0)
   pub command : (port : Port) (v : ℕ) (old new : Device) → Writes (Px port Cmd) v old new

@@ -7,9 +7,9 @@ use Rattle.adapter.specs.declared.tape.Entry.{Entry}
 use Rattle.adapter.specs.declared.tape.Entry.TheVariants as entry
 use Rattle.adapter.specs.declared.tape.Move as tape_move
 use Rattle.adapter.specs.declared.tape.Clear as tape_clear
-use Rattle.agreement.specs.Places.{scratch_of}
-use Rattle.agreement.specs.Slots.{op_of}
-use Rattle.agreement.specs.Tape.{IsTouch, IsClear}
+use Rattle.refinement.specs.Places.{scratch_of}
+use Rattle.refinement.specs.Slots.{op_of}
+use Rattle.refinement.specs.Tape.{MovesSector, ClearsSectors}
 use Rattle.block_machine.specs.Confined.{IsConfined, WasAccepted}
 use Rattle.block_machine.specs.Left.{after}
 use Rattle.block_machine.specs.State.{Machine}
@@ -23,7 +23,7 @@ pub record IsConfinedMove (start : Machine) (earlier steps : List Step) (op : Op
   pub step : Step
   pub before : List Step
   pub here : steps ≡ later ++ step ∷ before
-  pub touch : IsTouch (after start (before ++ earlier)) op move (step ∷ [])
+  pub touch : MovesSector (after start (before ++ earlier)) op move (step ∷ [])
   pub confined : IsConfined start (before ++ earlier) touch.pending.request touch.number
 
 -- A move by a read or a write of a client's is confined; any other, of a page or of a trim's block, goes to the scratch
@@ -41,7 +41,7 @@ pub record IsConfinedClear (start : Machine) (earlier steps : List Step) (clear 
   pub touches : List Step
   pub before : List Step
   pub here : steps ≡ later ++ (touches ++ before)
-  pub clears : IsClear (after start (before ++ earlier)) clear touches
+  pub clears : ClearsSectors (after start (before ++ earlier)) clear touches
   pub accepted : WasAccepted start (before ++ earlier) clears.pending.request
 
 -- The moves and clears that the tape has gained in a call of these steps, after these earlier ones, keep to their

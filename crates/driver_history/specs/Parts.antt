@@ -4,9 +4,9 @@ use Rattle.ata_types.specs.declared.Port.{Port}
 use Rattle.ata_types.specs.declared.PortState.TheVariants.{Absent, Dead}
 use Rattle.adapter.specs.Access.{Access, DoesAll}
 use Rattle.adapter.specs.Device.{Device}
-use Rattle.agreement.specs.Driven.{IsOf}
-use Rattle.agreement.specs.Errors.{NoneComes}
-use Rattle.block_machine.specs.Histories.{Instant}
+use Rattle.refinement.specs.Driven.{IsOf}
+use Rattle.refinement.specs.Errors.{NoneComes}
+use Rattle.block_machine.specs.Histories.{JointState}
 use Rattle.block_machine.specs.Ports.{Evidence, Ports}
 use Rattle.driver_history.specs.Histories.{IsUnfitOrForeign}
 
@@ -43,7 +43,7 @@ pub record NamesAlike (port : Port) (one other : Evidence) : Type 0 where
 
 -- Where a port with a disk that isn't served showed X, and no disk of it came since, no link of it is due any more,
 -- unless it is absent or dead. (While one is due, X rises when it comes up, and the tape tells of no disk.)
-abbrev pub EndsLinked : Port → Instant Device → Ports → Device → Type 0
+abbrev pub EndsLinked : Port → JointState Device → Ports → Device → Type 0
 EndsLinked port old ports new = IsUnfitOrForeign old.moment.ports port → (old.device.port port.0).serr_x ≡ true
     → NoneComes port.0 old.device new → (ports.state port ≡ Absent)
     ⊎ ((ports.state port ≡ Dead) ⊎ ((new.port port.0).link_due ≡ false))

@@ -6,8 +6,8 @@ use Rattle.hba_regs.specs.declared.reg.Reg.TheVariants.{Ghc, Px}
 use Rattle.hba_regs.specs.declared.reg.PortReg.TheVariants.{Cmd, Sctl, Sact, Ci}
 use Rattle.adapter.specs.Access.{Access}
 use Rattle.adapter.specs.Access.Access.{Reading, Writing, Loading, Storing}
-use Rattle.agreement.specs.Facts.{ClearsNoTrouble}
-use Rattle.agreement.specs.Links.{SparesRegister}
+use Rattle.refinement.specs.Facts.{ClearsNoTrouble}
+use Rattle.refinement.specs.Links.{SparesRegister}
 
 -- ---- what one access is
 

@@ -1,35 +1,35 @@
 // What laws of the crates below say of accesses, for this crate's proofs. Nothing comes of calling it.
 ghost use Rattle.driver_history.specs.Laws.{Laws};
 
-use adapter::laws::{accesses_compose, steps_keep};
-use agreement::disks::none_comes_in;
-use agreement::facts::{
-    adapter_stays, cleared_stays, controls_are_set, controls_stay, errors_are_kept,
-    errors_are_shown, link_stays, plugging_is_found,
+use adapter::laws::{law_accesses_compose, law_steps_keep};
+use error_recovery::laws::law_fatal_errors_show_unless_clear;
+use port_boot::laws::law_a_port_runs_on;
+use port_control::laws::law_what_is_told_of_engines_stays;
+use refinement::disks::law_none_comes_in;
+use refinement::facts::{
+    law_adapter_stays, law_cleared_stays, law_controls_are_set, law_controls_stay,
+    law_errors_are_kept, law_errors_are_shown, law_link_stays, law_plugging_is_found,
 };
-use agreement::stretches::{other_ports_are_left, tape_laws_hold};
-use error_recovery::laws::fatal_errors_show_unless_clear;
-use port_boot::laws::a_port_runs_on;
-use port_control::laws::what_is_told_of_engines_stays;
+use refinement::fragments::{law_other_ports_are_left, law_tapes};
 
 /// The laws that the proofs on parts of calls rest on.
-pub fn laws_hold()
+pub fn law_base()
     ensures { Laws }
 {
-    accesses_compose();
-    steps_keep();
-    adapter_stays();
-    cleared_stays();
-    controls_are_set();
-    controls_stay();
-    errors_are_kept();
-    errors_are_shown();
-    fatal_errors_show_unless_clear();
-    link_stays();
-    plugging_is_found();
-    other_ports_are_left();
-    tape_laws_hold();
-    none_comes_in();
-    a_port_runs_on();
-    what_is_told_of_engines_stays();
+    law_accesses_compose();
+    law_steps_keep();
+    law_adapter_stays();
+    law_cleared_stays();
+    law_controls_are_set();
+    law_controls_stay();
+    law_errors_are_kept();
+    law_errors_are_shown();
+    law_fatal_errors_show_unless_clear();
+    law_link_stays();
+    law_plugging_is_found();
+    law_other_ports_are_left();
+    law_tapes();
+    law_none_comes_in();
+    law_a_port_runs_on();
+    law_what_is_told_of_engines_stays();
 }

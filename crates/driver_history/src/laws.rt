@@ -8,16 +8,16 @@ ghost use Rattle.ata_types.specs.declared.request.Outcome.{Outcome};
 ghost use Rattle.ata_types.specs.declared.request.Outcome.TheVariants as outcome;
 ghost use Rattle.ata_types.specs.declared.request.RequestId.{RequestId};
 ghost use Rattle.adapter.specs.Device.{Device};
-ghost use Rattle.adapter.specs.Rules.{IsOn, Stays};
+ghost use Rattle.adapter.specs.Rules.{IsOn, IsStable};
 ghost use Rattle.adapter.specs.declared.access.DeviceStep.{DeviceStep};
 ghost use Rattle.adapter.specs.declared.command.Operation.TheVariants.{ReadLog};
 ghost use Rattle.adapter.specs.declared.tape.Fault.{Fault};
-ghost use Rattle.agreement.specs.Driven.{SendsNone};
-ghost use Rattle.agreement.specs.Facts.{IsStill, RunsWell};
-ghost use Rattle.agreement.specs.Links.{PlugsNone};
-ghost use Rattle.agreement.specs.Slots.{ServesRequest};
-ghost use Rattle.block_machine.specs.Events.{Ask, Moment, Said, steps_of, Service, Tick, Reset, IsHung, IsRun, EveryReadHolds, NoneKeepsIssue};
-ghost use Rattle.block_machine.specs.Histories.{Instant, Happening, IsReached, events_of, now};
+ghost use Rattle.refinement.specs.Driven.{SendsNone};
+ghost use Rattle.refinement.specs.Facts.{IsStill, RunsWell};
+ghost use Rattle.refinement.specs.Links.{PlugsNone};
+ghost use Rattle.refinement.specs.Slots.{ServesRequest};
+ghost use Rattle.block_machine.specs.Events.{Ask, AbstractState, CallResult, steps_of, Service, Tick, Reset, HasTimedOut, IsRun, EveryReadHolds, NoneKeepsIssue};
+ghost use Rattle.block_machine.specs.Histories.{JointState, Happening, IsReachable, events_of, now};
 ghost use Rattle.block_machine.specs.Ports.{AreFit, Evidence, Ports, SameDisk, SamePort};
 ghost use Rattle.block_machine.specs.State.{Pending};
 ghost use Rattle.block_machine.specs.Steps.{Answer};
@@ -26,76 +26,78 @@ ghost use Rattle.durability.specs.Durable.{EveryPlugFinds};
 ghost use Rattle.driver_history.specs.Claims.{AnswerRests, GoesWellFor, IsHealthyFor, IsSpared};
 ghost use Rattle.driver_history.specs.Evidence.{HasErrors, HasFatalErrors, IsEvidencedOf, IsGone, ShowsChange, StaysHealthy};
 ghost use Rattle.error_recovery.specs.Evidence.{BringsLog, HasFailed};
-ghost use Rattle.driver_history.specs.Histories.{IsHistory, Issues, LosesNoTrouble};
+ghost use Rattle.driver_history.specs.Histories.{IsDriverHistory, Issues, LosesNoPortError};
 ghost use Rattle.driver_history.specs.Holds.{HoldsAt};
 ghost use Rattle.driver_history.specs.Moves.{KeepsMoves};
 ghost use Rattle.driver_history.specs.Parts.{HasTurnIn, NamesAlike, all_of};
 
-use super::lawful::laws_hold;
+use super::lawful::law_base;
 use adapter::DeviceStep;
-use agreement::facts::{frames_are_still, healthy_stays};
-use agreement::laws::disks_are_told;
-use block_machine::laws::rows_shrink_and_owners_stay;
-use durability::laws::every_plug_finds;
-use port_boot::laws::a_port_runs_on;
+use block_machine::laws::law_rows_shrink_and_owners_stay;
+use durability::laws::law_every_plug_finds;
+use port_boot::laws::law_a_port_runs_on;
+use refinement::facts::{law_frames_are_still, law_healthy_stays};
+use refinement::laws::law_disks_are_told;
 
 /// The calls of a history are a run of the block machine. So its laws on runs hold of them: each request that is issued
 /// was accepted and broke no rule, each touch is of an accepted request's own sector at a frame that is lent to it, and
 /// others.
-pub fn histories_are_runs()
-    ensures { (wanted : List Wanted) (first : Instant Device) (past : List (Happening Device DeviceStep))
-        → IsHistory wanted first past → IsRun first.moment (events_of past) }
+pub fn law_histories_are_runs()
+    ensures { (wanted : List Wanted) (first : JointState Device) (past : List (Happening Device DeviceStep))
+        → IsDriverHistory wanted first past → IsRun first.moment (events_of past) }
 {}
 
 /// The machine of a history is reached.
-pub fn histories_reach_their_machines()
-    ensures { (wanted : List Wanted) (first : Instant Device) (past : List (Happening Device DeviceStep))
-        → IsHistory wanted first past → IsReached (now first past).moment.machine }
+pub fn law_histories_reach_their_machines()
+    ensures { (wanted : List Wanted) (first : JointState Device) (past : List (Happening Device DeviceStep))
+        → IsDriverHistory wanted first past → IsReachable (now first past).moment.machine }
 {}
 
 /// Where the adapter's disks tell their sectors, each read of a history that was answered Ok has, at the end of the
 /// call that answered it, what was left.
-pub fn reads_hold()
-    ensures { (wanted : List Wanted) (first : Instant Device) (past : List (Happening Device DeviceStep))
-        → IsHistory wanted first past → first.device.telling ≡ true → EveryReadHolds first.moment (events_of past) }
+pub fn law_reads_hold()
+    ensures { (wanted : List Wanted) (first : JointState Device) (past : List (Happening Device DeviceStep))
+        → IsDriverHistory wanted first past → first.device.telling ≡ true
+        → EveryReadHolds first.moment (events_of past) }
 {}
 
 /// Where the adapter's disks tell their sectors, each disk that comes back in a history has the writes that were
 /// flushed, or later ones.
-pub fn plugs_find()
-    ensures { (wanted : List Wanted) (first : Instant Device) (past : List (Happening Device DeviceStep))
-        → IsHistory wanted first past → first.device.telling ≡ true
+pub fn law_plugs_find()
+    ensures { (wanted : List Wanted) (first : JointState Device) (past : List (Happening Device DeviceStep))
+        → IsDriverHistory wanted first past → first.device.telling ≡ true
         → EveryPlugFinds first.moment.machine (steps_of (events_of past)) }
 {
-    every_plug_finds::<DeviceStep>();
+    law_every_plug_finds::<DeviceStep>();
 }
 
 /// Each move of a client's data, of any call of a history, is of a sector of its own request's, at its place in a frame
 /// that is lent to that request then, in the direction of its operation; the request was accepted, when it broke no
 /// rule, and is issued or kept. Each other move stays in its port's scratch frame. And sectors are cleared by a trim
 /// alone that was accepted so, and is issued or kept: its own.
-pub fn moves_keep_to_their_places()
-    ensures { (wanted : List Wanted) (first : Instant Device) (past : List (Happening Device DeviceStep))
+pub fn law_moves_keep_to_their_places()
+    ensures { (wanted : List Wanted) (first : JointState Device) (past : List (Happening Device DeviceStep))
         (h : Happening Device DeviceStep)
-        → IsHistory wanted first (h ∷ past)
+        → IsDriverHistory wanted first (h ∷ past)
         → KeepsMoves first.moment.machine (steps_of (events_of past)) h.event.steps (now first past).device h.device }
 {}
 
 /// At each instant of a history there holds what holds between two calls; and the ports are fit: at most four are
 /// served.
-pub fn each_instant_holds()
-    ensures holds { (wanted : List Wanted) (first : Instant Device) (past : List (Happening Device DeviceStep))
-        → IsHistory wanted first past → HoldsAt wanted (now first past) }
-    ensures fit { (wanted : List Wanted) (first : Instant Device) (past : List (Happening Device DeviceStep))
-        → IsHistory wanted first past → AreFit (now first past).moment.ports }
+pub fn law_each_instant_holds()
+    ensures holds { (wanted : List Wanted) (first : JointState Device) (past : List (Happening Device DeviceStep))
+        → IsDriverHistory wanted first past → HoldsAt wanted (now first past) }
+    ensures fit { (wanted : List Wanted) (first : JointState Device) (past : List (Happening Device DeviceStep))
+        → IsDriverHistory wanted first past → AreFit (now first past).moment.ports }
 {}
 
 /// At each instant of a history, a request that is issued on a ready port has a usable slot of that port, on which ST
 /// is one: the header and the table there say its command; and its bit of PxCI is set, or the device has taken the
 /// command, or the request has ended and the bits are clear. (Only where ST is zero may a command have been given up.)
-pub fn issued_requests_have_their_slots()
-    ensures { (wanted : List Wanted) (first : Instant Device) (past : List (Happening Device DeviceStep)) (e : Pending)
-        → IsHistory wanted first past → (now first past).moment.ports.state e.request.port ≡ Ready
+pub fn law_issued_requests_have_their_slots()
+    ensures { (wanted : List Wanted) (first : JointState Device) (past : List (Happening Device DeviceStep))
+        (e : Pending)
+        → IsDriverHistory wanted first past → (now first past).moment.ports.state e.request.port ≡ Ready
         → Contains (now first past).moment.machine.book e → e.issued ≡ true
         → (slot : ℕ) × (slot < ((now first past).moment.ports.mode e.request.port).usable)
         × ServesRequest (now first past).moment.machine (now first past).device.memory
@@ -106,60 +108,61 @@ pub fn issued_requests_have_their_slots()
 
 /// In a service a ready port that stays healthy is left alone: it is what it was, each answer there is Ok, and neither
 /// its PxCMD nor its PxSCTL is written.
-pub fn healthy_ports_are_left_alone()
-    ensures { (wanted : List Wanted) (first : Instant Device) (past : List (Happening Device DeviceStep))
+pub fn law_healthy_ports_are_left_alone()
+    ensures { (wanted : List Wanted) (first : JointState Device) (past : List (Happening Device DeviceStep))
         (h : Happening Device DeviceStep)
-        (port : Port) → (history : IsHistory wanted first (h ∷ past)) → h.event.ask ≡ Service
+        (port : Port) → (history : IsDriverHistory wanted first (h ∷ past)) → h.event.ask ≡ Service
         → (now first past).moment.ports.state port ≡ Ready
         → StaysHealthy port.0 (now first past).device h.device → IsSpared (now first past) h history.2.accesses port }
 {
-    disks_are_told();
+    law_disks_are_told();
 }
 
 /// A port that is ready and stays healthy in a call runs well after it, unless the call is a reset, or a tick that
 /// brings a request of the port to its age of three.
-pub fn calls_leave_ports_well()
-    ensures { (wanted : List Wanted) (first : Instant Device) (past : List (Happening Device DeviceStep))
+pub fn law_calls_leave_ports_well()
+    ensures { (wanted : List Wanted) (first : JointState Device) (past : List (Happening Device DeviceStep))
         (h : Happening Device DeviceStep)
-        (port : Port) → IsHistory wanted first (h ∷ past) → (now first past).moment.ports.state port ≡ Ready
+        (port : Port) → IsDriverHistory wanted first (h ∷ past) → (now first past).moment.ports.state port ≡ Ready
         → h.event.ask ≢ Reset
-        → (h.event.ask ≡ Tick → IsHung (now first past).moment port → ⊥)
+        → (h.event.ask ≡ Tick → HasTimedOut (now first past).moment port → ⊥)
         → StaysHealthy port.0 (now first past).device h.device → RunsWell (h.device.port port.0) }
 {
-    disks_are_told();
-    healthy_stays();
-    a_port_runs_on();
+    law_disks_are_told();
+    law_healthy_stays();
+    law_a_port_runs_on();
 }
 
 /// Each answer of a history rests on what the device did and showed.
-pub fn answers_rest()
-    ensures { (wanted : List Wanted) (first : Instant Device) (past : List (Happening Device DeviceStep))
+pub fn law_answers_rest()
+    ensures { (wanted : List Wanted) (first : JointState Device) (past : List (Happening Device DeviceStep))
         (h : Happening Device DeviceStep)
-        (history : IsHistory wanted first (h ∷ past)) → (e : Pending) (told : Outcome)
+        (history : IsDriverHistory wanted first (h ∷ past)) → (e : Pending) (told : Outcome)
         → Contains h.event.steps (Answer e told)
         → AnswerRests (now first past) h history.2.accesses e told }
 {
-    rows_shrink_and_owners_stay();
+    law_rows_shrink_and_owners_stay();
 }
 
 /// A client's frame that isn't lent is one that the device uses no byte of, whatever it does next. (That holds between
 /// calls. Within one, a frame leaves a loan where its request has ended, or its port has stopped: see what each answer
 /// rests on.)
-pub fn unlent_frames_are_still()
-    ensures { (wanted : List Wanted) (first : Instant Device) (past : List (Happening Device DeviceStep))
-        (frame : Frame) → IsHistory wanted first past
+pub fn law_unlent_frames_are_still()
+    ensures { (wanted : List Wanted) (first : JointState Device) (past : List (Happening Device DeviceStep))
+        (frame : Frame) → IsDriverHistory wanted first past
         → DRIVER_FRAMES ≤ frame.0 → (now first past).moment.machine.lent frame ≡ None
-        → Stays (IsStill frame) (now first past).device }
+        → IsStable (IsStill frame) (now first past).device }
 {
-    frames_are_still();
+    law_frames_are_still();
 }
 
 /// Unplugged is told of no request whose port had told of no change and showed a device when the call began, of which
 /// no disk went or came, and which ends the call dead, or ready with the same serial and size.
-pub fn false_unplugged_is_refused()
-    ensures { (wanted : List Wanted) (first : Instant Device) (past : List (Happening Device DeviceStep))
+pub fn law_false_unplugged_is_refused()
+    ensures { (wanted : List Wanted) (first : JointState Device) (past : List (Happening Device DeviceStep))
         (h : Happening Device DeviceStep)
-        (e : Pending) → IsHistory wanted first (h ∷ past) → (ShowsChange ((now first past).device.port e.request.port.0)
+        (e : Pending) → IsDriverHistory wanted first (h ∷ past)
+        → (ShowsChange ((now first past).device.port e.request.port.0)
         → ⊥)
         → ((now first past).device.port e.request.port.0).ssts_det ≡ 3
         → PlugsNone e.request.port.0 (now first past).device h.device → (h.event.ports.state e.request.port ≡ Dead)
@@ -170,10 +173,10 @@ pub fn false_unplugged_is_refused()
 
 /// A service answers each request of a ready port whose bits are clear when it begins, whether or not a command has
 /// failed there or its disk was lost.
-pub fn seen_are_answered()
-    ensures { (wanted : List Wanted) (first : Instant Device) (past : List (Happening Device DeviceStep))
+pub fn law_seen_are_answered()
+    ensures { (wanted : List Wanted) (first : JointState Device) (past : List (Happening Device DeviceStep))
         (h : Happening Device DeviceStep)
-        (port : Port) (slot : ℕ) (id : RequestId) → IsHistory wanted first (h ∷ past) → h.event.ask ≡ Service
+        (port : Port) (slot : ℕ) (id : RequestId) → IsDriverHistory wanted first (h ∷ past) → h.event.ask ≡ Service
         → (now first past).moment.ports.state port ≡ Ready
         → ServesRequest (now first past).moment.machine (now first past).device.memory
         ((now first past).device.port port.0) port.0 slot id
@@ -183,10 +186,11 @@ pub fn seen_are_answered()
 {}
 
 /// A tick that brings a request of a port to its age of three leaves no unanswered request of the port its issue.
-pub fn ticks_end_issues()
-    ensures { (wanted : List Wanted) (first : Instant Device) (past : List (Happening Device DeviceStep))
+pub fn law_ticks_end_issues()
+    ensures { (wanted : List Wanted) (first : JointState Device) (past : List (Happening Device DeviceStep))
         (h : Happening Device DeviceStep)
-        (port : Port) → IsHistory wanted first (h ∷ past) → h.event.ask ≡ Tick → IsHung (now first past).moment port
+        (port : Port) → IsDriverHistory wanted first (h ∷ past) → h.event.ask ≡ Tick
+        → HasTimedOut (now first past).moment port
         → NoneKeepsIssue h.event.steps (now first (h ∷ past)).moment.machine port }
 {}
 
@@ -194,23 +198,23 @@ pub fn ticks_end_issues()
 /// before. The port is left alone, with ST one, and each answer is Ok, or Revoked where a grant is revoked; a
 /// service answers exactly the issued requests whose bits are clear in the masks that it read; and a call issues
 /// exactly what is due.
-pub fn healthy_calls_go_well()
-    ensures { (wanted : List Wanted) (first : Instant Device) (past : List (Happening Device DeviceStep))
+pub fn law_healthy_calls_go_well()
+    ensures { (wanted : List Wanted) (first : JointState Device) (past : List (Happening Device DeviceStep))
         (h : Happening Device DeviceStep)
-        (port : Port) → IsHistory wanted first (h ∷ past) → IsHealthyFor (now first past) h port
+        (port : Port) → IsDriverHistory wanted first (h ∷ past) → IsHealthyFor (now first past) h port
         → GoesWellFor (now first past) h port }
 {
-    disks_are_told();
-    healthy_stays();
-    a_port_runs_on();
+    law_disks_are_told();
+    law_healthy_stays();
+    law_a_port_runs_on();
 }
 
 /// On a port that is ready at the end of a submit, a service, a tick, a reset or a revocation, exactly what is due was
 /// issued.
-pub fn due_are_issued()
-    ensures { (wanted : List Wanted) (first : Instant Device) (past : List (Happening Device DeviceStep))
+pub fn law_due_are_issued()
+    ensures { (wanted : List Wanted) (first : JointState Device) (past : List (Happening Device DeviceStep))
         (h : Happening Device DeviceStep)
-        (port : Port) → IsHistory wanted first (h ∷ past)
+        (port : Port) → IsDriverHistory wanted first (h ∷ past)
         → Issues h.event.ask h.event.steps (now first (h ∷ past)).moment.machine h.event.ports port }
 {}
 
@@ -219,10 +223,11 @@ pub fn due_are_issued()
 /// ports; of a ready port, and of one that is named as lost, no link may be due when the call begins. So it is with a
 /// fault that stood on the tape before the port was stopped, and with the last page of the log that its disk sent,
 /// where it sends none after the turn.
-pub fn a_turns_evidence_is_the_calls()
-    ensures evidence { (port : Port) (old : Instant Device) (begun : Moment) (ended ports : Ports) (new : Device)
+pub fn law_a_turns_evidence_is_the_calls()
+    ensures evidence { (port : Port) (old : JointState Device) (begun : AbstractState) (ended ports : Ports)
+        (new : Device)
         (turn call : Evidence)
-        (ask : Ask DeviceStep) (said : Said) → IsOn old.device
+        (ask : Ask DeviceStep) (said : CallResult) → IsOn old.device
         → ((old.moment.ports.state port ≡ Ready) ⊎ Contains turn.lost port → (old.device.port port.0).link_due ≡ false)
         → (t : HasTurnIn port old.device new) → IsOn t.end → SamePort old.moment.ports begun.ports port
         → SamePort ended ports port → NamesAlike port turn call
@@ -233,18 +238,18 @@ pub fn a_turns_evidence_is_the_calls()
     ensures brings { (port : Port) (old new : Device) (page : List ℕ) → IsOn old → (t : HasTurnIn port old new)
         → SendsNone port.0 ReadLog t.end new → BringsLog port t.start t.end page → BringsLog port old new page }
 {
-    laws_hold();
+    law_base();
 }
 
 /// Of a port that stays healthy in a call nothing is so for which trouble is named: it isn't gone, and has no errors.
 /// So there is no trouble that could be lost.
-pub fn healthy_ports_are_untroubled()
-    ensures gone { (port : Port) (old : Instant Device) (new : Device) → StaysHealthy port.0 old.device new
+pub fn law_healthy_ports_have_no_error()
+    ensures gone { (port : Port) (old : JointState Device) (new : Device) → StaysHealthy port.0 old.device new
         → IsGone port old new → ⊥ }
-    ensures errors { (port : Port) (old : Instant Device) (new : Device) → StaysHealthy port.0 old.device new
+    ensures errors { (port : Port) (old : JointState Device) (new : Device) → StaysHealthy port.0 old.device new
         → HasErrors port old new → ⊥ }
-    ensures fatal { (port : Port) (old : Instant Device) (new : Device) → StaysHealthy port.0 old.device new
+    ensures fatal { (port : Port) (old : JointState Device) (new : Device) → StaysHealthy port.0 old.device new
         → HasFatalErrors port old new → ⊥ }
-    ensures trouble { (evidence : Evidence) (old : Instant Device) (ports : Ports) (new : Device) (port : Port)
-        → StaysHealthy port.0 old.device new → LosesNoTrouble evidence old ports new port }
+    ensures port_error { (evidence : Evidence) (old : JointState Device) (ports : Ports) (new : Device) (port : Port)
+        → StaysHealthy port.0 old.device new → LosesNoPortError evidence old ports new port }
 {}

@@ -9,32 +9,32 @@ ghost use Rattle.adapter.specs.Device.{Device};
 ghost use Rattle.adapter.specs.Rules.{IsOn};
 ghost use Rattle.adapter.specs.Steps.{Steps};
 ghost use Rattle.adapter.specs.declared.access.DeviceStep.{DeviceStep};
-ghost use Rattle.agreement.specs.Driven.{Grows};
-ghost use Rattle.agreement.specs.Errors.{IsFatalOf, NoneComes};
-ghost use Rattle.agreement.specs.Facts.{IsFaultOf, Undisturbed};
-ghost use Rattle.agreement.specs.Links.{HasDeviceOrNone, PlugsNone, SparesRegister};
-ghost use Rattle.block_machine.specs.Events.{Moment, Said, Service};
-ghost use Rattle.block_machine.specs.Histories.{Happening, Instant, now};
+ghost use Rattle.refinement.specs.Driven.{Grows};
+ghost use Rattle.refinement.specs.Errors.{IsFatalOf, NoneComes};
+ghost use Rattle.refinement.specs.Facts.{IsFaultOf, Undisturbed};
+ghost use Rattle.refinement.specs.Links.{HasDeviceOrNone, PlugsNone, SparesRegister};
+ghost use Rattle.block_machine.specs.Events.{AbstractState, CallResult, Service};
+ghost use Rattle.block_machine.specs.Histories.{Happening, JointState, now};
 ghost use Rattle.block_machine.specs.Ports.{Evidence, IsInterrupted, Ports, SamePort};
 ghost use Rattle.error_recovery.specs.Evidence.{GainsRunning};
 ghost use Rattle.driver_history.specs.Claims.{HeedsFailure, HeedsLoss};
 ghost use Rattle.driver_history.specs.Evidence.{ShowsChange, ShowsFailure, ShowsLoss};
-ghost use Rattle.driver_history.specs.Histories.{BootsAnew, IsUnfitOrForeign, HasFaultAlone, IsHistory, LosesNoTrouble, RunsWellAnew, TriesDisk};
+ghost use Rattle.driver_history.specs.Histories.{BootsAnew, IsUnfitOrForeign, HasFaultAlone, IsDriverHistory, LosesNoPortError, RunsWellAnew, ProbesDisk};
 ghost use Rattle.driver_history.specs.Parts.{EndsLinked, HasTurnIn, NamesAlike, all_of};
 ghost use Rattle.driver_history.specs.Trace.{ClearsNone, ResetsLink};
 ghost use Rattle.identify.specs.declared.wanted.Wanted.{Wanted};
 ghost use Rattle.port_control.specs.Engines.{Stops};
 
-use super::lawful::laws_hold;
+use super::lawful::law_base;
 
 /// A service heeds the failure that a ready port showed when it began, a fault or a fatal error, whatever else it
 /// showed: what had ended is answered, the port was stopped, who waits keeps no issue, and one request is told a fault
 /// at most. With a fatal error nobody is told one; with TFES alone, and in the call no fatal error, and no disk that
 /// goes or comes, a plain request always is.
-pub fn shown_faults_are_heeded()
-    ensures { (wanted : List Wanted) (first : Instant Device) (past : List (Happening Device DeviceStep))
+pub fn law_shown_faults_are_heeded()
+    ensures { (wanted : List Wanted) (first : JointState Device) (past : List (Happening Device DeviceStep))
         (h : Happening Device DeviceStep)
-        (port : Port) → IsHistory wanted first (h ∷ past) → h.event.ask ≡ Service
+        (port : Port) → IsDriverHistory wanted first (h ∷ past) → h.event.ask ≡ Service
         → (now first past).moment.ports.state port ≡ Ready
         → ShowsFailure ((now first past).device.port port.0) → HeedsFailure port (now first past) h }
 {}
@@ -42,10 +42,10 @@ pub fn shown_faults_are_heeded()
 /// A service heeds that a ready port showed a change of its link when it began, or no device, with no disk that comes
 /// meanwhile, whatever else it showed: what had ended is answered, all other requests of the port are told that the
 /// disk is gone, or that the port is dead, and the port was stopped.
-pub fn shown_losses_are_heeded()
-    ensures { (wanted : List Wanted) (first : Instant Device) (past : List (Happening Device DeviceStep))
+pub fn law_shown_losses_are_heeded()
+    ensures { (wanted : List Wanted) (first : JointState Device) (past : List (Happening Device DeviceStep))
         (h : Happening Device DeviceStep)
-        (port : Port) → IsHistory wanted first (h ∷ past) → h.event.ask ≡ Service
+        (port : Port) → IsDriverHistory wanted first (h ∷ past) → h.event.ask ≡ Service
         → (now first past).moment.ports.state port ≡ Ready
         → ShowsLoss port (now first past).device h.device → HeedsLoss port (now first past) h }
 {}
@@ -53,26 +53,26 @@ pub fn shown_losses_are_heeded()
 /// Accesses that leave the adapter on, and clear no bit that tells of a port's trouble, lose none of it; nor does the
 /// device by itself: a fault, a fatal error, or a change of the link that was shown is shown still, and so is one that
 /// came, and a disk that went or came.
-pub fn ordinary_accesses_lose_no_trouble()
-    ensures accesses { (port : Port) (old : Instant Device) (new : Device) (accesses : List Access)
+pub fn law_ordinary_accesses_lose_no_error()
+    ensures accesses { (port : Port) (old : JointState Device) (new : Device) (accesses : List Access)
         (evidence : Evidence) (ports : Ports)
         → IsOn old.device → DoesAll accesses old.device new → All (SparesRegister Ghc) accesses
-        → All (ClearsNone port) accesses → LosesNoTrouble evidence old ports new port }
-    ensures steps { (port : Port) (old : Instant Device) (new : Device) (evidence : Evidence) (ports : Ports)
-        → IsOn old.device → Steps old.device new → LosesNoTrouble evidence old ports new port }
+        → All (ClearsNone port) accesses → LosesNoPortError evidence old ports new port }
+    ensures steps { (port : Port) (old : JointState Device) (new : Device) (evidence : Evidence) (ports : Ports)
+        → IsOn old.device → Steps old.device new → LosesNoPortError evidence old ports new port }
 {
-    laws_hold();
+    law_base();
 }
 
 /// Where a ready port shows TFES alone when a call begins, with no other trouble in it, so it is in the port's own
 /// turn, if no link is due when the call begins.
-pub fn a_fault_alone_in_a_call_is_alone_in_a_turn()
-    ensures { (port : Port) (old : Instant Device) (begun : Moment) (new : Device) → IsOn old.device
+pub fn law_a_fault_alone_in_a_call_is_alone_in_a_turn()
+    ensures { (port : Port) (old : JointState Device) (begun : AbstractState) (new : Device) → IsOn old.device
         → (old.device.port port.0).link_due ≡ false → (t : HasTurnIn port old.device new) → IsOn t.end
         → begun.ports.state port ≡ Ready → HasFaultAlone port old new
         → HasFaultAlone port (record { device = t.start; moment = begun }) t.end }
 {
-    laws_hold();
+    law_base();
 }
 
 /// What a port's turn owes of trouble the whole call does, where the turn's and the call's evidence name the port in
@@ -80,8 +80,9 @@ pub fn a_fault_alone_in_a_call_is_alone_in_a_turn()
 /// showed a failure, or a change of its link, when it began, and was ready then, or is at its end. So it is with boots,
 /// where no link of a ready port is due when the call begins; and with a port that runs well anew, where ST of one that
 /// is left ready was set by the turn's end, and no link of it was due when the call began, or the turn reset it.
-pub fn a_turns_trouble_is_the_calls()
-    ensures trouble { (port : Port) (old : Instant Device) (begun : Moment) (ended ports : Ports) (new : Device)
+pub fn law_a_turns_errors_are_the_calls()
+    ensures port_error { (port : Port) (old : JointState Device) (begun : AbstractState) (ended ports : Ports)
+        (new : Device)
         (turn call : Evidence) → IsOn old.device
         → (t : HasTurnIn port old.device new) → IsOn t.end → SamePort ended ports port → NamesAlike port turn call
         → SamePort old.moment.ports begun.ports port
@@ -90,16 +91,16 @@ pub fn a_turns_trouble_is_the_calls()
         → ((begun.ports.state port ≡ Ready) ⊎ (ended.state port ≡ Ready) → ShowsFailure (t.start.port port.0)
         ⊎ ShowsChange (t.start.port port.0)
         → IsInterrupted turn port)
-        → LosesNoTrouble turn (record { device = t.start; moment = begun }) ended t.end port
-        → LosesNoTrouble call old ports new port }
-    ensures boots { (port : Port) (old : Instant Device) (begun : Moment) (ended ports : Ports) (new : Device)
-        (one other : Said) → IsOn old.device
+        → LosesNoPortError turn (record { device = t.start; moment = begun }) ended t.end port
+        → LosesNoPortError call old ports new port }
+    ensures boots { (port : Port) (old : JointState Device) (begun : AbstractState) (ended ports : Ports) (new : Device)
+        (one other : CallResult) → IsOn old.device
         → (old.moment.ports.state port ≡ Ready → (old.device.port port.0).link_due ≡ false)
         → (t : HasTurnIn port old.device new) → IsOn t.end → SamePort ended ports port
         → SamePort old.moment.ports begun.ports port
         → BootsAnew Service one t.turn (record { device = t.start; moment = begun }) ended t.end port
         → BootsAnew Service other (all_of t) old ports new port }
-    ensures well { (port : Port) (old : Instant Device) (begun : Moment) (ended ports : Ports) (new : Device)
+    ensures well { (port : Port) (old : JointState Device) (begun : AbstractState) (ended ports : Ports) (new : Device)
         (turn call : Evidence) → IsOn old.device
         → (t : HasTurnIn port old.device new) → IsOn t.end
         → (ended.state port ≡ Ready → ((old.device.port port.0).link_due ≡ false) ⊎ ResetsLink port t.turn)
@@ -108,64 +109,66 @@ pub fn a_turns_trouble_is_the_calls()
         → RunsWellAnew turn t.turn (record { device = t.start; moment = begun }) ended t.end port
         → RunsWellAnew call (all_of t) old ports new port }
 {
-    laws_hold();
+    law_base();
 }
 
-/// Where a port's turn in a call tries its disk, the call does, if no disk was in a port with one that isn't served
+/// Where a port's turn in a call probes its disk, the call does, if no disk was in a port with one that isn't served
 /// when the call began, or a device showed; and if no link is due at the turn's end of one that showed X. That is so at
 /// the call's end, too.
-pub fn a_turn_that_tries_a_disk_is_the_calls()
-    ensures tries { (port : Port) (old : Instant Device) (begun : Moment) (ended ports : Ports) (new : Device)
+pub fn law_a_turn_that_probes_a_disk_is_the_calls()
+    ensures probes { (port : Port) (old : JointState Device) (begun : AbstractState) (ended ports : Ports)
+        (new : Device)
         → IsOn old.device → (t : HasTurnIn port old.device new) → IsOn t.end → SamePort ended ports port
         → SamePort old.moment.ports begun.ports port
         → (IsUnfitOrForeign old.moment.ports port → HasDeviceOrNone (old.device.port port.0))
         → EndsLinked port (record { device = t.start; moment = begun }) ended t.end
-        → (NoneComes port.0 t.start t.end → TriesDisk t.turn (record { device = t.start; moment = begun }) ended t.end
+        → (NoneComes port.0 t.start t.end → ProbesDisk t.turn (record { device = t.start; moment = begun }) ended t.end
         port)
-        → NoneComes port.0 old.device new → TriesDisk (all_of t) old ports new port }
-    ensures linked { (port : Port) (old : Instant Device) (begun : Moment) (ended ports : Ports) (new : Device)
+        → NoneComes port.0 old.device new → ProbesDisk (all_of t) old ports new port }
+    ensures linked { (port : Port) (old : JointState Device) (begun : AbstractState) (ended ports : Ports)
+        (new : Device)
         → IsOn old.device → (t : HasTurnIn port old.device new) → IsOn t.end → SamePort ended ports port
         → SamePort old.moment.ports begun.ports port → EndsLinked port (record { device = t.start; moment = begun })
         ended t.end → EndsLinked port old ports new }
 {
-    laws_hold();
+    law_base();
 }
 
 /// Where no disk of a port went or came, and no fault and no fatal error came since its ST was last set, nothing went
 /// wrong on it after any moment that ST was set before.
-pub fn what_is_untroubled_since_st_was_set_is_calm()
+pub fn law_what_is_untroubled_since_st_was_set_is_calm()
     ensures { (port : ℕ) (old mid new : Device) → Grows old mid → Grows mid new → (new.port port).notes.st_set_at
         ≤ length mid.tape
         → PlugsNone port old new → (GainsRunning (IsFaultOf port) port old new → ⊥)
         → (GainsRunning (IsFatalOf port) port old new → ⊥) → Undisturbed port mid new }
 {
-    laws_hold();
+    law_base();
 }
 
 /// A fatal error that came in a part of a call since ST of its port was last set has come since then in the whole,
 /// where ST wasn't set again after the part.
-pub fn a_fatal_error_of_a_part_is_of_the_whole()
+pub fn law_a_fatal_error_of_a_part_is_of_the_whole()
     ensures { (port : ℕ) (old start end new : Device) → Grows old start → Grows end new
         → (new.port port).notes.st_set_at ≡ (end.port port).notes.st_set_at
         → GainsRunning (IsFatalOf port) port start end → GainsRunning (IsFatalOf port) port old new }
 {}
 
 /// Where accesses that leave the adapter on stopped a port, and its ST is one after them, it was set since they began.
-pub fn a_port_that_was_stopped_was_set_since()
+pub fn law_a_port_that_was_stopped_was_set_since()
     ensures { (port : Port) (accesses : List Access) (old new : Device) → IsOn old → All (SparesRegister Ghc) accesses
         → DoesAll accesses old new → Stops port accesses → (new.port port.0).st ≡ true
         → length old.tape ≤ (new.port port.0).notes.st_set_at }
 {
-    laws_hold();
+    law_base();
 }
 
 /// Where accesses that leave the adapter on reset a port's link, that is noted: PxSCTL was written since they began. So
 /// where the tape has grown since PxSCTL was written, no service passes over a device that an absent port shows
-/// (`TriesDisk`).
-pub fn a_link_that_was_reset_is_noted()
+/// (`ProbesDisk`).
+pub fn law_a_link_that_was_reset_is_noted()
     ensures { (port : Port) (accesses : List Access) (old new : Device) → IsOn old → All (SparesRegister Ghc) accesses
         → DoesAll accesses old new → ResetsLink port accesses
         → length old.tape ≤ (new.port port.0).notes.sctl_written_at }
 {
-    laws_hold();
+    law_base();
 }

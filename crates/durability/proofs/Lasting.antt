@@ -6,9 +6,9 @@ use Rattle.ata_types.specs.declared.Port.{Port}
 use Rattle.ata_types.specs.declared.request.RequestId.{RequestId}
 use Rattle.ata_types.specs.declared.request.Op.TheVariants.{Flush}
 use Rattle.ata_types.specs.declared.request.Outcome.TheVariants.{Ok, DeviceError}
-use Rattle.block_machine.specs.State.{Block, Disk, Accepted, Pending, Machine, sector_of, written_by}
+use Rattle.block_machine.specs.State.{Block, DiskBytes, Accepted, Pending, Machine, sector_of, written_by}
 use Rattle.block_machine.specs.Due.{is_flush, is_writer}
-use Rattle.block_machine.specs.Steps.{Step, Accept, Issue, Touch, End, Age, Again, Answer, Release, Revoke, Unplug, Replace, Store, Load, May, MayMove, after_step, at, issue, touch, mark_ended, requeued, older, newly_accepted, put_sector, SameBytes, HasHeld}
+use Rattle.block_machine.specs.Steps.{Step, Accept, Issue, Touch, End, Age, Again, Answer, Release, Revoke, Unplug, Replace, Store, Load, May, MayStillMove, after_step, at, newly_issued, touch, mark_ended, requeued, older, newly_accepted, put_sector, SameBytes, HasHeld}
 use Rattle.block_machine.specs.Left.{after, IsLegal, IsStart, IsAccept, IsTouch, HasTouched, plug_count}
 use Rattle.durability.specs.Durable.{IsOk, takes_out, brings_other, WriteAccepted, WriteAnswered, FlushAccepted, FlushAnswered, IsSince, FindsFlushed, EveryPlugFinds}
 use Rattle.block_machine.proofs.Members.{map_in, at_cases, without_in, append_in}
@@ -16,7 +16,7 @@ use Rattle.block_machine.proofs.Sound.{Sound}
 use Rattle.block_machine.proofs.Keeps.{older_keeps, older_touched, same_port}
 use Rattle.block_machine.proofs.Trace.{Seen, seen_touch, lives_one, runs_lives, conflict_at}
 use Rattle.block_machine.proofs.Runs.{traced}
-use Rattle.block_machine.specs.Events.{Moment, Event, IsRun, steps_of}
+use Rattle.block_machine.specs.Events.{AbstractState, CallRecord, IsRun, steps_of}
 use Rattle.block_machine.proofs.EventLemmas.{IsWhole, AllWhole, run_starts, run_legal, run_whole}
 use Rattle.block_machine.specs.Histories.{now}
 
@@ -46,14 +46,14 @@ IsVolatile start [] = Unit {0}
 IsVolatile start (step ∷ past) = IsVolatile start past × ComesBack start past step
 
 -- the step puts a disk in at the port
-abbrev IsReplace : Step → Port → ℕ → ℕ → Disk → Type 0
+abbrev IsReplace : Step → Port → ℕ → ℕ → DiskBytes → Type 0
 IsReplace (Replace p i n d) port id size disk = (p ≡ port) × (i ≡ id) × (n ≡ size) × (d ≡ disk)
 IsReplace _ port id size disk = ⊥
 
 -- what a step does to a sector: nothing, a writer's touch, or another disk
 record IsWritten (m : Machine) (step : Step) (port : Port) (k : ℕ) : Type 0 where
   entry : Pending
-  runs : MayMove m entry
+  runs : MayStillMove m entry
   writes : is_writer entry.request.asked.op ≡ true
   here : entry.request.port ≡ port
   touched : IsTouch step entry.request k
@@ -64,7 +64,7 @@ record IsWritten (m : Machine) (step : Step) (port : Port) (k : ℕ) : Type 0 wh
 record IsReplaced (m : Machine) (step : Step) (port : Port) : Type 0 where
   id : ℕ
   size : ℕ
-  disk : Disk
+  disk : DiskBytes
   absent : m.present port ≡ false
   step_is : IsReplace step port id size disk
   is : (after_step m step).disks port ≡ disk
@@ -76,7 +76,7 @@ record IsIdle (m : Machine) (step : Step) (port : Port) (k : ℕ) : Type 0 where
 abbrev Effect : Machine → Step → Port → ℕ → Type 0
 Effect m step port k = IsIdle m step port k ⊎ (IsWritten m step port k ⊎ IsReplaced m step port)
 
-effect_touch : (m : Machine) (e : Pending) (i : ℕ) (block : Block) (port : Port) (k : ℕ) → MayMove m e → i < e.request.asked.count → Effect m (Touch e i block) port k
+effect_touch : (m : Machine) (e : Pending) (i : ℕ) (block : Block) (port : Port) (k : ℕ) → MayStillMove m e → i < e.request.asked.count → Effect m (Touch e i block) port k
 effect_touch m e i block port k r lt = by_op (is_writer e.request.asked.op) refl
   where
     by_place : is_writer e.request.asked.op ≡ true → (after_step m (Touch e i block)).disks port k ≡ put_sector e.request.port (e.request.asked.first.0 + i) (written_by e.request.asked.op e.request.held i) m.disks port k
@@ -104,13 +104,13 @@ effect_touch m e i block port k r lt = by_op (is_writer e.request.asked.op) refl
     })
 
     by_op : (b : Bool) → is_writer e.request.asked.op ≡ b → Effect m (Touch e i block) port k
-    by_op true w = by_place w (ap (λ (d : Port → Disk). d port k) (cond-true (is_writer e.request.asked.op) (put_sector e.request.port (e.request.asked.first.0 + i) (written_by e.request.asked.op e.request.held i) m.disks) m.disks w)) _ refl
+    by_op true w = by_place w (ap (λ (d : Port → DiskBytes). d port k) (cond-true (is_writer e.request.asked.op) (put_sector e.request.port (e.request.asked.first.0 + i) (written_by e.request.asked.op e.request.held i) m.disks) m.disks w)) _ refl
     by_op false w = inl (record {
-      same = ap (λ (d : Port → Disk). d port k) (cond-false (is_writer e.request.asked.op) (put_sector e.request.port (e.request.asked.first.0 + i) (written_by e.request.asked.op e.request.held i) m.disks) m.disks w);
+      same = ap (λ (d : Port → DiskBytes). d port k) (cond-false (is_writer e.request.asked.op) (put_sector e.request.port (e.request.asked.first.0 + i) (written_by e.request.asked.op e.request.held i) m.disks) m.disks w);
       quiet = λ x writes _ touch. both_ways _ w (subst (λ (j : Accepted). is_writer j.asked.op ≡ true) (sym touch.0) writes);
     })
 
-effect_replace : (m : Machine) (p : Port) (id size : ℕ) (disk : Disk) (port : Port) (k : ℕ) → m.present p ≡ false → Effect m (Replace p id size disk) port k
+effect_replace : (m : Machine) (p : Port) (id size : ℕ) (disk : DiskBytes) (port : Port) (k : ℕ) → m.present p ≡ false → Effect m (Replace p id size disk) port k
 effect_replace m p id size disk port k gone = ⊎_elim
     (λ (e : port.0 ≡ p.0). inr (inr (record {
       id = id;
@@ -120,7 +120,7 @@ effect_replace m p id size disk port k gone = ⊎_elim
       step_is = (sym (same_port port p e), refl, refl, refl);
       is = cond-true (port.0 == p.0) disk (m.disks port) (eq-eqb port.0 p.0 e);
     })))
-    (λ (ne : port.0 ≡ p.0 → ⊥). inl (record { same = ap (λ (d : Disk). d k) (cond-false (port.0 == p.0) disk (m.disks port) (ne_eqb port.0 p.0 ne)); quiet = λ w _ _ t. t }))
+    (λ (ne : port.0 ≡ p.0 → ⊥). inl (record { same = ap (λ (d : DiskBytes). d k) (cond-false (port.0 == p.0) disk (m.disks port) (ne_eqb port.0 p.0 ne)); quiet = λ w _ _ t. t }))
     (cases_eq port.0 p.0)
 
 effect : (m : Machine) (step : Step) (port : Port) (k : ℕ) → May m step → Effect m step port k
@@ -252,7 +252,7 @@ came_at m step id f x i hx kj kt t =
     (λ p. inl (r.0, r.1, ap (λ (y : Pending). y.request) (r.2 ∙ p.1), subst (λ (y : Pending). y.touched i ≡ true) (r.2 ∙ p.1) t))
     (at_cases id f r.0)
 
-came_touch : (m : Machine) → Sound m → (e : Pending) (n : ℕ) (block : Block) (x : Pending) (i : ℕ) → MayMove m e → Contains (map (at e.request.id (touch n)) m.book) x → x.touched i ≡ true → Came m (Touch e n block) x i
+came_touch : (m : Machine) → Sound m → (e : Pending) (n : ℕ) (block : Block) (x : Pending) (i : ℕ) → MayStillMove m e → Contains (map (at e.request.id (touch n)) m.book) x → x.touched i ≡ true → Came m (Touch e n block) x i
 came_touch m s e n block x i run hx t =
     let r = map_in (at e.request.id (touch n)) m.book x hx in
     ⊎_elim
@@ -265,7 +265,7 @@ came_touch m s e n block x i run hx t =
 
 came : (m : Machine) (step : Step) → May m step → Sound m → (x : Pending) (i : ℕ) → Contains (after_step m step).book x → x.touched i ≡ true → Came m step x i
 came m (Accept request) may s x i hx t = ⊎_elim (λ (p : Contains m.book x). inl (x, p, refl, t)) (λ (p : x ≡ newly_accepted request). absurd (false≢true (subst (λ (y : Pending). y.touched i ≡ true) p t))) (append_in m.book (newly_accepted request) x hx)
-came m (Issue mode e) may s x i hx t = came_at m (Issue mode e) e.request.id issue x i hx (λ y. refl) (λ y q. absurd (false≢true q)) t
+came m (Issue mode e) may s x i hx t = came_at m (Issue mode e) e.request.id newly_issued x i hx (λ y. refl) (λ y q. absurd (false≢true q)) t
 came m (Touch e n block) may s x i hx t = came_touch m s e n block x i may.0 hx t
 came m (End e) may s x i hx t = came_at m (End e) e.request.id mark_ended x i hx (λ y. refl) (λ y q. q) t
 came m (Age ready) may s x i hx t = let r = map_in (older ready) m.book x hx in
@@ -370,7 +370,7 @@ pub held_now : (start : Machine) (port : Port) (k : ℕ) (h : List Step) → Hel
 held_now start port k [] = inl (λ b lt. refl)
 held_now start port k (step ∷ past) = inl (λ b lt. refl)
 
-same_disk : (start : Machine) (past : List Step) (step : Step) (port : Port) (k id size : ℕ) (disk : Disk) → May (after start past) step → ComesBack start past step → brings_other (after start past) port step ≡ false
+same_disk : (start : Machine) (past : List Step) (step : Step) (port : Port) (k id size : ℕ) (disk : DiskBytes) → May (after start past) step → ComesBack start past step → brings_other (after start past) port step ≡ false
     → k < (after start past).sizes port → IsReplace step port id size disk → HeldSince start port k (disk k) past
 same_disk start past (Replace p i n d) port k id size disk may back other inside t =
     let named : i ≡ (after start past).disk_ids port = ⊎_elim
@@ -379,7 +379,7 @@ same_disk start past (Replace p i n d) port k id size disk may back other inside
     (and_cases (p.0 == port.0) (not (i == (after start past).disk_ids port)) other) in
     let named' : i ≡ (after start past).disk_ids p = named ∙ ap (λ (x : Port). (after start past).disk_ids x) (sym t.0) in
     let large : n ≡ (after start past).sizes port = may.1 named' ∙ ap (λ (x : Port). (after start past).sizes x) t.0 in
-    subst (λ (x : Disk). HeldSince start port k (x k) past) t.3
+    subst (λ (x : DiskBytes). HeldSince start port k (x k) past) t.3
     (subst (λ (x : Port). HeldSince start x k (d k) past) t.0 (back named' k (omega (arith, large, inside))))
 same_disk start past _ port k id size disk may back other inside t = absurd t
 
@@ -400,7 +400,7 @@ lasts_step start step past w k s legal writes back other g = record {
         (λ (idle : IsIdle (after start past) step w.port k). since_same w k (step ∷ past) _ _ idle.same (since_more w k step past _ (g.since _ (held_now start w.port k past))))
         (λ (x : IsWritten (after start past) step w.port k ⊎ IsReplaced (after start past) step w.port). ⊎_elim
         (λ (t : IsWritten (after start past) step w.port k). since_written (after start past) step past w k ((traced start past s legal.0).seen w k g.disk g.touched) writes t)
-        (λ (r : IsReplaced (after start past) step w.port). since_same w k (step ∷ past) _ (r.disk k) (ap (λ (d : Disk). d k) r.is)
+        (λ (r : IsReplaced (after start past) step w.port). since_same w k (step ∷ past) _ (r.disk k) (ap (λ (d : DiskBytes). d k) r.is)
         (since_more w k step past (r.disk k) (g.since (r.disk k) (same_disk start past step w.port k r.id r.size r.disk legal.1 back other g.inside r.step_is)))) x)
         (effect (after start past) step w.port k legal.1)
 
@@ -421,7 +421,7 @@ ended_at m step id f x hx kj kt t =
     (λ p. inl (r.0, r.1, ap (λ (y : Pending). y.request) (r.2 ∙ p.1), subst (λ (y : Pending). y.ended ≡ true) (r.2 ∙ p.1) t))
     (at_cases id f r.0)
 
-ended_end : (m : Machine) → Sound m → (e : Pending) (x : Pending) → MayMove m e → Contains (map (at e.request.id mark_ended) m.book) x → x.ended ≡ true → Ended m (End e) x
+ended_end : (m : Machine) → Sound m → (e : Pending) (x : Pending) → MayStillMove m e → Contains (map (at e.request.id mark_ended) m.book) x → x.ended ≡ true → Ended m (End e) x
 ended_end m s e x run hx t =
     let r = map_in (at e.request.id mark_ended) m.book x hx in
     ⊎_elim
@@ -434,7 +434,7 @@ older_ended ready e = elim (e.issued && ready e.request.port) as (λ b. (cond b 
 
 ended : (m : Machine) (step : Step) → May m step → Sound m → (x : Pending) → Contains (after_step m step).book x → x.ended ≡ true → Ended m step x
 ended m (Accept request) may s x hx t = ⊎_elim (λ (p : Contains m.book x). inl (x, p, refl, t)) (λ (p : x ≡ newly_accepted request). absurd (false≢true (subst (λ (y : Pending). y.ended ≡ true) p t))) (append_in m.book (newly_accepted request) x hx)
-ended m (Issue mode e) may s x hx t = ended_at m (Issue mode e) e.request.id issue x hx (λ y. refl) (λ y q. absurd (false≢true q)) t
+ended m (Issue mode e) may s x hx t = ended_at m (Issue mode e) e.request.id newly_issued x hx (λ y. refl) (λ y q. absurd (false≢true q)) t
 ended m (Touch e n block) may s x hx t = ended_at m (Touch e n block) e.request.id (touch n) x hx (λ y. refl) (λ y q. q) t
 ended m (End e) may s x hx t = ended_end m s e x may.0 hx t
 ended m (Age ready) may s x hx t = let r = map_in (older ready) m.book x hx in
@@ -499,10 +499,10 @@ finds start past (Replace port id size disk) s legal whole back = λ same w flus
     lasts.since (disk (sector_of w i)) (subst (λ (p : Port). HeldSince start p (sector_of w i) (disk (sector_of w i)) past) (sym here) (back.1 same (sector_of w i) (omega (arith, inside, large))))
 finds start past _ s legal whole back = tt
 
-pub every_plug_finds : (start : Machine) (h : List Step) → IsStart start → IsLegal start h → AllWhole h → IsVolatile start h → EveryPlugFinds start h
-every_plug_finds start [] s legal whole back = tt
-every_plug_finds start (step ∷ past) s legal whole back = (every_plug_finds start past s legal.0 whole.0 back.0, finds start past step s legal whole.0 back)
+pub law_every_plug_finds : (start : Machine) (h : List Step) → IsStart start → IsLegal start h → AllWhole h → IsVolatile start h → EveryPlugFinds start h
+law_every_plug_finds start [] s legal whole back = tt
+law_every_plug_finds start (step ∷ past) s legal whole back = (law_every_plug_finds start past s legal.0 whole.0 back.0, finds start past step s legal whole.0 back)
 
 -- a disk that comes back in a run has the writes that were flushed
-pub run_finds : {D : Type 0} (first : Moment) (run : List (Event D)) → IsRun first run → IsVolatile first.machine (steps_of run) → EveryPlugFinds first.machine (steps_of run)
-run_finds first run r back = every_plug_finds first.machine (steps_of run) (run_starts first run r) (run_legal first run r) (run_whole first run r) back
+pub run_finds : {D : Type 0} (first : AbstractState) (run : List (CallRecord D)) → IsRun first run → IsVolatile first.machine (steps_of run) → EveryPlugFinds first.machine (steps_of run)
+run_finds first run r back = law_every_plug_finds first.machine (steps_of run) (run_starts first run r) (run_legal first run r) (run_whole first run r) back

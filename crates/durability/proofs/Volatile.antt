@@ -3,13 +3,13 @@ use Rattle.std.proofs.Common.{◌≡◌, ◌⊎◌, ℕ, Bool, true, false, cond
 use Rattle.std.proofs.lemmas.Bool.{eqb-false}
 use Rattle.std.specs.List.{Contains}
 use Rattle.ata_types.specs.declared.Port.{Port}
-use Rattle.block_machine.specs.State.{Block, Disk, Pending, Machine, sector_of}
+use Rattle.block_machine.specs.State.{Block, DiskBytes, Pending, Machine, sector_of}
 use Rattle.block_machine.specs.Due.{is_flush, is_writer}
 use Rattle.block_machine.specs.Steps.{Step, Touch, End, Replace, SameBytes, after_step}
 use Rattle.block_machine.specs.Left.{after, AllTold, IsTold}
 use Rattle.durability.specs.Durable.{EveryPlugFinds}
 use Rattle.block_machine.proofs.Members.{contains_none, contains_cases}
-use Rattle.block_machine.specs.Events.{Moment, Event, IsRun, steps_of}
+use Rattle.block_machine.specs.Events.{AbstractState, CallRecord, IsRun, steps_of}
 use Rattle.durability.proofs.Lasting.{starts_lasting, HeldSince, ComesBack, IsVolatile, held_now, run_finds as flushed_found}
 
 -- what is put aside after a step was so before, or is what the sector held before; and the step doesn't make it lasting
@@ -30,7 +30,7 @@ aside_end m e port k old h = go ((e.request.port.0 == port.0) && is_flush e.requ
     go true t c = absurd (contains_none old c)
     go false t c = (t, inr c)
 
-aside_replace : (m : Machine) (p : Port) (id size : ℕ) (disk : Disk) (port : Port) (k : ℕ) (old : Block) → Contains ((after_step m (Replace p id size disk)).aside port k) old → Aside m (Replace p id size disk) port k old
+aside_replace : (m : Machine) (p : Port) (id size : ℕ) (disk : DiskBytes) (port : Port) (k : ℕ) (old : Block) → Contains ((after_step m (Replace p id size disk)).aside port k) old → Aside m (Replace p id size disk) port k old
 aside_replace m p id size disk port k old h = go (port.0 == p.0) (id == m.disk_ids port) refl refl h
   where
     other : (b : Bool) → (port.0 == p.0) ≡ b → (p.0 == port.0) ≡ b
@@ -80,5 +80,5 @@ volatile start [] told = tt
 volatile start (step ∷ past) told = (volatile start past told.0, comes_back start past step told.1)
 
 -- a disk that comes back in a run has the writes that were flushed
-pub run_finds : {D : Type 0} (first : Moment) (run : List (Event D)) → IsRun first run → AllTold first.machine (steps_of run) → EveryPlugFinds first.machine (steps_of run)
+pub run_finds : {D : Type 0} (first : AbstractState) (run : List (CallRecord D)) → IsRun first run → AllTold first.machine (steps_of run) → EveryPlugFinds first.machine (steps_of run)
 run_finds first run r told = flushed_found first run r (volatile first.machine (steps_of run) told)

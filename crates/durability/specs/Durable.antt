@@ -4,7 +4,7 @@ use Rattle.ata_types.specs.declared.Port.{Port}
 use Rattle.ata_types.specs.declared.request.Op.TheVariants.{Flush}
 use Rattle.ata_types.specs.declared.request.Outcome.TheVariants.{Ok}
 use Rattle.block_machine.specs.Due.{is_writer}
-use Rattle.block_machine.specs.State.{Block, Disk, Accepted, Machine, sector_of, written_by}
+use Rattle.block_machine.specs.State.{Block, DiskBytes, Accepted, Machine, sector_of, written_by}
 use Rattle.block_machine.specs.Steps.{Step, Answer, Unplug, Replace, SameBytes}
 use Rattle.block_machine.specs.Left.{after, IsAccept, HasTouched}
 
@@ -68,7 +68,7 @@ pub record IsSince (w : Accepted) (k : ℕ) (history : List Step) (block : Block
   pub is : SameBytes block (written_by writer.asked.op writer.held (k - writer.asked.first.0))
 
 -- each sector of the write or trim has, on this disk, what it put there, or what one accepted later did
-abbrev pub HasWrite : Accepted → List Step → Disk → Type 0
+abbrev pub HasWrite : Accepted → List Step → DiskBytes → Type 0
 HasWrite w history disk = (i : ℕ) → i < w.asked.count → IsSince w (sector_of w i) history (disk (sector_of w i))
 
 -- a disk that comes back with this step has the writes and trims that were flushed

@@ -3,14 +3,14 @@
 
 ghost use Rattle.std.specs.Prelude.{List};
 ghost use Rattle.block_machine.specs.Left.{AllTold};
-ghost use Rattle.block_machine.specs.Events.{Moment, Event, IsRun, steps_of};
+ghost use Rattle.block_machine.specs.Events.{AbstractState, CallRecord, IsRun, steps_of};
 ghost use Rattle.durability.specs.Durable.{EveryPlugFinds};
 
 /// Over every run of calls on disks that tell what they hold: where a write or trim was answered Ok before a flush of
 /// its port was accepted, the flush was answered Ok, and no disk was taken out between, the same disk has what that put
 /// there, or what a later one did, each time that it comes back, whatever its cache lost (FLUSH CACHE EXT, ACS-3).
-pub fn every_plug_finds<D>()
-    ensures { (first : Moment) (run : List (Event D)) → IsRun first run
+pub fn law_every_plug_finds<D>()
+    ensures { (first : AbstractState) (run : List (CallRecord D)) → IsRun first run
         → AllTold first.machine (steps_of run)
         → EveryPlugFinds first.machine (steps_of run) }
 {}

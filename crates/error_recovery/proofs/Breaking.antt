@@ -12,22 +12,22 @@ use Rattle.adapter.specs.Access.Access.{Reading, Writing}
 use Rattle.adapter.specs.Device.{Device}
 use Rattle.adapter.specs.FirstRead.{first_read}
 use Rattle.adapter.specs.Memory.{changed}
-use Rattle.adapter.specs.Rules.{HasPort, IsOn, MayWrite, Stays}
-use Rattle.adapter.specs.Steps.{after}
-use Rattle.adapter.specs.Steps.Step.{Fatal, Fall}
-use Rattle.agreement.specs.Agrees.{port_at}
-use Rattle.agreement.specs.Driven.{AnyUse, IsAgreed, IsControl, IsTold}
-use Rattle.agreement.specs.Driver.{IsCommand, IsWrittenBack}
-use Rattle.agreement.specs.Links.{SparesRegister}
-use Rattle.agreement.specs.Slots.{Free, Serves, Use, Uses, put}
-use Rattle.agreement.specs.Witness.{FirstIsKnown, first_id, first_uses}
+use Rattle.adapter.specs.Rules.{HasPort, IsOn, MayWrite, IsStable}
+use Rattle.adapter.specs.Steps.{device_after}
+use Rattle.adapter.specs.Steps.DeviceTransition.{Fatal, Fall}
+use Rattle.refinement.specs.Relation.{port_at}
+use Rattle.refinement.specs.Driven.{AnyUse, IsRelated, IsControl, IsSimulatedAlong}
+use Rattle.refinement.specs.Driver.{IsCommand, IsWrittenBack}
+use Rattle.refinement.specs.Links.{SparesRegister}
+use Rattle.refinement.specs.Slots.{Free, Serves, SlotState, SlotStates, put}
+use Rattle.refinement.specs.Witness.{FirstIsKnown, first_id, first_uses}
 use Rattle.port_control.specs.Engines.{Stops}
-use Rattle.port_control.specs.Ports.{Halts, IsStopped, WritesCommand}
+use Rattle.port_control.specs.Ports.{PortStops, IsStopped, WritesCommand}
 use Rattle.error_recovery.specs.Evidence.{ShowsFatal}
-use Rattle.error_recovery.specs.Laws.{Laws, Stretch}
+use Rattle.error_recovery.specs.Laws.{Laws, Fragment}
 use Rattle.error_recovery.specs.Laws.Fitting.{AnyUses}
 use Rattle.error_recovery.specs.Laws.RegisterSet.{Commanding}
-use Rattle.error_recovery.specs.Laws.Stretch.{Controlling}
+use Rattle.error_recovery.specs.Laws.Fragment.{Controlling}
 use Rattle.error_recovery.specs.Witness.{MayBeGivenUp}
 use Rattle.error_recovery.proofs.GivingUp.{gives_up_stopped}
 use Rattle.error_recovery.proofs.Stretching.{told_both}
@@ -35,7 +35,7 @@ use Rattle.error_recovery.proofs.Stretching.{told_both}
 -- ---- the way of the device
 
 abbrev broken : Device
-broken = after (Fatal 0 27) first_read
+broken = device_after (Fatal 0 27) first_read
 
 abbrev seen : Device
 seen = noted (Px (port_at 0) Ssts) 3 broken
@@ -47,7 +47,7 @@ abbrev stopping : Device
 stopping = written (Px (port_at 0) Cmd) 0xc010 commanded
 
 abbrev fallen : Device
-fallen = after (Fall 0) stopping
+fallen = device_after (Fall 0) stopping
 
 abbrev stopped : Device
 stopped = noted (Px (port_at 0) Cmd) 0x4010 fallen
@@ -80,7 +80,7 @@ as_read (suc k) ne = ap (λ (b : ℕ). b == 1) (bit_at-suc 0xc010 k ∙ sym (bit
 written_back : IsWrittenBack false true 0xc011 0xc010
 written_back = record { start = refl; receive = refl; others = λ place low start receive. as_read place start }
 
-leaves : (uses : Uses) → IsCommand uses 0 0xc010 (commanded.port 0)
+leaves : (uses : SlotStates) → IsCommand uses 0 0xc010 (commanded.port 0)
 unfolding changed
 leaves uses = record { start = λ set. absurd (false≢true set); receive = λ set. (omega arith, refl) }
 
@@ -106,25 +106,25 @@ abbrev stop_list : List Access
 stop_list = Reading (Px (port_at 0) Cmd) 0xc011 ∷ Writing (Px (port_at 0) Cmd) 0xc010 ∷ []
 
 module _ (laws : Laws)
-    (permits : (port : Port) (was v : ℕ) (d : Device) → IsOn d → HasPort d port.0 → (d.port port.0).notes.last_cmd ≡ was → IsWrittenBack false (d.port port.0).fre was v → Stays (MayWrite (Px port Cmd) v) d)
+    (permits : (port : Port) (was v : ℕ) (d : Device) → IsOn d → HasPort d port.0 → (d.port port.0).notes.last_cmd ≡ was → IsWrittenBack false (d.port port.0).fre was v → IsStable (MayWrite (Px port Cmd) v) d)
   where
-    may_stop : Stays (MayWrite (Px (port_at 0) Cmd) 0xc010) commanded
+    may_stop : IsStable (MayWrite (Px (port_at 0) Cmd) 0xc010) commanded
     may_stop = permits (port_at 0) 0xc011 0xc010 commanded is_on (omega arith, refl) noted_so.0 (subst (λ (fre : Bool). IsWrittenBack false fre 0xc011 0xc010) (sym noted_so.1) written_back)
 
     abbrev Commands : List Access → Device → Device → Type 0
-    Commands accesses old new = IsTold (λ made. made ≡ accesses) (IsControl WritesCommand (port_at 0)) AnyUse old new
+    Commands accesses old new = IsSimulatedAlong (λ made. made ≡ accesses) (IsControl WritesCommand (port_at 0)) AnyUse old new
 
-    abbrev kind : Stretch
+    abbrev kind : Fragment
     kind = Controlling Commanding AnyUses (port_at 0)
 
     found : Commands (Reading (Px (port_at 0) Cmd) 0xc011 ∷ []) seen commanded
-    found = laws.stretches.reads kind (Px (port_at 0) Cmd) 0xc011 seen commanded refl finds
+    found = laws.fragments.reads kind (Px (port_at 0) Cmd) 0xc011 seen commanded refl finds
 
     cleared : Commands (Writing (Px (port_at 0) Cmd) 0xc010 ∷ []) commanded stopping
-    cleared = laws.stretches.writes kind (Px (port_at 0) Cmd) 0xc010 commanded stopping (refl, refl) may_stop (λ uses fits. leaves uses) stops
+    cleared = laws.fragments.writes kind (Px (port_at 0) Cmd) 0xc010 commanded stopping (refl, refl) may_stop (λ uses fits. leaves uses) stops
 
     fell : Commands (Reading (Px (port_at 0) Cmd) 0x4010 ∷ []) stopping stopped
-    fell = laws.stretches.reads kind (Px (port_at 0) Cmd) 0x4010 stopping stopped refl falls
+    fell = laws.fragments.reads kind (Px (port_at 0) Cmd) 0x4010 stopping stopped refl falls
 
     began : Commands stop_list seen stopping
     began = told_both laws (λ made. made ≡ Reading (Px (port_at 0) Cmd) 0xc011 ∷ []) (λ made. made ≡ Writing (Px (port_at 0) Cmd) 0xc010 ∷ []) (λ made. made ≡ stop_list)
@@ -144,17 +144,17 @@ module _ (laws : Laws)
       shown = refl;
     }
 
-    halts : Halts (port_at 0) seen stopped
+    halts : PortStops (port_at 0) seen stopped
     halts = record {
       told = told_both laws (λ made. made ≡ stop_list) (λ made. made ≡ Reading (Px (port_at 0) Cmd) 0x4010 ∷ []) (Stops (port_at 0)) tells_stop
           kind kind (λ uses. uses) (λ uses. uses) (λ access is. is) (λ uses fits. fits) seen stopping stopped began fell;
       stopped = stands;
     }
 
-    agreed : IsAgreed first_uses first_read → IsAgreed first_uses seen
-    agreed a = laws.stretches.agreed kind (λ uses. uses) first_uses first_read seen tt (laws.stretches.reads kind (Px (port_at 0) Ssts) 3 first_read seen refl sees).followed a
+    agreed : IsRelated first_uses first_read → IsRelated first_uses seen
+    agreed a = laws.fragments.agreed kind (λ uses. uses) first_uses first_read seen tt (laws.fragments.reads kind (Px (port_at 0) Ssts) 3 first_read seen refl sees).followed a
 
-    pub may_be_given_up : ((uses : Uses) (port slot : ℕ) (u : Use) → put uses port slot u port slot ≡ u) → FirstIsKnown → MayBeGivenUp
+    pub may_be_given_up : ((uses : SlotStates) (port slot : ℕ) (u : SlotState) → put uses port slot u port slot ≡ u) → FirstIsKnown → MayBeGivenUp
     may_be_given_up here k = record {
       device = seen;
       on = record { ae = refl; no_reset = refl };

@@ -1,6 +1,6 @@
 -- Recovery to its ends: the port runs again, has to be booted, or is dead.
 use Rattle.hba_regs.specs.declared.reg.Reg.TheVariants.{Px}
-use Rattle.agreement.specs.Links.{SparesRegister}
+use Rattle.refinement.specs.Links.{SparesRegister}
 use Rattle.std.proofs.Common.{ℕ, Bool, ◌≡◌, ◌≢◌, ◌%◌, ◌/◌, ◌||◌, true, false, List, [], Option, None, Some, IfSome, IfNone, length, inl, inr, refl, sym, ◌∙◌, ap, subst, append-nil, ◌⊎◌}
 use Rattle.std.proofs.lemmas.Bool.{true≢false}
 use Rattle.std.proofs.lemmas.List.Elements.{All-nil, All-weaker, All-append}
@@ -14,15 +14,15 @@ use Rattle.adapter.specs.Device.{Device, Notes}
 use Rattle.adapter.specs.Device.Halt.{NotHalted}
 use Rattle.adapter.specs.Rules.{IsOn}
 use Rattle.adapter.specs.declared.command.Operation.TheVariants.{Identify, ReadLog}
-use Rattle.agreement.specs.Driven.{AgreesWith, AnyUse, IsAgreed, IsControl, IsDrivenBy, IsFollowed, IsFollowedTo, IsToldTo, SendsNone}
-use Rattle.agreement.specs.Driver.{AllFree}
-use Rattle.agreement.specs.Slots.{Free, IsMove, Own, Uses, put, op_of}
-use Rattle.disk_page.specs.Asking.{Brings, IsAsking, LeavesRunning, WaitsInVain}
+use Rattle.refinement.specs.Driven.{RelatesWith, AnyUse, IsRelated, IsControl, IsDrivenBy, IsSimulated, IsSimulatedTo, IsSimulatedAlongTo, SendsNone}
+use Rattle.refinement.specs.Driver.{AllFree}
+use Rattle.refinement.specs.Slots.{Free, IsMove, Own, SlotStates, put, op_of}
+use Rattle.disk_page.specs.Asking.{BringsLastPage, IsAsking, LeavesRunning, WaitsInVain}
 use Rattle.command_table.specs.Written.{IsUnused}
 use Rattle.error_log.specs.Log.{TellsNoError}
-use Rattle.error_log.specs.declared.Failure.{Failure}
+use Rattle.error_log.specs.declared.FailedSlot.{FailedSlot}
 use Rattle.port_control.specs.Engines.{FailsToStop, Sticks, Stops}
-use Rattle.port_control.specs.Ports.{FailsToHalt, Halts, HasStopped, WritesCommand}
+use Rattle.port_control.specs.Ports.{FailsToStopPort, PortStops, HasStopped, WritesCommand}
 use Rattle.port_control.specs.declared.Running as running_token
 use Rattle.port_control.specs.declared.Stopped as stopped_token
 use Rattle.error_recovery.specs.Evidence.{BringsLog}
@@ -32,9 +32,9 @@ use Rattle.error_recovery.specs.declared.Recovered as recovered
 use Rattle.error_recovery.specs.Laws.{Laws}
 use Rattle.error_recovery.specs.Laws.Fitting.{AnyUses, PortUnused}
 use Rattle.error_recovery.specs.Laws.RegisterSet.{ButIssued, Commanding}
-use Rattle.error_recovery.specs.Laws.Stretch.{Asking, Controlling, Recovering}
-use Rattle.error_recovery.specs.Parts.{GetsStuck, GoesOn, HasRoom, MayGoOn, ReadsLog, Resumes}
-use Rattle.error_recovery.specs.Recovery.{EndsIn, IsRecovering, LeavesRecovery, LeavesSlots, MayRecover, Mends, NamesForeign, Parts, Recovers, Rests, WaitsAnew}
+use Rattle.error_recovery.specs.Laws.Fragment.{Asking, Controlling, Recovering}
+use Rattle.error_recovery.specs.Parts.{StopGetsStuck, StartsAgain, HasDriverMemory, MayGoOn, ReadsLog, Resumes}
+use Rattle.error_recovery.specs.Recovery.{EndsIn, IsRecovering, LeavesRecovery, LeavesSlots, MayRecover, RecoversOrStops, NamesForeign, Parts, Recovers, Rests, WaitsAnew}
 use Rattle.error_recovery.proofs.Going.{Asks, Goes, asks_over, goes_over}
 use Rattle.error_recovery.proofs.Quieting.{commands_silent, starting_silent}
 use Rattle.error_recovery.proofs.Resting.{IsTold, brings_log}
@@ -48,7 +48,7 @@ pub all_go_again : (outstanding : ℕ) → Parts outstanding None outstanding
 all_go_again outstanding = record { split = λ slot small set. inr set; apart = λ slot small set. (set, λ named. named) }
 
 -- what a plain command that is named rests on
-pub rests_on_fault : (port : Port) (outstanding shown : ℕ) (accesses : List Access) (old new : Device) → IsTold port false shown accesses old new → (failed : Option Failure) →
+pub rests_on_fault : (port : Port) (outstanding shown : ℕ) (accesses : List Access) (old new : Device) → IsTold port false shown accesses old new → (failed : Option FailedSlot) →
     IfSome failed (λ f. (f.slot.0 ≡ 0) × (bit outstanding 0 ≡ true) × (f.status ≡ shown % 256) × (f.error ≡ shown / 256 % 256)) → Rests false port outstanding accesses old new failed
 rests_on_fault port outstanding shown accesses old new t None is = tt
 rests_on_fault port outstanding shown accesses old new t (Some f) is = record {
@@ -62,7 +62,7 @@ rests_on_fault port outstanding shown accesses old new t (Some f) is = record {
 }
 
 -- an outstanding plain command is named
-pub is_named : (outstanding : ℕ) (failed : Option Failure) → IfNone failed (bit outstanding 0 ≡ false) → bit outstanding 0 ≡ true → failed ≢ None
+pub is_named : (outstanding : ℕ) (failed : Option FailedSlot) → IfNone failed (bit outstanding 0 ≡ false) → bit outstanding 0 ≡ true → failed ≢ None
 is_named outstanding None none set = absurd (true≢false (sym set ∙ none))
 is_named outstanding (Some f) none set = λ e. absurd cc
 
@@ -87,14 +87,14 @@ recovers_at port at outstanding queued is result old new names same r =
 
 module _ (laws : Laws) where
   -- the log was read, and named none
-  pub log_room : (port : Port) (outstanding : ℕ) (start log : Device) → IsOn log → ReadsLog port outstanding None start log → HasRoom port.0 start → HasRoom port.0 log
+  pub log_room : (port : Port) (outstanding : ℕ) (start log : Device) → IsOn log → ReadsLog port outstanding None start log → HasDriverMemory port.0 start → HasDriverMemory port.0 log
   log_room port outstanding start log on (inl (count, a)) room = room_after laws (IsAsking port) port.0 start log a.followed.driven on room
   log_room port outstanding start log on (inr (page, (brings, a), why)) room = room_after laws (IsAsking port) port.0 start log a.driven on room
 
   -- ---- the port wasn't even stopped
 
-  pub mends_stuck : (port : Port) (outstanding : ℕ) (queued : Bool) (old new : Device) → IsOn old → GetsStuck port old new →
-      Mends port outstanding queued (record { failed = None; again = outstanding; next = Dead }) old new
+  pub mends_stuck : (port : Port) (outstanding : ℕ) (queued : Bool) (old new : Device) → IsOn old → StopGetsStuck port old new →
+      RecoversOrStops port outstanding queued (record { failed = None; again = outstanding; next = Dead }) old new
   mends_stuck port outstanding queued old new on g =
       let made = g.told.followed.driven in
       let went : Goes port old new = goes_over laws port made.accesses old new on made.only made.all in
@@ -109,20 +109,20 @@ module _ (laws : Laws) where
           enabled = went.enabled;
           silent = g.silent;
           others = λ q o apart own (uses, none, agreed).
-              laws.stretches.silent (Recovering AnyUses port) (λ uses. uses) uses q o old new tt (spares_other laws port q Ci apart) (spares_other laws port q Sact apart) own none g.told.followed agreed;
+              laws.fragments.silent (Recovering AnyUses port) (λ uses. uses) uses q o old new tt (spares_other laws port q Ci apart) (spares_other laws port q Sact apart) own none g.told.followed agreed;
         };
       }
 
   -- and its accesses are those by which it got stuck
-  pub accesses_stuck : (port : Port) (outstanding : ℕ) (queued : Bool) (old new : Device) (on : IsOn old) (g : GetsStuck port old new) →
+  pub accesses_stuck : (port : Port) (outstanding : ℕ) (queued : Bool) (old new : Device) (on : IsOn old) (g : StopGetsStuck port old new) →
       (mends_stuck port outstanding queued old new on g).accesses ≡ g.told.followed.driven.accesses
   unfolding mends_stuck
   accesses_stuck port outstanding queued old new on g = refl
 
-  pub is_stuck : (port : Port) (outstanding : ℕ) (queued : Bool) (old new : Device) → IsOn old → MayRecover port.0 old → GetsStuck port old new →
+  pub is_stuck : (port : Port) (outstanding : ℕ) (queued : Bool) (old new : Device) → IsOn old → MayRecover port.0 old → StopGetsStuck port old new →
       Recovers port outstanding queued (record { failed = None; again = outstanding; next = Dead }) old new
   is_stuck port outstanding queued old new on may g = record {
-    mends = mends_stuck port outstanding queued old new on g;
+    handling = mends_stuck port outstanding queued old new on g;
     tells = record { named = λ token is run. absurd cc; told = λ is set alive. absurd (alive refl); restarts = λ token run. absurd cc };
   }
 
@@ -131,19 +131,19 @@ module _ (laws : Laws) where
     went = goes laws port outstanding queued before after old d r (λ uses. uses) d (quieted laws port outstanding queued before after old d r)
 
     -- what a recovery leaves, however it ends
-    leaves : (next : Next) (new : Device) → Goes port old new → EndsIn queued port next old new → (AgreesWith (λ uses. uses port.0 0 ≡ Own Identify → ⊥) old → SendsNone port.0 Identify old new) →
-        ((q : Port) (o : Operation) → q.0 ≢ port.0 → op_of o ≡ None → AgreesWith (λ uses. uses q.0 0 ≡ Own o → ⊥) old → SendsNone q.0 o old new) → LeavesRecovery port queued next old new
+    leaves : (next : Next) (new : Device) → Goes port old new → EndsIn queued port next old new → (RelatesWith (λ uses. uses port.0 0 ≡ Own Identify → ⊥) old → SendsNone port.0 Identify old new) →
+        ((q : Port) (o : Operation) → q.0 ≢ port.0 → op_of o ≡ None → RelatesWith (λ uses. uses q.0 0 ≡ Own o → ⊥) old → SendsNone q.0 o old new) → LeavesRecovery port queued next old new
     leaves next new w ends silent others = record { ends = ends; det = w.det; written = w.written; enabled = w.enabled; silent = silent; others = others }
 
     -- ---- its disk is busy
 
-    pub is_busy : (failed : Option Failure) (again : ℕ) (token : stopped_token.Stopped) → token.port ≡ port → bit after 7 || bit after 3 ≡ true → Parts outstanding failed again →
+    pub is_busy : (failed : Option FailedSlot) (again : ℕ) (token : stopped_token.Stopped) → token.port ≡ port → bit after 7 || bit after 3 ≡ true → Parts outstanding failed again →
         (Rests queued port outstanding (total laws port outstanding queued before after old d r (λ uses. uses) d (quieted laws port outstanding queued before after old d r)) old d failed) →
         (queued ≡ false → bit outstanding 0 ≡ true → failed ≢ None) → (queued ≡ true → failed ≡ None) → Recovers port outstanding queued (record { failed = failed; again = again; next = Restart token }) old d
     is_busy failed again token names occupied parts rests named unnamed =
         let b = quieted laws port outstanding queued before after old d r in
         record {
-          mends = record {
+          handling = record {
             accesses = total laws port outstanding queued before after old d r (λ uses. uses) d b;
             does = record {
               only = only laws port outstanding queued before after old d r (λ uses. uses) d b;
@@ -170,8 +170,8 @@ module _ (laws : Laws) where
 
     -- ---- it was started again
 
-    module _ (start : Device) (s : GoesOn port d start) where
-      pub b_start : IsFollowed (IsRecovering port) (λ uses. AllFree uses port.0) r.quiets.stopped start
+    module _ (start : Device) (s : StartsAgain port d start) where
+      pub b_start : IsSimulated (IsRecovering port) (λ uses. AllFree uses port.0) r.quiets.stopped start
       b_start = started laws port outstanding queued before after old d r start s
 
       goes_start : Goes port old start
@@ -180,15 +180,15 @@ module _ (laws : Laws) where
       starting : Goes port d start
       starting = let made = (followed_commands laws PortUnused port d start s.starts).driven in goes_over laws port made.accesses d start went.on made.only made.all
 
-      silent_start : AgreesWith (λ uses. uses port.0 0 ≡ Own Identify → ⊥) old → SendsNone port.0 Identify old start
+      silent_start : RelatesWith (λ uses. uses port.0 0 ≡ Own Identify → ⊥) old → SendsNone port.0 Identify old start
       silent_start a = laws.silent_more port.0 Identify old d start (r.quiets.silent a) (starting_silent laws port d start s.starts r.quiets.agreed)
 
       -- a plain command failed
-      pub goes_again : (failed : Option Failure) (again : ℕ) (token : running_token.Running) → token.port ≡ port → queued ≡ false → Parts outstanding failed again →
+      pub goes_again : (failed : Option FailedSlot) (again : ℕ) (token : running_token.Running) → token.port ≡ port → queued ≡ false → Parts outstanding failed again →
           Rests queued port outstanding (total laws port outstanding queued before after old d r (λ uses. uses) start b_start) old start failed →
           (bit outstanding 0 ≡ true → failed ≢ None) → Recovers port outstanding queued (record { failed = failed; again = again; next = Running token }) old start
       goes_again failed again token names is parts rests named = record {
-        mends = record {
+        handling = record {
           accesses = total laws port outstanding queued before after old d r (λ uses. uses) start b_start;
           does = record {
             only = only laws port outstanding queued before after old d r (λ uses. uses) start b_start;
@@ -216,25 +216,25 @@ module _ (laws : Laws) where
       -- ---- its log was read
 
       module _ (log : Device) (on : queued ≡ true) (l : LeavesRunning port.0 start log) (silent_log : SendsNone port.0 Identify start log) where
-        silent_now : AgreesWith (λ uses. uses port.0 0 ≡ Own Identify → ⊥) old → SendsNone port.0 Identify old log
+        silent_now : RelatesWith (λ uses. uses port.0 0 ≡ Own Identify → ⊥) old → SendsNone port.0 Identify old log
         silent_now a = laws.silent_more port.0 Identify old start log (silent_start a) silent_log
 
-        b_log : IsFollowed (IsAsking port) (IsUnused port.0 0) start log → IsFollowed (IsRecovering port) (λ uses. AllFree uses port.0) r.quiets.stopped log
+        b_log : IsSimulated (IsAsking port) (IsUnused port.0 0) start log → IsSimulated (IsRecovering port) (λ uses. AllFree uses port.0) r.quiets.stopped log
         b_log a = (asked laws port outstanding queued before after old d r (λ made. Unit {0}) (λ early late is. is) (λ uses. uses) start log s (record { followed = a; tells = tt })).followed
 
-        b_vain : IsToldTo (WaitsInVain port) (IsAsking port) (IsUnused port.0 0) (λ uses. put uses port.0 0 (Own ReadLog)) start log →
-            IsToldTo (WaitsInVain port) (IsRecovering port) (λ uses. AllFree uses port.0) (λ uses. put uses port.0 0 (Own ReadLog)) r.quiets.stopped log
+        b_vain : IsSimulatedAlongTo (WaitsInVain port) (IsAsking port) (IsUnused port.0 0) (λ uses. put uses port.0 0 (Own ReadLog)) start log →
+            IsSimulatedAlongTo (WaitsInVain port) (IsRecovering port) (λ uses. AllFree uses port.0) (λ uses. put uses port.0 0 (Own ReadLog)) r.quiets.stopped log
         b_vain a = asked laws port outstanding queued before after old d r (WaitsInVain port) (λ early late is. laws.vain_since port early late is) (λ uses. put uses port.0 0 (Own ReadLog)) start log s a
 
-        asking : (next : Uses → Uses) → IsFollowedTo (IsAsking port) (IsUnused port.0 0) next start log → Asks port start log
+        asking : (next : SlotStates → SlotStates) → IsSimulatedTo (IsAsking port) (IsUnused port.0 0) next start log → Asks port start log
         asking next a = asks_over laws port a.driven.accesses start log goes_start.on a.driven.only a.driven.all
 
-        recovers_asked : (next : Uses → Uses) → IsFollowedTo (IsAsking port) (IsUnused port.0 0) next start log → Goes port start log
+        recovers_asked : (next : SlotStates → SlotStates) → IsSimulatedTo (IsAsking port) (IsUnused port.0 0) next start log → Goes port start log
         recovers_asked next a =
             goes_over laws port a.driven.accesses start log goes_start.on (All-weaker (IsAsking port) (IsRecovering port) (λ access is. inr is) a.driven.accesses a.driven.only) a.driven.all
 
         -- and names one
-        pub names_one : (failed : Failure) (again : ℕ) (token : running_token.Running) → token.port ≡ port → (log.port port.0).halt ≡ NotHalted → ReadsLog port outstanding (Some failed) start log →
+        pub names_one : (failed : FailedSlot) (again : ℕ) (token : running_token.Running) → token.port ≡ port → (log.port port.0).halt ≡ NotHalted → ReadsLog port outstanding (Some failed) start log →
             Parts outstanding (Some failed) again → Recovers port outstanding queued (record { failed = Some failed; again = again; next = Running token }) old log
         names_one failed again token names running (page, (brings, a), tells, among) parts =
             let b = b_log a in
@@ -243,7 +243,7 @@ module _ (laws : Laws) where
             let came = brings_log port old start log log page goes_start.grows w.grows brings ([], sym (append-nil log.tape), All-nil (λ e. IsMove port.0 ReadLog e → ⊥)) in
             let Q : Bool → Type 0 = λ q. Rests q port outstanding (total laws port outstanding queued before after old d r (λ uses. uses) log b) old log (Some failed) in
             record {
-              mends = record {
+              handling = record {
                 accesses = total laws port outstanding queued before after old d r (λ uses. uses) log b;
                 does = record {
                   only = only laws port outstanding queued before after old d r (λ uses. uses) log b;
@@ -277,27 +277,27 @@ module _ (laws : Laws) where
         -- ---- or none, and the port was to stop
 
         module _ (new : Device) where
-          page_free : IsFollowed (IsAsking port) (IsUnused port.0 0) start log → AgreesWith (λ uses. AllFree uses port.0) log
-          page_free a = let g = s.agreed in (g.0, g.1, laws.stretches.agreed (Asking port) (λ uses. uses) g.0 start log (g.1 0) a g.2)
+          page_free : IsSimulated (IsAsking port) (IsUnused port.0 0) start log → RelatesWith (λ uses. AllFree uses port.0) log
+          page_free a = let g = s.agreed in (g.0, g.1, laws.fragments.agreed (Asking port) (λ uses. uses) g.0 start log (g.1 0) a g.2)
 
           -- no page of IDENTIFY DEVICE comes meanwhile
-          stop_silent : (uses : Uses) → IsAgreed uses log → (uses port.0 0 ≡ Own Identify → ⊥) → IsFollowed (IsControl WritesCommand port) AnyUse log new →
-              AgreesWith (λ uses. uses port.0 0 ≡ Own Identify → ⊥) old → SendsNone port.0 Identify old new
+          stop_silent : (uses : SlotStates) → IsRelated uses log → (uses port.0 0 ≡ Own Identify → ⊥) → IsSimulated (IsControl WritesCommand port) AnyUse log new →
+              RelatesWith (λ uses. uses port.0 0 ≡ Own Identify → ⊥) old → SendsNone port.0 Identify old new
           stop_silent uses agreed none a o = laws.silent_more port.0 Identify old log new (silent_now o) (commands_silent laws port uses log new a agreed none)
 
-          page_silent : IsFollowed (IsAsking port) (IsUnused port.0 0) start log → IsFollowed (IsControl WritesCommand port) AnyUse log new →
-              AgreesWith (λ uses. uses port.0 0 ≡ Own Identify → ⊥) old → SendsNone port.0 Identify old new
+          page_silent : IsSimulated (IsAsking port) (IsUnused port.0 0) start log → IsSimulated (IsControl WritesCommand port) AnyUse log new →
+              RelatesWith (λ uses. uses port.0 0 ≡ Own Identify → ⊥) old → SendsNone port.0 Identify old new
           page_silent a c = let g = page_free a in stop_silent g.0 g.2 (λ own. let e : Free ≡ Own Identify = sym (g.1 0) ∙ own in absurd cc) c
 
-          vain_silent : IsFollowedTo (IsAsking port) (IsUnused port.0 0) (λ uses. put uses port.0 0 (Own ReadLog)) start log → IsFollowed (IsControl WritesCommand port) AnyUse log new →
-              AgreesWith (λ uses. uses port.0 0 ≡ Own Identify → ⊥) old → SendsNone port.0 Identify old new
+          vain_silent : IsSimulatedTo (IsAsking port) (IsUnused port.0 0) (λ uses. put uses port.0 0 (Own ReadLog)) start log → IsSimulated (IsControl WritesCommand port) AnyUse log new →
+              RelatesWith (λ uses. uses port.0 0 ≡ Own Identify → ⊥) old → SendsNone port.0 Identify old new
           vain_silent a c =
               let g = s.agreed in
-              let agreed = laws.stretches.agreed (Asking port) (λ uses. put uses port.0 0 (Own ReadLog)) g.0 start log (g.1 0) a g.2 in
+              let agreed = laws.fragments.agreed (Asking port) (λ uses. put uses port.0 0 (Own ReadLog)) g.0 start log (g.1 0) a g.2 in
               stop_silent (put g.0 port.0 0 (Own ReadLog)) agreed (λ own. let e : Own ReadLog ≡ Own Identify = sym (laws.put_here g.0 port.0 0 ReadLog) ∙ own in absurd cc) c
 
           -- the page that came is the last one still
-          still_last : (page : List ℕ) → Brings port.0 ReadLog (length start.tape) page log → IsFollowed (IsAsking port) (IsUnused port.0 0) start log → IsDrivenBy (IsControl WritesCommand port) log new →
+          still_last : (page : List ℕ) → BringsLastPage port.0 ReadLog (length start.tape) page log → IsSimulated (IsAsking port) (IsUnused port.0 0) start log → IsDrivenBy (IsControl WritesCommand port) log new →
               BringsLog port old new page
           still_last page brings a c =
               let w = goes laws port outstanding queued before after old d r (λ uses. uses) log (b_log a) in
@@ -311,12 +311,12 @@ module _ (laws : Laws) where
               brings_log port old start log new page goes_start.grows w.grows brings (laws.controls_unmoving port ReadLog log new unissued (no_command port.0 (log.port port.0) runs)).0
 
           -- the engine stopped: the port has to be booted
-          stopped : (token : stopped_token.Stopped) → token.port ≡ port → (b : IsFollowed (IsRecovering port) (λ uses. AllFree uses port.0) r.quiets.stopped new) → Halts port log new →
+          stopped : (token : stopped_token.Stopped) → token.port ≡ port → (b : IsSimulated (IsRecovering port) (λ uses. AllFree uses port.0) r.quiets.stopped new) → PortStops port log new →
               (WaitsAnew port (total laws port outstanding queued before after old d r (λ uses. uses) new b) new ⊎ ((page : List ℕ) × BringsLog port old new page × (TellsNoError page ⊎ NamesForeign outstanding page))) →
-              (AgreesWith (λ uses. uses port.0 0 ≡ Own Identify → ⊥) old → SendsNone port.0 Identify old new) →
+              (RelatesWith (λ uses. uses port.0 0 ≡ Own Identify → ⊥) old → SendsNone port.0 Identify old new) →
               Recovers port outstanding queued (record { failed = None; again = outstanding; next = Restart token }) old new
           stopped token names b halts why silent = record {
-            mends = record {
+            handling = record {
               accesses = total laws port outstanding queued before after old d r (λ uses. uses) new b;
               does = record {
                 only = only laws port outstanding queued before after old d r (λ uses. uses) new b;
@@ -338,12 +338,12 @@ module _ (laws : Laws) where
             };
           }
 
-          pub restarts : (token : stopped_token.Stopped) → token.port ≡ port → HasStopped (log.port port.0) (new.port port.0) → Halts port log new → ReadsLog port outstanding None start log →
+          pub restarts : (token : stopped_token.Stopped) → token.port ≡ port → HasStopped (log.port port.0) (new.port port.0) → PortStops port log new → ReadsLog port outstanding None start log →
               Recovers port outstanding queued (record { failed = None; again = outstanding; next = Restart token }) old new
           restarts token names has halts (inl (count, a)) =
               let t = told_both laws (WaitsInVain port) (Stops port) (WaitsInVain port) (λ early late w is. laws.vain_then port early late w) (Recovering PortUnused port) (Controlling Commanding AnyUses port)
               (λ uses. put uses port.0 0 (Own ReadLog)) (λ uses. uses) (commands_recover laws port) (λ uses free. tt) r.quiets.stopped log new (b_vain a) halts.told in
-              let o = laws.stretches.over (Recovering PortUnused port) port ReadLog 1 r.quiets.stopped new (inr (refl, refl)) (λ uses free. free 0)
+              let o = laws.fragments.over (Recovering PortUnused port) port ReadLog 1 r.quiets.stopped new (inr (refl, refl)) (λ uses free. free 0)
               (record { issued = halts.stopped.halted.ci 0; free = halts.stopped.halted.taken 0 }) t.followed in
               let b = o.followed in
               stopped token names b halts
@@ -361,18 +361,18 @@ module _ (laws : Laws) where
               stopped token names b halts (inr (page, still_last page brings a halts.told.followed.driven, why)) (page_silent a halts.told.followed)
 
           -- or it is stuck
-          module _ (has : HasStopped (log.port port.0) (new.port port.0)) (fails : FailsToHalt port log new) where
-            failing : (First : List Access → Type 0) (next : Uses → Uses) → IsToldTo First (IsRecovering port) (λ uses. AllFree uses port.0) next r.quiets.stopped log →
-                IsToldTo (Sticks port) (IsRecovering port) (λ uses. AllFree uses port.0) next r.quiets.stopped new
+          module _ (has : HasStopped (log.port port.0) (new.port port.0)) (fails : FailsToStopPort port log new) where
+            failing : (First : List Access → Type 0) (next : SlotStates → SlotStates) → IsSimulatedAlongTo First (IsRecovering port) (λ uses. AllFree uses port.0) next r.quiets.stopped log →
+                IsSimulatedAlongTo (Sticks port) (IsRecovering port) (λ uses. AllFree uses port.0) next r.quiets.stopped new
             failing First next t = told_both laws First (FailsToStop port) (Sticks port) (λ early late w is. laws.sticks_since early late port (laws.failing_sticks port late is)) (Recovering PortUnused port)
                 (Controlling Commanding AnyUses port) next (λ uses. uses) (commands_recover laws port) (λ uses free. tt) r.quiets.stopped log new t fails.told
 
-            stuck : (next : Uses → Uses) (t : IsToldTo (Sticks port) (IsRecovering port) (λ uses. AllFree uses port.0) next r.quiets.stopped new) →
+            stuck : (next : SlotStates → SlotStates) (t : IsSimulatedAlongTo (Sticks port) (IsRecovering port) (λ uses. AllFree uses port.0) next r.quiets.stopped new) →
                 LeavesSlots port.0 Dead (total laws port outstanding queued before after old d r next new t.followed) old new →
-                (AgreesWith (λ uses. uses port.0 0 ≡ Own Identify → ⊥) old → SendsNone port.0 Identify old new) →
+                (RelatesWith (λ uses. uses port.0 0 ≡ Own Identify → ⊥) old → SendsNone port.0 Identify old new) →
                 Recovers port outstanding queued (record { failed = None; again = outstanding; next = Dead }) old new
             stuck next t slots silent = record {
-              mends = record {
+              handling = record {
                 accesses = total laws port outstanding queued before after old d r next new t.followed;
                 does = record {
                   only = only laws port outstanding queued before after old d r next new t.followed;

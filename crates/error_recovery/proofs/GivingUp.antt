@@ -6,18 +6,18 @@ use Rattle.ata_types.specs.declared.Port.{Port}
 use Rattle.hba_regs.specs.declared.reg.PortReg.TheVariants.{Ci, Sact}
 use Rattle.adapter.specs.Device.{Device}
 use Rattle.adapter.specs.Rules.{IsOn}
-use Rattle.agreement.specs.Driven.{AnyUse, IsControl, IsTold}
-use Rattle.agreement.specs.Driver.{AllFree}
+use Rattle.refinement.specs.Driven.{AnyUse, IsControl, IsSimulatedAlong}
+use Rattle.refinement.specs.Driver.{AllFree}
 use Rattle.port_control.specs.Engines.{Sticks, Stops}
-use Rattle.port_control.specs.Ports.{FailsToHalt, Halts, HasStopped, WritesCommand}
+use Rattle.port_control.specs.Ports.{FailsToStopPort, PortStops, HasStopped, WritesCommand}
 use Rattle.port_control.specs.declared.Stopped as stopped_token
 use Rattle.error_recovery.specs.declared.Next.TheVariants.{Dead, Restart}
 use Rattle.error_recovery.specs.Laws.{Laws}
 use Rattle.error_recovery.specs.Laws.Fitting.{AnyUses, PortUnused}
 use Rattle.error_recovery.specs.Laws.RegisterSet.{Commanding}
-use Rattle.error_recovery.specs.Laws.Stretch.{Controlling, Recovering}
-use Rattle.error_recovery.specs.Parts.{GetsStuck}
-use Rattle.error_recovery.specs.Recovery.{GivesUp, IsRecovering}
+use Rattle.error_recovery.specs.Laws.Fragment.{Controlling, Recovering}
+use Rattle.error_recovery.specs.Parts.{StopGetsStuck}
+use Rattle.error_recovery.specs.Recovery.{StopsForReset, IsRecovering}
 use Rattle.error_recovery.proofs.Finishing.{accesses_stuck, all_go_again, mends_stuck}
 use Rattle.error_recovery.proofs.Going.{Goes, goes_over}
 use Rattle.error_recovery.proofs.Quieting.{commands_silent}
@@ -26,19 +26,19 @@ use Rattle.error_recovery.proofs.Whole.{spares_other}
 
 module _ (laws : Laws) (port : Port) (outstanding : ℕ) (queued : Bool) (old new : Device) (on : IsOn old) where
   -- its engine is stuck
-  pub gives_up_stuck : HasStopped (old.port port.0) (new.port port.0) → FailsToHalt port old new → GivesUp port outstanding queued (record { failed = None; again = outstanding; next = Dead }) old new
+  pub gives_up_stuck : HasStopped (old.port port.0) (new.port port.0) → FailsToStopPort port old new → StopsForReset port outstanding queued (record { failed = None; again = outstanding; next = Dead }) old new
   gives_up_stuck has fails = record {
-    mends = mends_stuck laws port outstanding queued old new on gets;
+    handling = mends_stuck laws port outstanding queued old new on gets;
     only = subst (All (IsControl WritesCommand port)) (sym (accesses_stuck laws port outstanding queued old new on gets)) (only_commands laws (Sticks port) AnyUses port old new sticks);
     nobody = refl;
     halts = λ token run. absurd cc;
   }
     where
-      sticks : IsTold (Sticks port) (IsControl WritesCommand port) AnyUse old new
+      sticks : IsSimulatedAlong (Sticks port) (IsControl WritesCommand port) AnyUse old new
       sticks = told_wider laws (Sticks port) (Controlling Commanding AnyUses port) (Controlling Commanding AnyUses port) (λ uses. uses) old new (λ access is. is) (λ uses fits. fits)
           (record { followed = fails.told.followed; tells = laws.failing_sticks port fails.told.followed.driven.accesses fails.told.tells })
 
-      gets : GetsStuck port old new
+      gets : StopGetsStuck port old new
       gets = record {
         told = told_commands laws (Sticks port) AnyUses port old new sticks;
         st = has.st;
@@ -47,9 +47,9 @@ module _ (laws : Laws) (port : Port) (outstanding : ℕ) (queued : Bool) (old ne
       }
 
   -- or it was stopped
-  pub gives_up_stopped : (token : stopped_token.Stopped) → token.port ≡ port → Halts port old new → GivesUp port outstanding queued (record { failed = None; again = outstanding; next = Restart token }) old new
+  pub gives_up_stopped : (token : stopped_token.Stopped) → token.port ≡ port → PortStops port old new → StopsForReset port outstanding queued (record { failed = None; again = outstanding; next = Restart token }) old new
   gives_up_stopped token names halts = record {
-    mends = record {
+    handling = record {
       accesses = t.followed.driven.accesses ++ rest.followed.driven.accesses;
       does = record {
         only = All-append (IsRecovering port) t.followed.driven.accesses rest.followed.driven.accesses t.followed.driven.only rest.followed.driven.only;
@@ -64,7 +64,7 @@ module _ (laws : Laws) (port : Port) (outstanding : ℕ) (queued : Bool) (old ne
         enabled = went.enabled;
         silent = λ (uses, none, agreed). commands_silent laws port uses old new halts.told.followed agreed none;
         others = λ q o apart own (uses, none, agreed).
-            laws.stretches.silent (Recovering AnyUses port) (λ uses. uses) uses q o old new tt (spares_other laws port q Ci apart) (spares_other laws port q Sact apart) own none t.followed agreed;
+            laws.fragments.silent (Recovering AnyUses port) (λ uses. uses) uses q o old new tt (spares_other laws port q Ci apart) (spares_other laws port q Sact apart) own none t.followed agreed;
       };
     };
     only = All-append (IsControl WritesCommand port) t.followed.driven.accesses rest.followed.driven.accesses (only_commands laws (Stops port) AnyUses port old new halts.told)
@@ -73,11 +73,11 @@ module _ (laws : Laws) (port : Port) (outstanding : ℕ) (queued : Bool) (old ne
     halts = λ at run. absurd cc;
   }
     where
-      t : IsTold (Stops port) (IsRecovering port) AnyUse old new
+      t : IsSimulatedAlong (Stops port) (IsRecovering port) AnyUse old new
       t = told_commands laws (Stops port) AnyUses port old new halts.told
 
-      rest : IsTold (λ made. made ≡ []) (IsRecovering port) (λ uses. AllFree uses port.0) new new
-      rest = laws.stretches.none (Recovering PortUnused port) new
+      rest : IsSimulatedAlong (λ made. made ≡ []) (IsRecovering port) (λ uses. AllFree uses port.0) new new
+      rest = laws.fragments.none (Recovering PortUnused port) new
 
       went : Goes port old new
       went = goes_over laws port t.followed.driven.accesses old new on t.followed.driven.only t.followed.driven.all

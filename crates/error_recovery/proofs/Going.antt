@@ -9,13 +9,13 @@ use Rattle.hba_regs.specs.declared.reg.PortReg.TheVariants.{Ci, Cmd, Ie, Is, Sac
 use Rattle.hba_regs.specs.declared.reg.Reg.TheVariants.{Ghc, Px}
 use Rattle.adapter.specs.Access.{Access, Does, DoesAll}
 use Rattle.adapter.specs.Access.Access.{Reading, Writing, Loading, Storing}
-use Rattle.adapter.specs.Device.{Device, PortState}
+use Rattle.adapter.specs.Device.{Device, DevicePort}
 use Rattle.adapter.specs.Rules.{IsOn}
-use Rattle.agreement.specs.Driven.{Grows, IsOf}
-use Rattle.agreement.specs.Errors.{ChangesByDisks, NoneFails, NoneFatal}
-use Rattle.agreement.specs.Links.{PlugsNone, SparesRegister}
-use Rattle.agreement.specs.Recovering.{IsLinked, RunsLinked}
-use Rattle.agreement.specs.Started.{ClearsNoStart}
+use Rattle.refinement.specs.Driven.{Grows, IsOf}
+use Rattle.refinement.specs.Errors.{ChangesByDisks, NoneFails, NoneFatal}
+use Rattle.refinement.specs.Links.{PlugsNone, SparesRegister}
+use Rattle.refinement.specs.Recovering.{IsLinked, RunsLinked}
+use Rattle.refinement.specs.Started.{ClearsNoStart}
 use Rattle.disk_page.specs.Asking.{IsAsking}
 use Rattle.error_recovery.specs.Laws.{Laws}
 use Rattle.error_recovery.specs.Laws.RegisterSet.{Recovered}
@@ -71,7 +71,7 @@ pub record Goes (port : Port) (old new : Device) : Type 0 where
   pub changes : (old.port port.0).link_due ≡ false → ChangesByDisks port.0 old new
   pub linked : PlugsNone port.0 old new → IsLinked (old.port port.0) → IsLinked (new.port port.0)
 
-abbrev ShowsNoFatal : PortState → Type 0
+abbrev ShowsNoFatal : DevicePort → Type 0
 ShowsNoFatal p = (place : ℕ) → 27 ≤ place → place ≤ 29 → p.is place ≡ false
 
 -- Trouble is shown, and no other is; and where none comes that stops it, the port runs on.

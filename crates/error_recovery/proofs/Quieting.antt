@@ -1,5 +1,5 @@
 -- A port's task file is read, the port is stopped, and its errors are forgotten.
-use Rattle.agreement.specs.Links.{SparesRegister}
+use Rattle.refinement.specs.Links.{SparesRegister}
 use Rattle.std.proofs.lemmas.List.Elements.{All-cons, All-weaker}
 use Rattle.std.proofs.Common.{ℕ, ◌≡◌, ◌%◌, ◌++◌, false, List, [], ◌∷◌, inl, inr, refl, sym, ◌∙◌, ap, subst}
 use Rattle.ata_types.specs.declared.Port.{Port}
@@ -9,17 +9,17 @@ use Rattle.adapter.specs.Access.{Access, Reads}
 use Rattle.adapter.specs.Access.Access.{Reading}
 use Rattle.adapter.specs.Device.{Device, Notes}
 use Rattle.adapter.specs.declared.command.Operation.TheVariants.{Identify}
-use Rattle.agreement.specs.Driven.{AgreesWith, AnyUse, IsAgreed, IsControl, IsFollowed, IsTold, NoneWrites, SendsNone, IsDrivenBy}
-use Rattle.agreement.specs.Driver.{AllFree}
-use Rattle.agreement.specs.Recovering.{WorksPlainly}
-use Rattle.agreement.specs.Slots.{Free, Own, Uses}
+use Rattle.refinement.specs.Driven.{RelatesWith, AnyUse, IsRelated, IsControl, IsSimulated, IsSimulatedAlong, NoneWrites, SendsNone, IsDrivenBy}
+use Rattle.refinement.specs.Driver.{AllFree}
+use Rattle.refinement.specs.Recovering.{WorksPlainly}
+use Rattle.refinement.specs.Slots.{Free, Own, SlotStates}
 use Rattle.port_control.specs.Engines.{FailsToStop, Sticks, Stops}
-use Rattle.port_control.specs.Ports.{FailsToHalt, Forgets, Halts, HasStopped, IsClearing, ReceivesFises, WritesCommand}
+use Rattle.port_control.specs.Ports.{FailsToStopPort, Forgets, PortStops, HasStopped, IsClearing, ReceivesFises, WritesCommand}
 use Rattle.error_recovery.specs.Laws.{Laws}
 use Rattle.error_recovery.specs.Laws.RegisterSet.{Commanding, Clearing}
-use Rattle.error_recovery.specs.Laws.Stretch.{Controlling, Recovering}
+use Rattle.error_recovery.specs.Laws.Fragment.{Controlling, Recovering}
 use Rattle.error_recovery.specs.Laws.Fitting.{AnyUses, PortUnused}
-use Rattle.error_recovery.specs.Parts.{GetsStuck, HasRoom, Quiets, ReadsAndStops}
+use Rattle.error_recovery.specs.Parts.{StopGetsStuck, HasDriverMemory, Quiets, ReadsAndStops}
 use Rattle.error_recovery.specs.Recovery.{IsRecovering, IssueNone, MayRecover}
 use Rattle.error_recovery.proofs.Going.{Goes, goes_over, plugs_in_parts, spares_active}
 use Rattle.error_recovery.proofs.Stretching.{agreed_free, room_after, told_both, told_commands, told_wider, clears_recover}
@@ -40,9 +40,9 @@ module _ (laws : Laws) where
   commanding_arms port = laws.control_spares Commanding port Sact (λ e. absurd (let k : Sact ≡ Cmd = e in cc))
 
   -- PxCMD alone is written, and no page comes by a command that isn't there
-  pub commands_silent : (port : Port) (uses : Uses) (old new : Device) → IsFollowed (IsControl WritesCommand port) AnyUse old new → IsAgreed uses old → (uses port.0 0 ≡ Own Identify → ⊥) → SendsNone port.0 Identify old new
+  pub commands_silent : (port : Port) (uses : SlotStates) (old new : Device) → IsSimulated (IsControl WritesCommand port) AnyUse old new → IsRelated uses old → (uses port.0 0 ≡ Own Identify → ⊥) → SendsNone port.0 Identify old new
   commands_silent port uses old new a agreed none =
-      laws.stretches.silent (Controlling Commanding AnyUses port) (λ uses. uses) uses port Identify old new tt (commanding_issues port) (commanding_arms port) refl none a agreed
+      laws.fragments.silent (Controlling Commanding AnyUses port) (λ uses. uses) uses port Identify old new tt (commanding_issues port) (commanding_arms port) refl none a agreed
 
   clearing_issues : (port : Port) → NoneWrites (IsControl IsClearing port) (Px port Ci)
   clearing_issues port = laws.control_spares Clearing port Ci no_issue
@@ -55,9 +55,9 @@ module _ (laws : Laws) where
   unissued : {port : Port} (May : Access → Type 0) → NoneWrites May (Px port Ci) → {old new : Device} (made : IsDrivenBy May old new) → IssueNone port made.accesses
   unissued {port} May none made = All-weaker May (SparesRegister (Px port Ci)) none made.accesses made.only
 
-  clears_silent : (port : Port) (uses : Uses) (old new : Device) → IsFollowed (IsControl IsClearing port) AnyUse old new → IsAgreed uses old → (uses port.0 0 ≡ Own Identify → ⊥) → SendsNone port.0 Identify old new
+  clears_silent : (port : Port) (uses : SlotStates) (old new : Device) → IsSimulated (IsControl IsClearing port) AnyUse old new → IsRelated uses old → (uses port.0 0 ≡ Own Identify → ⊥) → SendsNone port.0 Identify old new
   clears_silent port uses old new a agreed none =
-      laws.stretches.silent (Controlling Clearing AnyUses port) (λ uses. uses) uses port Identify old new tt
+      laws.fragments.silent (Controlling Clearing AnyUses port) (λ uses. uses) uses port Identify old new tt
       (clearing_issues port) (laws.control_spares Clearing port Sact no_arm) refl none a agreed
     where
       no_arm : IsClearing Sact → ⊥
@@ -65,36 +65,36 @@ module _ (laws : Laws) where
       no_arm (inr e) = absurd cc
 
   -- plain work goes on over any accesses of a recovery
-  pub plain_over : (port : Port) (uses : Uses) (old new : Device) → IsFollowed (IsRecovering port) AnyUse old new → IsAgreed uses old → WorksPlainly (old.port port.0) → WorksPlainly (new.port port.0)
+  pub plain_over : (port : Port) (uses : SlotStates) (old new : Device) → IsSimulated (IsRecovering port) AnyUse old new → IsRelated uses old → WorksPlainly (old.port port.0) → WorksPlainly (new.port port.0)
   plain_over port uses old new a agreed =
       laws.plain (Recovering AnyUses port) (λ uses. uses) uses port old new tt (spares_active laws port) a agreed
 
   -- also while it is started
-  pub commands_plain : (port : Port) (old new : Device) → IsFollowed (IsControl WritesCommand port) (λ uses. AllFree uses port.0) old new → AgreesWith (λ uses. AllFree uses port.0) old →
+  pub commands_plain : (port : Port) (old new : Device) → IsSimulated (IsControl WritesCommand port) (λ uses. AllFree uses port.0) old new → RelatesWith (λ uses. AllFree uses port.0) old →
       WorksPlainly (old.port port.0) → WorksPlainly (new.port port.0)
   commands_plain port old new a (uses, free, agreed) = laws.plain (Controlling Commanding PortUnused port) (λ uses. uses) uses port old new free (commanding_arms port) a agreed
 
-  pub starting_silent : (port : Port) (old new : Device) → IsFollowed (IsControl WritesCommand port) (λ uses. AllFree uses port.0) old new → AgreesWith (λ uses. AllFree uses port.0) old →
+  pub starting_silent : (port : Port) (old new : Device) → IsSimulated (IsControl WritesCommand port) (λ uses. AllFree uses port.0) old new → RelatesWith (λ uses. AllFree uses port.0) old →
       SendsNone port.0 Identify old new
   starting_silent port old new a (uses, free, agreed) =
-      laws.stretches.silent (Controlling Commanding PortUnused port) (λ uses. uses) uses port Identify old new free (commanding_issues port) (commanding_arms port) refl
+      laws.fragments.silent (Controlling Commanding PortUnused port) (λ uses. uses) uses port Identify old new free (commanding_issues port) (commanding_arms port) refl
       (λ own. let e : Free ≡ Own Identify = sym (free 0) ∙ own in absurd cc) a agreed
 
-  module _ (port : Port) (v : ℕ) (old at : Device) (room : HasRoom port.0 old) (may : MayRecover port.0 old) (agreed : AgreesWith AnyUse old) (read : Reads (Px port Tfd) v old at) where
-    reading : IsTold (λ made. made ≡ Reading (Px port Tfd) v ∷ []) (IsControl WritesCommand port) AnyUse old at
-    reading = laws.stretches.reads (Controlling Commanding AnyUses port) (Px port Tfd) v old at refl read
+  module _ (port : Port) (v : ℕ) (old at : Device) (room : HasDriverMemory port.0 old) (may : MayRecover port.0 old) (agreed : RelatesWith AnyUse old) (read : Reads (Px port Tfd) v old at) where
+    reading : IsSimulatedAlong (λ made. made ≡ Reading (Px port Tfd) v ∷ []) (IsControl WritesCommand port) AnyUse old at
+    reading = laws.fragments.reads (Controlling Commanding AnyUses port) (Px port Tfd) v old at refl read
 
-    wide : IsTold (λ made. made ≡ Reading (Px port Tfd) v ∷ []) (IsRecovering port) AnyUse old at
+    wide : IsSimulatedAlong (λ made. made ≡ Reading (Px port Tfd) v ∷ []) (IsRecovering port) AnyUse old at
     wide = told_commands laws (λ made. made ≡ Reading (Px port Tfd) v ∷ []) AnyUses port old at reading
 
     goes : Goes port old at
     goes = goes_over laws port wide.followed.driven.accesses old at room.on wide.followed.driven.only wide.followed.driven.all
 
-    pub read_room : HasRoom port.0 at
+    pub read_room : HasDriverMemory port.0 at
     read_room = room_after laws (IsRecovering port) port.0 old at wide.followed.driven goes.on room
 
-    pub read_agreed : AgreesWith AnyUse at
-    read_agreed = (agreed.0, tt, laws.stretches.agreed (Recovering AnyUses port) (λ uses. uses) agreed.0 old at tt wide.followed agreed.2)
+    pub read_agreed : RelatesWith AnyUse at
+    read_agreed = (agreed.0, tt, laws.fragments.agreed (Recovering AnyUses port) (λ uses. uses) agreed.0 old at tt wide.followed agreed.2)
 
     -- what the reading left of the notes on the link
     same_link : ((at.port port.0).notes.last_ssts ≡ (old.port port.0).notes.last_ssts) × ((at.port port.0).notes.link_count ≡ (old.port port.0).notes.link_count)
@@ -104,7 +104,7 @@ module _ (laws : Laws) where
 
     -- ---- its engine is stuck
 
-    pub read_stuck : (new : Device) → HasStopped (at.port port.0) (new.port port.0) → FailsToHalt port at new → GetsStuck port old new
+    pub read_stuck : (new : Device) → HasStopped (at.port port.0) (new.port port.0) → FailsToStopPort port at new → StopGetsStuck port old new
     read_stuck new has fails = record {
       told = told_commands laws (Sticks port) AnyUses port old new both;
       st = has.st;
@@ -112,32 +112,32 @@ module _ (laws : Laws) where
       silent = λ (uses, none, agreed). commands_silent port uses old new both.followed agreed none;
     }
       where
-        both : IsTold (Sticks port) (IsControl WritesCommand port) AnyUse old new
+        both : IsSimulatedAlong (Sticks port) (IsControl WritesCommand port) AnyUse old new
         both = told_both laws (λ made. made ≡ Reading (Px port Tfd) v ∷ []) (FailsToStop port) (Sticks port) (λ early late is late_is. laws.sticks_since early late port (laws.failing_sticks port late late_is))
             (Controlling Commanding AnyUses port) (Controlling Commanding AnyUses port) (λ uses. uses) (λ uses. uses) (λ access is. is) (λ uses fits. fits) old at new reading fails.told
 
     -- ---- or it was stopped
 
-    module _ (mid : Device) (has : HasStopped (at.port port.0) (mid.port port.0)) (halts : Halts port at mid) where
-      stopping : IsTold (ReadsAndStops port v) (IsControl WritesCommand port) AnyUse old mid
+    module _ (mid : Device) (has : HasStopped (at.port port.0) (mid.port port.0)) (halts : PortStops port at mid) where
+      stopping : IsSimulatedAlong (ReadsAndStops port v) (IsControl WritesCommand port) AnyUse old mid
       stopping = told_both laws (λ made. made ≡ Reading (Px port Tfd) v ∷ []) (λ made. Stops port made × IssueNone port made) (ReadsAndStops port v)
           (λ early late is stops. reads_and_stops port v early late is (laws.falls_since early late 0 15 port) stops.0 stops.1)
           (Controlling Commanding AnyUses port) (Controlling Commanding AnyUses port) (λ uses. uses) (λ uses. uses) (λ access is. is) (λ uses fits. fits) old at mid reading
           (record { followed = halts.told.followed; tells = (halts.told.tells, unissued (IsControl WritesCommand port) (commanding_issues port) halts.told.followed.driven) })
 
-      stops : IsTold (ReadsAndStops port v) (IsRecovering port) AnyUse old mid
+      stops : IsSimulatedAlong (ReadsAndStops port v) (IsRecovering port) AnyUse old mid
       stops = told_commands laws (ReadsAndStops port v) AnyUses port old mid stopping
 
       goes_mid : Goes port old mid
       goes_mid = goes_over laws port stops.followed.driven.accesses old mid room.on stops.followed.driven.only stops.followed.driven.all
 
-      pub stopped_room : HasRoom port.0 mid
+      pub stopped_room : HasDriverMemory port.0 mid
       stopped_room = room_after laws (IsRecovering port) port.0 old mid stops.followed.driven goes_mid.on room
 
-      stopped_uses : IsAgreed agreed.0 mid
-      stopped_uses = laws.stretches.agreed (Recovering AnyUses port) (λ uses. uses) agreed.0 old mid tt stops.followed agreed.2
+      stopped_uses : IsRelated agreed.0 mid
+      stopped_uses = laws.fragments.agreed (Recovering AnyUses port) (λ uses. uses) agreed.0 old mid tt stops.followed agreed.2
 
-      pub stopped_agreed : AgreesWith AnyUse mid
+      pub stopped_agreed : RelatesWith AnyUse mid
       stopped_agreed = (agreed.0, tt, stopped_uses)
 
       pub stopped_receives : ReceivesFises port.0 (mid.port port.0)
@@ -155,18 +155,18 @@ module _ (laws : Laws) where
       pub stopped_det : (mid.port port.0).sctl_det ≡ 0
       stopped_det = goes_mid.det ∙ may.det
 
-      module _ (after : ℕ) (new : Device) (followed : IsFollowed (IsControl IsClearing port) AnyUse mid new) (f : Forgets port after mid new) where
-        forgets : IsTold (IssueNone port) (IsRecovering port) AnyUse mid new
+      module _ (after : ℕ) (new : Device) (followed : IsSimulated (IsControl IsClearing port) AnyUse mid new) (f : Forgets port after mid new) where
+        forgets : IsSimulatedAlong (IssueNone port) (IsRecovering port) AnyUse mid new
         forgets = told_wider laws (IssueNone port) (Controlling Clearing AnyUses port) (Recovering AnyUses port) (λ uses. uses) mid new (clears_recover laws port) (λ uses fits. fits)
             (record { followed = followed; tells = unissued (IsControl IsClearing port) (clearing_issues port) followed.driven })
 
         goes_new : Goes port mid new
         goes_new = goes_over laws port forgets.followed.driven.accesses mid new goes_mid.on forgets.followed.driven.only forgets.followed.driven.all
 
-        free : AgreesWith (λ uses. (slot : ℕ) → uses port.0 slot ≡ Free) new
+        free : RelatesWith (λ uses. (slot : ℕ) → uses port.0 slot ≡ Free) new
         free =
             let g = agreed_free laws agreed.0 port.0 mid halts.stopped.halted stopped_uses in
-            (g.0, g.1, laws.stretches.agreed (Recovering AnyUses port) (λ uses. uses) g.0 mid new tt forgets.followed g.2)
+            (g.0, g.1, laws.fragments.agreed (Recovering AnyUses port) (λ uses. uses) g.0 mid new tt forgets.followed g.2)
 
         pub quiets : Quiets port v after old new
         quiets = record {
@@ -190,5 +190,5 @@ module _ (laws : Laws) where
           plain = λ plain. plain_over port agreed.0 mid new forgets.followed stopped_uses (plain_over port agreed.0 old mid stops.followed agreed.2 plain);
           silent = λ (uses, none, here).
               laws.silent_more port.0 Identify old mid new (commands_silent port uses old mid stopping.followed here none)
-              (clears_silent port uses mid new followed (laws.stretches.agreed (Recovering AnyUses port) (λ uses. uses) uses old mid tt stops.followed here) none);
+              (clears_silent port uses mid new followed (laws.fragments.agreed (Recovering AnyUses port) (λ uses. uses) uses old mid tt stops.followed here) none);
         }

@@ -13,14 +13,14 @@ use Rattle.adapter.specs.declared.command.Operation.TheVariants.{ReadLog}
 use Rattle.adapter.specs.declared.tape.Entry.{Entry}
 use Rattle.adapter.specs.declared.tape.Entry.TheVariants as entry
 use Rattle.adapter.specs.declared.tape.Fault as tape_fault
-use Rattle.agreement.specs.Driven.{Grows, SendsNone}
-use Rattle.agreement.specs.Links.{SparesRegister}
-use Rattle.agreement.specs.Slots.{IsMove}
-use Rattle.disk_page.specs.Asking.{Brings}
+use Rattle.refinement.specs.Driven.{Grows, SendsNone}
+use Rattle.refinement.specs.Links.{SparesRegister}
+use Rattle.refinement.specs.Slots.{IsMove}
+use Rattle.disk_page.specs.Asking.{BringsLastPage}
 use Rattle.error_recovery.specs.Evidence.{BringsLog, HasFailed}
 use Rattle.error_recovery.specs.Laws.{Laws}
 use Rattle.error_recovery.specs.Laws.Fitting.{AnyUses}
-use Rattle.error_recovery.specs.Laws.Stretch.{Recovering}
+use Rattle.error_recovery.specs.Laws.Fragment.{Recovering}
 use Rattle.error_recovery.specs.Parts.{Resumes}
 use Rattle.error_recovery.proofs.Lists.{behind, stands}
 
@@ -36,7 +36,7 @@ longer : (old new : Device) → Grows old new → length old.tape ≤ length new
 longer old new (gained, is) = let n = ap (λ (es : List Entry). length es) is ∙ length-append old.tape gained in omega (arith, n)
 
 -- the last page of the log that came is the last that a longer stretch brought, where none came later
-pub brings_log : (port : Port) (old start asked new : Device) (page : List ℕ) → Grows old start → Grows old asked → Brings port.0 ReadLog (length start.tape) page asked → SendsNone port.0 ReadLog asked new →
+pub brings_log : (port : Port) (old start asked new : Device) (page : List ℕ) → Grows old start → Grows old asked → BringsLastPage port.0 ReadLog (length start.tape) page asked → SendsNone port.0 ReadLog asked new →
     BringsLog port old new page
 brings_log port old start asked new page early whole b (gained, later, none) =
     let w = b.brought in
@@ -63,8 +63,8 @@ module _ (laws : Laws) (port : Port) (outstanding : ℕ) (queued : Bool) (before
       let set = ((laws.access_controls port (Reading (Px port Tfd) before) old at off read).command tt).2 in
       let F : ℕ → Type 0 = λ n. Contains (drop n at.tape) (entry.Fault s.0.fault) in
       let E : List Entry → Type 0 = λ es. Contains es (entry.Fault s.0.fault) in
-      let followed = (laws.stretches.reads (Recovering AnyUses port) (Px port Tfd) before old at (inl refl) read).followed in
-      let a = laws.stretches.agreed (Recovering AnyUses port) (λ uses. uses) r.agreed.0 old at tt followed r.agreed.2 in
+      let followed = (laws.fragments.reads (Recovering AnyUses port) (Px port Tfd) before old at (inl refl) read).followed in
+      let a = laws.fragments.agreed (Recovering AnyUses port) (λ uses. uses) r.agreed.0 old at tt followed r.agreed.2 in
       record {
         fault = s.0.fault;
         has_failed = record {

@@ -5,20 +5,20 @@ use Rattle.std.proofs.lemmas.Bool.{true≢false, cases_eq}
 use Rattle.std.proofs.lemmas.List.{length-append}
 use Rattle.std.proofs.lemmas.List.Elements.{All-cons, All-contains, All-nil}
 use Rattle.ata_types.specs.declared.Port.{Port}
-use Rattle.adapter.specs.Device.{Device, Notes, PortState}
+use Rattle.adapter.specs.Device.{Device, Notes, DevicePort}
 use Rattle.adapter.specs.Device.Halt.{LogOnly, NotHalted}
 use Rattle.adapter.specs.Steps.{restarted}
 use Rattle.adapter.specs.declared.tape.Entry.{Entry}
-use Rattle.agreement.specs.Driven.{Grows, HasNoCommand}
-use Rattle.agreement.specs.Errors.{IsFatalOf, NoneFatal}
-use Rattle.agreement.specs.Facts.{HasFaults, IsFaultOf, IsFaulted}
-use Rattle.agreement.specs.Links.{IsPlugging}
-use Rattle.agreement.specs.Slots.{IsOver}
+use Rattle.refinement.specs.Driven.{Grows, HasNoCommand}
+use Rattle.refinement.specs.Errors.{IsFatalOf, NoneFatal}
+use Rattle.refinement.specs.Facts.{HasFaults, IsFaultOf, IsFaulted}
+use Rattle.refinement.specs.Links.{IsPlugging}
+use Rattle.refinement.specs.Slots.{IsOver}
 use Rattle.disk_page.specs.Asking.{LeavesRunning}
 use Rattle.port_control.specs.Ports.{IsRunning}
 use Rattle.error_recovery.specs.Evidence.{GainsRunning, ShowsFatal, ShowsTrouble}
 use Rattle.error_recovery.specs.Laws.{Laws}
-use Rattle.error_recovery.specs.Parts.{GoesOn, Resumes}
+use Rattle.error_recovery.specs.Parts.{StartsAgain, Resumes}
 use Rattle.error_recovery.specs.Recovery.{RunsAgain}
 use Rattle.error_recovery.proofs.Going.{Asks, Goes, plugs_in_parts}
 use Rattle.error_recovery.proofs.Lists.{behind, stands}
@@ -60,7 +60,7 @@ set_unless_clear true not = refl
 set_unless_clear false not = absurd (not refl)
 
 -- one of the three bits is set, unless all are clear
-pub fatal_unless_clear : (p : PortState) → (((place : ℕ) → 27 ≤ place → place ≤ 29 → p.is place ≡ false) → ⊥) → ShowsFatal p
+pub fatal_unless_clear : (p : DevicePort) → (((place : ℕ) → 27 ≤ place → place ≤ 29 → p.is place ≡ false) → ⊥) → ShowsFatal p
 fatal_unless_clear p not = by (p.is 27) (p.is 28) (p.is 29) refl refl refl
   where
     by : (a b c : Bool) → p.is 27 ≡ a → p.is 28 ≡ b → p.is 29 ≡ c → ShowsFatal p
@@ -82,7 +82,7 @@ shows_trouble port old start new set a = record {
   disk = λ g. set_unless_clear (new.port port.0).serr_n (λ clear. let n = (a.disk clear).1 in gained_since (IsPlugging port.0) port.0 old start new set n.gained n.tape n.none g);
 }
 
-pub no_command : (port : ℕ) (p : PortState) → IsRunning port p → HasNoCommand p
+pub no_command : (port : ℕ) (p : DevicePort) → IsRunning port p → HasNoCommand p
 no_command port p runs slot = record { issued = runs.ci slot; free = runs.taken slot }
 
 -- ST was set at such a moment
@@ -107,7 +107,7 @@ asked_running laws port start new runs l over =
 module _ (laws : Laws) (port : Port) (outstanding : ℕ) (queued : Bool) (before after : ℕ) (old d : Device) (r : Resumes port outstanding queued before after old d) (first : Goes port old d) where
   -- ---- that was started, and no more
 
-  module _ (new : Device) (s : GoesOn port d new) (then : Goes port d new) (whole : Goes port old new) where
+  module _ (new : Device) (s : StartsAgain port d new) (then : Goes port d new) (whole : Goes port old new) where
     nothing_came : (Is : Entry → Type 0) → GainsRunning Is port.0 old new → ⊥
     nothing_came Is g =
         let n = ap (λ (es : List Entry). length es) g.tape ∙ length-append old.tape (g.before ++ g.entry ∷ g.later) in
@@ -145,7 +145,7 @@ module _ (laws : Laws) (port : Port) (outstanding : ℕ) (queued : Bool) (before
 
   -- ---- whose log was read
 
-  module _ (start new : Device) (s : GoesOn port d start) (then : Goes port d start) (l : LeavesRunning port.0 start new) (a : Asks port start new) (later : Goes port start new)
+  module _ (start new : Device) (s : StartsAgain port d start) (then : Goes port d start) (l : LeavesRunning port.0 start new) (a : Asks port start new) (later : Goes port start new)
       (over : IsOver (new.port port.0) 0) (running : (new.port port.0).halt ≡ NotHalted) where
     runs : IsRunning port.0 (new.port port.0)
     runs = asked_running laws port.0 start new s.runs l over

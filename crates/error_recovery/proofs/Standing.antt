@@ -12,9 +12,9 @@ use Rattle.adapter.specs.declared.command.Operation.TheVariants.{ReadLog}
 use Rattle.adapter.specs.declared.tape.Entry.{Entry}
 use Rattle.adapter.specs.declared.tape.Entry.TheVariants as entry
 use Rattle.adapter.specs.declared.tape.Fault as tape_fault
-use Rattle.agreement.specs.Driven.{Grows, SendsNone}
-use Rattle.agreement.specs.Links.{SparesRegister}
-use Rattle.agreement.specs.Slots.{IsMove}
+use Rattle.refinement.specs.Driven.{Grows, SendsNone}
+use Rattle.refinement.specs.Links.{SparesRegister}
+use Rattle.refinement.specs.Slots.{IsMove}
 use Rattle.error_recovery.specs.Evidence.{BringsLog, HasFailed}
 use Rattle.error_recovery.specs.Laws.{Laws}
 

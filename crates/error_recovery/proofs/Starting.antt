@@ -3,16 +3,16 @@ use Rattle.std.proofs.Common.{ℕ, ◌<◌, List, arith}
 use Rattle.ata_types.specs.declared.Port.{Port}
 use Rattle.adapter.specs.Device.{Device}
 use Rattle.adapter.specs.Rules.{IsOn}
-use Rattle.agreement.specs.Driven.{IsControl, IsFollowed}
-use Rattle.agreement.specs.Driver.{AllFree}
+use Rattle.refinement.specs.Driven.{IsControl, IsSimulated}
+use Rattle.refinement.specs.Driver.{AllFree}
 use Rattle.error_log.specs.Log.{TellsError}
 use Rattle.port_control.specs.Calls.{Starts}
 use Rattle.port_control.specs.Ports.{WritesCommand}
 use Rattle.error_recovery.specs.Laws.{Laws}
 use Rattle.error_recovery.specs.Laws.RegisterSet.{Commanding}
 use Rattle.error_recovery.specs.Laws.Fitting.{PortUnused}
-use Rattle.error_recovery.specs.Laws.Stretch.{Controlling}
-use Rattle.error_recovery.specs.Parts.{GoesOn, MayGoOn}
+use Rattle.error_recovery.specs.Laws.Fragment.{Controlling}
+use Rattle.error_recovery.specs.Parts.{StartsAgain, MayGoOn}
 use Rattle.error_recovery.proofs.Stretching.{room_after}
 
 -- a tag is below 32
@@ -20,7 +20,7 @@ pub tag_is_small : (page : List ℕ) (tag status error : ℕ) → TellsError pag
 tag_is_small page tag status error t = let is = t.tag_is in omega (arith, is)
 
 module _ (laws : Laws) where
-  pub goes_on : (port : Port) (old new : Device) → MayGoOn port.0 old → IsFollowed (IsControl WritesCommand port) (λ uses. AllFree uses port.0) old new → IsOn new → Starts port old new → GoesOn port old new
+  pub goes_on : (port : Port) (old new : Device) → MayGoOn port.0 old → IsSimulated (IsControl WritesCommand port) (λ uses. AllFree uses port.0) old new → IsOn new → Starts port old new → StartsAgain port old new
   goes_on port old new may followed on s =
       let a = may.agreed in
       record {
@@ -34,5 +34,5 @@ module _ (laws : Laws) where
         recorded = s.recorded may.quiet s.runs.st;
         calm = s.calm;
         changes = s.changes may.quiet.linked;
-        agreed = (a.0, a.1, laws.stretches.agreed (Controlling Commanding PortUnused port) (λ uses. uses) a.0 old new a.1 followed a.2);
+        agreed = (a.0, a.1, laws.fragments.agreed (Controlling Commanding PortUnused port) (λ uses. uses) a.0 old new a.1 followed a.2);
       }

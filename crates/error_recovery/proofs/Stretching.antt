@@ -8,18 +8,18 @@ use Rattle.hba_regs.specs.declared.reg.PortReg.{PortReg}
 use Rattle.adapter.specs.Access.{Access}
 use Rattle.adapter.specs.Device.{Device}
 use Rattle.adapter.specs.Rules.{IsOn}
-use Rattle.agreement.specs.Driven.{AnyAccess, IsAgreed, IsControl, IsDrivenBy, IsFollowed, IsTold, IsToldTo}
-use Rattle.agreement.specs.Driver.{AllFree, Known}
-use Rattle.agreement.specs.Driven.{known}
-use Rattle.agreement.specs.Facts.{IsHalted}
-use Rattle.agreement.specs.GivingUp.{parking_all}
-use Rattle.agreement.specs.Links.{SameAdapter}
-use Rattle.agreement.specs.Slots.{Uses}
+use Rattle.refinement.specs.Driven.{AnyAccess, IsRelated, IsControl, IsDrivenBy, IsSimulated, IsSimulatedAlong, IsSimulatedAlongTo}
+use Rattle.refinement.specs.Driver.{AllFree, DriverState}
+use Rattle.refinement.specs.Driven.{known}
+use Rattle.refinement.specs.Facts.{IsHalted}
+use Rattle.refinement.specs.GivingUp.{parking_all}
+use Rattle.refinement.specs.Links.{SameAdapter}
+use Rattle.refinement.specs.Slots.{SlotStates}
 use Rattle.port_control.specs.Ports.{IsClearing, WritesCommand}
-use Rattle.error_recovery.specs.Laws.{Laws, Stretch, fits_of, may_of, uses_of, Fitting}
+use Rattle.error_recovery.specs.Laws.{Laws, Fragment, fits_of, may_of, uses_of, Fitting}
 use Rattle.error_recovery.specs.Laws.RegisterSet.{Commanding, Clearing, Recovered}
-use Rattle.error_recovery.specs.Laws.Stretch.{Controlling, Recovering}
-use Rattle.error_recovery.specs.Parts.{HasRoom}
+use Rattle.error_recovery.specs.Laws.Fragment.{Controlling, Recovering}
+use Rattle.error_recovery.specs.Parts.{HasDriverMemory}
 use Rattle.error_recovery.specs.Recovery.{IsRecovered, IsRecovering}
 
 -- accesses of any kind
@@ -28,19 +28,19 @@ any May old new a = record { accesses = a.accesses; all = a.all; only = All-weak
 
 module _ (laws : Laws) where
   -- what is told of a stretch, also where it is of a wider kind
-  pub told_wider : (Tells : List Access → Type 0) (kind more : Stretch) (next : Uses → Uses) (old new : Device) → ((access : Access) → may_of kind access → may_of more access) →
-      ((uses : Uses) → fits_of more uses → fits_of kind uses) → IsToldTo Tells (may_of kind) (fits_of kind) next old new → IsToldTo Tells (may_of more) (fits_of more) next old new
+  pub told_wider : (Tells : List Access → Type 0) (kind more : Fragment) (next : SlotStates → SlotStates) (old new : Device) → ((access : Access) → may_of kind access → may_of more access) →
+      ((uses : SlotStates) → fits_of more uses → fits_of kind uses) → IsSimulatedAlongTo Tells (may_of kind) (fits_of kind) next old new → IsSimulatedAlongTo Tells (may_of more) (fits_of more) next old new
   told_wider Tells kind more next old new wider fits a =
-      let f = laws.stretches.wider kind more next wider fits old new a.followed in
+      let f = laws.fragments.wider kind more next wider fits old new a.followed in
       record { followed = f.followed; tells = subst Tells (sym f.tells) a.tells }
 
   -- of two, one after another
   pub told_both : (First Second Tells : List Access → Type 0) → ((early late : List Access) → First early → Second late → Tells (early ++ late)) →
-      (kind more : Stretch) (first second : Uses → Uses) → ((access : Access) → may_of more access → may_of kind access) → ((uses : Uses) → fits_of kind uses → fits_of more (first uses)) →
-      (old mid new : Device) → IsToldTo First (may_of kind) (fits_of kind) first old mid → IsToldTo Second (may_of more) (fits_of more) second mid new →
-      IsToldTo Tells (may_of kind) (fits_of kind) (λ uses. second (first uses)) old new
+      (kind more : Fragment) (first second : SlotStates → SlotStates) → ((access : Access) → may_of more access → may_of kind access) → ((uses : SlotStates) → fits_of kind uses → fits_of more (first uses)) →
+      (old mid new : Device) → IsSimulatedAlongTo First (may_of kind) (fits_of kind) first old mid → IsSimulatedAlongTo Second (may_of more) (fits_of more) second mid new →
+      IsSimulatedAlongTo Tells (may_of kind) (fits_of kind) (λ uses. second (first uses)) old new
   told_both First Second Tells join kind more first second wider on old mid new a b =
-      let f = laws.stretches.both kind more first second wider on old mid new a.followed b.followed in
+      let f = laws.fragments.both kind more first second wider on old mid new a.followed b.followed in
       record { followed = f.followed; tells = subst Tells (sym f.tells) (join a.followed.driven.accesses b.followed.driven.accesses a.tells b.tells) }
 
   -- ---- of the kind of recovery
@@ -58,24 +58,24 @@ module _ (laws : Laws) where
   clears_recover port access is = inl (laws.control_wider Clearing Recovered port clearing access is)
 
   -- PxCMD alone is written
-  pub told_commands : (Tells : List Access → Type 0) (fitting : Fitting) (port : Port) (old new : Device) → IsTold Tells (IsControl WritesCommand port) (uses_of fitting port) old new →
-      IsTold Tells (IsRecovering port) (uses_of fitting port) old new
+  pub told_commands : (Tells : List Access → Type 0) (fitting : Fitting) (port : Port) (old new : Device) → IsSimulatedAlong Tells (IsControl WritesCommand port) (uses_of fitting port) old new →
+      IsSimulatedAlong Tells (IsRecovering port) (uses_of fitting port) old new
   told_commands Tells fitting port old new a = told_wider Tells (Controlling Commanding fitting port) (Recovering fitting port) (λ uses. uses) old new (commands_recover port) (λ uses fits. fits) a
 
   -- PxCMD alone is accessed then, as before
-  pub only_commands : (Tells : List Access → Type 0) (fitting : Fitting) (port : Port) (old new : Device) → (a : IsTold Tells (IsControl WritesCommand port) (uses_of fitting port) old new) →
+  pub only_commands : (Tells : List Access → Type 0) (fitting : Fitting) (port : Port) (old new : Device) → (a : IsSimulatedAlong Tells (IsControl WritesCommand port) (uses_of fitting port) old new) →
       All (IsControl WritesCommand port) (told_commands Tells fitting port old new a).followed.driven.accesses
   unfolding told_commands told_wider
   only_commands Tells fitting port old new a =
-      let f = laws.stretches.wider (Controlling Commanding fitting port) (Recovering fitting port) (λ uses. uses) (commands_recover port) (λ uses fits. fits) old new a.followed in
+      let f = laws.fragments.wider (Controlling Commanding fitting port) (Recovering fitting port) (λ uses. uses) (commands_recover port) (λ uses fits. fits) old new a.followed in
       subst (All (IsControl WritesCommand port)) (sym f.tells) a.followed.driven.only
 
-  pub followed_commands : (fitting : Fitting) (port : Port) (old new : Device) → IsFollowed (IsControl WritesCommand port) (uses_of fitting port) old new → IsFollowed (IsRecovering port) (uses_of fitting port) old new
+  pub followed_commands : (fitting : Fitting) (port : Port) (old new : Device) → IsSimulated (IsControl WritesCommand port) (uses_of fitting port) old new → IsSimulated (IsRecovering port) (uses_of fitting port) old new
   followed_commands fitting port old new a = (told_commands (λ made. Unit {0}) fitting port old new (record { followed = a; tells = tt })).followed
 
   -- ---- what stays
 
-  pub room_after : (May : Access → Type 0) (port : ℕ) (old new : Device) → IsDrivenBy May old new → IsOn new → HasRoom port old → HasRoom port new
+  pub room_after : (May : Access → Type 0) (port : ℕ) (old new : Device) → IsDrivenBy May old new → IsOn new → HasDriverMemory port old → HasDriverMemory port new
   room_after May port old new driven on r =
       let same : SameAdapter old new = laws.same_any old new (any May old new driven) in
       record {
@@ -85,9 +85,9 @@ module _ (laws : Laws) where
       }
 
   -- the slots of a port that has halted may be given up
-  pub agreed_free : (uses : Uses) (port : ℕ) (d : Device) → IsHalted (d.port port) → IsAgreed uses d → (free : Uses) × AllFree free port × IsAgreed free d
+  pub agreed_free : (uses : SlotStates) (port : ℕ) (d : Device) → IsHalted (d.port port) → IsRelated uses d → (free : SlotStates) × AllFree free port × IsRelated free d
   agreed_free uses port d halted a =
-      let k : Known = known uses a.parked d in (
+      let k : DriverState = known uses a.parked d in (
         (parking_all k port).uses,
         laws.given_up_free k port,
         record { machine = a.machine; parked = (parking_all k port).parked; reached = a.reached; knows = laws.given_up_halted k a.machine port a.knows halted },

@@ -5,23 +5,23 @@ use Rattle.std.proofs.lemmas.List.Elements.{All-append}
 use Rattle.ata_types.specs.declared.Port.{Port}
 use Rattle.adapter.specs.Access.{Access}
 use Rattle.adapter.specs.Device.{Device}
-use Rattle.agreement.specs.Acts.{AnySlots, ByDeviceAlone, Performs}
+use Rattle.refinement.specs.Acts.{AnySlots, ByDeviceAlone, Performs}
 use Rattle.adapter.specs.declared.command.Operation.{Operation}
 use Rattle.hba_regs.specs.declared.reg.PortReg.{PortReg}
 use Rattle.hba_regs.specs.declared.reg.PortReg.TheVariants.{Ci, Sact}
 use Rattle.hba_regs.specs.declared.reg.Reg.TheVariants.{Px}
-use Rattle.agreement.specs.Driven.{known, AgreesWith, IsFollowed, IsFollowedTo, IsToldTo, NoneWrites, SendsNone}
-use Rattle.agreement.specs.Driver.{AllFree, Known}
-use Rattle.agreement.specs.GivingUp.{given_up, parking_all}
-use Rattle.agreement.specs.Slots.{Own, Use, Uses, op_of}
+use Rattle.refinement.specs.Driven.{known, RelatesWith, IsSimulated, IsSimulatedTo, IsSimulatedAlongTo, NoneWrites, SendsNone}
+use Rattle.refinement.specs.Driver.{AllFree, DriverState}
+use Rattle.refinement.specs.GivingUp.{given_up, parking_all}
+use Rattle.refinement.specs.Slots.{Own, SlotState, SlotStates, op_of}
 use Rattle.disk_page.specs.Asking.{IsAsking}
 use Rattle.command_table.specs.Written.{IsUnused}
 use Rattle.port_control.specs.Engines.{Stops}
 use Rattle.error_recovery.specs.Laws.{Laws}
 use Rattle.error_recovery.specs.Laws.Fitting.{AnyUses, PortUnused}
 use Rattle.error_recovery.specs.Laws.RegisterSet.{Recovered}
-use Rattle.error_recovery.specs.Laws.Stretch.{Asking, Recovering}
-use Rattle.error_recovery.specs.Parts.{GoesOn, Resumes}
+use Rattle.error_recovery.specs.Laws.Fragment.{Asking, Recovering}
+use Rattle.error_recovery.specs.Parts.{StartsAgain, Resumes}
 use Rattle.error_recovery.specs.Recovery.{IsRecovering, IssueNone}
 use Rattle.error_recovery.proofs.Going.{Goes, goes_over}
 use Rattle.error_recovery.proofs.Resting.{IsTold, is_told}
@@ -37,20 +37,20 @@ module _ (laws : Laws) (port : Port) (outstanding : ℕ) (queued : Bool) (before
 
   -- ---- what came since the port was stopped
 
-  pub quieted_told : IsToldTo (IssueNone port) (IsRecovering port) (λ uses. AllFree uses port.0) (λ uses. uses) r.quiets.stopped d
+  pub quieted_told : IsSimulatedAlongTo (IssueNone port) (IsRecovering port) (λ uses. AllFree uses port.0) (λ uses. uses) r.quiets.stopped d
   quieted_told = told_wider laws (IssueNone port) (Recovering AnyUses port) (Recovering PortUnused port) (λ uses. uses) r.quiets.stopped d (λ access is. is) (λ uses free. tt) r.quiets.forgets
 
-  abbrev pub quieted : IsFollowed (IsRecovering port) (λ uses. AllFree uses port.0) r.quiets.stopped d
+  abbrev pub quieted : IsSimulated (IsRecovering port) (λ uses. AllFree uses port.0) r.quiets.stopped d
   quieted = quieted_told.followed
 
   -- it was started
-  pub started : (new : Device) → GoesOn port d new → IsFollowed (IsRecovering port) (λ uses. AllFree uses port.0) r.quiets.stopped new
-  started new s = (laws.stretches.both (Recovering PortUnused port) (Recovering PortUnused port) (λ uses. uses) (λ uses. uses) (λ access is. is) (λ uses free. free) r.quiets.stopped d new quieted
+  pub started : (new : Device) → StartsAgain port d new → IsSimulated (IsRecovering port) (λ uses. AllFree uses port.0) r.quiets.stopped new
+  started new s = (laws.fragments.both (Recovering PortUnused port) (Recovering PortUnused port) (λ uses. uses) (λ uses. uses) (λ access is. is) (λ uses free. free) r.quiets.stopped d new quieted
       (followed_commands laws PortUnused port d new s.starts)).followed
 
   -- and asked for the log
-  pub asked : (Tells : List Access → Type 0) → ((early late : List Access) → Tells late → Tells (early ++ late)) → (next : Uses → Uses) (start new : Device) → GoesOn port d start →
-      IsToldTo Tells (IsAsking port) (IsUnused port.0 0) next start new → IsToldTo Tells (IsRecovering port) (λ uses. AllFree uses port.0) next r.quiets.stopped new
+  pub asked : (Tells : List Access → Type 0) → ((early late : List Access) → Tells late → Tells (early ++ late)) → (next : SlotStates → SlotStates) (start new : Device) → StartsAgain port d start →
+      IsSimulatedAlongTo Tells (IsAsking port) (IsUnused port.0 0) next start new → IsSimulatedAlongTo Tells (IsRecovering port) (λ uses. AllFree uses port.0) next r.quiets.stopped new
   asked Tells since next start new s a =
       told_both laws (λ made. Unit {0}) Tells Tells (λ early late any is. since early late is) (Recovering PortUnused port) (Recovering PortUnused port) (λ uses. uses) next
       (λ access is. is) (λ uses free. free) r.quiets.stopped start new (record { followed = started start s; tells = tt })
@@ -58,7 +58,7 @@ module _ (laws : Laws) (port : Port) (outstanding : ℕ) (queued : Bool) (before
 
   -- ---- the whole
 
-  module _ (next : Uses → Uses) (new : Device) (b : IsFollowedTo (IsRecovering port) (λ uses. AllFree uses port.0) next r.quiets.stopped new) where
+  module _ (next : SlotStates → SlotStates) (new : Device) (b : IsSimulatedTo (IsRecovering port) (λ uses. AllFree uses port.0) next r.quiets.stopped new) where
     abbrev pub total : List Access
     total = first ++ b.driven.accesses
 
@@ -80,13 +80,13 @@ module _ (laws : Laws) (port : Port) (outstanding : ℕ) (queued : Bool) (before
         is_told laws port outstanding queued before after old d r total (begins.rest ++ b.driven.accesses) new (ap (λ (made : List Access). made ++ b.driven.accesses) begins.here) performs.does
 
     -- another port's disk sends no page for a command that its slot 0 hasn't
-    pub silent_others : (q : Port) (o : Operation) → q.0 ≢ port.0 → op_of o ≡ None → AgreesWith (λ uses. uses q.0 0 ≡ Own o → ⊥) old → SendsNone q.0 o old new
+    pub silent_others : (q : Port) (o : Operation) → q.0 ≢ port.0 → op_of o ≡ None → RelatesWith (λ uses. uses q.0 0 ≡ Own o → ⊥) old → SendsNone q.0 o old new
     silent_others q o apart own (uses, none, agreed) =
-        let stopped = laws.stretches.agreed (Recovering AnyUses port) (λ uses. uses) uses old r.quiets.stopped tt r.quiets.stops.followed agreed in
-        let k : Known = known uses stopped.parked r.quiets.stopped in
+        let stopped = laws.fragments.agreed (Recovering AnyUses port) (λ uses. uses) uses old r.quiets.stopped tt r.quiets.stops.followed agreed in
+        let k : DriverState = known uses stopped.parked r.quiets.stopped in
         let left : (parking_all k port.0).uses q.0 ≡ uses q.0 = (laws.given_up_others k port.0 q.0 apart).0 in
         laws.silent_more q.0 o old r.quiets.stopped new
-        (laws.stretches.silent (Recovering AnyUses port) (λ uses. uses) uses q o old r.quiets.stopped tt (spares_other laws port q Ci apart) (spares_other laws port q Sact apart) own none r.quiets.stops.followed agreed)
-        (laws.stretches.silent (Recovering PortUnused port) next (parking_all k port.0).uses q o r.quiets.stopped new (laws.given_up_free k port.0) (spares_other laws port q Ci apart) (spares_other laws port q Sact apart) own
-        (λ is. none (ap (λ (slots : ℕ → Use). slots 0) (sym left) ∙ is)) b
+        (laws.fragments.silent (Recovering AnyUses port) (λ uses. uses) uses q o old r.quiets.stopped tt (spares_other laws port q Ci apart) (spares_other laws port q Sact apart) own none r.quiets.stops.followed agreed)
+        (laws.fragments.silent (Recovering PortUnused port) next (parking_all k port.0).uses q o r.quiets.stopped new (laws.given_up_free k port.0) (spares_other laws port q Ci apart) (spares_other laws port q Sact apart) own
+        (λ is. none (ap (λ (slots : ℕ → SlotState). slots 0) (sym left) ∙ is)) b
         (record { machine = stopped.machine; parked = (parking_all k port.0).parked; reached = stopped.reached; knows = laws.given_up_halted k stopped.machine port.0 stopped.knows r.quiets.stands }))

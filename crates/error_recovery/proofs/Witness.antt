@@ -9,18 +9,18 @@ use Rattle.adapter.specs.Device.{Device, Halt, Notes}
 use Rattle.adapter.specs.Device.Halt.{HaltedPlain, HaltedQueued}
 use Rattle.adapter.specs.FirstRead.{first_read}
 use Rattle.adapter.specs.Memory.{changed}
-use Rattle.agreement.specs.Agrees.{port_at}
-use Rattle.agreement.specs.Driven.{IsAgreed}
-use Rattle.agreement.specs.Facts.{HasFaults, IsFaulted}
-use Rattle.agreement.specs.Recovered.{FaultIsSeen}
-use Rattle.agreement.specs.Served.{TwoAreKnown, armed_uses, second_id, two_issued, two_known}
-use Rattle.agreement.specs.Slots.{Free, Serves, Use, Uses, put}
-use Rattle.agreement.specs.Witness.{FirstIsKnown, first_id, first_uses}
+use Rattle.refinement.specs.Relation.{port_at}
+use Rattle.refinement.specs.Driven.{IsRelated}
+use Rattle.refinement.specs.Facts.{HasFaults, IsFaulted}
+use Rattle.refinement.specs.Recovered.{FaultIsSeen}
+use Rattle.refinement.specs.Served.{TwoAreKnown, armed_uses, second_id, two_issued, two_known}
+use Rattle.refinement.specs.Slots.{Free, Serves, SlotState, SlotStates, put}
+use Rattle.refinement.specs.Witness.{FirstIsKnown, first_id, first_uses}
 use Rattle.port_control.specs.Ports.{programmed}
 use Rattle.error_recovery.specs.Laws.{Laws}
 use Rattle.error_recovery.specs.Laws.Fitting.{AnyUses}
-use Rattle.error_recovery.specs.Laws.Stretch.{Recovering}
-use Rattle.error_recovery.specs.Parts.{HasRoom}
+use Rattle.error_recovery.specs.Laws.Fragment.{Recovering}
+use Rattle.error_recovery.specs.Parts.{HasDriverMemory}
 use Rattle.error_recovery.specs.Recovery.{IsAloneIn, IsRecovering, MayRecover}
 use Rattle.error_recovery.specs.Witness.{MayBeAsked}
 use Rattle.error_recovery.proofs.Going.{goes_over}
@@ -30,7 +30,7 @@ use Rattle.error_recovery.proofs.Stretching.{room_after}
 
 -- Port 0 runs with its areas in their places, COMRESET isn't being sent, and its faults are on record.
 record RunsPlaced (d : Device) : Type 0 where
-  room : HasRoom 0 d
+  room : HasDriverMemory 0 d
   st : (d.port 0).st ≡ true
   cr : (d.port 0).cr ≡ true
   fre : (d.port 0).fre ≡ true
@@ -39,15 +39,15 @@ record RunsPlaced (d : Device) : Type 0 where
   recorded : HasFaults d.tape (d.port 0) 0
 
 module _ (laws : Laws) (old : Device) (slot : ℕ) (halt : Halt) (runs : RunsPlaced old) (f : FaultIsSeen old slot halt) where
-  seen_room : HasRoom 0 f.seen
+  seen_room : HasDriverMemory 0 f.seen
   seen_room =
-      let a = (laws.stretches.reads (Recovering AnyUses (port_at 0)) (Px (port_at 0) Ssts) 3 old f.seen (inl refl) f.sees).followed.driven in
+      let a = (laws.fragments.reads (Recovering AnyUses (port_at 0)) (Px (port_at 0) Ssts) 3 old f.seen (inl refl) f.sees).followed.driven in
       room_after laws (IsRecovering (port_at 0)) 0 old f.seen a (goes_over laws (port_at 0) a.accesses old f.seen runs.room.on a.only a.all).on runs.room
 
-  seen_agreed : (uses : Uses) → IsAgreed uses old → IsAgreed uses f.seen
+  seen_agreed : (uses : SlotStates) → IsRelated uses old → IsRelated uses f.seen
   seen_agreed uses agreed =
-      laws.stretches.agreed (Recovering AnyUses (port_at 0)) (λ uses. uses) uses old f.seen tt
-      (laws.stretches.reads (Recovering AnyUses (port_at 0)) (Px (port_at 0) Ssts) 3 old f.seen (inl refl) f.sees).followed agreed
+      laws.fragments.agreed (Recovering AnyUses (port_at 0)) (λ uses. uses) uses old f.seen tt
+      (laws.fragments.reads (Recovering AnyUses (port_at 0)) (Px (port_at 0) Ssts) 3 old f.seen (inl refl) f.sees).followed agreed
 
   seen_may : IsFaulted halt → MayRecover 0 f.seen
   seen_may faulted =
@@ -98,8 +98,8 @@ first_alone plain slot low set = ⊎_elim
     (cases_eq slot 0)
 
 module _ (laws : Laws)
-    (here : (uses : Uses) (port slot : ℕ) (u : Use) → put uses port slot u port slot ≡ u)
-    (others : (uses : Uses) (port slot : ℕ) (u : Use) (other_port other_slot : ℕ) → (other_port ≡ port → other_slot ≡ slot → ⊥) → put uses port slot u other_port other_slot ≡ uses other_port other_slot) where
+    (here : (uses : SlotStates) (port slot : ℕ) (u : SlotState) → put uses port slot u port slot ≡ u)
+    (others : (uses : SlotStates) (port slot : ℕ) (u : SlotState) (other_port other_slot : ℕ) → (other_port ≡ port → other_slot ≡ slot → ⊥) → put uses port slot u other_port other_slot ≡ uses other_port other_slot) where
   pub plain_may_be_asked : FaultIsSeen first_read 0 HaltedPlain → FirstIsKnown → MayBeAsked false
   plain_may_be_asked f k = record {
     device = f.seen;
@@ -144,5 +144,5 @@ module _ (laws : Laws)
     among = ap (λ (slot : ℕ). bit 3 slot) f.of.1;
   }
     where
-      uses : Uses
+      uses : SlotStates
       uses = (two_known two_issued).uses

@@ -4,16 +4,16 @@ use Rattle.ata_types.specs.declared.Port.{Port}
 use Rattle.hba_regs.specs.declared.reg.PortReg.TheVariants.{Cmd}
 use Rattle.hba_regs.specs.declared.reg.Reg.TheVariants.{Px}
 use Rattle.adapter.specs.Access.{Access, DoesAll}
-use Rattle.adapter.specs.Device.{PortState, Device}
+use Rattle.adapter.specs.Device.{DevicePort, Device}
 use Rattle.adapter.specs.declared.command.Operation.TheVariants.{ReadLog}
 use Rattle.adapter.specs.declared.tape.Entry.{Entry}
 use Rattle.adapter.specs.declared.tape.Entry.TheVariants as entry
 use Rattle.adapter.specs.declared.tape.Fault as tape_fault
 use Rattle.adapter.specs.declared.tape.Move as tape_move
-use Rattle.agreement.specs.Errors.{IsFatalOf}
-use Rattle.agreement.specs.Facts.{IsFaultOf}
-use Rattle.agreement.specs.Links.{IsPlugging, SparesRegister}
-use Rattle.agreement.specs.Slots.{IsMove}
+use Rattle.refinement.specs.Errors.{IsFatalOf}
+use Rattle.refinement.specs.Facts.{IsFaultOf}
+use Rattle.refinement.specs.Links.{IsPlugging, SparesRegister}
+use Rattle.refinement.specs.Slots.{IsMove}
 
 -- ---- evidence
 
@@ -58,7 +58,7 @@ pub record GainsRunning (Is : Entry → Type 0) (port : ℕ) (old new : Device) 
   pub since : (new.port port).notes.st_set_at ≤ length old.tape + length before
 
 -- IFS, HBDS or HBFS is set: an error of the interface or of the host's bus, which ST ends when it is set anew
-pub record ShowsFatal (p : PortState) : Type 0 where
+pub record ShowsFatal (p : DevicePort) : Type 0 where
   pub place : ℕ
   pub from : 27 ≤ place
   pub to : place ≤ 29

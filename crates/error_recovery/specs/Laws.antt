@@ -8,26 +8,26 @@ use Rattle.hba_regs.specs.declared.reg.Reg.{Reg}
 use Rattle.hba_regs.specs.declared.reg.Reg.TheVariants.{Ghc, Px}
 use Rattle.adapter.specs.Access.{Access, Does, Reads}
 use Rattle.adapter.specs.Access.Access.{Writing}
-use Rattle.adapter.specs.Device.{Device, PortState}
+use Rattle.adapter.specs.Device.{Device, DevicePort}
 use Rattle.adapter.specs.Device.Halt.{NotHalted}
 use Rattle.adapter.specs.Rules.{IsOn}
 use Rattle.adapter.specs.Seen.{SeenAt}
 use Rattle.adapter.specs.declared.command.Operation.{Operation}
 use Rattle.adapter.specs.declared.tape.Entry.{Entry}
 use Rattle.block_machine.specs.State.{Machine}
-use Rattle.agreement.specs.Laws.{StretchLaws, TapeLaws}
-use Rattle.agreement.specs.Acts.{ByDeviceAlone, Performs}
-use Rattle.agreement.specs.Agrees.{Agrees}
-use Rattle.agreement.specs.Driven.{AnyAccess, AnyUse, HasNoCommand, IsAgreed, IsControl, IsDrivenBy, IsFollowed, IsFollowedTo, IsOf, NoneWrites, SendsNone}
-use Rattle.agreement.specs.Driver.{AllFree, Known, Knows}
-use Rattle.agreement.specs.Errors.{ChangesByErrors, NoneFails, NoneFatal}
-use Rattle.agreement.specs.Facts.{IsFaulted, IsHalted, IsRecorded, RunsWell, ShowsFault, ShowsNoTrouble}
-use Rattle.agreement.specs.GivingUp.{given_up, parking_all}
-use Rattle.agreement.specs.Links.{LeavesControls, PlugsNone, SameAdapter, SparesRegister}
-use Rattle.agreement.specs.Noted.{LeavesNotes}
-use Rattle.agreement.specs.Recovering.{IsLinked, RunsLinked, WorksPlainly}
-use Rattle.agreement.specs.Slots.{Free, IsOver, Own, Uses, put}
-use Rattle.agreement.specs.Started.{ClearsNoStart, IsStarted, IsUp}
+use Rattle.refinement.specs.Laws.{FragmentLaws, TapeLaws}
+use Rattle.refinement.specs.Acts.{ByDeviceAlone, Performs}
+use Rattle.refinement.specs.Relation.{StateRelation}
+use Rattle.refinement.specs.Driven.{AnyAccess, AnyUse, HasNoCommand, IsRelated, IsControl, IsDrivenBy, IsSimulated, IsSimulatedTo, IsOf, NoneWrites, SendsNone}
+use Rattle.refinement.specs.Driver.{AllFree, DriverState, DriverRelation}
+use Rattle.refinement.specs.Errors.{ChangesByErrors, NoneFails, NoneFatal}
+use Rattle.refinement.specs.Facts.{IsFaulted, IsHalted, IsRecorded, RunsWell, ShowsFault, ShowsNoTrouble}
+use Rattle.refinement.specs.GivingUp.{given_up, parking_all}
+use Rattle.refinement.specs.Links.{LeavesControls, PlugsNone, SameAdapter, SparesRegister}
+use Rattle.refinement.specs.Noted.{LeavesNotes}
+use Rattle.refinement.specs.Recovering.{IsLinked, RunsLinked, WorksPlainly}
+use Rattle.refinement.specs.Slots.{Free, IsOver, Own, SlotStates, put}
+use Rattle.refinement.specs.Started.{ClearsNoStart, IsStarted, IsUp}
 use Rattle.command_table.specs.Written.{IsUnused}
 use Rattle.disk_page.specs.Asking.{IsAsking, LeavesRunning, WaitsInVain}
 use Rattle.port_control.specs.Engines.{FailsToStop, Falls, Sticks}
@@ -54,22 +54,22 @@ pub data Fitting : Type 0 where
   AnyUses : Fitting
   PortUnused : Fitting
 
-abbrev pub uses_of : Fitting → Port → Uses → Type 0
+abbrev pub uses_of : Fitting → Port → SlotStates → Type 0
 uses_of AnyUses port = AnyUse
 uses_of PortUnused port = λ uses. AllFree uses port.0
 
 -- a port's registers are read, and those of a set written; its disk is asked for the log; or it is recovered
-pub data Stretch : Type 0 where
-  Controlling : RegisterSet → Fitting → Port → Stretch
-  Asking : Port → Stretch
-  Recovering : Fitting → Port → Stretch
+pub data Fragment : Type 0 where
+  Controlling : RegisterSet → Fitting → Port → Fragment
+  Asking : Port → Fragment
+  Recovering : Fitting → Port → Fragment
 
-abbrev pub may_of : Stretch → Access → Type 0
+abbrev pub may_of : Fragment → Access → Type 0
 may_of (Controlling set fitting port) = IsControl (registers_of set) port
 may_of (Asking port) = IsAsking port
 may_of (Recovering fitting port) = IsRecovering port
 
-abbrev pub fits_of : Stretch → Uses → Type 0
+abbrev pub fits_of : Fragment → SlotStates → Type 0
 fits_of (Controlling set fitting port) = uses_of fitting port
 fits_of (Asking port) = IsUnused port.0 0
 fits_of (Recovering fitting port) = uses_of fitting port
@@ -109,16 +109,17 @@ pub record Laws : Type 0 where
   pub access_runs_linked : (port : Port) (access : Access) (old new : Device) → old.hr ≡ false
       → ClearsNoStart port access → SparesRegister (Px port Sctl) access → PlugsNone port.0 old new
       → NoneFatal port.0 old new → Does access old new → RunsLinked (old.port port.0) → RunsLinked (new.port port.0)
-  pub up_of : (p : PortState) → IsLinked p → WorksPlainly p → IsUp p
-  pub well_of : (p : PortState) → IsStarted p → ShowsNoTrouble p → RunsWell p
-  pub runs_well : (p : PortState) → RunsLinked p → p.halt ≡ NotHalted → p.is 30 ≡ false → p.serr_n ≡ false
+  pub up_of : (p : DevicePort) → IsLinked p → WorksPlainly p → IsUp p
+  pub well_of : (p : DevicePort) → IsStarted p → ShowsNoTrouble p → RunsWell p
+  pub runs_well : (p : DevicePort) → RunsLinked p → p.halt ≡ NotHalted → p.is 30 ≡ false → p.serr_n ≡ false
       → p.serr_x ≡ false → ((place : ℕ) → 27 ≤ place → place ≤ 29 → p.is place ≡ false) → RunsWell p
   -- the fault
   pub fault_shown : (port : Port) (v : ℕ) (old new : Device) → old.hr ≡ false → (old.port port.0).st ≡ true
       → IsRecorded old.tape (old.port port.0) port.0 → IsFaulted (old.port port.0).halt → Reads (Px port Tfd) v old new
       → (s : ShowsFault (drop (new.port port.0).notes.st_set_at new.tape) (new.port port.0) port.0)
       × (v % 256 ≡ s.fault.status) × (v / 256 % 256 ≡ s.fault.error)
-  pub fault_sole : (uses : Uses) (m : Machine) (d : Device) (port slot : ℕ) (entries : List Entry) → Agrees uses m d
+  pub fault_sole : (uses : SlotStates) (m : Machine) (d : Device) (port slot : ℕ) (entries : List Entry)
+      → StateRelation uses m d
       → (s : ShowsFault entries (d.port port) port) → ((other : ℕ) → other ≢ slot → uses port other ≡ Free)
       → s.fault.slot.0 ≡ slot
   -- pages and slots
@@ -127,13 +128,14 @@ pub record Laws : Type 0 where
   pub controls_unmoving : (port : Port) (o : Operation) (old new : Device)
       → IsDrivenBy (IsControl (λ r. r ≢ Ci) port) old new → HasNoCommand (old.port port.0) → SendsNone port.0 o old new
       × HasNoCommand (new.port port.0)
-  pub given_up_halted : (k : Known) (m : Machine) (port : ℕ) → Knows m k → IsHalted (k.device.port port)
-      → Knows m (parking_all k port)
-  pub given_up_free : (k : Known) (port : ℕ) → AllFree (parking_all k port).uses port
-  pub given_up_others : (k : Known) (port other : ℕ) → other ≢ port → ((parking_all k port).uses other ≡ k.uses other)
+  pub given_up_halted : (k : DriverState) (m : Machine) (port : ℕ) → DriverRelation m k → IsHalted (k.device.port port)
+      → DriverRelation m (parking_all k port)
+  pub given_up_free : (k : DriverState) (port : ℕ) → AllFree (parking_all k port).uses port
+  pub given_up_others : (k : DriverState) (port other : ℕ) → other ≢ port
+      → ((parking_all k port).uses other ≡ k.uses other)
       × ((parking_all k port).parked other ≡ k.parked other)
-  pub put_here : (uses : Uses) (port slot : ℕ) (o : Operation) → put uses port slot (Own o) port slot ≡ Own o
-  -- stretches
+  pub put_here : (uses : SlotStates) (port slot : ℕ) (o : Operation) → put uses port slot (Own o) port slot ≡ Own o
+  -- fragments
   pub same_any : (old new : Device) → IsDrivenBy AnyAccess old new → SameAdapter old new
   pub of_spares_ghc : (port : Port) (access : Access) → IsOf port access → SparesRegister Ghc access
   pub of_spares : (port q : Port) (r : PortReg) → q.0 ≢ port.0 → (access : Access) → IsOf port access
@@ -158,17 +160,19 @@ pub record Laws : Type 0 where
   pub control_wider : (set more : RegisterSet) (port : Port)
       → ((r : PortReg) → registers_of set r → registers_of more r) → (access : Access)
       → IsControl (registers_of set) port access → IsControl (registers_of more) port access
-  pub stretches : StretchLaws Stretch may_of fits_of
-  pub plain : (kind : Stretch) (next : Uses → Uses) (uses : Uses) (port : Port) (old new : Device) → fits_of kind uses
-      → NoneWrites (may_of kind) (Px port Sact) → IsFollowedTo (may_of kind) (fits_of kind) next old new
-      → IsAgreed uses old → WorksPlainly (old.port port.0) → WorksPlainly (new.port port.0)
-  pub one : (kind : Stretch) (next : Uses → Uses) (old new : Device)
-      → (a : IsFollowedTo (may_of kind) (fits_of kind) next old new)
+  pub fragments : FragmentLaws Fragment may_of fits_of
+  pub plain : (kind : Fragment) (next : SlotStates → SlotStates) (uses : SlotStates) (port : Port) (old new : Device)
+      → fits_of kind uses
+      → NoneWrites (may_of kind) (Px port Sact) → IsSimulatedTo (may_of kind) (fits_of kind) next old new
+      → IsRelated uses old → WorksPlainly (old.port port.0) → WorksPlainly (new.port port.0)
+  pub one : (kind : Fragment) (next : SlotStates → SlotStates) (old new : Device)
+      → (a : IsSimulatedTo (may_of kind) (fits_of kind) next old new)
       → Performs a.driven.accesses (λ s m. fits_of kind s.uses) (λ s. record s { uses = next s.uses }) ByDeviceAlone old
       new
-  pub giving_up : (kind then : Stretch) (next : Uses → Uses) (port : ℕ) (old mid new : Device)
-      → (a : IsFollowed (may_of kind) (fits_of kind) old mid) → IsHalted (mid.port port)
-      → ((uses : Uses) → AllFree uses port → fits_of then uses)
-      → (b : IsFollowedTo (may_of then) (fits_of then) next mid new) → Performs (a.driven.accesses ++ b.driven.accesses)
+  pub giving_up : (kind then : Fragment) (next : SlotStates → SlotStates) (port : ℕ) (old mid new : Device)
+      → (a : IsSimulated (may_of kind) (fits_of kind) old mid) → IsHalted (mid.port port)
+      → ((uses : SlotStates) → AllFree uses port → fits_of then uses)
+      → (b : IsSimulatedTo (may_of then) (fits_of then) next mid new)
+      → Performs (a.driven.accesses ++ b.driven.accesses)
       (λ s m. fits_of kind s.uses) (λ s. record (given_up port s) { uses = next (given_up port s).uses }) ByDeviceAlone
       old new

@@ -10,24 +10,24 @@ use Rattle.adapter.specs.Access.Access.{Reading}
 use Rattle.adapter.specs.Device.{Device}
 use Rattle.adapter.specs.Rules.{IsOn, HasPort}
 use Rattle.adapter.specs.declared.command.Operation.TheVariants.{Identify, ReadLog}
-use Rattle.agreement.specs.Driven.{AgreesWith, AnyUse, IsFollowed, IsControl, IsTold, SendsNone}
-use Rattle.agreement.specs.Driver.{AllFree}
-use Rattle.agreement.specs.Errors.{ChangesByDisks}
-use Rattle.agreement.specs.Facts.{HasFaults, IsHalted, IsQuiet}
-use Rattle.agreement.specs.Links.{PlugsNone}
-use Rattle.agreement.specs.Recovering.{IsLinked, RunsLinked, WorksPlainly}
-use Rattle.agreement.specs.Started.{IsStarted, IsUp}
-use Rattle.agreement.specs.Slots.{Own}
-use Rattle.disk_page.specs.Asking.{Reads}
+use Rattle.refinement.specs.Driven.{RelatesWith, AnyUse, IsSimulated, IsControl, IsSimulatedAlong, SendsNone}
+use Rattle.refinement.specs.Driver.{AllFree}
+use Rattle.refinement.specs.Errors.{ChangesByDisks}
+use Rattle.refinement.specs.Facts.{HasFaults, IsHalted, IsQuiet}
+use Rattle.refinement.specs.Links.{PlugsNone}
+use Rattle.refinement.specs.Recovering.{IsLinked, RunsLinked, WorksPlainly}
+use Rattle.refinement.specs.Started.{IsStarted, IsUp}
+use Rattle.refinement.specs.Slots.{Own}
+use Rattle.disk_page.specs.Asking.{ReadsPage}
 use Rattle.error_log.specs.Log.{TellsError, TellsNoError}
-use Rattle.error_log.specs.declared.Failure.{Failure}
+use Rattle.error_log.specs.declared.FailedSlot.{FailedSlot}
 use Rattle.port_control.specs.Engines.{Sticks, Stops}
-use Rattle.port_control.specs.Ports.{HasClearErrors, IsRunning, ReceivesFises, SameButStart, Shows, ShowsIdle, WritesCommand}
+use Rattle.port_control.specs.Ports.{HasClearErrors, IsRunning, ReceivesFises, SameButStart, BacksFault, ShowsIdle, WritesCommand}
 use Rattle.port_control.specs.declared.PortFault.TheVariants.{EngineStuck}
 use Rattle.error_recovery.specs.Recovery.{FitsFor, IsAloneIn, IsRecovering, IssueNone, MayRecover, NamesForeign}
 
 -- the adapter is on and has the port and memory for the driver's frames
-pub record HasRoom (port : ℕ) (d : Device) : Type 0 where
+pub record HasDriverMemory (port : ℕ) (d : Device) : Type 0 where
   pub on : IsOn d
   pub there : HasPort d port
   pub room : DRIVER_BYTES ≤ d.size
@@ -35,22 +35,23 @@ pub record HasRoom (port : ℕ) (d : Device) : Type 0 where
 -- ---- a port that is quieted
 
 -- PxTFD was read first of all, with this value
-pub record Begins (port : Port) (shown : ℕ) (accesses : List Access) : Type 0 where
+pub record ReadsTaskFileFirst (port : Port) (shown : ℕ) (accesses : List Access) : Type 0 where
   pub rest : List Access
   pub here : accesses ≡ Reading (Px port Tfd) shown ∷ rest
 
 -- so it was, and the port was stopped; no command was issued
 abbrev pub ReadsAndStops : Port → ℕ → List Access → Type 0
-ReadsAndStops port shown accesses = Begins port shown accesses × Stops port accesses × IssueNone port accesses
+ReadsAndStops port shown accesses = ReadsTaskFileFirst port shown accesses × Stops port accesses
+    × IssueNone port accesses
 
 -- The port's task file was read, the port was stopped, its errors were forgotten, and the task file was read again. It
 -- receives FISes, is quiet, and tells nothing of before.
 pub record Quiets (port : Port) (before after : ℕ) (old new : Device) : Type 0 where
-  pub room : HasRoom port.0 new
+  pub room : HasDriverMemory port.0 new
   pub stopped : Device
-  pub stops : IsTold (ReadsAndStops port before) (IsRecovering port) AnyUse old stopped
+  pub stops : IsSimulatedAlong (ReadsAndStops port before) (IsRecovering port) AnyUse old stopped
   pub stands : IsHalted (stopped.port port.0)
-  pub forgets : IsTold (IssueNone port) (IsRecovering port) AnyUse stopped new
+  pub forgets : IsSimulatedAlong (IssueNone port) (IsRecovering port) AnyUse stopped new
   pub receives : ReceivesFises port.0 (new.port port.0)
   pub det : (new.port port.0).sctl_det ≡ 0
   pub file : (new.port port.0).notes.last_tfd ≡ after
@@ -59,35 +60,35 @@ pub record Quiets (port : Port) (before after : ℕ) (old new : Device) : Type 0
   pub calm : (place : ℕ) → place < 32 → (new.port port.0).is place ≡ false
   pub clear : HasClearErrors port.0 old new
   pub quiet : IsQuiet (new.port port.0)
-  pub agreed : AgreesWith (λ uses. AllFree uses port.0) new
+  pub agreed : RelatesWith (λ uses. AllFree uses port.0) new
   pub plain : WorksPlainly (old.port port.0) → WorksPlainly (new.port port.0)
-  pub silent : AgreesWith (λ uses. uses port.0 0 ≡ Own Identify → ⊥) old → SendsNone port.0 Identify old new
+  pub silent : RelatesWith (λ uses. uses port.0 0 ≡ Own Identify → ⊥) old → SendsNone port.0 Identify old new
 
 -- The port was to stop, and its engine is stuck.
-pub record GetsStuck (port : Port) (old new : Device) : Type 0 where
-  pub told : IsTold (Sticks port) (IsRecovering port) AnyUse old new
+pub record StopGetsStuck (port : Port) (old new : Device) : Type 0 where
+  pub told : IsSimulatedAlong (Sticks port) (IsRecovering port) AnyUse old new
   pub st : (new.port port.0).st ≡ false
-  pub stuck : Shows EngineStuck (new.port port.0).notes
-  pub silent : AgreesWith (λ uses. uses port.0 0 ≡ Own Identify → ⊥) old → SendsNone port.0 Identify old new
+  pub stuck : BacksFault EngineStuck (new.port port.0).notes
+  pub silent : RelatesWith (λ uses. uses port.0 0 ≡ Own Identify → ⊥) old → SendsNone port.0 Identify old new
 
 -- ---- a port that is started again
 
 -- ST may be set: what was read last was a device with a link, neither busy nor asking for a transfer, and no slot of
 -- the port is used.
 pub record MayGoOn (port : ℕ) (d : Device) : Type 0 where
-  pub room : HasRoom port d
+  pub room : HasDriverMemory port d
   pub receives : ReceivesFises port (d.port port)
   pub linked : (d.port port).notes.last_ssts % 16 ≡ 3
   pub idle : ShowsIdle (d.port port).notes.last_tfd
   pub quiet : IsQuiet (d.port port)
-  pub agreed : AgreesWith (λ uses. AllFree uses port) d
+  pub agreed : RelatesWith (λ uses. AllFree uses port) d
 
 -- It was set: the port runs with no command in a slot, and the record of its faults has begun. Where its link was up,
 -- it runs so; and it is started, if no halt is left. What it told of trouble is as it was, but for disks that went or
 -- came.
-pub record GoesOn (port : Port) (old new : Device) : Type 0 where
-  pub room : HasRoom port.0 new
-  pub starts : IsFollowed (IsControl WritesCommand port) (λ uses. AllFree uses port.0) old new
+pub record StartsAgain (port : Port) (old new : Device) : Type 0 where
+  pub room : HasDriverMemory port.0 new
+  pub starts : IsSimulated (IsControl WritesCommand port) (λ uses. AllFree uses port.0) old new
   pub runs : IsRunning port.0 (new.port port.0)
   pub same : SameButStart (old.port port.0) (new.port port.0)
   pub set : (new.port port.0).notes.st_set_at ≡ length new.tape
@@ -96,14 +97,14 @@ pub record GoesOn (port : Port) (old new : Device) : Type 0 where
   pub recorded : HasFaults new.tape (new.port port.0) port.0
   pub calm : (place : ℕ) → (old.port port.0).is place ≡ false → (new.port port.0).is place ≡ false
   pub changes : ChangesByDisks port.0 old new
-  pub agreed : AgreesWith (λ uses. AllFree uses port.0) new
+  pub agreed : RelatesWith (λ uses. AllFree uses port.0) new
 
 -- ---- what a recovery goes on from
 
 -- The port could be recovered, with these slots outstanding, and was quieted since.
 pub record Resumes (port : Port) (outstanding : ℕ) (queued : Bool) (before after : ℕ) (old d : Device) : Type 0 where
   pub on : IsOn old
-  pub agreed : AgreesWith (FitsFor queued port.0) old
+  pub agreed : RelatesWith (FitsFor queued port.0) old
   pub may : MayRecover port.0 old
   pub alone : IsAloneIn queued outstanding
   pub quiets : Quiets port before after old d
@@ -112,8 +113,9 @@ pub record Resumes (port : Port) (outstanding : ℕ) (queued : Bool) (before aft
 
 -- The page of the log names an outstanding slot. Or no page came; or it names no command, or one that isn't
 -- outstanding.
-abbrev pub ReadsLog : Port → ℕ → Option Failure → Device → Device → Type 0
-ReadsLog port outstanding (Some failed) old new = (page : List ℕ) × Reads port ReadLog (Some page) old new
+abbrev pub ReadsLog : Port → ℕ → Option FailedSlot → Device → Device → Type 0
+ReadsLog port outstanding (Some failed) old new = (page : List ℕ) × ReadsPage port ReadLog (Some page) old new
     × TellsError page failed.slot.0 failed.status failed.error × (bit outstanding failed.slot.0 ≡ true)
-ReadsLog port outstanding None old new = Reads port ReadLog None old new
-    ⊎ ((page : List ℕ) × Reads port ReadLog (Some page) old new × (TellsNoError page ⊎ NamesForeign outstanding page))
+ReadsLog port outstanding None old new = ReadsPage port ReadLog None old new
+    ⊎ ((page : List ℕ) × ReadsPage port ReadLog (Some page) old new
+    × (TellsNoError page ⊎ NamesForeign outstanding page))

@@ -12,19 +12,19 @@ use Rattle.adapter.specs.Device.Halt.{LogOnly, NotHalted}
 use Rattle.adapter.specs.declared.command.Operation.{Operation}
 use Rattle.adapter.specs.declared.command.Operation.TheVariants.{Identify, ReadLog}
 use Rattle.adapter.specs.declared.tape.Fault as tape_fault
-use Rattle.agreement.specs.Acts.{AnySlots, ByDeviceAlone, InSlots, Performs}
-use Rattle.agreement.specs.Driven.{AgreesWith, IsControl, SendsNone}
-use Rattle.agreement.specs.Errors.{IsFatalOf}
-use Rattle.agreement.specs.Facts.{HasFaults, IsFaulted, RunsWell}
-use Rattle.agreement.specs.GivingUp.{given_up}
-use Rattle.agreement.specs.Links.{PlugsNone, SparesRegister}
-use Rattle.agreement.specs.Recovering.{IsLinked, WorksPlainly}
-use Rattle.agreement.specs.Slots.{Free, Own, Uses, op_of, put}
+use Rattle.refinement.specs.Acts.{AnySlots, ByDeviceAlone, InSlots, Performs}
+use Rattle.refinement.specs.Driven.{RelatesWith, IsControl, SendsNone}
+use Rattle.refinement.specs.Errors.{IsFatalOf}
+use Rattle.refinement.specs.Facts.{HasFaults, IsFaulted, RunsWell}
+use Rattle.refinement.specs.GivingUp.{given_up}
+use Rattle.refinement.specs.Links.{PlugsNone, SparesRegister}
+use Rattle.refinement.specs.Recovering.{IsLinked, WorksPlainly}
+use Rattle.refinement.specs.Slots.{Free, Own, SlotStates, op_of, put}
 use Rattle.disk_page.specs.Asking.{IsAsking, WaitsInVain}
 use Rattle.error_log.specs.Log.{TellsError, TellsNoError}
-use Rattle.error_log.specs.declared.Failure.{Failure}
+use Rattle.error_log.specs.declared.FailedSlot.{FailedSlot}
 use Rattle.port_control.specs.Engines.{Sticks, Stops}
-use Rattle.port_control.specs.Ports.{IsClearing, IsRunning, IsStopped, Shows, ShowsIdle, WritesCommand, programmed}
+use Rattle.port_control.specs.Ports.{IsClearing, IsRunning, IsStopped, BacksFault, ShowsIdle, WritesCommand, programmed}
 use Rattle.port_control.specs.declared.PortFault.TheVariants.{EngineStuck}
 use Rattle.port_control.specs.declared.Running as running_token
 use Rattle.port_control.specs.declared.Stopped as stopped_token
@@ -36,7 +36,7 @@ use Rattle.error_recovery.specs.declared.Recovered.{Recovered}
 -- ---- what is asked
 
 -- where the outstanding commands aren't queued, there is one alone, in slot 0
-abbrev pub FitsFor : Bool → ℕ → Uses → Type 0
+abbrev pub FitsFor : Bool → ℕ → SlotStates → Type 0
 FitsFor queued port uses = queued ≡ false → (slot : ℕ) → slot ≢ 0 → uses port slot ≡ Free
 
 -- so tell the outstanding slots, by bit
@@ -87,18 +87,19 @@ TellsEngine port _ accesses = Stops port accesses
 -- ---- what is told
 
 -- the slot is the one that is named
-abbrev pub IsNamed : Option Failure → ℕ → Type 0
-IsNamed None slot = ⊥
-IsNamed (Some failed) slot = slot ≡ failed.slot.0
+abbrev pub IsNamedSlot : Option FailedSlot → ℕ → Type 0
+IsNamedSlot None slot = ⊥
+IsNamedSlot (Some failed) slot = slot ≡ failed.slot.0
 
 -- The outstanding slots are the one that is named and those that go again, and no slot is both.
-pub record Parts (outstanding : ℕ) (failed : Option Failure) (again : ℕ) : Type 0 where
-  pub split : (slot : ℕ) → slot < 32 → bit outstanding slot ≡ true → IsNamed failed slot ⊎ (bit again slot ≡ true)
-  pub apart : (slot : ℕ) → slot < 32 → bit again slot ≡ true → (bit outstanding slot ≡ true) × (IsNamed failed slot → ⊥)
+pub record Parts (outstanding : ℕ) (failed : Option FailedSlot) (again : ℕ) : Type 0 where
+  pub split : (slot : ℕ) → slot < 32 → bit outstanding slot ≡ true → IsNamedSlot failed slot ⊎ (bit again slot ≡ true)
+  pub apart : (slot : ℕ) → slot < 32 → bit again slot ≡ true → (bit outstanding slot ≡ true)
+      × (IsNamedSlot failed slot → ⊥)
 
 -- A plain command that is named rests on a fault of its slot, with this status and error.
 pub record RestsOnFault (port : Port) (outstanding : ℕ) (accesses : List Access) (old new : Device)
-    (failed : Failure) : Type 0 where
+    (failed : FailedSlot) : Type 0 where
   pub slot_is : failed.slot.0 ≡ 0
   pub among : bit outstanding 0 ≡ true
   pub fault : tape_fault.Fault
@@ -109,7 +110,7 @@ pub record RestsOnFault (port : Port) (outstanding : ℕ) (accesses : List Acces
 
 -- A queued one rests on a fault of the port, and on the last page of the log that the call brought, which names it.
 pub record RestsOnLog (port : Port) (outstanding : ℕ) (accesses : List Access) (old new : Device)
-    (failed : Failure) : Type 0 where
+    (failed : FailedSlot) : Type 0 where
   pub small : failed.slot.0 < 32
   pub among : bit outstanding failed.slot.0 ≡ true
   pub fault : tape_fault.Fault
@@ -118,7 +119,7 @@ pub record RestsOnLog (port : Port) (outstanding : ℕ) (accesses : List Access)
   pub brings : BringsLog port old new page
   pub tells : TellsError page failed.slot.0 failed.status failed.error
 
-abbrev pub Rests : Bool → Port → ℕ → List Access → Device → Device → Option Failure → Type 0
+abbrev pub Rests : Bool → Port → ℕ → List Access → Device → Device → Option FailedSlot → Type 0
 Rests queued port outstanding accesses old new None = Unit {0}
 Rests false port outstanding accesses old new (Some failed) = RestsOnFault port outstanding accesses old new failed
 Rests true port outstanding accesses old new (Some failed) = RestsOnLog port outstanding accesses old new failed
@@ -178,7 +179,7 @@ pub record RunsAgain (queued : Bool) (port : ℕ) (old new : Device) : Type 0 wh
 abbrev pub EndsIn : Bool → Port → Next → Device → Device → Type 0
 EndsIn queued port (Running token) old new = (token.port ≡ port) × RunsAgain queued port.0 old new
 EndsIn queued port (Restart token) old new = (token.port ≡ port) × IsStopped (new.port port.0)
-EndsIn queued port Dead old new = ((new.port port.0).st ≡ false) × Shows EngineStuck (new.port port.0).notes
+EndsIn queued port Dead old new = ((new.port port.0).st ≡ false) × BacksFault EngineStuck (new.port port.0).notes
 
 -- ---- the whole
 
@@ -215,13 +216,14 @@ pub record LeavesRecovery (port : Port) (queued : Bool) (next : Next) (old new :
   pub det : (new.port port.0).sctl_det ≡ (old.port port.0).sctl_det
   pub written : (new.port port.0).notes.sctl_written_at ≡ (old.port port.0).notes.sctl_written_at
   pub enabled : (new.port port.0).ie ≡ (old.port port.0).ie
-  pub silent : AgreesWith (λ uses. uses port.0 0 ≡ Own Identify → ⊥) old → SendsNone port.0 Identify old new
+  pub silent : RelatesWith (λ uses. uses port.0 0 ≡ Own Identify → ⊥) old → SendsNone port.0 Identify old new
   pub others : (q : Port) (o : Operation) → q.0 ≢ port.0 → op_of o ≡ None
-      → AgreesWith (λ uses. uses q.0 0 ≡ Own o → ⊥) old → SendsNone q.0 o old new
+      → RelatesWith (λ uses. uses q.0 0 ≡ Own o → ⊥) old → SendsNone q.0 o old new
 
 -- What becomes of a port that had trouble: by one list of accesses it was stopped, and runs again, or has to be booted,
 -- or is dead.
-pub record Mends (port : Port) (outstanding : ℕ) (queued : Bool) (result : Recovered) (old new : Device) : Type 0 where
+pub record RecoversOrStops (port : Port) (outstanding : ℕ) (queued : Bool) (result : Recovered)
+    (old new : Device) : Type 0 where
   pub accesses : List Access
   pub does : DoesRecovery port result accesses old new
   pub tells : TellsOutstanding port outstanding queued result accesses old new
@@ -230,13 +232,14 @@ pub record Mends (port : Port) (outstanding : ℕ) (queued : Bool) (result : Rec
 -- All that recovery promises.
 pub record Recovers (port : Port) (outstanding : ℕ) (queued : Bool) (result : Recovered)
     (old new : Device) : Type 0 where
-  pub mends : Mends port outstanding queued result old new
-  pub tells : TellsRecovery port outstanding queued result mends.accesses old new
+  pub handling : RecoversOrStops port outstanding queued result old new
+  pub tells : TellsRecovery port outstanding queued result handling.accesses old new
 
--- All that is promised of a port that is given up: PxCMD alone was accessed, nobody is named, and it doesn't run.
-pub record GivesUp (port : Port) (outstanding : ℕ) (queued : Bool) (result : Recovered)
+-- All that is promised of a port that is stopped for a reset: PxCMD alone was accessed, nobody is named, and it doesn't
+-- run.
+pub record StopsForReset (port : Port) (outstanding : ℕ) (queued : Bool) (result : Recovered)
     (old new : Device) : Type 0 where
-  pub mends : Mends port outstanding queued result old new
-  pub only : All (IsControl WritesCommand port) mends.accesses
+  pub handling : RecoversOrStops port outstanding queued result old new
+  pub only : All (IsControl WritesCommand port) handling.accesses
   pub nobody : result.failed ≡ None
   pub halts : (token : running_token.Running) → result.next ≢ Running token

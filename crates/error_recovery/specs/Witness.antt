@@ -9,12 +9,12 @@ use Rattle.adapter.specs.Rules.{HasPort, IsOn}
 use Rattle.adapter.specs.Steps.{halted}
 use Rattle.adapter.specs.declared.tape.Entry.TheVariants as entry
 use Rattle.adapter.specs.declared.tape.Fault as tape_fault
-use Rattle.agreement.specs.Agrees.{port_at}
-use Rattle.agreement.specs.Driven.{AgreesWith, AnyUse}
-use Rattle.agreement.specs.Slots.{Serves}
+use Rattle.refinement.specs.Relation.{port_at}
+use Rattle.refinement.specs.Driven.{RelatesWith, AnyUse}
+use Rattle.refinement.specs.Slots.{Serves}
 use Rattle.port_control.specs.declared.Stopped as stopped_token
 use Rattle.error_recovery.specs.Evidence.{ShowsFatal}
-use Rattle.error_recovery.specs.Recovery.{FitsFor, GivesUp, IsAloneIn, MayRecover}
+use Rattle.error_recovery.specs.Recovery.{FitsFor, StopsForReset, IsAloneIn, MayRecover}
 use Rattle.error_recovery.specs.declared.Next.TheVariants.{Restart}
 
 -- Of port 0 all is so that recovery asks. A command has failed on it, a plain one in slot 0, or a queued one in slot 1,
@@ -24,7 +24,7 @@ pub record MayBeAsked (queued : Bool) : Type 0 where
   pub on : IsOn device
   pub there : HasPort device 0
   pub room : DRIVER_BYTES ≤ device.size
-  pub agreed : AgreesWith (FitsFor queued 0) device
+  pub agreed : RelatesWith (FitsFor queued 0) device
   pub may : MayRecover 0 device
   pub outstanding : ℕ
   pub alone : IsAloneIn queued outstanding
@@ -41,7 +41,7 @@ pub record MayBeGivenUp : Type 0 where
   pub device : Device
   pub on : IsOn device
   pub there : HasPort device 0
-  pub agreed : AgreesWith AnyUse device
+  pub agreed : RelatesWith AnyUse device
   pub fatal : ShowsFatal (device.port 0)
   pub broken : (device.port 0).broken ≡ true
   pub serves : (id : RequestId) × (agreed.0 0 0 ≡ Serves id)
@@ -50,5 +50,6 @@ pub record MayBeGivenUp : Type 0 where
   pub stopped : Device
   pub token : stopped_token.Stopped
   pub gives_up : (queued : Bool)
-      → GivesUp (port_at 0) outstanding queued (record { failed = None; again = outstanding; next = Restart token })
+      → StopsForReset (port_at 0) outstanding queued
+      (record { failed = None; again = outstanding; next = Restart token })
       device stopped

@@ -1,23 +1,24 @@
 // What laws of the crates below say of this crate's accesses, for its proofs. Nothing comes of calling it.
-ghost use Rattle.error_recovery.specs.Laws.{Laws, RegisterSet, Stretch, fits_of, may_of, registers_of};
+ghost use Rattle.error_recovery.specs.Laws.{Laws, RegisterSet, Fragment, fits_of, may_of, registers_of};
 
-use adapter::laws::port_registers_are_accessed;
-use agreement::facts::{
-    adapter_stays, cleared_stays, controls_stay, errors_are_shown, fault_is_found,
-    faults_are_recorded, notes_stay, plugging_is_found, running_well_is_found,
+use adapter::laws::law_port_registers_are_accessed;
+use disk_page::laws::{law_asking_is_of_one_port, law_what_is_told_of_waits_stays};
+use port_control::laws::law_what_is_told_of_engines_stays;
+use refinement::facts::{
+    law_adapter_stays, law_cleared_stays, law_controls_stay, law_errors_are_shown,
+    law_fault_is_found, law_faults_are_recorded, law_notes_stay, law_plugging_is_found,
+    law_running_well_is_found,
 };
-use agreement::giving_up::{fault_is_outstanding, slots_are_given_up};
-use agreement::kinds::{
-    Kinds, Registers, controls_are_of_a_port, followed_stretches_give, stretch_laws_hold,
-    stretches_are_parts,
+use refinement::fragments::{law_other_ports_are_left, law_tapes, law_unused_slots_are_silent};
+use refinement::giving_up::{law_fault_is_outstanding, law_slots_are_given_up};
+use refinement::kinds::{
+    Kinds, Registers, law_controls_are_of_a_port, law_followed_fragments_give, law_fragments,
+    law_fragments_are_parts,
 };
-use agreement::laws::putting_is_of_one_slot;
-use agreement::recovering::{
-    faults_are_plain, faults_show_before_the_end, link_is_kept, running_goes_on,
+use refinement::laws::law_putting_is_of_one_slot;
+use refinement::recovering::{
+    law_faults_are_plain, law_faults_show_before_the_end, law_link_is_kept, law_running_goes_on,
 };
-use agreement::stretches::{other_ports_are_left, tape_laws_hold, unused_slots_are_silent};
-use disk_page::laws::{asking_is_of_one_port, what_is_told_of_waits_stays};
-use port_control::laws::what_is_told_of_engines_stays;
 
 /// This crate's kinds of accesses.
 enum Recoveries {}
@@ -29,7 +30,7 @@ impl Registers for Recoveries {
 }
 
 impl Kinds for Recoveries {
-    ghost Kind = { Stretch };
+    ghost Kind = { Fragment };
 
     ghost may = { may_of };
 
@@ -37,34 +38,34 @@ impl Kinds for Recoveries {
 }
 
 /// The laws that the proofs of this crate rest on.
-pub fn laws_hold()
+pub fn law_base()
     ensures { Laws }
 {
-    port_registers_are_accessed();
-    adapter_stays();
-    cleared_stays();
-    controls_stay();
-    errors_are_shown();
-    fault_is_found();
-    faults_are_recorded();
-    notes_stay();
-    plugging_is_found();
-    running_well_is_found();
-    fault_is_outstanding();
-    slots_are_given_up();
-    stretch_laws_hold::<Recoveries>();
-    controls_are_of_a_port::<Recoveries>();
-    followed_stretches_give::<Recoveries>();
-    stretches_are_parts::<Recoveries>();
-    putting_is_of_one_slot();
-    faults_are_plain();
-    faults_show_before_the_end();
-    link_is_kept();
-    running_goes_on();
-    other_ports_are_left();
-    tape_laws_hold();
-    unused_slots_are_silent();
-    asking_is_of_one_port();
-    what_is_told_of_waits_stays();
-    what_is_told_of_engines_stays();
+    law_port_registers_are_accessed();
+    law_adapter_stays();
+    law_cleared_stays();
+    law_controls_stay();
+    law_errors_are_shown();
+    law_fault_is_found();
+    law_faults_are_recorded();
+    law_notes_stay();
+    law_plugging_is_found();
+    law_running_well_is_found();
+    law_fault_is_outstanding();
+    law_slots_are_given_up();
+    law_fragments::<Recoveries>();
+    law_controls_are_of_a_port::<Recoveries>();
+    law_followed_fragments_give::<Recoveries>();
+    law_fragments_are_parts::<Recoveries>();
+    law_putting_is_of_one_slot();
+    law_faults_are_plain();
+    law_faults_show_before_the_end();
+    law_link_is_kept();
+    law_running_goes_on();
+    law_other_ports_are_left();
+    law_tapes();
+    law_unused_slots_are_silent();
+    law_asking_is_of_one_port();
+    law_what_is_told_of_waits_stays();
+    law_what_is_told_of_engines_stays();
 }

@@ -6,27 +6,28 @@ ghost use Rattle.hba_regs.specs.declared.reg.PortReg.TheVariants.{Cmd, Ie, Sact,
 ghost use Rattle.hba_regs.specs.declared.reg.Reg.TheVariants.{Ghc, Px};
 ghost use Rattle.adapter.specs.Access.{Access, DoesAll};
 ghost use Rattle.adapter.specs.Access.Access.{Loading, Storing};
-ghost use Rattle.adapter.specs.Device.{Device, PortState};
+ghost use Rattle.adapter.specs.Device.{Device, DevicePort};
 ghost use Rattle.adapter.specs.Rules.{IsOn};
 ghost use Rattle.adapter.specs.declared.command.Operation.TheVariants.{ReadLog};
 ghost use Rattle.adapter.specs.declared.tape.Fault.{Fault};
-ghost use Rattle.agreement.specs.Driven.{Grows, IsOf, SendsNone};
-ghost use Rattle.agreement.specs.Links.{SparesRegister};
+ghost use Rattle.refinement.specs.Driven.{Grows, IsOf, SendsNone};
+ghost use Rattle.refinement.specs.Links.{SparesRegister};
 ghost use Rattle.error_recovery.specs.Evidence.{BringsLog, HasFailed, ShowsFatal};
 ghost use Rattle.error_recovery.specs.Recovery.{IsRecovering};
 ghost use Rattle.error_recovery.specs.Witness.{MayBeAsked, MayBeGivenUp};
 
-use super::lawful::laws_hold;
-use adapter::laws::accesses_compose;
-use agreement::laws::{
-    a_first_read_agrees, commanding_is_permitted, putting_is_of_one_slot, two_queued_reads_agree,
+use super::lawful::law_base;
+use adapter::laws::law_accesses_compose;
+use refinement::laws::{
+    law_a_first_read_agrees, law_commanding_is_permitted, law_putting_is_of_one_slot,
+    law_two_queued_reads_agree,
 };
-use agreement::limits::a_fault_is_seen;
+use refinement::limits::law_a_fault_is_seen;
 
 /// Recovery touches no register of another port, nor another port's bit of IS: so what is said of such accesses
 /// (`IsOf`) is so of each of its own. They write no register of the adapter's own, and of the port's none but PxCMD,
 /// PxSERR, PxIS and PxCI: neither PxSCTL nor PxIE nor PxSACT. What they load and store lies in the driver's frames.
-pub fn recovery_is_of_its_port()
+pub fn law_recovery_is_of_its_port()
     ensures of { (port : Port) (access : Access) → IsRecovering port access → IsOf port access }
     ensures host { (port : Port) (access : Access) → IsRecovering port access → SparesRegister Ghc access }
     ensures link { (port : Port) (access : Access) → IsRecovering port access → SparesRegister (Px port Sctl) access }
@@ -38,12 +39,12 @@ pub fn recovery_is_of_its_port()
     ensures stores { (port : Port) (at : ℕ) (bytes : List ℕ) → port.0 < 4 → IsRecovering port (Storing at bytes)
         → at + length bytes ≤ DRIVER_BYTES }
 {
-    laws_hold();
+    law_base();
 }
 
 /// What stands behind a fault in a part of a call stands behind it in the whole: a fault on the tape, where PxCMD
 /// wasn't written before the part either; and the page of the log, where no other came after the part.
-pub fn what_stands_behind_a_fault_stays()
+pub fn law_what_stands_behind_a_fault_stays()
     ensures failed { (port : Port) (early part late : List Access) (start old new end : Device) (fault : Fault)
         → IsOn start → All (SparesRegister Ghc) early → All (SparesRegister (Px port Cmd)) early
         → DoesAll early start old → DoesAll late new end → HasFailed port part old new fault
@@ -51,34 +52,34 @@ pub fn what_stands_behind_a_fault_stays()
     ensures log { (port : Port) (start old new end : Device) (page : List ℕ) → Grows start old
         → SendsNone port.0 ReadLog new end → BringsLog port old new page → BringsLog port start end page }
 {
-    accesses_compose();
-    laws_hold();
+    law_accesses_compose();
+    law_base();
 }
 
 /// A port shows a fatal error, unless the bits of all three are clear.
-pub fn fatal_errors_show_unless_clear()
-    ensures { (p : PortState) → (((place : ℕ) → 27 ≤ place → place ≤ 29 → p.is place ≡ false) → ⊥) → ShowsFatal p }
+pub fn law_fatal_errors_show_unless_clear()
+    ensures { (p : DevicePort) → (((place : ℕ) → 27 ≤ place → place ≤ 29 → p.is place ≡ false) → ⊥) → ShowsFatal p }
 {}
 
 /// What `recover` asks can be met: there is a port with a plain read that failed, and one with a queued read that did.
-pub fn a_port_may_be_recovered()
+pub fn law_a_port_may_be_recovered()
     ensures plain { MayBeAsked false }
     ensures queued { MayBeAsked true }
 {
-    a_fault_is_seen();
-    a_first_read_agrees();
-    two_queued_reads_agree();
-    putting_is_of_one_slot();
-    laws_hold();
+    law_a_fault_is_seen();
+    law_a_first_read_agrees();
+    law_two_queued_reads_agree();
+    law_putting_is_of_one_slot();
+    law_base();
 }
 
-/// What `give_up` asks can be met, and what it promises: there is a port that a fatal error has broken while a read is
-/// issued, and three accesses stop it.
-pub fn a_port_may_be_given_up()
+/// What `stop_for_reset` asks can be met, and what it promises: there is a port that a fatal error has broken while a
+/// read is issued, and three accesses stop it.
+pub fn law_a_port_may_be_given_up()
     ensures { MayBeGivenUp }
 {
-    a_first_read_agrees();
-    commanding_is_permitted();
-    putting_is_of_one_slot();
-    laws_hold();
+    law_a_first_read_agrees();
+    law_commanding_is_permitted();
+    law_putting_is_of_one_slot();
+    law_base();
 }

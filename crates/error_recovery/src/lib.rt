@@ -1,7 +1,7 @@
 //! Finds out which command of a port failed, and has the port run again, or stops it.
 //!
 //! (AHCI 1.3.1, 6.2.2; ACS-3, 7.24 and A.14.) `recover` is for a port of which TFES, PxSSTS, PxCI
-//! and PxSACT were read, in this order. `give_up` stops one for any other trouble, by its PxCMD
+//! and PxSACT were read, in this order. `stop_for_reset` stops one for any other trouble, by its PxCMD
 //! alone. Both give up all slots of the port, and park the requests that were there: the caller
 //! decides on these. Where `recover` says `Restart`, the port is stopped, and has to be booted. It
 //! knows no client and no book.
@@ -13,11 +13,11 @@ ghost use Rattle.adapter.specs.Device.{Device};
 ghost use Rattle.adapter.specs.Device.Halt.{NotHalted};
 ghost use Rattle.adapter.specs.Rules.{IsOn, HasPort};
 ghost use Rattle.adapter.specs.declared.command.Operation.TheVariants.{Identify};
-ghost use Rattle.agreement.specs.Driven.{AgreesWith, AnyUse, SendsNone};
-ghost use Rattle.agreement.specs.Driver.{AllFree};
+ghost use Rattle.refinement.specs.Driven.{RelatesWith, AnyUse, SendsNone};
+ghost use Rattle.refinement.specs.Driver.{AllFree};
 ghost use Rattle.disk_page.specs.Asking.{LeavesRunning, MayAsk};
-ghost use Rattle.error_recovery.specs.Parts.{GetsStuck, GoesOn, HasRoom, MayGoOn, Quiets, ReadsLog, Resumes};
-ghost use Rattle.error_recovery.specs.Recovery.{FitsFor, GivesUp, IsAloneIn, IsNamed, MayRecover, Parts, Recovers};
+ghost use Rattle.error_recovery.specs.Parts.{StopGetsStuck, StartsAgain, HasDriverMemory, MayGoOn, Quiets, ReadsLog, Resumes};
+ghost use Rattle.error_recovery.specs.Recovery.{FitsFor, StopsForReset, IsAloneIn, IsNamedSlot, MayRecover, Parts, Recovers};
 ghost use Rattle.adapter.specs.Counted.{MakesAtMost};
 ghost use Rattle.disk_page.specs.Costs.{PAGE_ACCESSES};
 ghost use Rattle.port_control.specs.Costs.{START_ACCESSES, STOP_ACCESSES};
@@ -29,11 +29,13 @@ pub mod laws;
 use adapter::Adapter;
 use ata_types::{DRIVER_BYTES, Port, Slot};
 use disk_page::{Page, read_page};
-pub use error_log::Failure;
+pub use error_log::FailedSlot;
 use error_log::parse_log;
 use hba_regs::{PortReg, Reg, TaskFile, is_set, without_bit};
-use lawful::laws_hold;
-use port_control::{Running, Stopped, forget_errors, is_occupied, keep_receiving, start, stop};
+use lawful::law_base;
+use port_control::{
+    Running, Stopped, clear_error_state, is_bsy_or_drq, keep_receiving, start, stop,
+};
 
 /// What a port is after recovery.
 #[derive(Debug, Drop)]
@@ -50,7 +52,7 @@ pub enum Next {
 #[derive(Debug, Drop)]
 pub struct Recovered {
     /// The command that failed, where it is known.
-    pub failed: Option<Failure>,
+    pub failed: Option<FailedSlot>,
     /// The other slots whose commands were outstanding, by bit: they failed by no fault of their own.
     pub again: u32,
     /// What the port is.
@@ -59,7 +61,7 @@ pub struct Recovered {
 
 /// A port that was stopped, and told to forget its errors.
 #[derive(Debug, Drop)]
-struct Quieted {
+struct StoppedAndCleared {
     /// What PxTFD showed before: status and error of the fault.
     fault: TaskFile,
     /// What it shows now.
@@ -68,24 +70,24 @@ struct Quieted {
 }
 
 /// Reads PxTFD, stops the port, has it forget its errors, and reads PxTFD again. `None` where the engine is stuck.
-fn quiet<A: Adapter>(adapter: &mut A, port: Port) -> Option<Quieted>
-    requires room { HasRoom port.0 (A.device adapter.old) }
+fn quiet<A: Adapter>(adapter: &mut A, port: Port) -> Option<StoppedAndCleared>
+    requires room { HasDriverMemory port.0 (A.device adapter.old) }
     requires may { MayRecover port.0 (A.device adapter.old) }
-    requires agreed { AgreesWith AnyUse (A.device adapter.old) }
+    requires agreed { RelatesWith AnyUse (A.device adapter.old) }
     ensures on { IsOn (A.device adapter.new) }
     ensures names { IfSome result (λ q. q.stopped.port ≡ port) }
     ensures quiets { IfSome result (λ q. Quiets port q.fault.0 q.shown.0 (A.device adapter.old)
         (A.device adapter.new)) }
-    ensures sticks { IfNone result (GetsStuck port (A.device adapter.old) (A.device adapter.new)) }
+    ensures sticks { IfNone result (StopGetsStuck port (A.device adapter.old) (A.device adapter.new)) }
     ensures cost { MakesAtMost QUIET_ACCESSES (A.access_count adapter.old) (A.access_count adapter.new) }
 {
-    laws_hold();
+    law_base();
     let fault = TaskFile(adapter.read(Reg::Px(port, PortReg::Tfd)));
     let Ok(stopped) = stop(adapter, port) else {
         return None;
     };
-    let shown = forget_errors(adapter, port);
-    Some(Quieted {
+    let shown = clear_error_state(adapter, port);
+    Some(StoppedAndCleared {
         fault,
         shown,
         stopped,
@@ -96,22 +98,22 @@ fn quiet<A: Adapter>(adapter: &mut A, port: Port) -> Option<Quieted>
 fn go_on<A: Adapter>(adapter: &mut A, stopped: Stopped) -> Running
     requires may { MayGoOn stopped.port.0 (A.device adapter.old) }
     ensures names { result.port ≡ stopped.port }
-    ensures goes { GoesOn stopped.port (A.device adapter.old) (A.device adapter.new) }
+    ensures goes { StartsAgain stopped.port (A.device adapter.old) (A.device adapter.new) }
     ensures cost { MakesAtMost START_ACCESSES (A.access_count adapter.old) (A.access_count adapter.new) }
 {
-    laws_hold();
+    law_base();
     let receiving = keep_receiving(adapter, stopped);
     start(adapter, receiving)
 }
 
 /// Which of the outstanding queued commands failed, as the disk's log tells.
-fn read_log<A: Adapter>(adapter: &mut A, port: Port, outstanding: u32) -> Option<Failure>
-    requires room { HasRoom port.0 (A.device adapter.old) }
+fn read_log<A: Adapter>(adapter: &mut A, port: Port, outstanding: u32) -> Option<FailedSlot>
+    requires room { HasDriverMemory port.0 (A.device adapter.old) }
     requires may { MayAsk port.0 (A.device adapter.old) }
-    requires agreed { AgreesWith (λ uses. AllFree uses port.0) (A.device adapter.old) }
+    requires agreed { RelatesWith (λ uses. AllFree uses port.0) (A.device adapter.old) }
     ensures on { IsOn (A.device adapter.new) }
     ensures leaves { LeavesRunning port.0 (A.device adapter.old) (A.device adapter.new) }
-    ensures agreed { AgreesWith AnyUse (A.device adapter.new) }
+    ensures agreed { RelatesWith AnyUse (A.device adapter.new) }
     ensures reads { ReadsLog port outstanding result (A.device adapter.old) (A.device adapter.new) }
     ensures running { IfSome result (λ _. ((A.device adapter.new).port port.0).halt ≡ NotHalted) }
     ensures silent { SendsNone port.0 Identify (A.device adapter.old) (A.device adapter.new) }
@@ -131,7 +133,7 @@ fn read_log<A: Adapter>(adapter: &mut A, port: Port, outstanding: u32) -> Option
 }
 
 /// Which plain command failed: the one that is outstanding, with status and error as the task file showed them.
-fn fault_of(outstanding: u32, fault: TaskFile) -> Option<Failure>
+fn fault_of(outstanding: u32, fault: TaskFile) -> Option<FailedSlot>
     ensures named { IfSome result (λ failed. (failed.slot.0 ≡ 0) × (bit outstanding 0 ≡ true)
         × (failed.status ≡ fault.0 % 256) × (failed.error ≡ fault.0 / 256 % 256)) }
     ensures none { IfNone result (bit outstanding 0 ≡ false) }
@@ -139,7 +141,7 @@ fn fault_of(outstanding: u32, fault: TaskFile) -> Option<Failure>
     if !is_set(outstanding, 0) {
         return None;
     }
-    Some(Failure {
+    Some(FailedSlot {
         slot: Slot(0),
         status: fault.status(),
         error: fault.error(),
@@ -147,9 +149,9 @@ fn fault_of(outstanding: u32, fault: TaskFile) -> Option<Failure>
 }
 
 /// The outstanding slots without the one that is named.
-fn others(outstanding: u32, failed: &Option<Failure>) -> u32
-    requires small { (slot : ℕ) → IsNamed failed.now slot → slot < 32 }
-    requires named { (slot : ℕ) → IsNamed failed.now slot → bit outstanding slot ≡ true }
+fn others(outstanding: u32, failed: &Option<FailedSlot>) -> u32
+    requires small { (slot : ℕ) → IsNamedSlot failed.now slot → slot < 32 }
+    requires named { (slot : ℕ) → IsNamedSlot failed.now slot → bit outstanding slot ≡ true }
     ensures { Parts outstanding failed.now result }
 {
     match failed {
@@ -160,7 +162,11 @@ fn others(outstanding: u32, failed: &Option<Failure>) -> u32
 
 /// Goes on with a port that was quieted: names the plain command that failed, if one is outstanding, and has the port
 /// run again, unless its disk is busy or asks for a transfer.
-fn finish_plain<A: Adapter>(adapter: &mut A, quieted: Quieted, outstanding: u32) -> Recovered
+fn finish_plain<A: Adapter>(
+    adapter: &mut A,
+    quieted: StoppedAndCleared,
+    outstanding: u32,
+) -> Recovered
     requires resumes { (old : Device) × Resumes quieted.stopped.port outstanding false quieted.fault.0 quieted.shown.0
         old (A.device adapter.old) }
     ensures on { IsOn (A.device adapter.new) }
@@ -169,10 +175,10 @@ fn finish_plain<A: Adapter>(adapter: &mut A, quieted: Quieted, outstanding: u32)
         → Recovers quieted.stopped.port outstanding false result old (A.device adapter.new) }
     ensures cost { MakesAtMost START_ACCESSES (A.access_count adapter.old) (A.access_count adapter.new) }
 {
-    laws_hold();
+    law_base();
     let failed = fault_of(outstanding, quieted.fault);
     let again = others(outstanding, &failed);
-    if is_occupied(quieted.shown) {
+    if is_bsy_or_drq(quieted.shown) {
         let next = Next::Restart(quieted.stopped);
         return Recovered {
             failed,
@@ -190,7 +196,11 @@ fn finish_plain<A: Adapter>(adapter: &mut A, quieted: Quieted, outstanding: u32)
 
 /// Goes on with a port that was quieted: has it run again, unless its disk is busy or asks for a transfer, and asks the
 /// log which of the outstanding queued commands failed. Where it names none of them, the port is stopped again.
-fn finish_queued<A: Adapter>(adapter: &mut A, quieted: Quieted, outstanding: u32) -> Recovered
+fn finish_queued<A: Adapter>(
+    adapter: &mut A,
+    quieted: StoppedAndCleared,
+    outstanding: u32,
+) -> Recovered
     requires resumes { (old : Device) × Resumes quieted.stopped.port outstanding true quieted.fault.0 quieted.shown.0
         old (A.device adapter.old) }
     ensures on { IsOn (A.device adapter.new) }
@@ -199,8 +209,8 @@ fn finish_queued<A: Adapter>(adapter: &mut A, quieted: Quieted, outstanding: u32
         → Recovers quieted.stopped.port outstanding true result old (A.device adapter.new) }
     ensures cost { MakesAtMost NAMING_ACCESSES (A.access_count adapter.old) (A.access_count adapter.new) }
 {
-    laws_hold();
-    if is_occupied(quieted.shown) {
+    law_base();
+    if is_bsy_or_drq(quieted.shown) {
         return unnamed(outstanding, Next::Restart(quieted.stopped));
     }
     let running = go_on(adapter, quieted.stopped);
@@ -247,14 +257,14 @@ pub fn recover<A: Adapter>(adapter: &mut A, port: Port, outstanding: u32, queued
     requires on { IsOn (A.device adapter.old) }
     requires there { HasPort (A.device adapter.old) port.0 }
     requires room { DRIVER_BYTES ≤ (A.device adapter.old).size }
-    requires agreed { AgreesWith (FitsFor queued port.0) (A.device adapter.old) }
+    requires agreed { RelatesWith (FitsFor queued port.0) (A.device adapter.old) }
     requires may { MayRecover port.0 (A.device adapter.old) }
     requires alone { IsAloneIn queued outstanding }
     ensures on { IsOn (A.device adapter.new) }
     ensures recovers { Recovers port outstanding queued result (A.device adapter.old) (A.device adapter.new) }
     ensures cost { MakesAtMost RECOVER_ACCESSES (A.access_count adapter.old) (A.access_count adapter.new) }
 {
-    laws_hold();
+    law_base();
     let Some(quieted) = quiet(adapter, port) else {
         return unnamed(outstanding, Next::Dead);
     };
@@ -269,16 +279,16 @@ pub fn recover<A: Adapter>(adapter: &mut A, port: Port, outstanding: u32, queued
 /// 1.3.1, 6.2.2 and 10.4.2); it may also be one whose device has gone. Of the port's registers PxCMD alone is accessed.
 /// `outstanding` are the slots whose commands aren't done, bit k for slot k. Nobody is named. Where its engine is stuck
 /// for 64 readings of PxCMD, the port is dead.
-pub fn give_up<A: Adapter>(adapter: &mut A, port: Port, outstanding: u32) -> Recovered
+pub fn stop_for_reset<A: Adapter>(adapter: &mut A, port: Port, outstanding: u32) -> Recovered
     requires on { IsOn (A.device adapter.old) }
     requires there { HasPort (A.device adapter.old) port.0 }
-    requires agreed { AgreesWith AnyUse (A.device adapter.old) }
+    requires agreed { RelatesWith AnyUse (A.device adapter.old) }
     ensures on { IsOn (A.device adapter.new) }
-    ensures gives_up { (queued : Bool) → GivesUp port outstanding queued result (A.device adapter.old)
+    ensures gives_up { (queued : Bool) → StopsForReset port outstanding queued result (A.device adapter.old)
         (A.device adapter.new) }
     ensures cost { MakesAtMost STOP_ACCESSES (A.access_count adapter.old) (A.access_count adapter.new) }
 {
-    laws_hold();
+    law_base();
     match stop(adapter, port) {
         Ok(halted) => unnamed(outstanding, Next::Restart(halted)),
         Err(_) => unnamed(outstanding, Next::Dead),

@@ -2,12 +2,12 @@
 use Rattle.std.proofs.Common.{◌≡◌, ℕ, zero, suc, ◌+◌, ◌-◌, ◌<◌, ◌≤◌, inl, inr, List, length, slice_index, sym, ◌∙◌, arith}
 use Rattle.std.proofs.lemmas.Bool.{cases_lt}
 use Rattle.std.proofs.lemmas.Grind.{same_number_lists}
-use Rattle.adapter.specs.Spelling.{AreZero, SpellsCommand}
+use Rattle.adapter.specs.Encoding.{AreZero, EncodesCommand}
 use Rattle.adapter.specs.declared.command.Command.{Command}
 use Rattle.fis.specs.declared.DeviceToHost.{DeviceToHost}
 use Rattle.fis.specs.declared.PioSetup.{PioSetup}
 use Rattle.fis.specs.declared.SetDeviceBits.{SetDeviceBits}
-use Rattle.fis.specs.Spelling.{AreBytes, SpellsDeviceToHost, SpellsPioSetup, SpellsSetDeviceBits}
+use Rattle.fis.specs.Encoding.{AreBytes, EncodesDeviceToHost, EncodesPioSetup, EncodesSetDeviceBits}
 
 -- they agree at the first eight places
 record AgreeFirst (a b : List ℕ) : Type 0 where
@@ -73,7 +73,7 @@ twenty a b size size' h n z z' = same_number_lists a b (size ∙ sym size') (λ 
       ]
     ])
 
-pub command_is_one : (v : Command) (a b : List ℕ) → AreBytes a → AreBytes b → SpellsCommand a v → SpellsCommand b v → a ≡ b
+pub command_is_one : (v : Command) (a b : List ℕ) → AreBytes a → AreBytes b → EncodesCommand a v → EncodesCommand b v → a ≡ b
 command_is_one v a b p q s t = twenty a b s.size t.size
     (record {
       at_0 = s.kind ∙ sym t.kind;
@@ -99,7 +99,7 @@ command_is_one v a b p q s t = twenty a b s.size t.size
     })
     (λ k low high. s.zeros k (omega arith) high) (λ k low high. t.zeros k (omega arith) high)
 
-pub registers_are_one : (v : DeviceToHost) (a b : List ℕ) → AreBytes a → AreBytes b → SpellsDeviceToHost a v → SpellsDeviceToHost b v → a ≡ b
+pub registers_are_one : (v : DeviceToHost) (a b : List ℕ) → AreBytes a → AreBytes b → EncodesDeviceToHost a v → EncodesDeviceToHost b v → a ≡ b
 registers_are_one v a b p q s t = twenty a b s.size t.size
     (record {
       at_0 = s.kind ∙ sym t.kind;
@@ -125,7 +125,7 @@ registers_are_one v a b p q s t = twenty a b s.size t.size
     })
     (λ k low high. s.rest k (omega arith) high) (λ k low high. t.rest k (omega arith) high)
 
-pub tags_are_one : (v : SetDeviceBits) (a b : List ℕ) → AreBytes a → AreBytes b → SpellsSetDeviceBits a v → SpellsSetDeviceBits b v → a ≡ b
+pub tags_are_one : (v : SetDeviceBits) (a b : List ℕ) → AreBytes a → AreBytes b → EncodesSetDeviceBits a v → EncodesSetDeviceBits b v → a ≡ b
 tags_are_one v a b p q s t = eight a b s.size t.size (record {
   at_0 = s.kind ∙ sym t.kind;
   at_1 = s.i_bit ∙ sym t.i_bit;
@@ -137,7 +137,7 @@ tags_are_one v a b p q s t = eight a b s.size t.size (record {
   at_7 = omega (arith, s.tags, t.tags, p 4, q 4, p 5, q 5, p 6, q 6, p 7, q 7);
 })
 
-pub setup_is_one : (v : PioSetup) (a b : List ℕ) → AreBytes a → AreBytes b → SpellsPioSetup a v → SpellsPioSetup b v → a ≡ b
+pub setup_is_one : (v : PioSetup) (a b : List ℕ) → AreBytes a → AreBytes b → EncodesPioSetup a v → EncodesPioSetup b v → a ≡ b
 setup_is_one v a b p q s t = twenty a b s.size t.size
     (record {
       at_0 = s.kind ∙ sym t.kind;

@@ -1,12 +1,12 @@
 // Laws of the codecs, for callers. What is encoded comes back from its decoder, and each value has one spelling.
 ghost use Rattle.std.specs.Prelude.{◌≡◌, ◌<◌, ◌^◌, ℕ, List, Some};
 ghost use Rattle.std.specs.Int.RustNames.{bit_and};
-ghost use Rattle.adapter.specs.Spelling.{SpellsCommand};
+ghost use Rattle.adapter.specs.Encoding.{EncodesCommand};
 ghost use Rattle.adapter.specs.declared.command.Command.{Command};
 ghost use Rattle.fis.specs.declared.DeviceToHost.{DeviceToHost};
 ghost use Rattle.fis.specs.declared.PioSetup.{PioSetup};
 ghost use Rattle.fis.specs.declared.SetDeviceBits.{SetDeviceBits};
-ghost use Rattle.fis.specs.Spelling.{AreBytes, SpellsDeviceToHost, SpellsPioSetup, SpellsSetDeviceBits};
+ghost use Rattle.fis.specs.Encoding.{AreBytes, EncodesDeviceToHost, EncodesPioSetup, EncodesSetDeviceBits};
 
 use crate::{
     DeviceToHost, PioSetup, SetDeviceBits, decode_d2h, decode_h2d, decode_pio_setup,
@@ -47,13 +47,13 @@ pub fn a_setup_comes_back(fis: &PioSetup) -> Option<PioSetup>
 }
 
 /// No value has two spellings in bytes. This function does nothing.
-pub fn each_has_one_spelling()
-    ensures command { (c : Command) (a b : List ℕ) → AreBytes a → AreBytes b → SpellsCommand a c → SpellsCommand b c
+pub fn law_each_has_one_spelling()
+    ensures command { (c : Command) (a b : List ℕ) → AreBytes a → AreBytes b → EncodesCommand a c → EncodesCommand b c
         → a ≡ b }
-    ensures registers { (d : DeviceToHost) (a b : List ℕ) → AreBytes a → AreBytes b → SpellsDeviceToHost a d
-        → SpellsDeviceToHost b d → a ≡ b }
-    ensures tags { (s : SetDeviceBits) (a b : List ℕ) → AreBytes a → AreBytes b → SpellsSetDeviceBits a s
-        → SpellsSetDeviceBits b s → a ≡ b }
-    ensures setup { (p : PioSetup) (a b : List ℕ) → AreBytes a → AreBytes b → SpellsPioSetup a p → SpellsPioSetup b p
+    ensures registers { (d : DeviceToHost) (a b : List ℕ) → AreBytes a → AreBytes b → EncodesDeviceToHost a d
+        → EncodesDeviceToHost b d → a ≡ b }
+    ensures tags { (s : SetDeviceBits) (a b : List ℕ) → AreBytes a → AreBytes b → EncodesSetDeviceBits a s
+        → EncodesSetDeviceBits b s → a ≡ b }
+    ensures setup { (p : PioSetup) (a b : List ℕ) → AreBytes a → AreBytes b → EncodesPioSetup a p → EncodesPioSetup b p
         → a ≡ b }
 {}

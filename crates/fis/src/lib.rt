@@ -7,12 +7,12 @@
 
 ghost use Rattle.std.specs.Prelude.{◌≡◌, ◌<◌, ◌≤◌, ◌^◌, ◌↔◌, IsTrue, IfSome, Some, length};
 ghost use Rattle.std.specs.Int.RustNames.{bit_and};
-ghost use Rattle.adapter.specs.Spelling.{AreZero, SpellsCommand};
+ghost use Rattle.adapter.specs.Encoding.{AreZero, EncodesCommand};
 ghost use Rattle.adapter.specs.declared.command.Command.{Command};
 ghost use Rattle.fis.specs.declared.DeviceToHost.{DeviceToHost};
 ghost use Rattle.fis.specs.declared.PioSetup.{PioSetup};
 ghost use Rattle.fis.specs.declared.SetDeviceBits.{SetDeviceBits};
-ghost use Rattle.fis.specs.Spelling.{lba_at, SpellsDeviceToHost, SpellsPioSetup, SpellsSetDeviceBits};
+ghost use Rattle.fis.specs.Encoding.{lba_at, EncodesDeviceToHost, EncodesPioSetup, EncodesSetDeviceBits};
 
 pub mod laws;
 
@@ -115,7 +115,7 @@ fn lba_of(bytes: &[u8]) -> u64
 /// A command as a Register FIS from host to device (Serial ATA; AHCI 1.3.1, 4.2.3.1). Its LBA is below 2^48.
 pub fn encode_h2d(command: &Command) -> [u8; 20]
     requires { command.now.lba < 2 ^ 48 }
-    ensures { SpellsCommand result command.now }
+    ensures { EncodesCommand result command.now }
 {
     let features = command.features.to_le_bytes();
     let lba = command.lba.to_le_bytes();
@@ -146,8 +146,8 @@ pub fn encode_h2d(command: &Command) -> [u8; 20]
 
 /// The command that the bytes spell as a Register FIS from host to device, if they do.
 pub fn decode_h2d(bytes: &[u8]) -> Option<Command>
-    ensures found { IfSome result (SpellsCommand bytes.now) }
-    ensures only { (c : Command) → SpellsCommand bytes.now c → result ≡ Some c }
+    ensures found { IfSome result (EncodesCommand bytes.now) }
+    ensures only { (c : Command) → EncodesCommand bytes.now c → result ≡ Some c }
 {
     if bytes.len() != COMMAND_BYTES
         || bytes[0] != HOST_TO_DEVICE
@@ -168,7 +168,7 @@ pub fn decode_h2d(bytes: &[u8]) -> Option<Command>
 /// Registers as a Register FIS from device to host. Their LBA is below 2^48.
 pub fn encode_d2h(fis: &DeviceToHost) -> [u8; 20]
     requires { fis.now.lba < 2 ^ 48 }
-    ensures { SpellsDeviceToHost result fis.now }
+    ensures { EncodesDeviceToHost result fis.now }
 {
     let lba = fis.lba.to_le_bytes();
     let count = fis.count.to_le_bytes();
@@ -198,8 +198,8 @@ pub fn encode_d2h(fis: &DeviceToHost) -> [u8; 20]
 
 /// The registers that the bytes spell as a Register FIS from device to host, if they do.
 pub fn decode_d2h(bytes: &[u8]) -> Option<DeviceToHost>
-    ensures found { IfSome result (SpellsDeviceToHost bytes.now) }
-    ensures only { (d : DeviceToHost) → SpellsDeviceToHost bytes.now d → result ≡ Some d }
+    ensures found { IfSome result (EncodesDeviceToHost bytes.now) }
+    ensures only { (d : DeviceToHost) → EncodesDeviceToHost bytes.now d → result ≡ Some d }
 {
     if bytes.len() != REGISTER_BYTES
         || bytes[0] != DEVICE_TO_HOST
@@ -226,7 +226,7 @@ pub fn decode_d2h(bytes: &[u8]) -> Option<DeviceToHost>
 /// Tags as a Set Device Bits FIS. Bits 7 and 3 of the status are zero.
 pub fn encode_set_device_bits(fis: &SetDeviceBits) -> [u8; 8]
     requires { bit_and fis.now.status UNSET_STATUS ≡ 0 }
-    ensures { SpellsSetDeviceBits result fis.now }
+    ensures { EncodesSetDeviceBits result fis.now }
 {
     let tags = fis.tags.to_le_bytes();
     [
@@ -243,8 +243,8 @@ pub fn encode_set_device_bits(fis: &SetDeviceBits) -> [u8; 8]
 
 /// The tags that the bytes spell as a Set Device Bits FIS, if they do.
 pub fn decode_set_device_bits(bytes: &[u8]) -> Option<SetDeviceBits>
-    ensures found { IfSome result (SpellsSetDeviceBits bytes.now) }
-    ensures only { (s : SetDeviceBits) → SpellsSetDeviceBits bytes.now s → result ≡ Some s }
+    ensures found { IfSome result (EncodesSetDeviceBits bytes.now) }
+    ensures only { (s : SetDeviceBits) → EncodesSetDeviceBits bytes.now s → result ≡ Some s }
 {
     if bytes.len() != TAG_BYTES || bytes[0] != SET_DEVICE_BITS || bytes[2] & UNSET_STATUS != 0 {
         return None;
@@ -265,7 +265,7 @@ pub fn decode_set_device_bits(bytes: &[u8]) -> Option<SetDeviceBits>
 /// A transfer as a PIO Setup FIS. Its LBA is below 2^48.
 pub fn encode_pio_setup(fis: &PioSetup) -> [u8; 20]
     requires { fis.now.lba < 2 ^ 48 }
-    ensures { SpellsPioSetup result fis.now }
+    ensures { EncodesPioSetup result fis.now }
 {
     let lba = fis.lba.to_le_bytes();
     let count = fis.count.to_le_bytes();
@@ -298,8 +298,8 @@ pub fn encode_pio_setup(fis: &PioSetup) -> [u8; 20]
 
 /// The transfer that the bytes spell as a PIO Setup FIS, if they do.
 pub fn decode_pio_setup(bytes: &[u8]) -> Option<PioSetup>
-    ensures found { IfSome result (SpellsPioSetup bytes.now) }
-    ensures only { (p : PioSetup) → SpellsPioSetup bytes.now p → result ≡ Some p }
+    ensures found { IfSome result (EncodesPioSetup bytes.now) }
+    ensures only { (p : PioSetup) → EncodesPioSetup bytes.now p → result ≡ Some p }
 {
     if bytes.len() != SETUP_BYTES
         || bytes[0] != PIO_SETUP

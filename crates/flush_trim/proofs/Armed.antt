@@ -8,17 +8,17 @@ use Rattle.adapter.specs.Commands.{Meaning, IsMeaning, command_of}
 use Rattle.adapter.specs.Device.{Device}
 use Rattle.adapter.specs.Memory.{bytes_at}
 use Rattle.adapter.specs.Rules.{IsOn, HasPort}
-use Rattle.adapter.specs.Says.{IsWhole}
+use Rattle.adapter.specs.Decoding.{IsWholePieces}
 use Rattle.adapter.specs.Trim.{consecutive, trim_sectors}
 use Rattle.adapter.specs.declared.command.Command.{Command}
 use Rattle.adapter.specs.declared.command.Operation.TheVariants as operation
-use Rattle.agreement.specs.Driven.{AgreesWith, IsBitOf, IsFollowed}
-use Rattle.agreement.specs.Places.{list_of, scratch_of}
-use Rattle.agreement.specs.Slots.{Told}
+use Rattle.refinement.specs.Driven.{RelatesWith, IsBitOf, IsSimulated}
+use Rattle.refinement.specs.Places.{list_of, scratch_of}
+use Rattle.refinement.specs.Slots.{SlotDecodesTo}
 use Rattle.command_table.specs.Written.{IsStoreWithBlock, IsTableFor, IsTableStore, IsUnused}
 use Rattle.ncq.specs.Issuing.{IsArmedFor}
 use Rattle.ncq.specs.Tasks.{RunsItsList}
-use Rattle.flush_trim.specs.Tasks.{flush_of, trim_of}
+use Rattle.flush_trim.specs.Tasks.{flush_meaning, trim_meaning}
 
 abbrev pub flush : Meaning
 flush = record { operation = operation.Flush; first = 0; count = 0 }
@@ -30,7 +30,7 @@ pub flush_table : (command : Command) → command ≡ command_of operation.Flush
 flush_table command is = record {
   meaning = record { ranged = λ e. absurd cc; not_ranged = λ _. (refl, refl) };
   fields = is;
-  whole = All-nil IsWhole;
+  whole = All-nil IsWholePieces;
   in_order = refl;
   as_many = refl;
 }
@@ -38,9 +38,9 @@ flush_table command is = record {
 pub is_trim : IsMeaning trim
 is_trim = record { ranged = λ e. absurd cc; not_ranged = λ _. (refl, refl) }
 
-module _ (port : Port) (range : Range) (frames : List Frame) (own : ℕ) (old mid : Device) (on : IsOn old) (there : HasPort old port.0) (agreed : AgreesWith (IsUnused port.0 0) old)
+module _ (port : Port) (range : Range) (frames : List Frame) (own : ℕ) (old mid : Device) (on : IsOn old) (there : HasPort old port.0) (agreed : RelatesWith (IsUnused port.0 0) old)
     (may : RunsItsList port.0 old) (mid_on : IsOn mid) (alone : IsBitOf 0 own) where
-  pub armed_flush : IsFollowed (IsTableStore port.0 0) (IsUnused port.0 0) old mid → Told mid.memory (list_of port.0) port.0 0 flush [] → IsArmedFor port 0 (flush_of range) frames own old mid
+  pub armed_flush : IsSimulated (IsTableStore port.0 0) (IsUnused port.0 0) old mid → SlotDecodesTo mid.memory (list_of port.0) port.0 0 flush [] → IsArmedFor port 0 (flush_meaning range) frames own old mid
   armed_flush stores told = record {
     on = on;
     there = there;
@@ -59,8 +59,8 @@ module _ (port : Port) (range : Range) (frames : List Frame) (own : ℕ) (old mi
     arms = refl;
   }
 
-  pub armed_trim : IsFollowed (IsStoreWithBlock port.0 0) (IsUnused port.0 0) old mid → Told mid.memory (list_of port.0) port.0 0 trim (scratch_of port.0 ∷ []) →
-      trim_sectors (bytes_at mid.memory (scratch_of port.0) 512) ≡ consecutive range.first.0 range.count → IsArmedFor port 0 (trim_of range) frames own old mid
+  pub armed_trim : IsSimulated (IsStoreWithBlock port.0 0) (IsUnused port.0 0) old mid → SlotDecodesTo mid.memory (list_of port.0) port.0 0 trim (scratch_of port.0 ∷ []) →
+      trim_sectors (bytes_at mid.memory (scratch_of port.0) 512) ≡ consecutive range.first.0 range.count → IsArmedFor port 0 (trim_meaning range) frames own old mid
   armed_trim stores told block = record {
     on = on;
     there = there;

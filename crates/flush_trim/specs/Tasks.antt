@@ -5,9 +5,9 @@ use Rattle.ata_types.specs.declared.request.Op.TheVariants.{Trim, Flush}
 use Rattle.ncq.specs.declared.Task.{Task}
 
 -- the disk's cache is written back, whatever range the request names
-abbrev pub flush_of : Range → Task
-flush_of range = record { op = Flush; range = range; queued = false }
+abbrev pub flush_meaning : Range → Task
+flush_meaning range = record { op = Flush; range = range; queued = false }
 
 -- these sectors are forgotten
-abbrev pub trim_of : Range → Task
-trim_of range = record { op = Trim; range = range; queued = false }
+abbrev pub trim_meaning : Range → Task
+trim_meaning range = record { op = Trim; range = range; queued = false }

@@ -12,9 +12,9 @@ ghost use Rattle.ata_types.specs.declared.request.Op.TheVariants.{Trim, Flush};
 ghost use Rattle.adapter.specs.Commands.{command_of};
 ghost use Rattle.adapter.specs.Trim.{consecutive, trim_sectors};
 ghost use Rattle.adapter.specs.declared.command.Operation.TheVariants as operation;
-ghost use Rattle.ncq.specs.Issuing.{IsIssued, MayIssue};
+ghost use Rattle.ncq.specs.Issuing.{IsIssued, MayIssueTask};
 ghost use Rattle.flush_trim.specs.Block.{IsCut, entry_first, entry_length, first_of, length_of};
-ghost use Rattle.flush_trim.specs.Tasks.{flush_of, trim_of};
+ghost use Rattle.flush_trim.specs.Tasks.{flush_meaning, trim_meaning};
 ghost use Rattle.adapter.specs.Counted.{MakesAtMost};
 ghost use Rattle.command_table.specs.Costs.{BLOCK_ACCESSES, TABLE_ACCESSES};
 
@@ -23,7 +23,7 @@ use ata_types::{DATA_SET_MANAGEMENT, DRIVER_BYTES, FLUSH_CACHE_EXT, Port, Range,
 use command_table::{write_table, write_table_with_block};
 use hba_regs::{PortReg, Reg};
 use ncq::bit_of;
-use ncq::laws::writing_issues;
+use ncq::laws::law_writing_issues;
 
 /// Bit 0 of the features of DATA SET MANAGEMENT: TRIM (ACS-3).
 const TRIM: u16 = 1;
@@ -105,12 +105,12 @@ fn trim_command() -> Command
 /// Has the disk of a port that runs write its cache back (FLUSH CACHE EXT), by slot 0, which is unused. A flush names
 /// no sectors, so the range of its request is any.
 pub fn issue_flush<A: Adapter>(adapter: &mut A, port: Port)
-    requires may { MayIssue port 0 (A.device adapter.old) }
+    requires may { MayIssueTask port 0 (A.device adapter.old) }
     ensures issued { (range : Range) (frames : List Frame)
-        → IsIssued port 0 (flush_of range) frames (A.device adapter.old) (A.device adapter.new) }
+        → IsIssued port 0 (flush_meaning range) frames (A.device adapter.old) (A.device adapter.new) }
     ensures cost { MakesAtMost (TABLE_ACCESSES + 1) (A.access_count adapter.old) (A.access_count adapter.new) }
 {
-    writing_issues();
+    law_writing_issues();
     write_table(adapter, port, SLOT, &flush_command(), &[]);
     let own = bit_of(SLOT);
     adapter.write(Reg::Px(port, PortReg::Ci), own);
@@ -119,14 +119,14 @@ pub fn issue_flush<A: Adapter>(adapter: &mut A, port: Port)
 /// Has the disk of a port that runs forget these sectors (DATA SET MANAGEMENT with TRIM), by slot 0, which is unused:
 /// 4,194,240 of them at most, each below 2^48. The block that names them stands in the port's scratch frame.
 pub fn issue_trim<A: Adapter>(adapter: &mut A, port: Port, range: &Range)
-    requires may { MayIssue port 0 (A.device adapter.old) }
+    requires may { MayIssueTask port 0 (A.device adapter.old) }
     requires count { range.now.count ≤ 4194240 }
     requires sectors { 0 < range.now.count → range.now.first.0 + range.now.count ≤ 2 ^ 48 }
-    ensures issued { (frames : List Frame) → IsIssued port 0 (trim_of range.now) frames (A.device adapter.old)
+    ensures issued { (frames : List Frame) → IsIssued port 0 (trim_meaning range.now) frames (A.device adapter.old)
         (A.device adapter.new) }
     ensures cost { MakesAtMost (BLOCK_ACCESSES + 1) (A.access_count adapter.old) (A.access_count adapter.new) }
 {
-    writing_issues();
+    law_writing_issues();
     write_table_with_block(adapter, port, &trim_command(), &trim_block(range));
     adapter.write(Reg::Px(port, PortReg::Ci), bit_of(SLOT));
 }

@@ -6,7 +6,7 @@ use std::{fmt, io};
 
 /// Why a run of the program doesn't end well.
 #[derive(Clone, Copy, Debug, PartialEq, Eq)]
-pub enum Fault {
+pub enum FollowError {
     /// The words are not six, or the fifth is no number of 32 bits.
     CommandLine,
     /// The configuration, the script or the image can't be read.
@@ -25,53 +25,53 @@ pub enum Fault {
     Unwritten,
 }
 
-impl Fault {
+impl FollowError {
     /// The status with which the program ends: 2 for a bad command line, and else 1.
     pub fn status(self) -> u8 {
         match self {
-            Fault::CommandLine => 2,
+            FollowError::CommandLine => 2,
             _ => 1,
         }
     }
 }
 
-impl From<AllocError> for Fault {
-    fn from(_error: AllocError) -> Fault {
-        Fault::NoMemory
+impl From<AllocError> for FollowError {
+    fn from(_error: AllocError) -> FollowError {
+        FollowError::NoMemory
     }
 }
 
-impl From<Ended> for Fault {
-    fn from(ended: Ended) -> Fault {
+impl From<Ended> for FollowError {
+    fn from(ended: Ended) -> FollowError {
         match ended {
-            Ended::Config(kind) => Fault::Config(kind.number()),
-            Ended::Line(number) => Fault::Line(number),
-            Ended::Done | Ended::Unwritten => Fault::Unwritten,
-            Ended::NoMemory => Fault::NoMemory,
+            Ended::Config(kind) => FollowError::Config(kind.number()),
+            Ended::Line(number) => FollowError::Line(number),
+            Ended::Done | Ended::Unwritten => FollowError::Unwritten,
+            Ended::NoMemory => FollowError::NoMemory,
         }
     }
 }
 
 /// Want of memory, where that is the error, or else this fault.
-pub fn unless_memory(error: &io::Error, fault: Fault) -> Fault {
+pub fn unless_memory(error: &io::Error, fault: FollowError) -> FollowError {
     if error.kind() == io::ErrorKind::OutOfMemory {
-        Fault::NoMemory
+        FollowError::NoMemory
     } else {
         fault
     }
 }
 
-impl fmt::Display for Fault {
+impl fmt::Display for FollowError {
     fn fmt<W: fmt::Write>(&self, f: &mut fmt::Formatter<W>) -> fmt::Result {
         match self {
-            Fault::CommandLine => write!(f, "bad command line"),
-            Fault::Unread => write!(f, "a file can't be read"),
-            Fault::Config(kind) => write!(f, "config {kind}"),
-            Fault::Line(number) => write!(f, "line {number}: bad"),
-            Fault::Peer => write!(f, "the peer can't be reached"),
-            Fault::Strayed => write!(f, "model and peer don't agree"),
-            Fault::NoMemory => write!(f, "no memory"),
-            Fault::Unwritten => write!(f, "output"),
+            FollowError::CommandLine => write!(f, "bad command line"),
+            FollowError::Unread => write!(f, "a file can't be read"),
+            FollowError::Config(kind) => write!(f, "config {kind}"),
+            FollowError::Line(number) => write!(f, "line {number}: bad"),
+            FollowError::Peer => write!(f, "the peer can't be reached"),
+            FollowError::Strayed => write!(f, "model and peer don't agree"),
+            FollowError::NoMemory => write!(f, "no memory"),
+            FollowError::Unwritten => write!(f, "output"),
         }
     }
 }

@@ -11,10 +11,10 @@ mod fault;
 mod words;
 
 use device_model::{Disks, Model, ModelDisk, PortDisks};
-use fault::{Fault, unless_memory};
-use followed_adapter::{Followed, LinePeer};
+use fault::{FollowError, unless_memory};
+use lockstep_adapter::{Followed, LinePeer};
 use play::{Stop, model_with, play_over, read};
-use sector_store::{Disk, FileStore, MemStore};
+use sector_store::{DiskStore, FileStore, MemStore};
 use std::fs::{self, File, Files, OpenOptions};
 use std::io::{self, BufReader, BufWriter, Write};
 use std::process::ExitCode;
@@ -22,7 +22,7 @@ use std::rt::Env;
 use words::Words;
 
 /// The adapter that is followed, over files.
-type Adapter = Followed<Model<Disk>, LinePeer<BufReader<File>, File>>;
+type Adapter = Followed<Model<DiskStore>, LinePeer<BufReader<File>, File>>;
 
 /// The serial number of the disk of port 0; those of ports 1 to 3 have the port's digit behind it.
 const SERIAL: [u8; 20] = *b"IMAGEDISK           ";
@@ -32,13 +32,13 @@ fn disks_of(
     rt: &(impl AllocGlobal + Files<File = File>),
     words: &Words,
     port: usize,
-) -> Result<Option<PortDisks<Disk>>, Fault> {
+) -> Result<Option<PortDisks<DiskStore>>, FollowError> {
     let Some(path) = words.images.get(port) else {
         return Ok(None);
     };
     let image = FileStore::open(rt, path.as_str()).map_err(|error| unless_memory(
         &error,
-        Fault::Unread,
+        FollowError::Unread,
     ))?;
     let blank = MemStore::new(rt.alloc(), 0)?;
     let mut serial = SERIAL;
@@ -48,11 +48,11 @@ fn disks_of(
     Ok(Some(PortDisks {
         first: ModelDisk {
             serial,
-            store: Disk::File(image),
+            store: DiskStore::File(image),
         },
         spare: ModelDisk {
             serial: *b"BLANKDISK           ",
-            store: Disk::Memory(blank),
+            store: DiskStore::Memory(blank),
         },
     }))
 }
@@ -61,7 +61,7 @@ fn disks_of(
 fn disks(
     rt: &(impl AllocGlobal + Files<File = File>),
     words: &Words,
-) -> Result<Disks<Disk>, Fault> {
+) -> Result<Disks<DiskStore>, FollowError> {
     Ok(Disks {
         port0: disks_of(rt, words, 0)?,
         port1: disks_of(rt, words, 1)?,
@@ -74,8 +74,8 @@ fn disks(
 fn peer(
     rt: &(impl AllocGlobal + Files<File = File>),
     words: &Words,
-) -> Result<LinePeer<BufReader<File>, File>, Fault> {
-    let unopened = |error: io::Error| unless_memory(&error, Fault::Peer);
+) -> Result<LinePeer<BufReader<File>, File>, FollowError> {
+    let unopened = |error: io::Error| unless_memory(&error, FollowError::Peer);
     let to = OpenOptions::new()
         .write(true)
         .open(rt, words.to.as_str())
@@ -90,9 +90,9 @@ fn told(
     rt: &impl Eprint,
     adapter: Option<Adapter>,
     performed: Result<(), Stop>,
-) -> Result<(), Fault> {
+) -> Result<(), FollowError> {
     let Some(adapter) = adapter else {
-        return Err(Fault::NoMemory);
+        return Err(FollowError::NoMemory);
     };
     let counts = adapter.counts();
     let _told = eprintln!(rt;
@@ -100,26 +100,28 @@ fn told(
         counts.accesses, counts.looks
     );
     let _told = eprintln!(rt; "follow: passed over: {}", adapter.passed_over());
-    if let Some(stray) = adapter.stray() {
-        let _told = eprintln!(rt; "follow: strayed: {stray}");
-        return Err(Fault::Strayed);
+    if let Some(divergence) = adapter.divergence() {
+        let _told = eprintln!(rt; "follow: strayed: {divergence}");
+        return Err(FollowError::Strayed);
     }
     match performed {
         Ok(()) => Ok(()),
-        Err(Stop::NoMemory) => Err(Fault::NoMemory),
-        Err(Stop::Unwritten) => Err(Fault::Unwritten),
+        Err(Stop::NoMemory) => Err(FollowError::NoMemory),
+        Err(Stop::Unwritten) => Err(FollowError::Unwritten),
     }
 }
 
 /// Does what the words ask.
-fn run(rt: &(impl Env + AllocGlobal + Files<File = File> + Print + Eprint)) -> Result<(), Fault> {
+fn run(
+    rt: &(impl Env + AllocGlobal + Files<File = File> + Print + Eprint),
+) -> Result<(), FollowError> {
     let words = Words::read(rt)?;
-    let unread = |error: io::Error| unless_memory(&error, Fault::Unread);
+    let unread = |error: io::Error| unless_memory(&error, FollowError::Unread);
     let config = fs::read(rt, words.config.as_str()).map_err(unread)?;
     let script = fs::read(rt, words.script.as_str()).map_err(unread)?;
     let values = read(rt.alloc(), config.as_slice(), script.as_slice())?;
     let Ok(model) = model_with(rt.alloc(), &values, disks(rt, &words)?) else {
-        return Err(Fault::NoMemory);
+        return Err(FollowError::NoMemory);
     };
     let followed = Followed::new(model, peer(rt, &words)?);
     let mut out = BufWriter::new(rt.alloc(), io::writer(rt)).map_err(unread)?;
@@ -134,7 +136,7 @@ fn run(rt: &(impl Env + AllocGlobal + Files<File = File> + Print + Eprint)) -> R
     let flushed = out.flush();
     let (_writer, _unwritten) = out.into_parts();
     told(rt, adapter, performed)?;
-    flushed.map_err(|_error| Fault::Unwritten)
+    flushed.map_err(|_error| FollowError::Unwritten)
 }
 
 fn main(rt: HostRuntime) -> ExitCode {

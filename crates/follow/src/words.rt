@@ -1,5 +1,5 @@
 // The words that the program is started with.
-use crate::fault::{Fault, unless_memory};
+use crate::fault::{FollowError, unless_memory};
 use ata_types::PORTS;
 use std::alloc::Global;
 use std::env;
@@ -21,11 +21,11 @@ pub struct Words {
 }
 
 /// The same words once more.
-fn copied(alloc: Global, words: &[String]) -> Result<Vec<String>, Fault> {
+fn copied(alloc: Global, words: &[String]) -> Result<Vec<String>, FollowError> {
     let mut copies = Vec::new(alloc);
     for word in words {
         let copy = word.clone()?;
-        copies.push(copy).map_err(|_full| Fault::NoMemory)?;
+        copies.push(copy).map_err(|_full| FollowError::NoMemory)?;
     }
     Ok(copies)
 }
@@ -33,18 +33,18 @@ fn copied(alloc: Global, words: &[String]) -> Result<Vec<String>, Fault> {
 impl Words {
     /// The words of `follow CONFIG SCRIPT TO FROM REGISTERS IMAGE..`. REGISTERS is in hexadecimal digits, and there are
     /// one to four images.
-    pub fn read(rt: &(impl Env + AllocGlobal)) -> Result<Words, Fault> {
+    pub fn read(rt: &(impl Env + AllocGlobal)) -> Result<Words, FollowError> {
         // Words that are no text aren't a command line either.
-        let words = env::args(rt).map_err(|error| unless_memory(&error, Fault::CommandLine))?;
+        let words = env::args(rt).map_err(|error| unless_memory(&error, FollowError::CommandLine))?;
         let words: Vec<String> = words.collect(rt.alloc())?;
         let [_, config, script, to, from, registers, images @ ..] = words.as_slice() else {
-            return Err(Fault::CommandLine);
+            return Err(FollowError::CommandLine);
         };
         if images.is_empty() || images.len() > PORTS {
-            return Err(Fault::CommandLine);
+            return Err(FollowError::CommandLine);
         }
         let Ok(registers) = u32::from_str_radix(registers.as_str(), 16) else {
-            return Err(Fault::CommandLine);
+            return Err(FollowError::CommandLine);
         };
         Ok(Words {
             config: config.clone()?,

@@ -14,7 +14,7 @@ use Rattle.ata_types.specs.declared.refusal.FrameFault.TheVariants.{FrameForeign
 use Rattle.ata_types.specs.declared.refusal.Rule.{Rule}
 use Rattle.ata_types.specs.declared.refusal.Rule.TheVariants.{NoGrant, NoRight, BadCount, OutsideGrant, FrameCount, Frames}
 use Rattle.ata_types.specs.declared.refusal.Refusal.TheVariants as refused
-use Rattle.block_machine.specs.Rules.{IsNamed, IsCount, frames_for, Breaks, IsBefore, rank, HasNoFault, IsFirstFault, BreaksNone, IsFirstBroken}
+use Rattle.block_machine.specs.Rules.{IsNamed, IsAllowedCount, frames_for, Breaks, IsBefore, rank, HasNoFault, IsFirstFault, BreaksNone, IsFirstBroken}
 use Rattle.block_machine.proofs.RuleLemmas.{same_rule, number, place, fault_number}
 
 -- the faults of frames come after the other rules
@@ -102,10 +102,10 @@ module _ (rows : List GrantRow) (owner : Frame → Option ClientId) (lent : Fram
       kept_right = kept_more NoRight (omega arith) kept_grant
           (λ w. w.2 (subst (λ (x : GrantRow). Allows x.rights r.op) (same_row w.0 w.1) allows))
 
-      pub bad_count : (IsCount r.op r.count → ⊥) → IsFirstBroken rows owner lent r BadCount
+      pub bad_count : (IsAllowedCount r.op r.count → ⊥) → IsFirstBroken rows owner lent r BadCount
       bad_count not = first_broken BadCount (omega arith) kept_right not
 
-      module _ (is_count : IsCount r.op r.count) where
+      module _ (is_count : IsAllowedCount r.op r.count) where
         kept_count : KeptBelow 4
         kept_count = kept_more BadCount (omega arith) kept_right (λ not. not is_count)
 

@@ -39,12 +39,12 @@ impl Compared {
 
 /// The name of a row: its client and number. No other module sees the fields, so keys are compared by `order` alone.
 #[derive(Drop)]
-pub struct Key {
+pub struct GrantKey {
     client: ClientId,
     number: u8,
 }
 
-impl Model for Key {
+impl Model for GrantKey {
     ghost use Rattle.std.specs.Prelude.{◌<◌};
     ghost use Rattle.grants.specs.Names.{Name};
 
@@ -55,13 +55,13 @@ impl Model for Key {
     ghost invariant = { λ k. k.number < 256 };
 }
 
-impl Key {
+impl GrantKey {
     /// The key of a name.
     pub fn new(client: ClientId, number: u8) -> Self
         ensures name { result ≡ (client, number) }
         ensures byte { number < 256 }
     {
-        Key { client, number }
+        GrantKey { client, number }
     }
 
     /// The key's order to this name. The comparison is counted.

@@ -8,7 +8,7 @@ ghost use Rattle.std.specs.Prelude.{◌≡◌, ◌≢◌, ◌≤◌, ◌<◌, �
 ghost use Rattle.ata_types.specs.Grant.{Covers};
 ghost use Rattle.ata_types.specs.declared.grant.GrantRow.{GrantRow};
 ghost use Rattle.ata_types.specs.declared.request.Op.TheVariants.{Flush};
-ghost use Rattle.block_machine.specs.Rules.{Names, DifferInName, HasRow, without_row, IsCount, frames_for, BreaksNone, IsFirstBroken};
+ghost use Rattle.block_machine.specs.Rules.{Names, DifferInName, HasRow, without_row, IsAllowedCount, frames_for, BreaksNone, IsFirstBroken};
 ghost use Rattle.dma_frames.specs.Table.{owner_of, lent_to};
 ghost use Rattle.grants.specs.Names.{AreInOrder, IsPlaceOf, IsRowAt, name_of};
 ghost use Rattle.grants.specs.Rows.{SameRows};
@@ -18,7 +18,7 @@ mod key;
 use ata_types::{ClientId, GrantRow, MOST_REQUEST_SECTORS, Op, Request, Rule};
 use dma_frames::FrameTable;
 pub use key::Compared;
-use key::Key;
+use key::GrantKey;
 use std::alloc::{AllocError, Global};
 use std::cmp::Ordering;
 use std::marker::Model;
@@ -27,7 +27,7 @@ use std::marker::Model;
 /// search finds one.
 #[derive(Drop)]
 pub struct Grants {
-    keys: Vec<Key>,
+    keys: Vec<GrantKey>,
     rows: Vec<GrantRow>,
 }
 
@@ -102,20 +102,25 @@ fn name_rank(client: u8, number: u8) -> u32
 }
 
 /// The rows' keys.
-fn keys_of(alloc: Global, rows: &[GrantRow]) -> Result<Vec<Key>, AllocError>
+fn keys_of(alloc: Global, rows: &[GrantRow]) -> Result<Vec<GrantKey>, AllocError>
     ensures keys { IfOk result (λ keys. keys.items ≡ map name_of rows.now) }
     ensures bytes { IfOk result (λ keys. All (λ name. name.1 < 256) keys.items) }
 {
     let mut keys = Vec::with_capacity(alloc, rows.len())?;
     for row in rows {
-        keys.push_reserved(Key::new(row.client, row.number));
+        keys.push_reserved(GrantKey::new(row.client, row.number));
     }
     Ok(keys)
 }
 
 /// The place of the key of this name, if there is one. Each comparison leaves at most half of the keys that were left,
 /// so 64 keys take at most 7.
-fn find_key(keys: &[Key], client: ClientId, number: u8, compared: &mut Compared) -> Option<usize>
+fn find_key(
+    keys: &[GrantKey],
+    client: ClientId,
+    number: u8,
+    compared: &mut Compared,
+) -> Option<usize>
     requires few { length keys.now ≤ 64 }
     requires order { AreInOrder keys.now }
     requires room { compared.old + 7 < 2 ^ 32 }
@@ -167,7 +172,7 @@ pub fn decide(request: &Request, grants: &Grants, table: &FrameTable) -> Result<
 
 /// Whether the operation may have so many sectors.
 fn is_count(op: Op, count: u32) -> bool
-    ensures { IsTrue result ↔ IsCount op count }
+    ensures { IsTrue result ↔ IsAllowedCount op count }
 {
     match op {
         Op::Read | Op::Write => 1 <= count && count <= MOST_REQUEST_SECTORS,

@@ -10,15 +10,15 @@ use Rattle.ata_types.specs.declared.grant.GrantRow.{GrantRow}
 use Rattle.ata_types.specs.declared.request.Request.{Request}
 use Rattle.hba_regs.specs.Bits.{bit}
 use Rattle.adapter.specs.Commands.{is_queued}
-use Rattle.adapter.specs.Device.{Device, PortState}
+use Rattle.adapter.specs.Device.{Device, DevicePort}
 use Rattle.adapter.specs.ReadDone.{read_of}
-use Rattle.adapter.specs.Says.{cut}
+use Rattle.adapter.specs.Decoding.{piece_addresses}
 use Rattle.adapter.specs.declared.access.DeviceStep.{DeviceStep}
-use Rattle.agreement.specs.Agrees.{port_at}
-use Rattle.agreement.specs.Slots.{ServesRequest, Stage}
-use Rattle.agreement.specs.Witness.{first_id}
-use Rattle.block_machine.specs.Events.{Happens, Moment}
-use Rattle.block_machine.specs.Histories.{Happening, Instant}
+use Rattle.refinement.specs.Relation.{port_at}
+use Rattle.refinement.specs.Slots.{ServesRequest, Stage}
+use Rattle.refinement.specs.Witness.{first_id}
+use Rattle.block_machine.specs.Events.{Happens, AbstractState}
+use Rattle.block_machine.specs.Histories.{Happening, JointState}
 use Rattle.block_machine.specs.Left.{after}
 use Rattle.block_machine.specs.Ports.{Evidence, Ports, SamePort}
 use Rattle.block_machine.specs.State.{Machine, Pending, unanswered}
@@ -26,9 +26,9 @@ use Rattle.block_machine.specs.Steps.{Accept, Answer, Issue, May, newly_accepted
 use Rattle.block_machine.specs.declared.due.Unanswered.{Unanswered}
 use Rattle.identify.specs.declared.wanted.Wanted.TheVariants.{Any}
 use Rattle.driver_history.specs.Heeding.{ServesReady, tells_fault}
-use Rattle.driver_history.specs.Histories.{IsIssuedOn, IssuesOn, Ties, TiesPort}
+use Rattle.driver_history.specs.Histories.{IsIssuedOn, IssuesOn, CallCorresponds, PortCorresponds}
 use Rattle.driver_history.specs.Holds.{HoldsWith}
-use Rattle.history_witnesses.specs.Begun.{ReadyPortHasBegun}
+use Rattle.history_witnesses.specs.CommandToFinish.{ReadyPortHasBegun}
 use Rattle.history_witnesses.specs.Scene.{plain, running_port}
 use Rattle.history_witnesses.proofs.Command.{read_memory, told, zeros}
 use Rattle.history_witnesses.proofs.Holding.{IsUnnamed, first_slots, no_slots}
@@ -46,7 +46,7 @@ use Rattle.history_witnesses.proofs.Submitting.{issued, others_clear, submit_acc
 abbrev pub both : Ports
 both = two_ready plain_disks
 
-abbrev pub first : Instant Device
+abbrev pub first : JointState Device
 first = instant_with plain_disks no_slots start [] zeros (running_port 0)
 
 -- a read of one sector
@@ -78,7 +78,7 @@ issuing = issuing_on.issuing submission
 abbrev pub waiting : Pending
 waiting = outstanding_as first_id 100 100 (issuing_on.accepted submission).held
 
-abbrev pub submitted_at : Instant Device
+abbrev pub submitted_at : JointState Device
 submitted_at = issuing_on.submitted_at submission
 
 -- the read issued still when it has this age
@@ -88,7 +88,7 @@ waiting_for age = aged age waiting
 abbrev pub issued_for : ℕ → Machine
 issued_for age = record issuing { book = waiting_for age ∷ [] }
 
-abbrev pub issued_at : ℕ → Instant Device
+abbrev pub issued_at : ℕ → JointState Device
 issued_at age = record { device = submitted; moment = record { machine = issued_for age; ports = both } }
 
 may_issue : May (after start (Accept (issuing_on.accepted submission) ∷ [])) (Issue plain waits)
@@ -102,7 +102,7 @@ in_book age e here = only (waiting_for age) e here
 
 -- ---- what holds
 
-serves_stage : (age : ℕ) → Stage read_memory issued 0 0 (waiting_for age) (read_of 100 1) (cut 0x64000 1)
+serves_stage : (age : ℕ) → Stage read_memory issued 0 0 (waiting_for age) (read_of 100 1) (piece_addresses 0x64000 1)
 serves_stage age = inl (record { started = refl; issued = refl; free = refl; sact = refl; block = tt; untouched = λ i. sym (le-ltb i 0 (omega arith)); unended = refl })
 
 pub serves : ServesRequest issuing read_memory issued 0 0 first_id
@@ -170,10 +170,10 @@ submit = issuing_on.submit submission
 pub submit_happens : Happens first.moment submit.event
 submit_happens = happens_so submission is_issued
 
-pub submit_ties : Ties (Any ∷ Any ∷ []) first submit
+pub submit_ties : CallCorresponds (Any ∷ Any ∷ []) first submit
 submit_ties = ties_so submission is_issued
 
-pub submit_parts : (port : Port) → TiesPort first submit submit_ties.accesses port
+pub submit_parts : (port : Port) → PortCorresponds first submit submit_ties.accesses port
 unfolding submit_ties ties_so
 submit_parts port = part_of submission is_issued port.0
 
@@ -190,7 +190,7 @@ pub not_ended : (age : ℕ) (e : Pending) → Contains (issued_for age).book e �
 not_ended age e here is = true≢false (sym is ∙ ap (λ (x : Pending). x.ended) (in_book age e here))
 
 -- where no command is taken yet, a slot whose bit of PxCI is clear serves no request
-pub bits_set : (age : ℕ) (p : PortState) → p.st ≡ true → ((k : ℕ) → p.ci k ≡ bit 1 k) → ((k : ℕ) → p.taken k ≡ None) → (e : Pending) (k : ℕ) → ServesRequest (issued_for age) read_memory p 0 k e.request.id → bit 1 k ≡ false → ⊥
+pub bits_set : (age : ℕ) (p : DevicePort) → p.st ≡ true → ((k : ℕ) → p.ci k ≡ bit 1 k) → ((k : ℕ) → p.taken k ≡ None) → (e : Pending) (k : ℕ) → ServesRequest (issued_for age) read_memory p 0 k e.request.id → bit 1 k ≡ false → ⊥
 bits_set age p started waits free e k s ci = serves_none (issued_for age) read_memory p k e.request.id s started (waits k ∙ ci) (free k)
     (ap (λ (x : Pending). x.ended) (⊎_elim (λ m. in_book age s.pending m.0) (λ m. absurd (nowhere s.pending m)) s.moves))
 
@@ -203,7 +203,7 @@ pub the_answer : (told : Outcome) (e : Pending) (o : Outcome) → Contains (Answ
 the_answer told e o here = let same : Answer e o ≡ Answer waiting told = only (Answer waiting told) (Answer e o) here in (cc, cc)
 
 -- and the other port is left alone, if it isn't named
-pub leaves_other : (told : Outcome) (evidence : Evidence) (new : Moment) → IsUnnamed evidence (port_at 1) → count_by (tells_fault (port_at 1)) (Answer waiting told ∷ []) ≤ 1 → SamePort both new.ports (port_at 1)
+pub leaves_other : (told : Outcome) (evidence : Evidence) (new : AbstractState) → IsUnnamed evidence (port_at 1) → count_by (tells_fault (port_at 1)) (Answer waiting told ∷ []) ≤ 1 → SamePort both new.ports (port_at 1)
     → ServesReady submitted_at.moment evidence (Answer waiting told ∷ []) new (port_at 1)
 leaves_other told evidence new un single same = record {
   ended = λ e here at_port ended. absurd (not_ended 0 e here ended);

@@ -11,17 +11,17 @@ use Rattle.ata_types.specs.declared.request.Outcome.{Outcome}
 use Rattle.ata_types.specs.declared.request.Outcome.TheVariants as outcome
 use Rattle.adapter.specs.Device.{Device}
 use Rattle.adapter.specs.declared.access.DeviceStep.{DeviceStep}
-use Rattle.agreement.specs.Agrees.{port_at}
-use Rattle.agreement.specs.Driver.{IsBacked}
+use Rattle.refinement.specs.Relation.{port_at}
+use Rattle.refinement.specs.Driver.{IsBacked}
 use Rattle.block_machine.specs.Due.{NoneDue}
-use Rattle.block_machine.specs.Events.{AgesOnce, Happens, IsHung, RestartsHung, Served, Tick, is_age}
+use Rattle.block_machine.specs.Events.{AgesOnce, Happens, HasTimedOut, RestartsTimedOut, Served, Tick, is_age}
 use Rattle.block_machine.specs.Histories.{Happening}
 use Rattle.block_machine.specs.State.{Pending, unanswered}
 use Rattle.block_machine.specs.Steps.{Step, Again, Age, Answer}
 use Rattle.block_machine.specs.declared.due.Unanswered.{Unanswered}
 use Rattle.identify.specs.declared.wanted.Wanted.TheVariants.{Any}
 use Rattle.driver_history.specs.Evidence.{IsEvidencedOf, ShowsFailure, ShowsLoss}
-use Rattle.driver_history.specs.Histories.{IssuesDue, Ties, TiesPort}
+use Rattle.driver_history.specs.Histories.{IssuesDue, CallCorresponds, PortCorresponds}
 use Rattle.driver_history.specs.Trace.{IsServing, LeavesEngine}
 use Rattle.history_witnesses.specs.Scene.{plain}
 use Rattle.history_witnesses.proofs.Accepting.{both, holds_issued, in_book, issued_at, issued_for, waiting_for}
@@ -36,14 +36,14 @@ use Rattle.history_witnesses.proofs.Submitting.{issued, submitted}
 
 -- ---- who is hung
 
-pub hung_at : (age : ℕ) → 2 ≤ age → IsHung (issued_at age).moment (port_at 0)
+pub hung_at : (age : ℕ) → 2 ≤ age → HasTimedOut (issued_at age).moment (port_at 0)
 hung_at age old = record { ready = refl; pending = waiting_for age; here = (0, omega arith, refl); port_is = refl; issued = refl; old_enough = old }
 
 -- port 0 alone is ever
-pub hung_first : (age : ℕ) (port : Port) → IsHung (issued_at age).moment port → port ≡ port_at 0
+pub hung_first : (age : ℕ) (port : Port) → HasTimedOut (issued_at age).moment port → port ≡ port_at 0
 hung_first age port h = sym h.port_is ∙ ap (λ (e : Pending). e.request.port) (in_book age h.pending h.here)
 
-pub not_hung : (age : ℕ) → age < 2 → (port : Port) → IsHung (issued_at age).moment port → ⊥
+pub not_hung : (age : ℕ) → age < 2 → (port : Port) → HasTimedOut (issued_at age).moment port → ⊥
 not_hung age young port h =
     let same : h.pending.age ≡ age = ap (λ (e : Pending). e.age) (in_book age h.pending h.here) in
     let old = h.old_enough in
@@ -108,7 +108,7 @@ module _ (age : ℕ) where
   )
 
   module _ (young : age < 2) where
-    restarts_none : RestartsHung (issued_at age).moment nothing (ages ∷ []) (issued_at (suc age)).moment
+    restarts_none : RestartsTimedOut (issued_at age).moment nothing (ages ∷ []) (issued_at (suc age)).moment
     restarts_none = record {
       ports = λ port. inl (not_hung age young port, (refl, refl, refl, refl, refl, refl));
       again = λ e here. absurd (unrepeated e here);
@@ -142,21 +142,21 @@ module _ (age : ℕ) where
       };
     }
 
-    pub tick_part : (n : ℕ) → TiesPort (issued_at age) tick [] (port_at n)
+    pub tick_part : (n : ℕ) → PortCorresponds (issued_at age) tick [] (port_at n)
     tick_part n = record {
       finds = λ h. absurd (not_hung age young (port_at n) h);
       faults = tt;
-      tries = tt;
+      probes = tt;
       boots = λ h. absurd (not_hung age young (port_at n) h);
-      trouble = no_trouble nothing (issued_at age) both submitted (port_at n) [] refl (All-nil (IsCalm n)) (served_ready n) (quiet n);
+      port_error = no_trouble nothing (issued_at age) both submitted (port_at n) [] refl (All-nil (IsCalm n)) (served_ready n) (quiet n);
       well = λ why. absurd (⊎_elim (nowhere (port_at n)) (nowhere (port_at n)) why);
       heeds = tt;
     }
 
-    unfoldable pub tick_ties : Ties (Any ∷ Any ∷ []) (issued_at age) tick
+    unfoldable pub tick_ties : CallCorresponds (Any ∷ Any ∷ []) (issued_at age) tick
     tick_ties = record {
       accesses = [];
-      came = (refl, All-nil (IsServing (IsHung (issued_at age).moment)));
+      came = (refl, All-nil (IsServing (HasTimedOut (issued_at age).moment)));
       backed = backed;
       evidenced = record { faults = λ f here. absurd (nowhere f here); port = λ port. evidenced port.0 };
       grounded = tt;

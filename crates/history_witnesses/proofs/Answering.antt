@@ -1,6 +1,6 @@
 -- The service that answers the read and loses the other disk meets all that is asked of it.
 use Rattle.adapter.specs.declared.command.Operation.TheVariants as operation
-use Rattle.adapter.specs.FirstRead.{sector_of}
+use Rattle.adapter.specs.FirstRead.{first_read_sector}
 use Rattle.adapter.specs.Steps.{move_of, done_entry}
 use Rattle.std.proofs.Common.{ℕ, zero, suc, ◌≡◌, ◌≢◌, ◌∙◌, true, false, List, [], ◌∷◌, inl, inr, ⊎_elim, refl, sym, ap, arith, ◌⊎◌, ◌++◌}
 use Rattle.std.proofs.lemmas.Bool.{true≢false}
@@ -12,9 +12,9 @@ use Rattle.ata_types.specs.declared.request.Op.TheVariants.{Read, Write}
 use Rattle.ata_types.specs.declared.request.Outcome.TheVariants as outcome
 use Rattle.adapter.specs.Device.{Device}
 use Rattle.adapter.specs.declared.tape.Entry.TheVariants as entry
-use Rattle.agreement.specs.Agrees.{port_at}
-use Rattle.agreement.specs.Driver.{IsBacked}
-use Rattle.agreement.specs.Witness.{first_id}
+use Rattle.refinement.specs.Relation.{port_at}
+use Rattle.refinement.specs.Driver.{IsBacked}
+use Rattle.refinement.specs.Witness.{first_id}
 use Rattle.block_machine.specs.Histories.{Happening}
 use Rattle.block_machine.specs.Events.{HadDisk, Happens, Service, Served}
 use Rattle.block_machine.specs.Ports.{AreFit, IsInterrupted, IsServiced, SamePort}
@@ -29,11 +29,11 @@ use Rattle.hba_regs.specs.declared.reg.PortReg.TheVariants.{Cmd, Ssts, Serr}
 use Rattle.adapter.specs.Access.{Access}
 use Rattle.adapter.specs.Access.Access.{Reading, Writing}
 use Rattle.adapter.specs.declared.access.DeviceStep.{DeviceStep}
-use Rattle.agreement.specs.Links.{IsPlugging}
+use Rattle.refinement.specs.Links.{IsPlugging}
 use Rattle.error_recovery.specs.Evidence.{ShowsFatal}
 use Rattle.driver_history.specs.Heeding.{ServesReady}
 use Rattle.driver_history.specs.Evidence.{Gains, IsEvidencedOf, ShowsLoss, ShowsFailure}
-use Rattle.driver_history.specs.Histories.{FindsDone, IsIssuedOn, Ties, TiesPort, BootsAnew, LosesNoTrouble, RunsWellAnew, TendsPort}
+use Rattle.driver_history.specs.Histories.{FindsDone, IsIssuedOn, CallCorresponds, PortCorresponds, BootsAnew, LosesNoPortError, RunsWellAnew, TendsPort}
 use Rattle.driver_history.specs.Trace.{LeavesCommand}
 use Rattle.port_control.specs.Engines.{Stops}
 use Rattle.history_witnesses.specs.Loss.{finding_turn, losing_turn, loss_evidence, LossIsAHistory}
@@ -298,20 +298,20 @@ service_boots (suc (suc n)) = (λ is f. absurd (not_shown (suc (suc n)) is f), i
 -- what the tape has gained is no trouble of another port than the second
 gained_calm : (n : ℕ) → n ≢ 1 → All (IsCalm n) gained
 gained_calm n ne =
-    All-cons (IsCalm n) (entry.Move (move_of 0 0 command (sector_of 100))) (done_entry 0 0 operation.Read ∷ entry.Unplug (port_at 1) ∷ []) (λ x. x, λ x. x, λ x. x)
+    All-cons (IsCalm n) (entry.Move (move_of 0 0 command (first_read_sector 100))) (done_entry 0 0 operation.Read ∷ entry.Unplug (port_at 1) ∷ []) (λ x. x, λ x. x, λ x. x)
     (All-cons (IsCalm n) (done_entry 0 0 operation.Read) (entry.Unplug (port_at 1) ∷ []) (λ x. x, λ x. x, λ x. x)
     (All-cons (IsCalm n) (entry.Unplug (port_at 1)) [] (λ x. x, λ x. x, λ (is : 1 ≡ n). ne (sym is)) (All-nil (IsCalm n))))
 
-trouble : (n : ℕ) → LosesNoTrouble loss_evidence submitted_at one lost (port_at n)
-trouble zero = no_trouble loss_evidence submitted_at one lost (port_at 0) gained refl (gained_calm 0 (omega arith)) (served_ready 0) (quiet 0)
-trouble (suc zero) = record {
+port_error : (n : ℕ) → LosesNoPortError loss_evidence submitted_at one lost (port_at n)
+port_error zero = no_trouble loss_evidence submitted_at one lost (port_at 0) gained refl (gained_calm 0 (omega arith)) (served_ready 0) (quiet 0)
+port_error (suc zero) = record {
   errors = λ ready why. inl (inl (named 1));
   changes = λ tends why. inl (inl (named 1));
   fault = λ ready. absurd (let x : Absent ≡ Ready = ready in cc);
   fatal = λ ready. absurd (let x : Absent ≡ Ready = ready in cc);
   disk = λ ready. absurd (let x : Absent ≡ Ready = ready in cc);
 }
-trouble (suc (suc n)) = no_trouble loss_evidence submitted_at one lost (port_at (suc (suc n))) gained refl (gained_calm (suc (suc n)) (omega arith)) (served_ready (suc (suc n))) (quiet (suc (suc n)))
+port_error (suc (suc n)) = no_trouble loss_evidence submitted_at one lost (port_at (suc (suc n))) gained refl (gained_calm (suc (suc n)) (omega arith)) (served_ready (suc (suc n))) (quiet (suc (suc n)))
 
 -- the port that was stopped isn't ready, and no other was stopped
 well : (n : ℕ) → RunsWellAnew loss_evidence turns submitted_at one lost (port_at n)
@@ -347,18 +347,18 @@ service_happens = record {
   };
 }
 
-service_part : (n : ℕ) → TiesPort submitted_at service turns (port_at n)
+service_part : (n : ℕ) → PortCorresponds submitted_at service turns (port_at n)
 service_part n = record {
   finds = λ is e on. service_finds n e on;
   faults = λ alone. absurd (true≢false (sym alone.shows.fault ∙ (no_flags n 30)));
-  tries = λ served none. tries_ready turns submitted_at one lost (port_at n) (served_ready n served);
+  probes = λ served none. tries_ready turns submitted_at one lost (port_at n) (served_ready n served);
   boots = service_boots n;
-  trouble = trouble n;
+  port_error = port_error n;
   well = well n;
   heeds = heeds n;
 }
 
-service_ties : Ties (Any ∷ Any ∷ []) submitted_at service
+service_ties : CallCorresponds (Any ∷ Any ∷ []) submitted_at service
 service_ties = record {
   accesses = turns;
   came = (does_append finding_turn losing_turn submitted between lost finds loses, serving (TendsPort both) turns of_served);

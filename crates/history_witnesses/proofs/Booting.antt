@@ -5,12 +5,12 @@ use Rattle.hba_regs.specs.declared.reg.Reg.TheVariants.{Px}
 use Rattle.hba_regs.specs.declared.reg.PortReg.{PortReg}
 use Rattle.hba_regs.specs.declared.reg.PortReg.TheVariants.{Clb, Clbu, Fb, Fbu, Is, Cmd, Tfd, Sig, Ssts, Sctl, Serr}
 use Rattle.adapter.specs.Access.{Access, DoesAll, PortShows, Reads, Writes, note, port_written}
-use Rattle.adapter.specs.Device.{PortState, Device}
+use Rattle.adapter.specs.Device.{DevicePort, Device}
 use Rattle.adapter.specs.Rules.{MayCommand}
-use Rattle.adapter.specs.Steps.{MayLinkUp, after, with_link, with_reset}
-use Rattle.adapter.specs.Steps.Step.{LinkUp, ResetEnds}
-use Rattle.agreement.specs.Agrees.{port_at}
-use Rattle.agreement.specs.Places.{list_of, received_of}
+use Rattle.adapter.specs.Steps.{MayLinkUp, device_after, with_link, with_reset}
+use Rattle.adapter.specs.Steps.DeviceTransition.{LinkUp, ResetEnds}
+use Rattle.refinement.specs.Relation.{port_at}
+use Rattle.refinement.specs.Places.{list_of, received_of}
 use Rattle.history_witnesses.specs.Allowed.{AreAllowed}
 use Rattle.history_witnesses.specs.Reset.{booting, rebooting}
 use Rattle.history_witnesses.specs.Scene.{device_with, having, running_port}
@@ -21,66 +21,66 @@ use Rattle.history_witnesses.proofs.Submitting.{pages, submitted}
 -- ---- a port's boot
 
 -- a port as it is after a reset
-abbrev pub quieted : ℕ → PortState
+abbrev pub quieted : ℕ → DevicePort
 quieted port = with_reset (running_port port)
 
 -- the link is up, and the device isn't an ATA disk
-abbrev up : PortState → PortState
+abbrev up : DevicePort → DevicePort
 up p = with_link p 0xeb140101 false
 
 module _ (k : ℕ) where
-  abbrev asked : PortState
+  abbrev asked : DevicePort
   asked = record (quieted k) { notes = note Cmd 0 (quieted k) }
 
-  abbrev with_list : PortState
+  abbrev with_list : DevicePort
   with_list = port_written Clb (list_of k) 2 asked
 
-  abbrev with_lists : PortState
+  abbrev with_lists : DevicePort
   with_lists = port_written Clbu 0 2 with_list
 
-  abbrev with_area : PortState
+  abbrev with_area : DevicePort
   with_area = port_written Fb (received_of k) 2 with_lists
 
-  abbrev placed : PortState
+  abbrev placed : DevicePort
   placed = port_written Fbu 0 2 with_area
 
-  abbrev asked_again : PortState
+  abbrev asked_again : DevicePort
   asked_again = record placed { notes = note Cmd 0 placed }
 
-  abbrev hearing : PortState
+  abbrev hearing : DevicePort
   hearing = port_written Cmd 0x10 2 asked_again
 
-  abbrev sending : PortState
+  abbrev sending : DevicePort
   sending = port_written Sctl 1 2 hearing
 
-  abbrev awaiting : PortState
+  abbrev awaiting : DevicePort
   awaiting = port_written Sctl 0 2 sending
 
-  abbrev shown : PortState
+  abbrev shown : DevicePort
   shown = record (up awaiting) { notes = note Ssts 3 (up awaiting) }
 
-  abbrev unchanged : PortState
+  abbrev unchanged : DevicePort
   unchanged = port_written Serr 0xffffffff 2 shown
 
-  abbrev calmed : PortState
+  abbrev calmed : DevicePort
   calmed = port_written Is 0xffffffff 2 unchanged
 
-  abbrev idle : PortState
+  abbrev idle : DevicePort
   idle = record calmed { notes = note Tfd 0x77 calmed }
 
-  abbrev pub unfit : PortState
+  abbrev pub unfit : DevicePort
   unfit = record idle { notes = note Sig 0xeb140101 idle }
 
   -- the port stands at its place in these lists
-  module _ (around : PortState → List PortState) (at : (p : PortState) → having (around p) k ≡ p) (alike : (p q : PortState) → AlikeBut k (around p) (around q)) where
-    abbrev pub dev : PortState → Device
+  module _ (around : DevicePort → List DevicePort) (at : (p : DevicePort) → having (around p) k ≡ p) (alike : (p q : DevicePort) → AlikeBut k (around p) (around q)) where
+    abbrev pub dev : DevicePort → Device
     dev p = device_with pages read_memory (around p)
 
-    unfoldable pub reads_here : (r : PortReg) (v : ℕ) (p : PortState) → PortShows r v p → Reads (Px (port_at k) r) v (dev p) (dev (record p { notes = note r v p }))
+    unfoldable pub reads_here : (r : PortReg) (v : ℕ) (p : DevicePort) → PortShows r v p → Reads (Px (port_at k) r) v (dev p) (dev (record p { notes = note r v p }))
     reads_here r v p shows = reads pages read_memory k (around p) (around (record p { notes = note r v p })) (alike p (record p { notes = note r v p })) r v
-        (subst (PortShows r v) (sym (at p)) shows) (at (record p { notes = note r v p }) ∙ ap (λ (q : PortState). record q { notes = note r v q }) (sym (at p)))
+        (subst (PortShows r v) (sym (at p)) shows) (at (record p { notes = note r v p }) ∙ ap (λ (q : DevicePort). record q { notes = note r v q }) (sym (at p)))
 
-    unfoldable pub writes_here : (r : PortReg) (v : ℕ) (p : PortState) → Writes (Px (port_at k) r) v (dev p) (dev (port_written r v 2 p))
+    unfoldable pub writes_here : (r : PortReg) (v : ℕ) (p : DevicePort) → Writes (Px (port_at k) r) v (dev p) (dev (port_written r v 2 p))
     writes_here r v p = writes pages read_memory k (around p) (around (port_written r v 2 p)) (alike p (port_written r v 2 p)) r v (at (port_written r v 2 p) ∙ ap (port_written r v 2) (sym (at p)))
 
     unfoldable pub comes_up : Reads (Px (port_at k) Ssts) 3 (dev awaiting) (dev shown)
@@ -89,13 +89,13 @@ module _ (k : ℕ) where
       steps = record {
         steps = LinkUp k 0xeb140101 false ∷ [];
         lead = (
-          subst (λ (p : PortState). MayLinkUp p 0xeb140101) (sym (at awaiting)) (record { present = refl; det = refl; due = refl; fits = omega arith }),
+          subst (λ (p : DevicePort). MayLinkUp p 0xeb140101) (sym (at awaiting)) (record { present = refl; det = refl; due = refl; fits = omega arith }),
           put_device pages read_memory k (around awaiting) (around (up awaiting)) (up (having (around awaiting) k)) (at (up awaiting) ∙ ap up (sym (at awaiting))) (alike awaiting (up awaiting)),
         );
       };
       shows = subst (PortShows Ssts 3) (sym (at (up awaiting))) refl;
       effect = put_device pages read_memory k (around (up awaiting)) (around shown) (record (having (around (up awaiting)) k) { notes = note Ssts 3 (having (around (up awaiting)) k) })
-          (at shown ∙ ap (λ (q : PortState). record q { notes = note Ssts 3 q }) (sym (at (up awaiting)))) (alike (up awaiting) shown);
+          (at shown ∙ ap (λ (q : DevicePort). record q { notes = note Ssts 3 q }) (sym (at (up awaiting)))) (alike (up awaiting) shown);
     }
 
     -- and then there come these
@@ -110,12 +110,12 @@ pending = record submitted { hr = true; ae = true; ie = false }
 
 -- and has fallen
 abbrev ended : Device
-ended = after ResetEnds pending
+ended = device_after ResetEnds pending
 
-abbrev first_quieted : PortState → List PortState
+abbrev first_quieted : DevicePort → List DevicePort
 first_quieted p = p ∷ quieted 1 ∷ []
 
-abbrev second_quieted : PortState → List PortState
+abbrev second_quieted : DevicePort → List DevicePort
 second_quieted p = unfit 0 ∷ p ∷ []
 
 abbrev begun : Device
@@ -141,7 +141,7 @@ does = (
     record { mid = ended; steps = record { steps = ResetEnds ∷ []; lead = (refl, refl) }; shows = (refl, refl, refl); effect = refl },
     (
       begun,
-      record { mid = ended; steps = record { steps = []; lead = refl }; effect = ap (λ (f : ℕ → PortState). record begun { port = f }) ports_are },
+      record { mid = ended; steps = record { steps = []; lead = refl }; effect = ap (λ (f : ℕ → DevicePort). record begun { port = f }) ports_are },
       boots 0 first_quieted (λ p. refl) (λ p q. but_first p q (quieted 1 ∷ [])) (booting 1) rebooted
           (boots 1 second_quieted (λ p. refl) (λ p q. but_second (unfit 0) p q []) [] rebooted refl),
     ),

@@ -8,14 +8,14 @@ use Rattle.hba_regs.specs.declared.reg.Reg.TheVariants.{Px}
 use Rattle.hba_regs.specs.declared.reg.Reg.TheVariants as registers
 use Rattle.hba_regs.specs.declared.reg.PortReg.TheVariants.{Is, Ssts}
 use Rattle.adapter.specs.Access.{DoesAll, Reads, Writes, note, port_written, shown_interrupt, unacknowledged}
-use Rattle.adapter.specs.Device.{PortState, Device}
+use Rattle.adapter.specs.Device.{DevicePort, Device}
 use Rattle.adapter.specs.Memory.{changed}
 use Rattle.adapter.specs.Rules.{AreAcknowledged}
-use Rattle.adapter.specs.Steps.{Can, after}
-use Rattle.adapter.specs.Steps.Step.{Fatal}
+use Rattle.adapter.specs.Steps.{Can, device_after}
+use Rattle.adapter.specs.Steps.DeviceTransition.{Fatal}
 use Rattle.adapter.specs.declared.tape.Entry.{Entry}
 use Rattle.adapter.specs.declared.tape.Entry.TheVariants as entry
-use Rattle.agreement.specs.Agrees.{port_at}
+use Rattle.refinement.specs.Relation.{port_at}
 use Rattle.history_witnesses.specs.Allowed.{AreAllowed}
 use Rattle.history_witnesses.specs.Fatal.{fatal_accesses}
 use Rattle.history_witnesses.specs.Scene.{device_with, having}
@@ -29,19 +29,19 @@ use Rattle.history_witnesses.proofs.Submitting.{issued, pages, second, submitted
 abbrev pub tape_broken : List Entry
 tape_broken = pages ++ entry.Fatal (port_at 0) ∷ []
 
-abbrev pub dev : PortState → Device
+abbrev pub dev : DevicePort → Device
 dev p = device_with tape_broken read_memory (p ∷ second ∷ [])
 
-abbrev pub broken : PortState
+abbrev pub broken : DevicePort
 broken = record issued { is = changed issued.is 27 true; broken = true }
 
-abbrev cleared : PortState
+abbrev cleared : DevicePort
 cleared = port_written Is 0x08000000 3 broken
 
-abbrev acknowledged : PortState
+abbrev acknowledged : DevicePort
 acknowledged = unacknowledged cleared
 
-abbrev linked : PortState
+abbrev linked : DevicePort
 linked = record acknowledged { notes = note Ssts 3 acknowledged }
 
 -- the masks are read then
@@ -52,7 +52,7 @@ outset = record { gained = entry.Fatal (port_at 0) ∷ []; still = refl; flags =
 pub can_break : Can (Fatal 0 27) submitted
 can_break = (refl, inl refl)
 
-pub breaks : dev broken ≡ after (Fatal 0 27) submitted
+pub breaks : dev broken ≡ device_after (Fatal 0 27) submitted
 breaks = put_device tape_broken read_memory 0 (issued ∷ second ∷ []) (broken ∷ second ∷ []) broken refl (but_first issued broken (second ∷ []))
 
 -- PxIS shows IFS alone
@@ -73,7 +73,7 @@ tells = reads_here tape_broken Is 0x08000000 broken (λ place cause. ifs_shown p
 
 -- the port's bit of IS is cleared
 acknowledges : Writes registers.Is 1 (dev cleared) (dev acknowledged)
-acknowledges = record { mid = dev cleared; steps = record { steps = []; lead = refl }; effect = ap (λ (f : ℕ → PortState). record (dev cleared) { port = f }) (λ i n. each n i) }
+acknowledges = record { mid = dev cleared; steps = record { steps = []; lead = refl }; effect = ap (λ (f : ℕ → DevicePort). record (dev cleared) { port = f }) (λ i n. each n i) }
   where
     each : (n : ℕ) → having (acknowledged ∷ second ∷ []) n ≡ (if bit 1 n then unacknowledged (having (cleared ∷ second ∷ []) n) else having (cleared ∷ second ∷ []) n)
     each zero = refl

@@ -7,7 +7,7 @@ use Rattle.ata_types.specs.declared.PortState.TheVariants.{Absent, Ready}
 use Rattle.ata_types.specs.declared.request.Outcome.TheVariants as outcome
 use Rattle.adapter.specs.Device.{Device}
 use Rattle.adapter.specs.declared.access.DeviceStep.{DeviceStep}
-use Rattle.agreement.specs.Agrees.{port_at}
+use Rattle.refinement.specs.Relation.{port_at}
 use Rattle.block_machine.specs.Events.{HadDisk, Happens, Served, Service}
 use Rattle.block_machine.specs.Histories.{Happening}
 use Rattle.block_machine.specs.Ports.{IsInterrupted, IsServiced, SamePort}
@@ -15,7 +15,7 @@ use Rattle.block_machine.specs.State.{Pending}
 use Rattle.block_machine.specs.Steps.{Step, Answer}
 use Rattle.identify.specs.declared.wanted.Wanted.TheVariants.{Any}
 use Rattle.driver_history.specs.Heeding.{ServesReady}
-use Rattle.driver_history.specs.Histories.{BootsAnew, FindsDone, IsIssuedOn, TendsPort, Ties, TiesPort}
+use Rattle.driver_history.specs.Histories.{BootsAnew, FindsDone, IsIssuedOn, TendsPort, CallCorresponds, PortCorresponds}
 use Rattle.driver_history.specs.Trace.{LeavesCommand}
 use Rattle.history_witnesses.specs.Fatal.{FatalErrorIsAHistory, fatal_accesses, fatal_evidence, looking}
 use Rattle.history_witnesses.proofs.Accepting.{asked, both, first, issuing, submit, submit_happens, submit_parts, submit_ties, waiting, bits_set, leaves_other, none_there, not_ended, the_answer}
@@ -26,7 +26,7 @@ use Rattle.history_witnesses.proofs.Meeting.{broken_at, meeting, meeting_happens
 use Rattle.history_witnesses.proofs.Members.{nowhere}
 use Rattle.history_witnesses.proofs.Pages.{plain_disks}
 use Rattle.history_witnesses.proofs.Ready.{begins, fit_ready, not_dead, served_ready, starts}
-use Rattle.history_witnesses.proofs.Rebooted.{IsRestart, Restart, backed, booted_at, evidenced, fit_one, finds, holds_booted, may_become, of_first, of_served, one, others_same, quiet, replies, resets, there, trouble, unnamed, unplugs, well}
+use Rattle.history_witnesses.proofs.Rebooted.{IsRestart, Restart, backed, booted_at, evidenced, fit_one, finds, holds_booted, may_become, of_first, of_served, one, others_same, quiet, replies, resets, there, port_error, unnamed, unplugs, well}
 use Rattle.history_witnesses.proofs.Rebooted as rebooted
 
 -- ---- the restart
@@ -133,18 +133,18 @@ happens = record {
   };
 }
 
-part_of : (n : ℕ) → TiesPort broken_at service fatal_accesses (port_at n)
+part_of : (n : ℕ) → PortCorresponds broken_at service fatal_accesses (port_at n)
 part_of n = record {
   finds = λ is e on. service_finds n e on;
   faults = λ alone. absurd (true≢false (sym alone.shows.fault ∙ no_fault n));
-  tries = λ served none. tries_ready fatal_accesses broken_at one booted (port_at n) (served_ready n served);
+  probes = λ served none. tries_ready fatal_accesses broken_at one booted (port_at n) (served_ready n served);
   boots = boots n;
-  trouble = trouble restart is_restart n;
+  port_error = port_error restart is_restart n;
   well = well restart is_restart n;
   heeds = heeds n;
 }
 
-ties : Ties (Any ∷ Any ∷ []) broken_at service
+ties : CallCorresponds (Any ∷ Any ∷ []) broken_at service
 ties = record {
   accesses = fatal_accesses;
   came = (does, serving (TendsPort both) fatal_accesses of_tended);

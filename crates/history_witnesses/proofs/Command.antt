@@ -8,12 +8,12 @@ use Rattle.adapter.specs.FirstRead.{header_bytes}
 use Rattle.adapter.specs.Memory.{bytes_at, patched}
 use Rattle.adapter.specs.ReadDone.{read_of}
 use Rattle.adapter.specs.Commands.{IsMeaning, Meaning, command_of, pieces_moved, reads_memory}
-use Rattle.adapter.specs.Says.{IsWhole, cut}
-use Rattle.adapter.specs.Spelling.{SpellsCommand, SpellsHeader, SpellsPrd}
-use Rattle.agreement.specs.Places.{table_of}
+use Rattle.adapter.specs.Decoding.{IsWholePieces, piece_addresses}
+use Rattle.adapter.specs.Encoding.{EncodesCommand, EncodesHeader, EncodesPrd}
+use Rattle.refinement.specs.Places.{table_of}
 use Rattle.adapter.specs.declared.command.Prd.{Prd}
 use Rattle.adapter.specs.declared.command.Operation.TheVariants.{ReadQueued}
-use Rattle.agreement.specs.Slots.{Told}
+use Rattle.refinement.specs.Slots.{SlotDecodesTo}
 
 -- READ DMA EXT of sector 100 alone
 abbrev pub read_bytes : List ℕ
@@ -38,14 +38,14 @@ zeros_past [] n i low high = get_or-replicate n i 0 0 (omega (arith, high))
 zeros_past (x ∷ first) n zero low high = absurd (omega (arith, low))
 zeros_past (x ∷ first) n (suc i) low high = zeros_past first n i (omega (arith, low)) (omega (arith, high))
 
-whole : (prd : Prd) → IsWhole prd → All IsWhole (prd ∷ [])
+whole : (prd : Prd) → IsWholePieces prd → All IsWholePieces (prd ∷ [])
 whole prd is zero d small = is
 whole prd is (suc k) d small = absurd (omega (arith, small))
 
 -- The header, the FIS and the PRD of a slot of port 0 say a read of one sector into this place.
-pub told_one : (memory : ℕ → ℕ) (slot : ℕ) (c : Meaning) (address : ℕ) → SpellsHeader (bytes_at memory (0 + 32 * slot) 32) (reads_memory c.operation) 1 (table_of 0 slot)
-    → SpellsCommand (bytes_at memory (table_of 0 slot) 20) (command_of c.operation slot c.first c.count) → IsMeaning c
-    → SpellsPrd (bytes_at memory (table_of 0 slot + 128) 16) (record { address = address; bytes = 512 }) → 1 ≡ pieces_moved c.operation c.count → Told memory 0 0 slot c (cut address 1)
+pub told_one : (memory : ℕ → ℕ) (slot : ℕ) (c : Meaning) (address : ℕ) → EncodesHeader (bytes_at memory (0 + 32 * slot) 32) (reads_memory c.operation) 1 (table_of 0 slot)
+    → EncodesCommand (bytes_at memory (table_of 0 slot) 20) (command_of c.operation slot c.first c.count) → IsMeaning c
+    → EncodesPrd (bytes_at memory (table_of 0 slot + 128) 16) (record { address = address; bytes = 512 }) → 1 ≡ pieces_moved c.operation c.count → SlotDecodesTo memory 0 0 slot c (piece_addresses address 1)
 told_one memory slot c address header fis meaning prd many = record {
   says = record {
     table = table_of 0 slot;
@@ -63,7 +63,7 @@ told_one memory slot c address header fis meaning prd many = record {
   few = omega arith;
 }
 
-pub told : Told read_memory 0 0 0 (read_of 100 1) (cut 0x64000 1)
+pub told : SlotDecodesTo read_memory 0 0 0 (read_of 100 1) (piece_addresses 0x64000 1)
 unfolding read_memory patched bytes_at
 told = told_one read_memory 0 (read_of 100 1) 0x64000
     (record { size = refl; first = refl; points = refl; aligned = refl; zeros = λ i low high. zeros_past header_bytes 20 i low high })
@@ -99,11 +99,11 @@ header_to slot = 5 ∷ 0 ∷ 1 ∷ replicate 5 0 ++ to_le_bytes w32 (table_of 0 
 pub told_queued : (memory : ℕ → ℕ) (slot k frame : ℕ) → k < 256 → little_from 8 4 (header_to slot) ≡ table_of 0 slot → table_of 0 slot % 128 ≡ 0
     → little_from 0 4 (frame_head frame) ≡ 4096 * frame → 4096 * frame % 2 ≡ 0
     → bytes_at memory (0 + 32 * slot) 32 ≡ header_to slot ++ replicate 20 0 → bytes_at memory (table_of 0 slot) 20 ≡ queued_bytes slot k ++ replicate 6 0
-    → bytes_at memory (table_of 0 slot + 128) 16 ≡ frame_head frame → Told memory 0 0 slot (queued_read k) (cut (4096 * frame) 1)
+    → bytes_at memory (table_of 0 slot + 128) 16 ≡ frame_head frame → SlotDecodesTo memory 0 0 slot (queued_read k) (piece_addresses (4096 * frame) 1)
 told_queued memory slot k frame low points aligned address even header fis prd = told_one memory slot (queued_read k) (4096 * frame)
-    (subst (λ (bytes : List ℕ). SpellsHeader bytes false 1 (table_of 0 slot)) (sym header)
+    (subst (λ (bytes : List ℕ). EncodesHeader bytes false 1 (table_of 0 slot)) (sym header)
     (record { size = refl; first = refl; points = points; aligned = aligned; zeros = λ i from to. zeros_past (header_to slot) 20 i from to }))
-    (subst (λ (bytes : List ℕ). SpellsCommand bytes (command_of ReadQueued slot k 1)) (sym fis)
+    (subst (λ (bytes : List ℕ). EncodesCommand bytes (command_of ReadQueued slot k 1)) (sym fis)
     (record {
       size = refl;
       kind = refl;
@@ -116,6 +116,6 @@ told_queued memory slot k frame low points aligned address even header fis prd =
       zeros = λ i from to. zeros_past (queued_bytes slot k) 6 i from to;
     }))
     (record { ranged = λ _. (omega arith, omega arith, omega (arith, low)); not_ranged = λ h. absurd (true≢false h) })
-    (subst (λ (bytes : List ℕ). SpellsPrd bytes (record { address = 4096 * frame; bytes = 512 })) (sym prd)
+    (subst (λ (bytes : List ℕ). EncodesPrd bytes (record { address = 4096 * frame; bytes = 512 })) (sym prd)
     (record { size = refl; allowed = record { even_address = even; even_bytes = refl; some = omega arith; limit = omega arith }; address = address; upper = refl; count = refl }))
     refl

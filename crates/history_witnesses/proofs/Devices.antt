@@ -14,19 +14,19 @@ use Rattle.hba_regs.specs.declared.reg.PortReg.{PortReg}
 use Rattle.hba_regs.specs.declared.reg.PortReg.TheVariants.{Cmd, Sctl}
 use Rattle.adapter.specs.Access.{Access, DoesAll, PortShows, Reads, Stores, Writes, note, port_written}
 use Rattle.adapter.specs.Access.Access.{Reading, Writing, Loading, Storing}
-use Rattle.adapter.specs.Device.{PortState, Device}
+use Rattle.adapter.specs.Device.{DevicePort, Device}
 use Rattle.adapter.specs.Memory.{changed, patched}
 use Rattle.adapter.specs.Rules.{MayCommand, MayStart}
-use Rattle.adapter.specs.Steps.{Can, Leads, Step, Steps, after}
-use Rattle.adapter.specs.Steps.Step.{Fall}
+use Rattle.adapter.specs.Steps.{Can, StepLeads, DeviceTransition, Steps, device_after}
+use Rattle.adapter.specs.Steps.DeviceTransition.{Fall}
 use Rattle.adapter.specs.declared.tape.Entry.{Entry}
-use Rattle.agreement.specs.Agrees.{port_at}
+use Rattle.refinement.specs.Relation.{port_at}
 use Rattle.driver_history.specs.Trace.{LeavesEngine, IsServing, IsOfPorts}
 use Rattle.history_witnesses.specs.Scene.{device_with, having}
 
 -- ---- one port is changed
 
-put : (k : ℕ) (f g : ℕ → PortState) (x : PortState) → g k ≡ x → ((n : ℕ) → n ≢ k → g n ≡ f n) → g ≡ changed f k x
+put : (k : ℕ) (f g : ℕ → DevicePort) (x : DevicePort) → g k ≡ x → ((n : ℕ) → n ≢ k → g n ≡ f n) → g ≡ changed f k x
 unfolding changed
 put k f g x here others = λ i n. each n i
   where
@@ -52,28 +52,28 @@ unfolding changed
 past_second f new k = cond-false (suc (suc k) == 1) new (f (suc (suc k))) (ne_eqb (suc (suc k)) 1 (omega arith))
 
 -- these ports differ from those at one place at most
-abbrev pub AlikeBut : ℕ → List PortState → List PortState → Type 0
+abbrev pub AlikeBut : ℕ → List DevicePort → List DevicePort → Type 0
 AlikeBut k old new = (n : ℕ) → n ≢ k → having new n ≡ having old n
 
-pub but_first : (p q : PortState) (rest : List PortState) → AlikeBut 0 (p ∷ rest) (q ∷ rest)
+pub but_first : (p q : DevicePort) (rest : List DevicePort) → AlikeBut 0 (p ∷ rest) (q ∷ rest)
 but_first p q rest zero ne = absurd (ne refl)
 but_first p q rest (suc n) ne = refl
 
-pub but_second : (o p q : PortState) (rest : List PortState) → AlikeBut 1 (o ∷ p ∷ rest) (o ∷ q ∷ rest)
+pub but_second : (o p q : DevicePort) (rest : List DevicePort) → AlikeBut 1 (o ∷ p ∷ rest) (o ∷ q ∷ rest)
 but_second o p q rest zero ne = refl
 but_second o p q rest (suc zero) ne = absurd (ne refl)
 but_second o p q rest (suc (suc n)) ne = refl
 
-pub put_device : (tape : List Entry) (memory : ℕ → ℕ) (k : ℕ) (old new : List PortState) (x : PortState) → having new k ≡ x → AlikeBut k old new
+pub put_device : (tape : List Entry) (memory : ℕ → ℕ) (k : ℕ) (old new : List DevicePort) (x : DevicePort) → having new k ≡ x → AlikeBut k old new
     → device_with tape memory new ≡ record (device_with tape memory old) { port = changed (having old) k x }
-put_device tape memory k old new x here others = ap (λ (f : ℕ → PortState). record (device_with tape memory old) { port = f }) (put k (having old) (having new) x here others)
+put_device tape memory k old new x here others = ap (λ (f : ℕ → DevicePort). record (device_with tape memory old) { port = f }) (put k (having old) (having new) x here others)
 
 -- bytes are stored, and the device does nothing first
-pub stores : (at : ℕ) (bytes : List ℕ) (tape : List Entry) (memory : ℕ → ℕ) (ports : List PortState) → Stores at bytes (device_with tape memory ports) (device_with tape (patched memory at bytes) ports)
+pub stores : (at : ℕ) (bytes : List ℕ) (tape : List Entry) (memory : ℕ → ℕ) (ports : List DevicePort) → Stores at bytes (device_with tape memory ports) (device_with tape (patched memory at bytes) ports)
 stores at bytes tape memory ports = record { mid = device_with tape memory ports; steps = record { steps = []; lead = refl }; effect = refl }
 
-module _ (tape : List Entry) (memory : ℕ → ℕ) (k : ℕ) (old new : List PortState) (others : AlikeBut k old new) where
-  abbrev p : PortState
+module _ (tape : List Entry) (memory : ℕ → ℕ) (k : ℕ) (old new : List DevicePort) (others : AlikeBut k old new) where
+  abbrev p : DevicePort
   p = having old k
 
   unfoldable pub reads : (r : PortReg) (v : ℕ) → PortShows r v p → having new k ≡ record p { notes = note r v p } → Reads (Px (port_at k) r) v (device_with tape memory old) (device_with tape memory new)
@@ -92,11 +92,11 @@ module _ (tape : List Entry) (memory : ℕ → ℕ) (k : ℕ) (old new : List Po
   }
 
 -- CR has fallen, and no command is taken
-abbrev pub fall : PortState → PortState
+abbrev pub fall : DevicePort → DevicePort
 fall p = record p { cr = false; taken = λ _. None }
 
 -- PxCMD is read when CR has just fallen
-unfoldable pub falls_reads : (tape : List Entry) (memory : ℕ → ℕ) (k v : ℕ) (old mid new : List PortState) → AlikeBut k old mid → AlikeBut k mid new
+unfoldable pub falls_reads : (tape : List Entry) (memory : ℕ → ℕ) (k v : ℕ) (old mid new : List DevicePort) → AlikeBut k old mid → AlikeBut k mid new
     → (having old k).st ≡ false → (having old k).cr ≡ true → having mid k ≡ fall (having old k)
     → PortShows Cmd v (having mid k) → having new k ≡ record (having mid k) { notes = note Cmd v (having mid k) }
     → Reads (Px (port_at k) Cmd) v (device_with tape memory old) (device_with tape memory new)
@@ -111,8 +111,8 @@ pub no_bit : (k : ℕ) → bit 0 k ≡ false
 no_bit k = ap (λ (b : ℕ). b == 1) (bit_at-zero k)
 
 -- a step of the device's, and what it does then
-pub step_first : (step : Step) (old mid new : Device) → Can step old → mid ≡ after step old → Steps mid new → Steps old new
-step_first step old mid new can is rest = record { steps = step ∷ rest.steps; lead = (can, subst (λ (d : Device). Leads rest.steps d new) is rest.lead) }
+pub step_first : (step : DeviceTransition) (old mid new : Device) → Can step old → mid ≡ device_after step old → Steps mid new → Steps old new
+step_first step old mid new can is rest = record { steps = step ∷ rest.steps; lead = (can, subst (λ (d : Device). StepLeads rest.steps d new) is rest.lead) }
 
 -- ---- PxCMD
 
@@ -126,7 +126,7 @@ pub other_bit : (k : ℕ) → k ≢ 0 → bit 1 k ≡ false
 other_bit k ne = same_above 1 0 refl k ne ∙ no_bit k
 
 -- ST may be cleared where FRE is set, and where the value is as it was read but for ST
-pub may_stop : (p : PortState) (v was : ℕ) → bit v 0 ≡ false → bit v 4 ≡ true → p.fre ≡ true → p.notes.last_cmd ≡ was → v / 2 ≡ was / 2 → MayCommand p v
+pub may_stop : (p : DevicePort) (v was : ℕ) → bit v 0 ≡ false → bit v 4 ≡ true → p.fre ≡ true → p.notes.last_cmd ≡ was → v / 2 ≡ was / 2 → MayCommand p v
 may_stop p v was clear receives fre read half = record {
   start = λ h. absurd (true≢false (sym h ∙ clear));
   receive = λ h. inl fre;
@@ -135,7 +135,7 @@ may_stop p v was clear receives fre read half = record {
 }
 
 -- and ST may be set so, where the port may start
-pub may_start : (p : PortState) (v was : ℕ) → bit v 4 ≡ true → p.fre ≡ true → p.notes.last_cmd ≡ was → v / 2 ≡ was / 2 → MayStart p → MayCommand p v
+pub may_start : (p : DevicePort) (v was : ℕ) → bit v 4 ≡ true → p.fre ≡ true → p.notes.last_cmd ≡ was → v / 2 ≡ was / 2 → MayStart p → MayCommand p v
 may_start p v was receives fre read half may = record {
   start = λ h. inr may;
   receive = λ h. inl fre;

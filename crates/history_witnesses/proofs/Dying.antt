@@ -10,13 +10,13 @@ use Rattle.ata_types.specs.declared.request.Outcome.TheVariants as outcome
 use Rattle.ata_types.specs.declared.request.Reply.{Reply}
 use Rattle.adapter.specs.Device.{Device}
 use Rattle.adapter.specs.declared.access.DeviceStep.{DeviceStep}
-use Rattle.agreement.specs.Agrees.{port_at}
-use Rattle.agreement.specs.Acts.{at}
-use Rattle.agreement.specs.Driver.{IsBacked, Knows}
-use Rattle.agreement.specs.Slots.{ServesRequest, IsServed as IsServedAs}
-use Rattle.agreement.specs.Witness.{first_id}
+use Rattle.refinement.specs.Relation.{port_at}
+use Rattle.refinement.specs.Acts.{at_slots}
+use Rattle.refinement.specs.Driver.{IsBacked, DriverRelation}
+use Rattle.refinement.specs.Slots.{ServesRequest, RelatesSlot}
+use Rattle.refinement.specs.Witness.{first_id}
 use Rattle.block_machine.specs.Events.{Service, Served, Happens}
-use Rattle.block_machine.specs.Histories.{Happening, Instant}
+use Rattle.block_machine.specs.Histories.{Happening, JointState}
 use Rattle.block_machine.specs.Ports.{IsServiced, Ports, AreFit}
 use Rattle.block_machine.specs.Left.{after}
 use Rattle.block_machine.specs.State.{Pending, Machine}
@@ -24,7 +24,7 @@ use Rattle.block_machine.specs.Steps.{Step, Answer, NoneKept}
 use Rattle.host_boot.specs.Taken.{wanted_of}
 use Rattle.identify.specs.declared.wanted.Wanted.TheVariants.{Any}
 use Rattle.driver_history.specs.Evidence.{IsEvidencedOf}
-use Rattle.driver_history.specs.Histories.{Ties, TiesPort, TriesDisk, IsUnfitOrForeign, TendsPort}
+use Rattle.driver_history.specs.Histories.{CallCorresponds, PortCorresponds, ProbesDisk, IsUnfitOrForeign, TendsPort}
 use Rattle.driver_history.specs.Holds.{HoldsOf, HoldsWith, NoneWaits}
 use Rattle.driver_history.specs.Trace.{LeavesEngine, IsServing}
 use Rattle.host_boot.specs.Resets.{ReadsGlobalControl}
@@ -33,11 +33,11 @@ use Rattle.history_witnesses.specs.Scene.{having, showing}
 use Rattle.hba_regs.specs.declared.reg.Reg.TheVariants.{Ghc}
 use Rattle.adapter.specs.Access.{DoesAll}
 use Rattle.adapter.specs.Rules.{IsOn}
-use Rattle.agreement.specs.Acts.{at}
-use Rattle.agreement.specs.Driver.{Knows}
+use Rattle.refinement.specs.Acts.{at_slots}
+use Rattle.refinement.specs.Driver.{DriverRelation}
 use Rattle.block_machine.specs.Events.{Reset, WasReset}
 use Rattle.block_machine.specs.Ports.{Evidence, IsStuck}
-use Rattle.driver_history.specs.Histories.{TriesDisk}
+use Rattle.driver_history.specs.Histories.{ProbesDisk}
 use Rattle.history_witnesses.proofs.Command.{read_memory}
 use Rattle.history_witnesses.proofs.Devices.{leaves}
 use Rattle.history_witnesses.proofs.Holding.{first_slots, have_first, unnamed_evidenced, unserved_at, uses_first, IsCalm, no_trouble}
@@ -72,14 +72,14 @@ reset = record {
   device = pending;
 }
 
-abbrev pending_at : Instant Device
+abbrev pending_at : JointState Device
 pending_at = record { device = pending; moment = record { machine = issuing; ports = dead } }
 
 not_on : IsOn pending → ⊥
 not_on on = absurd (true≢false on.no_reset)
 
 -- nothing that the machine agrees with changes by a reset that is pending
-still_knows : (m : Machine) → Knows m (at first_slots submitted) → Knows m (at first_slots pending)
+still_knows : (m : Machine) → DriverRelation m (at_slots first_slots submitted) → DriverRelation m (at_slots first_slots pending)
 still_knows m k = record {
   agrees = record { slot = k.agrees.slot; apart = k.agrees.apart; received = k.agrees.received; disk = k.agrees.disk; memory = k.agrees.memory; sectors = k.agrees.sectors; lasting = k.agrees.lasting };
   have = k.have;
@@ -98,7 +98,7 @@ all_dead zero is = refl
 all_dead (suc zero) is = refl
 all_dead (suc (suc n)) is = absurd (true≢false (sym is))
 
-holds_dead : (m : Machine) → Knows m (at first_slots pending) → ((n : ℕ) → n ≢ 0 → NoneWaits m (port_at n)) → ((n : ℕ) → n ≢ 0 → NoneKept m (port_at n))
+holds_dead : (m : Machine) → DriverRelation m (at_slots first_slots pending) → ((n : ℕ) → n ≢ 0 → NoneWaits m (port_at n)) → ((n : ℕ) → n ≢ 0 → NoneKept m (port_at n))
     → HoldsWith (Any ∷ Any ∷ []) first_slots (record { device = pending; moment = record { machine = m; ports = dead } })
 holds_dead m knows waits kept = record {
   knows = knows;
@@ -180,18 +180,18 @@ reset_evidenced n =
       stuck_only = λ h. inr (tt, named_served n h);
     }
 
-reset_part : (n : ℕ) → TiesPort submitted_at reset reset_accesses (port_at n)
+reset_part : (n : ℕ) → PortCorresponds submitted_at reset reset_accesses (port_at n)
 reset_part n = record {
   finds = tt;
   faults = tt;
-  tries = tt;
+  probes = tt;
   boots = tt;
-  trouble = no_trouble stuck_evidence submitted_at dead pending (port_at n) [] refl (All-nil (IsCalm n)) (served_ready n) (calm submitted.tape read_memory issued refl refl refl (λ place from. refl) pending n);
+  port_error = no_trouble stuck_evidence submitted_at dead pending (port_at n) [] refl (All-nil (IsCalm n)) (served_ready n) (calm submitted.tape read_memory issued refl refl refl (λ place from. refl) pending n);
   well = λ why ready. absurd (not_ready n ready);
   heeds = tt;
 }
 
-reset_ties : Ties (Any ∷ Any ∷ []) submitted_at reset
+reset_ties : CallCorresponds (Any ∷ Any ∷ []) submitted_at reset
 reset_ties = record {
   accesses = reset_accesses;
   came = (resets, record { asked = []; shown = 0x80000001; here = refl; only = All-nil ReadsGlobalControl; pending = refl });
@@ -240,14 +240,14 @@ serves_kept =
       stage = s.stage;
     }
 
-slot_kept : (n k : ℕ) → IsServedAs answered read_memory pages (having (issued ∷ second ∷ []) n) n k (uses_first n k)
+slot_kept : (n k : ℕ) → RelatesSlot answered read_memory pages (having (issued ∷ second ∷ []) n) n k (uses_first n k)
 slot_kept zero zero = serves_kept
 slot_kept zero (suc k) = holds_submitted.knows.agrees.slot zero (suc k)
 slot_kept (suc n) k = holds_submitted.knows.agrees.slot (suc n) k
 
-knows_kept : Knows answered (at first_slots pending)
+knows_kept : DriverRelation answered (at_slots first_slots pending)
 knows_kept =
-    let k : Knows issuing (at first_slots submitted) = holds_submitted.knows in
+    let k : DriverRelation issuing (at_slots first_slots submitted) = holds_submitted.knows in
     record {
       agrees = record {
         slot = slot_kept;
@@ -310,8 +310,8 @@ service_evidenced n = unnamed_evidenced Service (Served replies) [] pending_at d
     (λ is. absurd (not_ready n is))
     (All-nil (LeavesEngine (port_at n)))
 
-tries : (n : ℕ) → dead.served (port_at n) ≡ true → TriesDisk [] pending_at dead pending (port_at n)
-tries n served =
+probes : (n : ℕ) → dead.served (port_at n) ≡ true → ProbesDisk [] pending_at dead pending (port_at n)
+probes n served =
     let is = all_dead n served in
     record {
       shown = λ absent. absurd (let x : Dead ≡ Absent = sym is ∙ absent in cc);
@@ -329,13 +329,13 @@ untended zero tends = tends.1 refl
 untended (suc zero) tends = tends.1 refl
 untended (suc (suc n)) tends = true≢false (sym tends.0)
 
-service_part : (n : ℕ) → TiesPort pending_at service [] (port_at n)
+service_part : (n : ℕ) → PortCorresponds pending_at service [] (port_at n)
 service_part n = record {
   finds = λ is. absurd (not_ready n is);
   faults = λ alone. absurd (not_ready n alone.ready);
-  tries = λ served none. tries n served;
+  probes = λ served none. probes n served;
   boots = (λ is. absurd (not_ready n is), inl (refl, refl, refl, refl, refl, refl));
-  trouble = record {
+  port_error = record {
     errors = λ is. absurd (not_ready n is);
     changes = λ tends. absurd (untended n tends);
     fault = λ is. absurd (not_ready n is);
@@ -349,7 +349,7 @@ service_part n = record {
 service_backed : IsBacked pending pending issuing (answer ∷ [])
 service_backed = record { telling = refl; gained = []; tape = refl; tells = (tt, λ d. d); told = λ _. (tt, tt); plugged = λ port. ([], unchanged pending port, refl) }
 
-service_ties : Ties (Any ∷ Any ∷ []) pending_at service
+service_ties : CallCorresponds (Any ∷ Any ∷ []) pending_at service
 service_ties = record {
   accesses = [];
   came = (refl, All-nil (IsServing (TendsPort dead)));

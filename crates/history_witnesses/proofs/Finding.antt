@@ -16,22 +16,22 @@ use Rattle.hba_regs.specs.declared.reg.Reg.TheVariants.{Px}
 use Rattle.hba_regs.specs.declared.reg.PortReg.TheVariants.{Sact, Ci}
 use Rattle.adapter.specs.Access.{Access, DoesAll}
 use Rattle.adapter.specs.Access.Access.{Reading}
-use Rattle.adapter.specs.Device.{PortState, Device, Taken}
-use Rattle.adapter.specs.FirstRead.{sector_of}
+use Rattle.adapter.specs.Device.{DevicePort, Device, FetchedCommand}
+use Rattle.adapter.specs.FirstRead.{first_read_sector}
 use Rattle.adapter.specs.Memory.{patched}
-use Rattle.adapter.specs.Says.{cut}
+use Rattle.adapter.specs.Decoding.{piece_addresses}
 use Rattle.adapter.specs.Steps.{begun, done_entry, move_of}
 use Rattle.adapter.specs.declared.access.DeviceStep.{DeviceStep}
 use Rattle.adapter.specs.declared.command.Operation.TheVariants.{ReadQueued}
 use Rattle.adapter.specs.declared.tape.Entry.{Entry}
 use Rattle.adapter.specs.declared.tape.Entry.TheVariants as entry
-use Rattle.agreement.specs.Acts.{InSlots}
-use Rattle.agreement.specs.Agrees.{port_at}
-use Rattle.agreement.specs.Driver.{IsBacked}
-use Rattle.agreement.specs.Slots.{ServesRequest}
+use Rattle.refinement.specs.Acts.{InSlots}
+use Rattle.refinement.specs.Relation.{port_at}
+use Rattle.refinement.specs.Driver.{IsBacked}
+use Rattle.refinement.specs.Slots.{ServesRequest}
 use Rattle.block_machine.specs.Due.{IsDue, NoneDue}
 use Rattle.block_machine.specs.Events.{Happens, Service, Served, ShowsDisk}
-use Rattle.block_machine.specs.Histories.{Instant, Happening}
+use Rattle.block_machine.specs.Histories.{JointState, Happening}
 use Rattle.block_machine.specs.Left.{after}
 use Rattle.block_machine.specs.Ports.{Evidence, IsServiced}
 use Rattle.block_machine.specs.State.{Block, Machine, Pending, unanswered}
@@ -40,7 +40,7 @@ use Rattle.block_machine.specs.declared.due.Unanswered.{Unanswered}
 use Rattle.identify.specs.declared.wanted.Wanted.TheVariants.{Any}
 use Rattle.driver_history.specs.Heeding.{ServesReady}
 use Rattle.driver_history.specs.Evidence.{IsEvidencedOf, ShowsFailure, ShowsLoss}
-use Rattle.driver_history.specs.Histories.{FindsDone, IsAnsweredOk, IsIssuedOn, TendsPort, Ties, TiesPort, unissued}
+use Rattle.driver_history.specs.Histories.{FindsDone, IsAnsweredOk, IsIssuedOn, TendsPort, CallCorresponds, PortCorresponds, unissued}
 use Rattle.driver_history.specs.Holds.{mode_of}
 use Rattle.driver_history.specs.Trace.{LeavesCommand, LeavesEngine}
 use Rattle.history_witnesses.specs.Scene.{queueing_cap}
@@ -78,8 +78,8 @@ pub record Discovery : Type 0 where
   pub slots_then : InSlots
   pub more : List Entry
   pub memory : ℕ → ℕ
-  pub port : PortState
-  pub port_then : PortState
+  pub port : DevicePort
+  pub port_then : DevicePort
   pub id : RequestId
   pub sector : ℕ
   pub frame_number : ℕ
@@ -93,7 +93,7 @@ module _ (c : Discovery) where
   outstanding = outstanding_as c.id c.sector c.frame_number c.held
 
   abbrev pub touching : Step
-  touching = Touch outstanding 0 (slice_index (sector_of c.sector))
+  touching = Touch outstanding 0 (slice_index (first_read_sector c.sector))
 
   abbrev pub ended : Pending
   ended = mark_ended (touch 0 outstanding)
@@ -104,23 +104,23 @@ module _ (c : Discovery) where
   abbrev pub answered : Machine
   answered = after c.machine steps
 
-  abbrev pub command : Taken
-  command = begun (queued_read c.sector) (cut (4096 * c.frame_number) 1)
+  abbrev pub command : FetchedCommand
+  command = begun (queued_read c.sector) (piece_addresses (4096 * c.frame_number) 1)
 
   -- the sector was moved, and the command ended
   abbrev pub gained : List Entry
-  gained = entry.Move (move_of 0 c.slot command (sector_of c.sector)) ∷ done_entry 0 c.slot ReadQueued ∷ []
+  gained = entry.Move (move_of 0 c.slot command (first_read_sector c.sector)) ∷ done_entry 0 c.slot ReadQueued ∷ []
 
   abbrev pub memory_then : ℕ → ℕ
-  memory_then = patched c.memory (4096 * c.frame_number) (sector_of c.sector)
+  memory_then = patched c.memory (4096 * c.frame_number) (first_read_sector c.sector)
 
   abbrev pub masks : List Access
   masks = Reading (Px (port_at 0) Ci) c.ci ∷ Reading (Px (port_at 0) Sact) c.sact ∷ []
 
-  abbrev pub before : Instant Device
+  abbrev pub before : JointState Device
   before = instant_with c.disk c.slots c.machine c.more c.memory c.port
 
-  abbrev pub served_at : Instant Device
+  abbrev pub served_at : JointState Device
   served_at = instant_with c.disk c.slots_then answered (c.more ++ gained) memory_then c.port_then
 
   abbrev pub replies : List Reply
@@ -203,7 +203,7 @@ module _ (c : Discovery) where
       plugged = λ port. ([], unplugged c.port c.port_then is.agreed.stands is.agreeing.stands port, refl);
     }
       where
-        brought : (b : ℕ) → b < 512 → slice_index (sector_of c.sector) b ≡ c.machine.disks (port_at 0) (c.sector + 0) b
+        brought : (b : ℕ) → b < 512 → slice_index (first_read_sector c.sector) b ≡ c.machine.disks (port_at 0) (c.sector + 0) b
         brought b low = tells c.sector b low ∙ (let same : c.sector ≡ c.sector + 0 = omega arith in same) ∙ sym (ap (λ (f : Port → ℕ → ℕ → ℕ). f (port_at 0) (c.sector + 0) b) is.agreed.disks.3)
 
     quiet : (n : ℕ) → two_states (port_at n) ≡ Ready → (ShowsLoss (port_at n) before.device served_at.device → ⊥) × (ShowsFailure (before.device.port n) → ⊥)
@@ -278,18 +278,18 @@ module _ (c : Discovery) where
         sizes : c.sector + 0 < c.machine.sizes (port_at 0)
         sizes = let low = is.on_disk in let size : c.machine.sizes (port_at 0) ≡ 256 = ap (λ (f : Port → ℕ). f (port_at 0)) is.agreed.disks.2 in omega (arith, low, size)
 
-    pub service_part : (n : ℕ) → TiesPort before service masks (port_at n)
+    pub service_part : (n : ℕ) → PortCorresponds before service masks (port_at n)
     service_part n = record {
       finds = λ ready e on. finds n e on;
       faults = λ alone. absurd ((quiet n alone.ready).1 (inr alone.shows.fault));
-      tries = λ served none. tries_ready masks before (two_ready c.disk) served_at.device (port_at n) (served_ready n served);
+      probes = λ served none. tries_ready masks before (two_ready c.disk) served_at.device (port_at n) (served_ready n served);
       boots = (λ ready f. absurd (⊎_elim (λ fatal. (quiet n ready).1 (inl fatal)) (quiet n ready).0 f), inl (refl, refl, refl, refl, refl, refl));
-      trouble = no_trouble nothing before (two_ready c.disk) served_at.device (port_at n) gained refl (gained_calm n) (served_ready n) (quiet n);
+      port_error = no_trouble nothing before (two_ready c.disk) served_at.device (port_at n) gained refl (gained_calm n) (served_ready n) (quiet n);
       well = λ why. absurd (⊎_elim (nowhere (port_at n)) (nowhere (port_at n)) why);
       heeds = λ ready. heeds n;
     }
 
-    unfoldable pub service_ties : Ties (Any ∷ Any ∷ []) before service
+    unfoldable pub service_ties : CallCorresponds (Any ∷ Any ∷ []) before service
     service_ties = record {
       accesses = masks;
       came = (is.does, serving (TendsPort (two_ready c.disk)) masks ((refl, not_dead 0), ((refl, not_dead 0), tt)));

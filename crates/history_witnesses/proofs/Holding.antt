@@ -1,6 +1,6 @@
 -- What holds between two calls, of ports of these devices; and the evidence of ports that aren't named.
-use Rattle.agreement.specs.Links.{IsPlugging}
-use Rattle.agreement.specs.Errors.{IsFatalOf}
+use Rattle.refinement.specs.Links.{IsPlugging}
+use Rattle.refinement.specs.Errors.{IsFatalOf}
 use Rattle.std.proofs.lemmas.List.Elements.{All-contains, Contains-append_right}
 use Rattle.std.proofs.lemmas.List.{append_cancel_left}
 use Rattle.std.proofs.Common.{ℕ, zero, suc, ◌≡◌, ◌≢◌, ◌≤◌, ◌∙◌, ◌++◌, true, false, List, [], ◌∷◌, length, None, inl, inr, ⊎_elim, refl, sym, ap, subst, arith}
@@ -11,29 +11,29 @@ use Rattle.ata_types.specs.declared.PortState.TheVariants.{Absent, Foreign, Read
 use Rattle.ata_types.specs.declared.request.RequestId.{RequestId}
 use Rattle.ata_types.specs.declared.limits.TheConstants.{READINGS}
 use Rattle.adapter.specs.Access.{Access, named_causes}
-use Rattle.adapter.specs.Device.{PortState, Device}
+use Rattle.adapter.specs.Device.{DevicePort, Device}
 use Rattle.adapter.specs.Device.Halt.{NotHalted, HaltedPlain, HaltedQueued}
 use Rattle.adapter.specs.FirstRead.{quiet_port}
 use Rattle.adapter.specs.Idle.{IsIdlePort}
 use Rattle.adapter.specs.declared.access.DeviceStep.{DeviceStep}
 use Rattle.adapter.specs.declared.command.Operation.TheVariants.{Identify}
 use Rattle.adapter.specs.declared.tape.Entry.{Entry}
-use Rattle.agreement.specs.Acts.{InSlots}
-use Rattle.agreement.specs.Agrees.{port_at}
-use Rattle.agreement.specs.Facts.{IsFaulted, IsFaultOf}
-use Rattle.agreement.specs.Slots.{Free, Serves, Uses, IsMove}
-use Rattle.agreement.specs.Witness.{first_id}
-use Rattle.block_machine.specs.Events.{Ask, Said}
-use Rattle.block_machine.specs.Histories.{Instant}
+use Rattle.refinement.specs.Acts.{InSlots}
+use Rattle.refinement.specs.Relation.{port_at}
+use Rattle.refinement.specs.Facts.{IsFaulted, IsFaultOf}
+use Rattle.refinement.specs.Slots.{Free, Serves, SlotStates, IsMove}
+use Rattle.refinement.specs.Witness.{first_id}
+use Rattle.block_machine.specs.Events.{Ask, CallResult}
+use Rattle.block_machine.specs.Histories.{JointState}
 use Rattle.block_machine.specs.Ports.{Ports, Evidence}
 use Rattle.block_machine.specs.State.{Pending}
 use Rattle.block_machine.specs.Steps.{NoneKept}
-use Rattle.block_machine.specs.declared.due.Mode.{Mode}
+use Rattle.block_machine.specs.declared.due.QueueMode.{QueueMode}
 use Rattle.port_boot.specs.States.{HasFitDisk}
 use Rattle.port_control.specs.Ports.{programmed}
 use Rattle.error_recovery.specs.Evidence.{GainsRunning}
 use Rattle.driver_history.specs.Evidence.{IsEvidencedOf, ShowsFailure, ShowsLoss, Gains}
-use Rattle.driver_history.specs.Histories.{IsUnfitOrForeign, TriesDisk, LosesNoTrouble}
+use Rattle.driver_history.specs.Histories.{IsUnfitOrForeign, ProbesDisk, LosesNoPortError}
 use Rattle.driver_history.specs.Holds.{HasNothing, HasRequests, IsClients, IsOfKind, IsUnservedAt, NoneWaits, Runs}
 use Rattle.driver_history.specs.Trace.{LeavesEngine}
 use Rattle.history_witnesses.specs.Scene.{page_entry, page_move}
@@ -47,7 +47,7 @@ abbrev pub no_slots : InSlots
 no_slots = record { uses = λ port slot. Free; parked = λ port. [] }
 
 -- slot 0 of port 0 serves request 1
-abbrev pub uses_first : Uses
+abbrev pub uses_first : SlotStates
 uses_first zero zero = Serves first_id
 uses_first zero (suc slot) = Free
 uses_first (suc port) slot = Free
@@ -63,7 +63,7 @@ serves_first (suc port) slot id is = absurd (let x : Free ≡ Serves id = is in 
 
 -- ---- ports
 
-pub unserved_at : (s : InSlots) (i : Instant Device) (port : ℕ) → i.moment.ports.state (port_at port) ≡ Absent → i.device.port port ≡ quiet_port → HasNothing s port → NoneWaits i.moment.machine (port_at port)
+pub unserved_at : (s : InSlots) (i : JointState Device) (port : ℕ) → i.moment.ports.state (port_at port) ≡ Absent → i.device.port port ≡ quiet_port → HasNothing s port → NoneWaits i.moment.machine (port_at port)
     → NoneKept i.moment.machine (port_at port) → IsUnservedAt s i (port_at port)
 unserved_at s i port absent quiet slots waits kept = record {
   absent = absent;
@@ -110,7 +110,7 @@ fit_disk disk port d before later is det ie since last = record {
 }
 
 -- nothing is in its slots
-pub requests_none : (s : InSlots) (i : Instant Device) (port : Port) (mode : Mode) → ((slot : ℕ) → s.uses port.0 slot ≡ Free) → s.parked port.0 ≡ [] → HasRequests s i port mode
+pub requests_none : (s : InSlots) (i : JointState Device) (port : Port) (mode : QueueMode) → ((slot : ℕ) → s.uses port.0 slot ≡ Free) → s.parked port.0 ≡ [] → HasRequests s i port mode
 requests_none s i port mode free unparked = record {
   clients = λ slot. inl (free slot);
   low = λ slot above. free slot;
@@ -123,7 +123,7 @@ requests_none s i port mode free unparked = record {
     unserved slot id is = let z : Free ≡ Serves id = sym (free slot) ∙ is in cc
 
 -- slot 0 of port 0 serves the one request, by a command of its kind
-pub requests_first : (i : Instant Device) (mode : Mode) → 1 ≤ mode.usable → ((e : Pending) → Contains i.moment.machine.book e → IsOfKind mode i.device 0 0 e) → HasRequests first_slots i (port_at 0) mode
+pub requests_first : (i : JointState Device) (mode : QueueMode) → 1 ≤ mode.usable → ((e : Pending) → Contains i.moment.machine.book e → IsOfKind mode i.device 0 0 e) → HasRequests first_slots i (port_at 0) mode
 requests_first i mode usable kind = record {
   clients = clients;
   low = λ slot above. low slot (omega (arith, usable, above));
@@ -175,11 +175,11 @@ pub unlost : (port : Port) (old new : Device) → (old.port port.0).serr_n ≡ f
 unlost port old new n x there loss = ⊎_elim (λ change. ⊎_elim (λ a. absurd (true≢false (sym a ∙ n))) (λ a. absurd (true≢false (sym a ∙ x))) change) (λ missing. missing.0 there) loss
 
 -- and one with no bit of PxIS that tells of trouble
-pub unfailing : (p : PortState) → ((place : ℕ) → 27 ≤ place → p.is place ≡ false) → ShowsFailure p → ⊥
+pub unfailing : (p : DevicePort) → ((place : ℕ) → 27 ≤ place → p.is place ≡ false) → ShowsFailure p → ⊥
 unfailing p calm fails = ⊎_elim (λ fatal. absurd (true≢false (sym fatal.set ∙ calm fatal.place fatal.from))) (λ fault. absurd (true≢false (sym fault ∙ calm 30 (omega arith)))) fails
 
 -- a port that isn't named, wasn't stopped, and showed no trouble if it was ready
-pub unnamed_evidenced : (ask : Ask DeviceStep) (said : Said) (accesses : List Access) (old : Instant Device) (ports : Ports) (new : Device) (evidence : Evidence) (port : Port) → IsUnnamed evidence port
+pub unnamed_evidenced : (ask : Ask DeviceStep) (said : CallResult) (accesses : List Access) (old : JointState Device) (ports : Ports) (new : Device) (evidence : Evidence) (port : Port) → IsUnnamed evidence port
     → (old.moment.ports.state port ≡ Ready → (ShowsLoss port old.device new → ⊥) × (ShowsFailure (old.device.port port.0) → ⊥)) → All (LeavesEngine port) accesses
     → IsEvidencedOf ask said accesses old ports new evidence port
 unnamed_evidenced ask said accesses old ports new evidence port un calm left = record {
@@ -198,7 +198,7 @@ unnamed_evidenced ask said accesses old ports new evidence port un calm left = r
 -- ---- disks that are there
 
 -- a ready port isn't tried
-pub tries_ready : (accesses : List Access) (old : Instant Device) (ports : Ports) (new : Device) (port : Port) → old.moment.ports.state port ≡ Ready → TriesDisk accesses old ports new port
+pub tries_ready : (accesses : List Access) (old : JointState Device) (ports : Ports) (new : Device) (port : Port) → old.moment.ports.state port ≡ Ready → ProbesDisk accesses old ports new port
 tries_ready accesses old ports new port ready = record {
   shown = λ is. absurd (not_absent is);
   absent = λ is. absurd (not_absent is);
@@ -239,9 +239,9 @@ pub each : {X : Type 0} {P Q : X → Type 0} (xs : List X) → ((x : X) → P x 
 each xs goes all k d low = goes _ (all k d low)
 
 -- where a port showed no trouble, and none came, there is none to be heeded
-pub no_trouble : (evidence : Evidence) (old : Instant Device) (ports : Ports) (new : Device) (port : Port) (gained : List Entry) → new.tape ≡ old.device.tape ++ gained → All (IsCalm port.0) gained
+pub no_trouble : (evidence : Evidence) (old : JointState Device) (ports : Ports) (new : Device) (port : Port) (gained : List Entry) → new.tape ≡ old.device.tape ++ gained → All (IsCalm port.0) gained
     → (old.moment.ports.served port ≡ true → old.moment.ports.state port ≡ Ready)
-    → (old.moment.ports.state port ≡ Ready → (ShowsLoss port old.device new → ⊥) × (ShowsFailure (old.device.port port.0) → ⊥)) → LosesNoTrouble evidence old ports new port
+    → (old.moment.ports.state port ≡ Ready → (ShowsLoss port old.device new → ⊥) × (ShowsFailure (old.device.port port.0) → ⊥)) → LosesNoPortError evidence old ports new port
 no_trouble evidence old ports new port gained is none served calm = record {
   errors = λ ready why. absurd (⊎_elim (calm ready).1 (λ came. ⊎_elim faults fatals came) why);
   changes = λ tends why. absurd (⊎_elim (λ change. (calm (served tends.0)).0 (inl change)) plugs why);

@@ -10,15 +10,15 @@ use Rattle.ata_types.specs.declared.request.Outcome.{Outcome}
 use Rattle.ata_types.specs.declared.request.Outcome.TheVariants as outcome
 use Rattle.adapter.specs.Device.{Device}
 use Rattle.adapter.specs.declared.access.DeviceStep.{DeviceStep}
-use Rattle.agreement.specs.Agrees.{port_at}
-use Rattle.agreement.specs.Facts.{RunsWell}
-use Rattle.block_machine.specs.Events.{Happens, IsHung, RestartsHung, Served, Tick}
+use Rattle.refinement.specs.Relation.{port_at}
+use Rattle.refinement.specs.Facts.{RunsWell}
+use Rattle.block_machine.specs.Events.{Happens, HasTimedOut, RestartsTimedOut, Served, Tick}
 use Rattle.block_machine.specs.Histories.{Happening}
 use Rattle.block_machine.specs.Ports.{IsInterrupted, MayBecome, SamePort}
 use Rattle.block_machine.specs.State.{Pending}
 use Rattle.block_machine.specs.Steps.{Again, Answer, Step}
 use Rattle.identify.specs.declared.wanted.Wanted.TheVariants.{Any}
-use Rattle.driver_history.specs.Histories.{BootsAnew, FindsDone, Ties, TiesPort}
+use Rattle.driver_history.specs.Histories.{BootsAnew, FindsDone, CallCorresponds, PortCorresponds}
 use Rattle.driver_history.specs.Trace.{LeavesCommand}
 use Rattle.history_witnesses.specs.Hung.{HungPortIsAHistory}
 use Rattle.history_witnesses.specs.Restart.{restart_evidence, restarting}
@@ -29,7 +29,7 @@ use Rattle.history_witnesses.proofs.Holding.{named, named_is, no_slots, unfailin
 use Rattle.history_witnesses.proofs.Members.{either, nowhere}
 use Rattle.history_witnesses.proofs.Pages.{plain_disks}
 use Rattle.history_witnesses.proofs.Ready.{begins, fit_ready, no_page, starts}
-use Rattle.history_witnesses.proofs.Rebooted.{IsRestart, Restart, backed, booted_at, evidenced, finds, fit_one, holds_booted, may_become, not_dead_then, not_ready_then, of_first, of_served, one, others_same, replies, resets, trouble, unplugs, well}
+use Rattle.history_witnesses.proofs.Rebooted.{IsRestart, Restart, backed, booted_at, evidenced, finds, fit_one, holds_booted, may_become, not_dead_then, not_ready_then, of_first, of_served, one, others_same, replies, resets, port_error, unplugs, well}
 use Rattle.history_witnesses.proofs.Rebooted as rebooted
 use Rattle.history_witnesses.proofs.Restarting.{Outset, restart_allowed, restarts}
 use Rattle.history_witnesses.proofs.Submitting.{issued, submitted}
@@ -98,27 +98,27 @@ restarting_tick = record {
   device = booted;
 }
 
-hung : IsHung (issued_at 2).moment (port_at 0)
+hung : HasTimedOut (issued_at 2).moment (port_at 0)
 hung = hung_at 2 (omega arith)
 
 -- what is of port 0 alone is of a hung port
-is_hung : (port : Port) → port ≡ port_at 0 → IsHung (issued_at 2).moment port
-is_hung port is = subst (IsHung (issued_at 2).moment) (sym is) hung
+is_hung : (port : Port) → port ≡ port_at 0 → HasTimedOut (issued_at 2).moment port
+is_hung port is = subst (HasTimedOut (issued_at 2).moment) (sym is) hung
 
 -- no other port is hung
-other : (n : ℕ) → IsHung (issued_at 2).moment (port_at (suc n)) → ⊥
+other : (n : ℕ) → HasTimedOut (issued_at 2).moment (port_at (suc n)) → ⊥
 other n h = let same = ap (λ (p : Port). p.0) (hung_first 2 (port_at (suc n)) h) in omega (arith, same)
 
-interrupted : (port : Port) → IsInterrupted (restart_evidence []) port → IsHung (issued_at 2).moment port
+interrupted : (port : Port) → IsInterrupted (restart_evidence []) port → HasTimedOut (issued_at 2).moment port
 interrupted port (inl h) = is_hung port (ap port_at (named_is 0 port.0 h))
 interrupted port (inr h) = absurd (nowhere port h)
 
 -- it becomes what a restart may make of it, and the others stay as they are
-becomes : (n : ℕ) → ((IsHung (issued_at 2).moment (port_at n) → ⊥) × SamePort both one (port_at n)) ⊎ (IsHung (issued_at 2).moment (port_at n) × MayBecome both (restart_evidence []) one (port_at n))
+becomes : (n : ℕ) → ((HasTimedOut (issued_at 2).moment (port_at n) → ⊥) × SamePort both one (port_at n)) ⊎ (HasTimedOut (issued_at 2).moment (port_at n) × MayBecome both (restart_evidence []) one (port_at n))
 becomes zero = inr (hung, may_become [] 0)
 becomes (suc n) = inl (other n, others_same n)
 
-restarts_hung : RestartsHung (issued_at 2).moment (restart_evidence []) steps (booted_at outset).moment
+restarts_hung : RestartsTimedOut (issued_at 2).moment (restart_evidence []) steps (booted_at outset).moment
 restarts_hung = record {
   ports = λ port. becomes port.0;
   again = λ e here. absurd (unrepeated e here);
@@ -154,7 +154,7 @@ happens = record {
 
 -- ---- what it owes each port
 
-finds_there : (n : ℕ) → IsHung (issued_at 2).moment (port_at n) → FindsDone (port_at n) restarting (issued_at 2) steps
+finds_there : (n : ℕ) → HasTimedOut (issued_at 2).moment (port_at n) → FindsDone (port_at n) restarting (issued_at 2) steps
 finds_there zero h = finds restart is_restart
 finds_there (suc n) h = absurd (other n h)
 
@@ -162,21 +162,21 @@ boots : (n : ℕ) → BootsAnew Tick (Served replies) restarting (issued_at 2) o
 boots zero h = inr (resets [])
 boots (suc n) h = absurd (other n h)
 
-part_of : (n : ℕ) → TiesPort (issued_at 2) restarting_tick restarting (port_at n)
+part_of : (n : ℕ) → PortCorresponds (issued_at 2) restarting_tick restarting (port_at n)
 part_of n = record {
   finds = finds_there n;
   faults = tt;
-  tries = tt;
+  probes = tt;
   boots = boots n;
-  trouble = trouble restart is_restart n;
+  port_error = port_error restart is_restart n;
   well = well restart is_restart n;
   heeds = tt;
 }
 
-ties : Ties (Any ∷ Any ∷ []) (issued_at 2) restarting_tick
+ties : CallCorresponds (Any ∷ Any ∷ []) (issued_at 2) restarting_tick
 ties = record {
   accesses = restarting;
-  came = (restarts outset, serving (IsHung (issued_at 2).moment) restarting (of_served (IsHung (issued_at 2).moment) hung));
+  came = (restarts outset, serving (HasTimedOut (issued_at 2).moment) restarting (of_served (HasTimedOut (issued_at 2).moment) hung));
   backed = backed restart is_restart;
   evidenced = record { faults = λ f here. absurd (nowhere f here); port = λ port. evidenced restart is_restart port.0 };
   grounded = tt;

@@ -15,14 +15,14 @@ use Rattle.hba_regs.specs.declared.reg.Reg.TheVariants.{Px}
 use Rattle.hba_regs.specs.declared.reg.PortReg.TheVariants.{Cmd, Sctl, Sact, Ci}
 use Rattle.adapter.specs.Access.{Access, DoesAll}
 use Rattle.adapter.specs.Access.Access.{Reading, Writing, Loading, Storing}
-use Rattle.adapter.specs.Device.{PortState, Device}
+use Rattle.adapter.specs.Device.{DevicePort, Device}
 use Rattle.adapter.specs.declared.access.DeviceStep.{DeviceStep}
-use Rattle.agreement.specs.Acts.{InSlots}
-use Rattle.agreement.specs.Agrees.{port_at}
-use Rattle.agreement.specs.Driver.{IsBacked}
+use Rattle.refinement.specs.Acts.{InSlots}
+use Rattle.refinement.specs.Relation.{port_at}
+use Rattle.refinement.specs.Driver.{IsBacked}
 use Rattle.block_machine.specs.Due.{IsDue}
 use Rattle.block_machine.specs.Events.{Happens, Submit, Submitted, AllIssued, IsIssuedIn, situation_of}
-use Rattle.block_machine.specs.Histories.{Instant, Happening}
+use Rattle.block_machine.specs.Histories.{JointState, Happening}
 use Rattle.block_machine.specs.Left.{after}
 use Rattle.block_machine.specs.Ports.{Evidence}
 use Rattle.block_machine.specs.Refusals.{IsAcceptable}
@@ -31,7 +31,7 @@ use Rattle.block_machine.specs.Steps.{Step, Accept, Issue, IsNew, May, newly_acc
 use Rattle.block_machine.specs.declared.due.Unanswered.{Unanswered}
 use Rattle.identify.specs.declared.wanted.Wanted.TheVariants.{Any}
 use Rattle.driver_history.specs.Evidence.{IsEvidencedOf}
-use Rattle.driver_history.specs.Histories.{IssuesDue, IssuesOn, Ties, TiesPort, unissued}
+use Rattle.driver_history.specs.Histories.{IssuesDue, IssuesOn, CallCorresponds, PortCorresponds, unissued}
 use Rattle.driver_history.specs.Holds.{mode_of}
 use Rattle.driver_history.specs.Trace.{LeavesEngine}
 use Rattle.history_witnesses.specs.Scene.{having, queueing_cap}
@@ -117,9 +117,9 @@ leaves_engine port (Writing r v) i = (
 )
 
 -- no disk is put in where port 0 stands before and after
-pub unplugged : (p p' : PortState) → Stands p → Stands p' → (n : ℕ) → (having (p' ∷ second ∷ []) n).plugged ≡ (having (p ∷ second ∷ []) n).plugged ++ []
+pub unplugged : (p p' : DevicePort) → Stands p → Stands p' → (n : ℕ) → (having (p' ∷ second ∷ []) n).plugged ≡ (having (p ∷ second ∷ []) n).plugged ++ []
 unplugged p p' a b zero =
-    let same : p'.plugged ≡ p.plugged = ap (λ (q : PortState). q.plugged) (b.same ∙ sym a.same) in
+    let same : p'.plugged ≡ p.plugged = ap (λ (q : DevicePort). q.plugged) (b.same ∙ sym a.same) in
     same ∙ sym (append-nil p.plugged)
 unplugged p p' a b (suc zero) = refl
 unplugged p p' a b (suc (suc n)) = refl
@@ -134,8 +134,8 @@ pub record Submission : Type 0 where
   pub slots_then : InSlots
   pub memory : ℕ → ℕ
   pub memory_then : ℕ → ℕ
-  pub port : PortState
-  pub port_then : PortState
+  pub port : DevicePort
+  pub port_then : DevicePort
   pub id : RequestId
   pub sector : ℕ
   pub frame_number : ℕ
@@ -151,10 +151,10 @@ module _ (c : Submission) where
   abbrev pub issuing : Machine
   issuing = after c.machine submit_steps
 
-  abbrev pub before : Instant Device
+  abbrev pub before : JointState Device
   before = instant_with c.disk c.slots c.machine [] c.memory c.port
 
-  abbrev pub submitted_at : Instant Device
+  abbrev pub submitted_at : JointState Device
   submitted_at = instant_with c.disk c.slots_then issuing [] c.memory_then c.port_then
 
   abbrev pub submit : Happening Device DeviceStep
@@ -214,19 +214,19 @@ module _ (c : Submission) where
         (shows_none before.device.tape c.memory c.port is.stands submitted_at.device port)
         (each c.accesses (leaves_engine (port_at port)) is.only)
 
-    pub submit_part : (port : ℕ) → TiesPort before submit c.accesses (port_at port)
+    pub submit_part : (port : ℕ) → PortCorresponds before submit c.accesses (port_at port)
     submit_part port = record {
       finds = tt;
       faults = tt;
-      tries = tt;
+      probes = tt;
       boots = tt;
-      trouble = no_trouble nothing before (two_ready c.disk) submitted_at.device (port_at port) [] (sym (append-nil _)) (All-nil (IsCalm port)) (served_ready port)
+      port_error = no_trouble nothing before (two_ready c.disk) submitted_at.device (port_at port) [] (sym (append-nil _)) (All-nil (IsCalm port)) (served_ready port)
           (shows_none before.device.tape c.memory c.port is.stands submitted_at.device port);
       well = λ why. absurd (⊎_elim (nowhere (port_at port)) (nowhere (port_at port)) why);
       heeds = λ why. ⊎_elim (λ h. nowhere (port_at port) h) (λ h. nowhere (port_at port) h) why;
     }
 
-    unfoldable pub submit_ties : Ties (Any ∷ Any ∷ []) before submit
+    unfoldable pub submit_ties : CallCorresponds (Any ∷ Any ∷ []) before submit
     submit_ties = record {
       accesses = c.accesses;
       came = (is.does, (row 0, (subst (λ (rows : List GrantRow). Contains rows (row 0)) (sym is.takes.rows) (0, omega arith, refl), (refl, refl)), is.only));

@@ -8,13 +8,13 @@ use Rattle.hba_regs.specs.declared.reg.Reg.TheVariants.{Px}
 use Rattle.hba_regs.specs.declared.reg.PortReg.{PortReg}
 use Rattle.hba_regs.specs.declared.reg.PortReg.TheVariants.{Is, Cmd, Ssts, Serr}
 use Rattle.adapter.specs.Access.{DoesAll, PortShows, Reads, Writes, note, port_written, shown_interrupt}
-use Rattle.adapter.specs.Device.{PortState, Device}
+use Rattle.adapter.specs.Device.{DevicePort, Device}
 use Rattle.adapter.specs.Rules.{MayCommand}
-use Rattle.adapter.specs.Steps.{Can, after}
-use Rattle.adapter.specs.Steps.Step.{Unplug}
+use Rattle.adapter.specs.Steps.{Can, device_after}
+use Rattle.adapter.specs.Steps.DeviceTransition.{Unplug}
 use Rattle.adapter.specs.declared.tape.Entry.{Entry}
 use Rattle.adapter.specs.declared.tape.Entry.TheVariants as entry
-use Rattle.agreement.specs.Agrees.{port_at}
+use Rattle.refinement.specs.Relation.{port_at}
 use Rattle.history_witnesses.specs.Allowed.{AreAllowed}
 use Rattle.history_witnesses.specs.Scene.{device_with}
 use Rattle.history_witnesses.specs.Missing.{passing, looking}
@@ -29,12 +29,12 @@ gained = entry.Unplug (port_at 0) ∷ []
 abbrev pub tape_gone : List Entry
 tape_gone = pages ++ gained
 
-abbrev pub dev : PortState → PortState → Device
+abbrev pub dev : DevicePort → DevicePort → Device
 dev p q = device_with tape_gone read_memory (p ∷ q ∷ [])
 
 -- ---- the disk is taken out
 
-abbrev pub gone : PortState
+abbrev pub gone : DevicePort
 gone = record (unfit 0) { ssts_det = 0; present = false; fresh = false; serr_n = true }
 
 abbrev pub unplugged : Device
@@ -43,49 +43,49 @@ unplugged = dev gone (unfit 1)
 pub can_go : Can (Unplug 0) rebooted
 can_go = refl
 
-pub goes : unplugged ≡ after (Unplug 0) rebooted
+pub goes : unplugged ≡ device_after (Unplug 0) rebooted
 goes = put_device tape_gone read_memory 0 (unfit 0 ∷ unfit 1 ∷ []) (gone ∷ unfit 1 ∷ []) gone refl (but_first (unfit 0) gone (unfit 1 ∷ []))
 
 -- ---- the service
 
-abbrev told : PortState
+abbrev told : DevicePort
 told = record gone { notes = note Is 0x400000 gone }
 
-abbrev looked : PortState
+abbrev looked : DevicePort
 looked = record told { notes = note Ssts 0 told }
 
-abbrev commanded : PortState
+abbrev commanded : DevicePort
 commanded = record looked { notes = note Cmd 0x4010 looked }
 
-abbrev stopping : PortState
+abbrev stopping : DevicePort
 stopping = port_written Cmd 0x4010 3 commanded
 
-abbrev stopped : PortState
+abbrev stopped : DevicePort
 stopped = record stopping { notes = note Cmd 0x4010 stopping }
 
-abbrev cleared : PortState
+abbrev cleared : DevicePort
 cleared = port_written Serr 0xffffffff 3 stopped
 
-abbrev pub absent : PortState
+abbrev pub absent : DevicePort
 absent = record cleared { notes = note Ssts 0 cleared }
 
 -- the other one is looked at
-abbrev quiet : PortState
+abbrev quiet : DevicePort
 quiet = record (unfit 1) { notes = note Is 0 (unfit 1) }
 
-abbrev pub passed : PortState
+abbrev pub passed : DevicePort
 passed = record quiet { notes = note Ssts 3 quiet }
 
 abbrev pub looked_over : Device
 looked_over = dev absent passed
 
-unfoldable pub reads_here : (r : PortReg) (v : ℕ) (p : PortState) → PortShows r v p → Reads (Px (port_at 0) r) v (dev p (unfit 1)) (dev (record p { notes = note r v p }) (unfit 1))
+unfoldable pub reads_here : (r : PortReg) (v : ℕ) (p : DevicePort) → PortShows r v p → Reads (Px (port_at 0) r) v (dev p (unfit 1)) (dev (record p { notes = note r v p }) (unfit 1))
 reads_here r v p shows = reads tape_gone read_memory 0 (p ∷ unfit 1 ∷ []) (record p { notes = note r v p } ∷ unfit 1 ∷ []) (but_first p (record p { notes = note r v p }) (unfit 1 ∷ [])) r v shows refl
 
-unfoldable pub writes_here : (r : PortReg) (v : ℕ) (p : PortState) → Writes (Px (port_at 0) r) v (dev p (unfit 1)) (dev (port_written r v 3 p) (unfit 1))
+unfoldable pub writes_here : (r : PortReg) (v : ℕ) (p : DevicePort) → Writes (Px (port_at 0) r) v (dev p (unfit 1)) (dev (port_written r v 3 p) (unfit 1))
 writes_here r v p = writes tape_gone read_memory 0 (p ∷ unfit 1 ∷ []) (port_written r v 3 p ∷ unfit 1 ∷ []) (but_first p (port_written r v 3 p) (unfit 1 ∷ [])) r v refl
 
-unfoldable pub reads_there : (r : PortReg) (v : ℕ) (q : PortState) → PortShows r v q → Reads (Px (port_at 1) r) v (dev absent q) (dev absent (record q { notes = note r v q }))
+unfoldable pub reads_there : (r : PortReg) (v : ℕ) (q : DevicePort) → PortShows r v q → Reads (Px (port_at 1) r) v (dev absent q) (dev absent (record q { notes = note r v q }))
 reads_there r v q shows = reads tape_gone read_memory 1 (absent ∷ q ∷ []) (absent ∷ record q { notes = note r v q } ∷ []) (but_second absent q (record q { notes = note r v q }) []) r v shows refl
 
 -- PxIS shows PRCS alone

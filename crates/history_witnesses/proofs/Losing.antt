@@ -6,17 +6,17 @@ use Rattle.hba_regs.specs.declared.reg.Reg.TheVariants.{Px}
 use Rattle.hba_regs.specs.declared.reg.PortReg.{PortReg}
 use Rattle.hba_regs.specs.declared.reg.PortReg.TheVariants.{Cmd, Ssts, Serr, Sact, Ci}
 use Rattle.adapter.specs.Access.{DoesAll, PortShows, Reads, Writes, note, port_written}
-use Rattle.adapter.specs.Device.{IsSector, PortState, Device}
-use Rattle.adapter.specs.FirstRead.{sector_of}
+use Rattle.adapter.specs.Device.{IsSector, DevicePort, Device}
+use Rattle.adapter.specs.FirstRead.{first_read_sector}
 use Rattle.adapter.specs.Memory.{changed, patched}
 use Rattle.history_witnesses.specs.Allowed.{AreAllowed}
 use Rattle.adapter.specs.Steps.{Steps, done_entry, move_of, with_done, with_move}
-use Rattle.adapter.specs.Steps.Step.{Move, Done, Unplug}
+use Rattle.adapter.specs.Steps.DeviceTransition.{Move, Done, Unplug}
 use Rattle.adapter.specs.declared.command.Operation.TheVariants.{Read, Trim}
 use Rattle.adapter.specs.declared.tape.Entry.{Entry}
 use Rattle.adapter.specs.declared.tape.Entry.TheVariants as entry
-use Rattle.agreement.specs.Agrees.{port_at}
-use Rattle.agreement.specs.Slots.{IsFree}
+use Rattle.refinement.specs.Relation.{port_at}
+use Rattle.refinement.specs.Slots.{IsEmptySlot}
 use Rattle.history_witnesses.specs.Loss.{finding_turn, losing_turn}
 use Rattle.history_witnesses.specs.Scene.{device_with}
 use Rattle.history_witnesses.proofs.Command.{read_memory}
@@ -25,28 +25,28 @@ use Rattle.history_witnesses.proofs.Devices.{may_stop, but_first, but_second, fa
 
 -- ---- the read is done
 
-abbrev moved : PortState
-moved = with_move taken 0 command (sector_of 100)
+abbrev moved : DevicePort
+moved = with_move taken 0 command (first_read_sector 100)
 
-abbrev done : PortState
+abbrev done : DevicePort
 done = with_done moved 0 0 Read
 
 abbrev pub tape_moved : List Entry
-tape_moved = pages ++ entry.Move (move_of 0 0 command (sector_of 100)) ∷ []
+tape_moved = pages ++ entry.Move (move_of 0 0 command (first_read_sector 100)) ∷ []
 
 abbrev pub tape_done : List Entry
 tape_done = tape_moved ++ done_entry 0 0 Read ∷ []
 
 unfoldable pub memory_done : ℕ → ℕ
-memory_done = patched read_memory 0x64000 (sector_of 100)
+memory_done = patched read_memory 0x64000 (first_read_sector 100)
 
-pub is_sector : (k : ℕ) → k < 256 → IsSector (sector_of k)
-unfolding sector_of
+pub is_sector : (k : ℕ) → k < 256 → IsSector (first_read_sector k)
+unfolding first_read_sector
 is_sector k low = (length-replicate {A = ℕ} 512 k, All-replicate (λ b. b < 256) 512 k low)
 
 moves : (new : Device) → Steps (device_with tape_moved memory_done (moved ∷ second ∷ [])) new → Steps (device_with pages read_memory (taken ∷ second ∷ [])) new
 unfolding changed memory_done
-moves new = step_first (Move 0 0 command (sector_of 100)) (device_with pages read_memory (taken ∷ second ∷ [])) (device_with tape_moved memory_done (moved ∷ second ∷ [])) new
+moves new = step_first (Move 0 0 command (first_read_sector 100)) (device_with pages read_memory (taken ∷ second ∷ [])) (device_with tape_moved memory_done (moved ∷ second ∷ [])) new
     (record {
       works = record { taken = refl; working = record { running = refl; present = refl; fresh = refl; admitted = refl; whole = refl } };
       left = omega arith;
@@ -75,10 +75,10 @@ unfolding changed
 done_clear zero = refl
 done_clear (suc k) = past_first issued.ci false k ∙ others_clear k
 
-abbrev seen : PortState
+abbrev seen : DevicePort
 seen = record done { notes = note Ci 0 done }
 
-abbrev pub found : PortState
+abbrev pub found : DevicePort
 found = record seen { notes = note Sact 0 seen }
 
 abbrev pub between : Device
@@ -96,7 +96,7 @@ finds = (
   (between, reads tape_done memory_done 0 (seen ∷ second ∷ []) (found ∷ second ∷ []) (but_first seen found (second ∷ [])) Sact 0 (λ k low. no_bit k) refl, refl),
 )
 
-pub found_free : (k : ℕ) → IsFree found k
+pub found_free : (k : ℕ) → IsEmptySlot found k
 unfolding changed
 found_free k = record { issued = done_clear k; free = free k; unarmed = refl }
   where
@@ -106,31 +106,31 @@ found_free k = record { issued = done_clear k; free = free k; unarmed = refl }
 
 -- ---- the disk of the other port goes
 
-abbrev out : PortState
+abbrev out : DevicePort
 out = record second { ssts_det = 0; present = false; fresh = false; serr_n = true }
 
-abbrev looked : PortState
+abbrev looked : DevicePort
 looked = record out { notes = note Ssts 0 out }
 
-abbrev commanded : PortState
+abbrev commanded : DevicePort
 commanded = record looked { notes = note Cmd 0xc011 looked }
 
-abbrev stopping : PortState
+abbrev stopping : DevicePort
 stopping = port_written Cmd 0xc010 5 commanded
 
-abbrev stopped : PortState
+abbrev stopped : DevicePort
 stopped = record (fall stopping) { notes = note Cmd 0x4010 (fall stopping) }
 
-abbrev cleared : PortState
+abbrev cleared : DevicePort
 cleared = port_written Serr 0xffffffff 5 stopped
 
-abbrev pub gone : PortState
+abbrev pub gone : DevicePort
 gone = record cleared { notes = note Ssts 0 cleared }
 
 abbrev pub tape_lost : List Entry
 tape_lost = tape_done ++ entry.Unplug (port_at 1) ∷ []
 
-abbrev lost_with : PortState → Device
+abbrev lost_with : DevicePort → Device
 lost_with p = device_with tape_lost memory_done (found ∷ p ∷ [])
 
 abbrev pub lost : Device
@@ -140,10 +140,10 @@ goes : Steps between (lost_with out)
 goes = record { steps = Unplug 1 ∷ []; lead = (refl, put_device tape_lost memory_done 1 (found ∷ second ∷ []) (found ∷ out ∷ []) out refl (but_second found second out [])) }
 
 -- an access of port 1
-reads_there : (r : PortReg) (v : ℕ) (p : PortState) → PortShows r v p → Reads (Px (port_at 1) r) v (lost_with p) (lost_with (record p { notes = note r v p }))
+reads_there : (r : PortReg) (v : ℕ) (p : DevicePort) → PortShows r v p → Reads (Px (port_at 1) r) v (lost_with p) (lost_with (record p { notes = note r v p }))
 reads_there r v p shows = reads tape_lost memory_done 1 (found ∷ p ∷ []) (found ∷ record p { notes = note r v p } ∷ []) (but_second found p (record p { notes = note r v p }) []) r v shows refl
 
-writes_there : (r : PortReg) (v : ℕ) (p : PortState) → Writes (Px (port_at 1) r) v (lost_with p) (lost_with (port_written r v 5 p))
+writes_there : (r : PortReg) (v : ℕ) (p : DevicePort) → Writes (Px (port_at 1) r) v (lost_with p) (lost_with (port_written r v 5 p))
 writes_there r v p = writes tape_lost memory_done 1 (found ∷ p ∷ []) (found ∷ port_written r v 5 p ∷ []) (but_second found p (port_written r v 5 p) []) r v refl
 
 falls : Reads (Px (port_at 1) Cmd) 0x4010 (lost_with stopping) (lost_with stopped)

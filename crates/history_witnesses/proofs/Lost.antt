@@ -6,18 +6,18 @@ use Rattle.std.proofs.lemmas.List.Elements.{All-nil, All-cons}
 use Rattle.ata_types.specs.declared.PortState.TheVariants.{Absent, Ready}
 use Rattle.ata_types.specs.declared.request.Outcome.TheVariants as outcome
 use Rattle.adapter.specs.Device.{Device}
-use Rattle.adapter.specs.FirstRead.{sector_of}
+use Rattle.adapter.specs.FirstRead.{first_read_sector}
 use Rattle.adapter.specs.Memory.{changed}
 use Rattle.adapter.specs.Steps.{done_entry, move_of}
 use Rattle.adapter.specs.declared.command.Operation.TheVariants as operation
 use Rattle.adapter.specs.declared.command.Operation.TheVariants.{Identify}
 use Rattle.adapter.specs.declared.tape.Entry.{Entry}
 use Rattle.adapter.specs.declared.tape.Entry.TheVariants as entry
-use Rattle.agreement.specs.Acts.{at}
-use Rattle.agreement.specs.Agrees.{port_at}
-use Rattle.agreement.specs.Driver.{Knows}
-use Rattle.agreement.specs.Slots.{IsFree, IsMove}
-use Rattle.block_machine.specs.Histories.{Instant}
+use Rattle.refinement.specs.Acts.{at_slots}
+use Rattle.refinement.specs.Relation.{port_at}
+use Rattle.refinement.specs.Driver.{DriverRelation}
+use Rattle.refinement.specs.Slots.{IsEmptySlot, IsMove}
+use Rattle.block_machine.specs.Histories.{JointState}
 use Rattle.block_machine.specs.Left.{after}
 use Rattle.block_machine.specs.Ports.{Ports}
 use Rattle.block_machine.specs.State.{Machine, Pending}
@@ -47,7 +47,7 @@ abbrev pub ended : Pending
 ended = mark_ended touched
 
 abbrev pub touching : Step
-touching = Touch waiting 0 (slice_index (sector_of 100))
+touching = Touch waiting 0 (slice_index (first_read_sector 100))
 
 abbrev pub service_steps : List Step
 service_steps = Unplug (port_at 1) ∷ Answer ended outcome.Ok ∷ End touched ∷ touching ∷ []
@@ -59,12 +59,12 @@ pub all_touched : AllTouched touched
 all_touched zero low = refl
 all_touched (suc i) low = absurd (omega (arith, low))
 
-abbrev pub lost_at : Instant Device
+abbrev pub lost_at : JointState Device
 lost_at = record { device = lost; moment = record { machine = served; ports = one } }
 
 -- ---- what holds
 
-lost_free : (n k : ℕ) → IsFree (having (found ∷ gone ∷ []) n) k
+lost_free : (n k : ℕ) → IsEmptySlot (having (found ∷ gone ∷ []) n) k
 lost_free zero k = found_free k
 lost_free (suc zero) k = record { issued = refl; free = refl; unarmed = refl }
 lost_free (suc (suc n)) k = record { issued = refl; free = refl; unarmed = refl }
@@ -74,7 +74,7 @@ one_in zero = refl
 one_in (suc zero) = refl
 one_in (suc (suc n)) = cond-false (suc (suc n) == 1) false false (ne_eqb (suc (suc n)) 1 (omega arith))
 
-knows_lost : Knows served (at no_slots lost)
+knows_lost : DriverRelation served (at_slots no_slots lost)
 unfolding changed
 knows_lost = agreeing served no_slots tape_lost memory_done found gone
     (record { own_first = refl; own_second = refl; disks = (refl, refl); present = one_in; ids = refl; sizes = refl; bytes = refl; lasting = (refl, refl); still = refl })
@@ -82,12 +82,12 @@ knows_lost = agreeing served no_slots tape_lost memory_done found gone
 
 -- what the tape gains in the service
 abbrev pub gained : List Entry
-gained = entry.Move (move_of 0 0 command (sector_of 100)) ∷ done_entry 0 0 operation.Read ∷ entry.Unplug (port_at 1) ∷ []
+gained = entry.Move (move_of 0 0 command (first_read_sector 100)) ∷ done_entry 0 0 operation.Read ∷ entry.Unplug (port_at 1) ∷ []
 
 -- no page came after those of the two ports
 unpaged : (port : ℕ) → All (λ e. IsMove port Identify e → ⊥) gained
 unpaged port =
-    All-cons (λ e. IsMove port Identify e → ⊥) (entry.Move (move_of 0 0 command (sector_of 100))) (done_entry 0 0 operation.Read ∷ entry.Unplug (port_at 1) ∷ [])
+    All-cons (λ e. IsMove port Identify e → ⊥) (entry.Move (move_of 0 0 command (first_read_sector 100))) (done_entry 0 0 operation.Read ∷ entry.Unplug (port_at 1) ∷ [])
     (λ (x : _ × _). let same : operation.Read ≡ Identify = x.1 in cc)
     (All-cons (λ e. IsMove port Identify e → ⊥) (done_entry 0 0 operation.Read) (entry.Unplug (port_at 1) ∷ []) (λ x. x)
     (All-cons (λ e. IsMove port Identify e → ⊥) (entry.Unplug (port_at 1)) [] (λ x. x) (All-nil (λ e. IsMove port Identify e → ⊥))))

@@ -9,29 +9,29 @@ use Rattle.adapter.specs.Commands.{is_queued}
 use Rattle.adapter.specs.Device.{Device}
 use Rattle.adapter.specs.Memory.{changed}
 use Rattle.adapter.specs.ReadDone.{read_of}
-use Rattle.adapter.specs.Says.{cut}
+use Rattle.adapter.specs.Decoding.{piece_addresses}
 use Rattle.adapter.specs.declared.access.DeviceStep.{DeviceStep}
 use Rattle.adapter.specs.declared.access.DeviceStep.TheVariants.{Fatal}
 use Rattle.adapter.specs.declared.access.FatalError.TheVariants.{Interface}
 use Rattle.adapter.specs.declared.command.Operation.TheVariants.{Identify}
 use Rattle.adapter.specs.declared.tape.Entry.{Entry}
 use Rattle.adapter.specs.declared.tape.Entry.TheVariants as entry
-use Rattle.agreement.specs.Acts.{at}
-use Rattle.agreement.specs.Agrees.{port_at}
-use Rattle.agreement.specs.Driver.{IsBacked, Knows}
-use Rattle.agreement.specs.Facts.{IsFaultOf}
-use Rattle.agreement.specs.Links.{IsPlugging}
-use Rattle.agreement.specs.Slots.{IsMove, IsServed as IsServedAs, ServesRequest}
-use Rattle.agreement.specs.Witness.{first_id}
+use Rattle.refinement.specs.Acts.{at_slots}
+use Rattle.refinement.specs.Relation.{port_at}
+use Rattle.refinement.specs.Driver.{IsBacked, DriverRelation}
+use Rattle.refinement.specs.Facts.{IsFaultOf}
+use Rattle.refinement.specs.Links.{IsPlugging}
+use Rattle.refinement.specs.Slots.{IsMove, RelatesSlot, ServesRequest}
+use Rattle.refinement.specs.Witness.{first_id}
 use Rattle.block_machine.specs.Due.{is_plain}
 use Rattle.block_machine.specs.Events.{Device as Told, Happens, Stepped}
-use Rattle.block_machine.specs.Histories.{Happening, Instant}
+use Rattle.block_machine.specs.Histories.{Happening, JointState}
 use Rattle.block_machine.specs.State.{Pending}
 use Rattle.error_recovery.specs.Evidence.{ShowsFatal}
 use Rattle.host_boot.specs.Taken.{wanted_of}
 use Rattle.identify.specs.declared.wanted.Wanted.TheVariants.{Any}
 use Rattle.driver_history.specs.Evidence.{Gains, IsEvidencedOf, ShowsFailure, ShowsLoss}
-use Rattle.driver_history.specs.Histories.{LosesNoTrouble, Ties, TiesPort}
+use Rattle.driver_history.specs.Histories.{LosesNoPortError, CallCorresponds, PortCorresponds}
 use Rattle.driver_history.specs.Holds.{HoldsOf, HoldsWith, IsOfKind, IsReadyAt}
 use Rattle.driver_history.specs.Trace.{LeavesEngine}
 use Rattle.history_witnesses.specs.Scene.{having, page_entry, plain}
@@ -49,7 +49,7 @@ use Rattle.history_witnesses.proofs.Submitting.{issued, others_clear, second, su
 
 -- ---- what holds
 
-abbrev pub broken_at : Instant Device
+abbrev pub broken_at : JointState Device
 broken_at = record { device = dev broken; moment = record { machine = issuing; ports = both } }
 
 -- the fatal error is the one entry that the tape has gained
@@ -76,7 +76,7 @@ serves_still : ServesRequest issuing read_memory broken 0 0 first_id
 serves_still = serves_one issuing read_memory broken 0 (read_of 100 1) first_id 100 100 waiting.request.held 0 refl (omega arith) (0, omega arith, refl) refl refl told
     (inl (record { started = refl; issued = refl; free = refl; sact = refl; block = tt; untouched = λ i. sym (le-ltb i 0 (omega arith)); unended = refl }))
 
-slots : (n k : ℕ) → IsServedAs issuing read_memory tape_broken (having (broken ∷ second ∷ []) n) n k (uses_first n k)
+slots : (n k : ℕ) → RelatesSlot issuing read_memory tape_broken (having (broken ∷ second ∷ []) n) n k (uses_first n k)
 slots zero zero = serves_still
 slots zero (suc k) = record { issued = others_clear k; free = refl; unarmed = refl }
 slots (suc n) k = holds_submitted.knows.agrees.slot (suc n) k
@@ -86,7 +86,7 @@ present zero = refl
 present (suc zero) = refl
 present (suc (suc n)) = refl
 
-knows : Knows issuing (at first_slots (dev broken))
+knows : DriverRelation issuing (at_slots first_slots (dev broken))
 knows = agreeing issuing first_slots tape_broken read_memory broken second
     (record { own_first = refl; own_second = refl; disks = (refl, refl); present = present; ids = refl; sizes = refl; bytes = refl; lasting = (refl, refl); still = refl })
     slots holds_submitted.knows.agrees.apart (λ f b from small. past_driver f b from) holds_submitted.knows.have
@@ -94,7 +94,7 @@ knows = agreeing issuing first_slots tape_broken read_memory broken second
 kind_of : (e : Pending) → e ≡ waiting → IsOfKind plain (dev broken) 0 0 e
 kind_of e is = record {
   command = read_of 100 1;
-  places = cut 0x64000 1;
+  places = piece_addresses 0x64000 1;
   told = told;
   kind = subst (λ (x : Pending). is_queued (read_of 100 1).operation ≡ not (is_plain plain x.request.asked.op)) (sym is) refl;
 }
@@ -172,8 +172,8 @@ fatal_alone n ne = All-cons (IsCalm n) (entry.Fatal (port_at 0)) [] (λ x. x, λ
 pub no_plugging : All (λ e. IsPlugging 0 e → ⊥) gained
 no_plugging = All-cons (λ e. IsPlugging 0 e → ⊥) (entry.Fatal (port_at 0)) [] (λ x. x) (All-nil (λ e. IsPlugging 0 e → ⊥))
 
-trouble : (n : ℕ) → LosesNoTrouble nothing submitted_at both (dev broken) (port_at n)
-trouble zero = record {
+port_error : (n : ℕ) → LosesNoPortError nothing submitted_at both (dev broken) (port_at n)
+port_error zero = record {
   errors = λ ready why. inr (inl shows_fatal);
   changes = λ tends why. absurd (⊎_elim (λ change. (quiet 0 refl).0 (inl change)) plugs why);
   fault = λ ready g. absurd (ran_none (IsFaultOf 0) 0 submitted (dev broken) faults g);
@@ -186,20 +186,20 @@ trouble zero = record {
 
     plugs : Gains (IsPlugging 0) submitted (dev broken) → ⊥
     plugs = gained_none (IsPlugging 0) submitted (dev broken) gained refl no_plugging
-trouble (suc n) = no_trouble nothing submitted_at both (dev broken) (port_at (suc n)) gained refl (fatal_alone (suc n) (omega arith)) (served_ready (suc n)) (quiet (suc n))
+port_error (suc n) = no_trouble nothing submitted_at both (dev broken) (port_at (suc n)) gained refl (fatal_alone (suc n) (omega arith)) (served_ready (suc n)) (quiet (suc n))
 
-pub meeting_part : (n : ℕ) → TiesPort submitted_at meeting [] (port_at n)
+pub meeting_part : (n : ℕ) → PortCorresponds submitted_at meeting [] (port_at n)
 meeting_part n = record {
   finds = tt;
   faults = tt;
-  tries = tt;
+  probes = tt;
   boots = tt;
-  trouble = trouble n;
+  port_error = port_error n;
   well = λ why. absurd (⊎_elim (nowhere (port_at n)) (nowhere (port_at n)) why);
   heeds = λ why. ⊎_elim (nowhere (port_at n)) (nowhere (port_at n)) why;
 }
 
-unfoldable pub meeting_ties : Ties (Any ∷ Any ∷ []) submitted_at meeting
+unfoldable pub meeting_ties : CallCorresponds (Any ∷ Any ∷ []) submitted_at meeting
 meeting_ties = record {
   accesses = [];
   came = (refl, inl (record { can = can_break; effect = breaks }));

@@ -13,13 +13,13 @@ use Rattle.adapter.specs.Device.{Device}
 use Rattle.adapter.specs.declared.access.DeviceStep.{DeviceStep}
 use Rattle.adapter.specs.declared.access.DeviceStep.TheVariants as asked
 use Rattle.adapter.specs.declared.tape.Entry.TheVariants as entry
-use Rattle.agreement.specs.Acts.{at}
-use Rattle.agreement.specs.Agrees.{port_at}
-use Rattle.agreement.specs.Driver.{IsBacked, Knows}
-use Rattle.agreement.specs.Links.{IsPlugging}
-use Rattle.agreement.specs.Slots.{IsFree}
+use Rattle.refinement.specs.Acts.{at_slots}
+use Rattle.refinement.specs.Relation.{port_at}
+use Rattle.refinement.specs.Driver.{IsBacked, DriverRelation}
+use Rattle.refinement.specs.Links.{IsPlugging}
+use Rattle.refinement.specs.Slots.{IsEmptySlot}
 use Rattle.block_machine.specs.Events.{AnswersService, Device as Told, HadDisk, Happens, Served, Service, Stepped}
-use Rattle.block_machine.specs.Histories.{Happening, Instant}
+use Rattle.block_machine.specs.Histories.{Happening, JointState}
 use Rattle.block_machine.specs.Left.{after}
 use Rattle.block_machine.specs.Ports.{AreFit, Evidence, IsInterrupted, IsServiced, Ports, SamePort}
 use Rattle.block_machine.specs.State.{Machine}
@@ -28,7 +28,7 @@ use Rattle.host_boot.specs.Taken.{wanted_of}
 use Rattle.identify.specs.declared.wanted.Wanted.TheVariants.{Any}
 use Rattle.port_control.specs.Engines.{Stops}
 use Rattle.driver_history.specs.Evidence.{Gains, IsEvidencedOf, ShowsChange}
-use Rattle.driver_history.specs.Histories.{IsUnfitOrForeign, TendsPort, Ties, TiesPort, TriesDisk}
+use Rattle.driver_history.specs.Histories.{IsUnfitOrForeign, TendsPort, CallCorresponds, PortCorresponds, ProbesDisk}
 use Rattle.driver_history.specs.Holds.{HoldsOf}
 use Rattle.driver_history.specs.Trace.{LeavesCommand, LeavesEngine, ResetsLink}
 use Rattle.history_witnesses.specs.Scene.{having, showing}
@@ -61,7 +61,7 @@ unplug = record {
 abbrev without : Machine
 without = after answered (going ∷ [])
 
-abbrev unplugged_at : Instant Device
+abbrev unplugged_at : JointState Device
 unplugged_at = record { device = unplugged; moment = record { machine = without; ports = unfit_ports } }
 
 abbrev one_absent : Ports
@@ -77,7 +77,7 @@ service = record {
   device = looked_over;
 }
 
-abbrev looked_at : Instant Device
+abbrev looked_at : JointState Device
 looked_at = record { device = looked_over; moment = record { machine = without; ports = one_absent } }
 
 -- ---- the ports
@@ -154,13 +154,13 @@ quiet zero (inr is) = true≢false (sym is)
 quiet (suc n) (inl is) = true≢false (sym is)
 quiet (suc n) (inr is) = true≢false (sym is)
 
-unplug_part : (n : ℕ) → TiesPort rebooted_at unplug [] (port_at n)
+unplug_part : (n : ℕ) → PortCorresponds rebooted_at unplug [] (port_at n)
 unplug_part n = record {
   finds = tt;
   faults = tt;
-  tries = tt;
+  probes = tt;
   boots = tt;
-  trouble = record {
+  port_error = record {
     errors = λ ready why. absurd (not_ready n ready);
     changes = λ tends why. inr (changes n why);
     fault = λ ready g. absurd (not_ready n ready);
@@ -190,12 +190,12 @@ unplug_backed = record {
     plugs (suc zero) = refl
     plugs (suc (suc n)) = refl
 
-free : (n k : ℕ) → IsFree (having (gone ∷ unfit 1 ∷ []) n) k
+free : (n k : ℕ) → IsEmptySlot (having (gone ∷ unfit 1 ∷ []) n) k
 free zero k = record { issued = refl; free = refl; unarmed = refl }
 free (suc zero) k = record { issued = refl; free = refl; unarmed = refl }
 free (suc (suc n)) k = record { issued = refl; free = refl; unarmed = refl }
 
-unplug_knows : Knows without (at no_slots unplugged)
+unplug_knows : DriverRelation without (at_slots no_slots unplugged)
 unplug_knows = agreeing without no_slots tape_gone read_memory gone (unfit 1)
     (record { own_first = refl; own_second = refl; disks = (refl, refl); present = present; ids = refl; sizes = refl; bytes = refl; lasting = (refl, refl); still = refl })
     free free_apart (λ f b from small. past_driver f b from) (λ n e may at_port. ⊎_elim (λ z. absurd (nowhere e z.0)) (λ z. absurd (nowhere e z)) may)
@@ -233,7 +233,7 @@ still_unfit (suc (suc n)) = unserved_at no_slots unplugged_at (suc (suc n)) refl
 unplug_evidenced : (n : ℕ) → IsEvidencedOf unplug.event.ask unplug.event.said [] rebooted_at unfit_ports unplugged nothing (port_at n)
 unplug_evidenced n = unnamed_evidenced unplug.event.ask unplug.event.said [] rebooted_at unfit_ports unplugged nothing (port_at n) (none_named (port_at n)) (λ ready. absurd (not_ready n ready)) (All-nil (LeavesEngine (port_at n)))
 
-unfoldable unplug_ties : Ties (Any ∷ Any ∷ []) rebooted_at unplug
+unfoldable unplug_ties : CallCorresponds (Any ∷ Any ∷ []) rebooted_at unplug
 unplug_ties = record {
   accesses = [];
   came = (refl, inl (record { can = can_go; effect = goes }));
@@ -329,20 +329,20 @@ service_evidenced (suc n) = unnamed_evidenced Service (Served []) (looking ++ pa
     apart e = omega (arith, e)
 
 -- the first port's disk isn't there; the other's is, and shows no change
-tries : (n : ℕ) → TriesDisk (looking ++ passing) unplugged_at one_absent looked_over (port_at n)
-tries zero = record {
+probes : (n : ℕ) → ProbesDisk (looking ++ passing) unplugged_at one_absent looked_over (port_at n)
+probes zero = record {
   shown = λ is. absurd (let x : Unfit 8 ≡ Absent = is in cc);
   absent = λ is. absurd (let x : Unfit 8 ≡ Absent = is in cc);
   missing = λ bad none. inl refl;
   changed = λ bad x. absurd (true≢false (sym x));
 }
-tries (suc zero) = record {
+probes (suc zero) = record {
   shown = λ is. absurd (let x : Unfit 8 ≡ Absent = is in cc);
   absent = λ is. absurd (let x : Unfit 8 ≡ Absent = is in cc);
   missing = λ bad none. absurd (none refl);
   changed = λ bad x. absurd (true≢false (sym x));
 }
-tries (suc (suc n)) = record {
+probes (suc (suc n)) = record {
   shown = λ is there. absurd (let x : 0 ≡ 3 = there in omega (arith, x));
   absent = λ is there. absurd (let x : 0 ≡ 3 = there in omega (arith, x));
   missing = λ bad. absurd (not_bad bad);
@@ -353,13 +353,13 @@ tries (suc (suc n)) = record {
     not_bad (inl is) = let x : Absent ≡ Foreign = is in cc
     not_bad (inr is) = let x : Absent ≡ Unfit is.0 = is.1 in cc
 
-service_part : (n : ℕ) → TiesPort unplugged_at service (looking ++ passing) (port_at n)
+service_part : (n : ℕ) → PortCorresponds unplugged_at service (looking ++ passing) (port_at n)
 service_part n = record {
   finds = λ ready. absurd (not_ready n ready);
   faults = λ alone. absurd (not_ready n alone.ready);
-  tries = λ served none. tries n;
+  probes = λ served none. probes n;
   boots = (λ ready. absurd (not_ready n ready), boots n);
-  trouble = record {
+  port_error = record {
     errors = λ ready why. absurd (not_ready n ready);
     changes = λ tends why. changes n why;
     fault = λ ready g. absurd (not_ready_then n ready);
@@ -397,12 +397,12 @@ service_backed = record {
     plugs (suc zero) = refl
     plugs (suc (suc n)) = refl
 
-free_then : (n k : ℕ) → IsFree (having (absent ∷ passed ∷ []) n) k
+free_then : (n k : ℕ) → IsEmptySlot (having (absent ∷ passed ∷ []) n) k
 free_then zero k = record { issued = refl; free = refl; unarmed = refl }
 free_then (suc zero) k = record { issued = refl; free = refl; unarmed = refl }
 free_then (suc (suc n)) k = record { issued = refl; free = refl; unarmed = refl }
 
-service_knows : Knows without (at no_slots looked_over)
+service_knows : DriverRelation without (at_slots no_slots looked_over)
 service_knows = agreeing without no_slots tape_gone read_memory absent passed
     (record { own_first = refl; own_second = refl; disks = (refl, refl); present = present; ids = refl; sizes = refl; bytes = refl; lasting = (refl, refl); still = refl })
     free_then free_apart (λ f b from small. past_driver f b from) (λ n e may at_port. ⊎_elim (λ z. absurd (nowhere e z.0)) (λ z. absurd (nowhere e z)) may)
@@ -437,7 +437,7 @@ holds_of (suc zero) = record {
 }
 holds_of (suc (suc n)) = unserved_at no_slots looked_at (suc (suc n)) refl refl (record { free = λ slot. refl; unparked = refl }) (λ e here. absurd (nowhere e here)) (λ e kept. absurd (nowhere e kept))
 
-service_ties : Ties (Any ∷ Any ∷ []) unplugged_at service
+service_ties : CallCorresponds (Any ∷ Any ∷ []) unplugged_at service
 service_ties = record {
   accesses = looking ++ passing;
   came = (does, serving (TendsPort unfit_ports) (looking ++ passing) of_served);

@@ -6,7 +6,7 @@ use Rattle.std.proofs.lemmas.Bool.{true≢false}
 use Rattle.std.proofs.lemmas.List.{get_or-replicate, get_or_append_left}
 use Rattle.block_machine.specs.Ports.{IsMode}
 use Rattle.driver_history.specs.Holds.{mode_of}
-use Rattle.identify.specs.Page.{HasNoFault, AllowsTrim, word}
+use Rattle.identify.specs.Page.{HasNoUnfit, AllowsTrim, identity_word}
 use Rattle.identify.specs.declared.DiskInfo.{DiskInfo}
 use Rattle.identify.specs.declared.Unfit.TheVariants.{BadChecksum, Word83, No48Bit, SectorSize, NoFlush, NoSectors}
 use Rattle.port_boot.specs.States.{IsFit}
@@ -20,7 +20,7 @@ module _ (depth queues : ℕ) where
   abbrev page : List ℕ
   page = page_with depth queues
 
-  no_fault : HasNoFault page
+  no_fault : HasNoUnfit page
   no_fault BadChecksum (a, b) = let x : 0 ≡ 0xa5 = a in absurd (omega (arith, x))
   no_fault Word83 a = a refl
   no_fault No48Bit a = let x : 1 ≡ 0 = a in absurd (omega (arith, x))
@@ -35,7 +35,7 @@ module _ (depth queues : ℕ) where
   zero_in : (n : ℕ) → n < 20 → slice_index (replicate 20 0) n ≡ 0
   zero_in n low = get_or-replicate 20 n 0 0 low
 
-  pub page_fits : (ncq : Bool) → IsTrue ncq ↔ (bit_at (word page 76) 8 ≡ 1) → IsFit None page (info_with (word page 75 % 2 ^ 5 + 1) ncq)
+  pub page_fits : (ncq : Bool) → IsTrue ncq ↔ (bit_at (identity_word page 76) 8 ≡ 1) → IsFit None page (info_with (identity_word page 75 % 2 ^ 5 + 1) ncq)
   page_fits ncq queue = record {
     no_fault = no_fault;
     tells = record {

@@ -10,13 +10,13 @@ use Rattle.hba_regs.specs.declared.reg.Reg.TheVariants.{Px}
 use Rattle.hba_regs.specs.declared.reg.PortReg.TheVariants.{Sact, Ci}
 use Rattle.adapter.specs.Access.{Access, DoesAll, port_written}
 use Rattle.adapter.specs.Access.Access.{Writing, Storing}
-use Rattle.adapter.specs.Device.{PortState}
+use Rattle.adapter.specs.Device.{DevicePort}
 use Rattle.adapter.specs.Memory.{bytes_at, patched}
-use Rattle.adapter.specs.Says.{cut}
+use Rattle.adapter.specs.Decoding.{piece_addresses}
 use Rattle.adapter.specs.declared.tape.Entry.{Entry}
-use Rattle.agreement.specs.Agrees.{port_at}
-use Rattle.agreement.specs.Places.{table_of}
-use Rattle.agreement.specs.Slots.{Told}
+use Rattle.refinement.specs.Relation.{port_at}
+use Rattle.refinement.specs.Places.{table_of}
+use Rattle.refinement.specs.Slots.{SlotDecodesTo}
 use Rattle.driver_history.specs.Histories.{IssuesOn}
 use Rattle.history_witnesses.specs.Scene.{device_with, running_port}
 use Rattle.history_witnesses.proofs.Command.{header_to, frame_head, queued_bytes, queued_read, told_queued, zeros}
@@ -38,15 +38,15 @@ one_memory = with_read zeros 0 100 100
 unfoldable pub two_memory : ℕ → ℕ
 two_memory = with_read one_memory 1 101 101
 
-pub one_told : Told one_memory 0 0 0 (queued_read 100) (cut 0x64000 1)
+pub one_told : SlotDecodesTo one_memory 0 0 0 (queued_read 100) (piece_addresses 0x64000 1)
 unfolding one_memory patched bytes_at
 one_told = told_queued one_memory 0 100 100 (omega arith) refl refl refl refl refl refl refl
 
-pub first_told : Told two_memory 0 0 0 (queued_read 100) (cut 0x64000 1)
+pub first_told : SlotDecodesTo two_memory 0 0 0 (queued_read 100) (piece_addresses 0x64000 1)
 unfolding two_memory one_memory patched bytes_at
 first_told = told_queued two_memory 0 100 100 (omega arith) refl refl refl refl refl refl refl
 
-pub second_told : Told two_memory 0 0 1 (queued_read 101) (cut 0x65000 1)
+pub second_told : SlotDecodesTo two_memory 0 0 1 (queued_read 101) (piece_addresses 0x65000 1)
 unfolding two_memory one_memory patched bytes_at
 second_told = told_queued two_memory 1 101 101 (omega arith) refl refl refl refl refl refl refl
 
@@ -66,7 +66,7 @@ two_zeros f b from =
 -- ---- accesses
 
 -- the slot's bit of PxSACT is written, and then that of PxCI
-abbrev pub with_bits : ℕ → PortState → PortState
+abbrev pub with_bits : ℕ → DevicePort → DevicePort
 with_bits v p = port_written Ci v 0 (port_written Sact v 0 p)
 
 abbrev pub queue_accesses : (slot k frame v : ℕ) → List Access
@@ -74,7 +74,7 @@ queue_accesses slot k frame v =
     Storing (32 * slot) (header_to slot) ∷ Storing (table_of 0 slot) (queued_bytes slot k) ∷ Storing (table_of 0 slot + 128) (frame_head frame)
     ∷ Writing (Px (port_at 0) Sact) v ∷ Writing (Px (port_at 0) Ci) v ∷ []
 
-pub queues : (tape : List Entry) (memory : ℕ → ℕ) (p : PortState) (slot k frame v : ℕ) → DoesAll (queue_accesses slot k frame v) (device_with tape memory (p ∷ second ∷ []))
+pub queues : (tape : List Entry) (memory : ℕ → ℕ) (p : DevicePort) (slot k frame v : ℕ) → DoesAll (queue_accesses slot k frame v) (device_with tape memory (p ∷ second ∷ []))
     (device_with tape (with_read memory slot k frame) (with_bits v p ∷ second ∷ []))
 queues tape memory p slot k frame v = (
   device_with tape (patched memory (32 * slot) (header_to slot)) (p ∷ second ∷ []),
@@ -98,15 +98,15 @@ queues tape memory p slot k frame v = (
   ),
 )
   where
-    armed : PortState
+    armed : DevicePort
     armed = port_written Sact v 0 p
 
 -- ---- the port
 
-abbrev pub one_issued : PortState
+abbrev pub one_issued : DevicePort
 one_issued = with_bits 1 (running_port 0)
 
-abbrev pub two_issued : PortState
+abbrev pub two_issued : DevicePort
 two_issued = with_bits 2 one_issued
 
 -- slots 0 and 1 alone have bits

@@ -6,15 +6,15 @@ use Rattle.std.proofs.lemmas.List.Elements.{All-nil, All-cons}
 use Rattle.ata_types.specs.declared.Port.{Port}
 use Rattle.ata_types.specs.declared.PortState as shown
 use Rattle.ata_types.specs.declared.PortState.TheVariants.{Absent, Ready, Unfit, Dead}
-use Rattle.adapter.specs.Device.{Bases, Disk, PortState, Device}
-use Rattle.adapter.specs.FirstRead.{first_disk, sector_of}
+use Rattle.adapter.specs.Device.{Bases, Disk, DevicePort, Device}
+use Rattle.adapter.specs.FirstRead.{first_disk, first_read_sector}
 use Rattle.adapter.specs.declared.command.Operation.TheVariants.{Identify}
 use Rattle.adapter.specs.declared.tape.Entry.{Entry}
-use Rattle.agreement.specs.Acts.{InSlots, at}
-use Rattle.agreement.specs.Agrees.{AreApart, HaveSlots, IsReceiving, SameMemory, SameSectors, HasLasting, port_at}
-use Rattle.agreement.specs.Driver.{Knows}
-use Rattle.agreement.specs.Slots.{Free, Serves, IsFree, IsMove, IsServed as IsServedAs}
-use Rattle.block_machine.specs.Histories.{Instant}
+use Rattle.refinement.specs.Acts.{InSlots, at_slots}
+use Rattle.refinement.specs.Relation.{ServeApart, HaveSlots, IsReceiving, SameMemory, SameSectors, HasLasting, port_at}
+use Rattle.refinement.specs.Driver.{DriverRelation}
+use Rattle.refinement.specs.Slots.{Free, Serves, IsEmptySlot, IsMove, RelatesSlot}
+use Rattle.block_machine.specs.Histories.{JointState}
 use Rattle.block_machine.specs.Left.{IsStart}
 use Rattle.block_machine.specs.Ports.{Ports, AreFit}
 use Rattle.block_machine.specs.State.{Machine, Pending}
@@ -53,7 +53,7 @@ starts =
 -- ---- device and machine agree
 
 -- Two ports that run with disks, or did, in their own places; the machine has their disks, and no others.
-pub record AreDisks (m : Machine) (tape : List Entry) (p q : PortState) : Type 0 where
+pub record AreDisks (m : Machine) (tape : List Entry) (p q : DevicePort) : Type 0 where
   pub own_first : p.bases ≡ programmed 0
   pub own_second : q.bases ≡ programmed 1
   pub disks : (p.disk ≡ first_disk) × (q.disk ≡ first_disk)
@@ -65,7 +65,7 @@ pub record AreDisks (m : Machine) (tape : List Entry) (p q : PortState) : Type 0
   pub lasting : (p.lasting ≡ first_lasting) × (q.lasting ≡ first_lasting)
   pub still : all_still tape ≡ true
 
-module _ (m : Machine) (s : InSlots) (tape : List Entry) (memory : ℕ → ℕ) (p q : PortState) (are : AreDisks m tape p q) where
+module _ (m : Machine) (s : InSlots) (tape : List Entry) (memory : ℕ → ℕ) (p q : DevicePort) (are : AreDisks m tape p q) where
   received : (n : ℕ) → (having (p ∷ q ∷ []) n).fre ≡ true → IsReceiving (having (p ∷ q ∷ []) n) n
   received zero f = record { below = omega arith; area = ap (λ (b : Bases). b.fb) are.own_first }
   received (suc zero) f = record { below = omega arith; area = ap (λ (b : Bases). b.fb) are.own_second }
@@ -82,8 +82,8 @@ module _ (m : Machine) (s : InSlots) (tape : List Entry) (memory : ℕ → ℕ) 
   size_of (suc (suc n)) = refl
 
   sectors_of : (n : ℕ) → SameSectors start (having (p ∷ q ∷ []) n).disk n
-  sectors_of zero = record { told = sector_of; tells = ap (λ (d : Disk). d.sectors) are.disks.0; same = λ k b kl bl. tells k b bl }
-  sectors_of (suc zero) = record { told = sector_of; tells = ap (λ (d : Disk). d.sectors) are.disks.1; same = λ k b kl bl. tells k b bl }
+  sectors_of zero = record { told = first_read_sector; tells = ap (λ (d : Disk). d.sectors) are.disks.0; same = λ k b kl bl. tells k b bl }
+  sectors_of (suc zero) = record { told = first_read_sector; tells = ap (λ (d : Disk). d.sectors) are.disks.1; same = λ k b kl bl. tells k b bl }
   sectors_of (suc (suc n)) = record { told = λ k. []; tells = refl; same = λ k b kl bl. absurd (omega (arith, kl)) }
 
   lasts : (n : ℕ) → HasLasting m tape (having (p ∷ q ∷ []) n) n
@@ -91,8 +91,8 @@ module _ (m : Machine) (s : InSlots) (tape : List Entry) (memory : ℕ → ℕ) 
   lasts (suc zero) k inside bytes w = inl (λ b bl. still_bytes tape (q.lasting) 1 k bytes are.lasting.1 are.still w b bl ∙ sym (ap (λ (f : Port → ℕ → ℕ → ℕ). f (port_at 1) k b) are.bytes))
   lasts (suc (suc n)) k inside bytes w = absurd (omega (arith, inside))
 
-  pub agreeing : ((n k : ℕ) → IsServedAs m memory tape (having (p ∷ q ∷ []) n) n k (s.uses n k)) → AreApart s.uses → SameMemory m memory → ((n : ℕ) → HaveSlots s.uses m n (s.parked n))
-      → Knows m (at s (device_with tape memory (p ∷ q ∷ [])))
+  pub agreeing : ((n k : ℕ) → RelatesSlot m memory tape (having (p ∷ q ∷ []) n) n k (s.uses n k)) → ServeApart s.uses → SameMemory m memory → ((n : ℕ) → HaveSlots s.uses m n (s.parked n))
+      → DriverRelation m (at_slots s (device_with tape memory (p ∷ q ∷ [])))
   agreeing slots apart same have = record {
     agrees = record {
       slot = slots;
@@ -157,13 +157,13 @@ fit_ready disk = record {
     no_cause (suc zero) cause is = let x : Ready ≡ Unfit cause = is in cc
     no_cause (suc (suc n)) cause is = let x : Absent ≡ Unfit cause = is in cc
 
-pub served_of : (tape : List Entry) (memory : ℕ → ℕ) (ports : List PortState) (n : ℕ) → (two_served (port_at n) ≡ true) ↔ IsServed (wanted_of (Any ∷ Any ∷ []) n) n (device_with tape memory ports)
+pub served_of : (tape : List Entry) (memory : ℕ → ℕ) (ports : List DevicePort) (n : ℕ) → (two_served (port_at n) ≡ true) ↔ IsServed (wanted_of (Any ∷ Any ∷ []) n) n (device_with tape memory ports)
 served_of tape memory ports zero = (λ _. ((λ e. let x : Any ≡ Nothing = e in absurd cc), refl), λ _. refl)
 served_of tape memory ports (suc zero) = (λ _. ((λ e. let x : Any ≡ Nothing = e in absurd cc), refl), λ _. refl)
 served_of tape memory ports (suc (suc n)) = (λ f. absurd (true≢false (sym f)), λ (s : IsServed (wanted_of (Any ∷ Any ∷ []) (suc (suc n))) (suc (suc n)) (device_with tape memory ports)). absurd (s.0 refl))
 
 -- no ready port shows trouble before its call
-pub calm : (tape : List Entry) (memory : ℕ → ℕ) (p : PortState) → p.serr_n ≡ false → p.serr_x ≡ false → p.ssts_det ≡ 3 → ((place : ℕ) → 27 ≤ place → p.is place ≡ false) → (new : Device) (n : ℕ) → two_states (port_at n) ≡ Ready
+pub calm : (tape : List Entry) (memory : ℕ → ℕ) (p : DevicePort) → p.serr_n ≡ false → p.serr_x ≡ false → p.ssts_det ≡ 3 → ((place : ℕ) → 27 ≤ place → p.is place ≡ false) → (new : Device) (n : ℕ) → two_states (port_at n) ≡ Ready
     → (ShowsLoss (port_at n) (device_with tape memory (p ∷ second ∷ [])) new → ⊥) × (ShowsFailure (having (p ∷ second ∷ []) n) → ⊥)
 calm tape memory p n x there quiet new zero is = (unlost (port_at 0) (device_with tape memory (p ∷ second ∷ [])) new n x there, unfailing p quiet)
 calm tape memory p n x there quiet new (suc zero) is = (unlost (port_at 1) (device_with tape memory (p ∷ second ∷ [])) new refl refl refl, unfailing second (λ place from. refl))
@@ -179,7 +179,7 @@ pub no_page : (port : ℕ) → All (λ e. IsMove port Identify e → ⊥) []
 no_page port = All-nil (λ e. IsMove port Identify e → ⊥)
 
 -- but for its commands the port is as when it was booted, and no bit of PxIS tells of trouble
-abbrev pub but_commands : PortState → PortState
+abbrev pub but_commands : DevicePort → DevicePort
 but_commands p = record p {
   tfd = 0;
   is = λ _. false;
@@ -189,22 +189,22 @@ but_commands p = record p {
   notes = record p.notes { last_ci = 0; last_sact = 0; command_count = 0 };
 }
 
-pub record Stands (p : PortState) : Type 0 where
+pub record Stands (p : DevicePort) : Type 0 where
   pub same : but_commands p ≡ but_commands (running_port 0)
   pub quiet : (place : ℕ) → 27 ≤ place → p.is place ≡ false
 
 -- such a port shows none
-pub shows_none : (tape : List Entry) (memory : ℕ → ℕ) (p : PortState) → Stands p → (new : Device) (n : ℕ) → two_states (port_at n) ≡ Ready
+pub shows_none : (tape : List Entry) (memory : ℕ → ℕ) (p : DevicePort) → Stands p → (new : Device) (n : ℕ) → two_states (port_at n) ≡ Ready
     → (ShowsLoss (port_at n) (device_with tape memory (p ∷ second ∷ [])) new → ⊥) × (ShowsFailure (having (p ∷ second ∷ []) n) → ⊥)
 shows_none tape memory p stands =
-    calm tape memory p (ap (λ (q : PortState). q.serr_n) stands.same) (ap (λ (q : PortState). q.serr_x) stands.same) (ap (λ (q : PortState). q.ssts_det) stands.same) stands.quiet
+    calm tape memory p (ap (λ (q : DevicePort). q.serr_n) stands.same) (ap (λ (q : DevicePort). q.serr_x) stands.same) (ap (λ (q : DevicePort). q.ssts_det) stands.same) stands.quiet
 
-module _ (disk : Kind) (s : InSlots) (m : Machine) (more : List Entry) (memory : ℕ → ℕ) (p : PortState) where
+module _ (disk : Kind) (s : InSlots) (m : Machine) (more : List Entry) (memory : ℕ → ℕ) (p : DevicePort) where
   -- both disks have sent their pages, and this was done since
   abbrev pub served_with : Device
   served_with = device_with (sent disk.page ++ more) memory (p ∷ second ∷ [])
 
-  abbrev pub instant_with : Instant Device
+  abbrev pub instant_with : JointState Device
   instant_with = record { device = served_with; moment = record { machine = m; ports = two_ready disk } }
 
   -- port 1 is ready as long as its disk is in
@@ -227,17 +227,17 @@ module _ (disk : Kind) (s : InSlots) (m : Machine) (more : List Entry) (memory :
     pub unpaged : (port : ℕ) → All (λ e. IsMove port Identify e → ⊥) more
     pub still : all_still more ≡ true
     pub first_alone : (e : Pending) → Contains m.book e → e.request.port.0 ≡ 0
-    pub slots : (k : ℕ) → IsServedAs m memory (sent disk.page ++ more) p 0 k (s.uses 0 k)
+    pub slots : (k : ℕ) → RelatesSlot m memory (sent disk.page ++ more) p 0 k (s.uses 0 k)
     pub others : (n k : ℕ) → s.uses (suc n) k ≡ Free
     pub unparked : (n : ℕ) → s.parked n ≡ []
-    pub apart : AreApart s.uses
+    pub apart : ServeApart s.uses
     pub frames : SameMemory m memory
     pub have : (e : Pending) → Contains m.book e → (slot : ℕ) × (s.uses 0 slot ≡ Serves e.request.id)
     pub requests : HasRequests s instant_with (port_at 0) (mode_of queueing_cap disk.info)
 
   module _ (a : Agreeing) where
     -- what was so when the port was booted
-    was : {A : Type 0} (part : PortState → A) → part (but_commands p) ≡ part (but_commands (running_port 0))
+    was : {A : Type 0} (part : DevicePort → A) → part (but_commands p) ≡ part (but_commands (running_port 0))
     was part = ap part a.stands.same
 
     are_disks : AreDisks m (sent disk.page ++ more) p second
@@ -258,11 +258,11 @@ module _ (disk : Kind) (s : InSlots) (m : Machine) (more : List Entry) (memory :
         present (suc zero) = refl
         present (suc (suc n)) = refl
 
-    slot_of : (n k : ℕ) → IsServedAs m memory (sent disk.page ++ more) (having (p ∷ second ∷ []) n) n k (s.uses n k)
+    slot_of : (n k : ℕ) → RelatesSlot m memory (sent disk.page ++ more) (having (p ∷ second ∷ []) n) n k (s.uses n k)
     slot_of zero k = a.slots k
-    slot_of (suc n) k = subst (IsServedAs m memory (sent disk.page ++ more) (having (p ∷ second ∷ []) (suc n)) (suc n) k) (sym (a.others n k)) (free n)
+    slot_of (suc n) k = subst (RelatesSlot m memory (sent disk.page ++ more) (having (p ∷ second ∷ []) (suc n)) (suc n) k) (sym (a.others n k)) (free n)
       where
-        free : (n : ℕ) → IsFree (having (p ∷ second ∷ []) (suc n)) k
+        free : (n : ℕ) → IsEmptySlot (having (p ∷ second ∷ []) (suc n)) k
         free zero = record { issued = refl; free = refl; unarmed = refl }
         free (suc n) = record { issued = refl; free = refl; unarmed = refl }
 
@@ -303,12 +303,12 @@ module _ (disk : Kind) (s : InSlots) (m : Machine) (more : List Entry) (memory :
 
 -- ---- it begins
 
-pub free_apart : AreApart no_slots.uses
+pub free_apart : ServeApart no_slots.uses
 free_apart q k q' k' id u v = absurd (let z : Free ≡ Serves id = u in cc)
 
 -- no request is in the book, and none in a slot
-pub agrees_none : (disk : Kind) (m : Machine) (more : List Entry) (memory : ℕ → ℕ) (p : PortState) → Stands p → (m.present ≡ start.present) × (m.disk_ids ≡ start.disk_ids) × (m.sizes ≡ start.sizes) × (m.disks ≡ start.disks)
-    → m.book ≡ [] → m.kept ≡ [] → ((port : ℕ) → All (λ e. IsMove port Identify e → ⊥) more) → all_still more ≡ true → ((k : ℕ) → IsFree p k) → SameMemory m memory → Agreeing disk no_slots m more memory p
+pub agrees_none : (disk : Kind) (m : Machine) (more : List Entry) (memory : ℕ → ℕ) (p : DevicePort) → Stands p → (m.present ≡ start.present) × (m.disk_ids ≡ start.disk_ids) × (m.sizes ≡ start.sizes) × (m.disks ≡ start.disks)
+    → m.book ≡ [] → m.kept ≡ [] → ((port : ℕ) → All (λ e. IsMove port Identify e → ⊥) more) → all_still more ≡ true → ((k : ℕ) → IsEmptySlot p k) → SameMemory m memory → Agreeing disk no_slots m more memory p
 agrees_none disk m more memory p stands disks none unkept unpaged still free frames = record {
   stands = stands;
   disks = disks;

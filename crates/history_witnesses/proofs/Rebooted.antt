@@ -15,18 +15,18 @@ use Rattle.hba_regs.specs.declared.reg.Reg.TheVariants as registers
 use Rattle.hba_regs.specs.declared.reg.PortReg.TheVariants.{Cmd, Is, Sctl, Serr, Sig, Ssts, Tfd}
 use Rattle.adapter.specs.Access.{Access}
 use Rattle.adapter.specs.Access.Access.{Reading, Writing}
-use Rattle.adapter.specs.Device.{Device, PortState}
+use Rattle.adapter.specs.Device.{Device, DevicePort}
 use Rattle.adapter.specs.declared.access.DeviceStep.{DeviceStep}
 use Rattle.adapter.specs.declared.command.Operation.TheVariants.{Identify}
-use Rattle.agreement.specs.Acts.{at}
-use Rattle.agreement.specs.Agrees.{port_at}
-use Rattle.agreement.specs.Driver.{IsBacked, Knows}
-use Rattle.agreement.specs.Links.{SparesRegister}
-use Rattle.agreement.specs.Slots.{IsFree, IsMove, ServesRequest}
-use Rattle.agreement.specs.Tape.{AllOwn, PutsIn}
-use Rattle.agreement.specs.Witness.{first_id}
-use Rattle.block_machine.specs.Events.{Ask, Said, UnplugsAll}
-use Rattle.block_machine.specs.Histories.{Instant}
+use Rattle.refinement.specs.Acts.{at_slots}
+use Rattle.refinement.specs.Relation.{port_at}
+use Rattle.refinement.specs.Driver.{IsBacked, DriverRelation}
+use Rattle.refinement.specs.Links.{SparesRegister}
+use Rattle.refinement.specs.Slots.{IsEmptySlot, IsMove, ServesRequest}
+use Rattle.refinement.specs.Tape.{AllOwn, PutsInDisks}
+use Rattle.refinement.specs.Witness.{first_id}
+use Rattle.block_machine.specs.Events.{Ask, CallResult, UnplugsAll}
+use Rattle.block_machine.specs.Histories.{JointState}
 use Rattle.block_machine.specs.Left.{AllTold, after}
 use Rattle.block_machine.specs.Ports.{AreFit, Evidence, MayBecome, Ports, SamePort}
 use Rattle.block_machine.specs.State.{Machine, Pending}
@@ -35,7 +35,7 @@ use Rattle.host_boot.specs.Taken.{wanted_of}
 use Rattle.identify.specs.declared.wanted.Wanted.TheVariants.{Any}
 use Rattle.driver_history.specs.Evidence.{IsEvidencedOf, ShowsFailure, ShowsLoss}
 use Rattle.error_recovery.specs.Evidence.{ShowsFatal}
-use Rattle.driver_history.specs.Histories.{FindsDone, IsAnsweredOk, LosesNoTrouble, RunsWellAnew}
+use Rattle.driver_history.specs.Histories.{FindsDone, IsAnsweredOk, LosesNoPortError, RunsWellAnew}
 use Rattle.driver_history.specs.Holds.{HoldsOf, HoldsWith, IsReadyAt, IsStoppedAt}
 use Rattle.driver_history.specs.Trace.{LeavesCommand, ResetsLink}
 use Rattle.port_control.specs.Engines.{Stops}
@@ -111,10 +111,10 @@ module _ (c : Outset) where
   abbrev pub booted : Device
   booted = dev (tape c) (unfit c)
 
-  abbrev pub booted_at : Instant Device
+  abbrev pub booted_at : JointState Device
   booted_at = record { device = booted; moment = record { machine = answered; ports = one } }
 
-  free : (n k : ℕ) → IsFree (having (unfit c ∷ second ∷ []) n) k
+  free : (n k : ℕ) → IsEmptySlot (having (unfit c ∷ second ∷ []) n) k
   free zero k = record { issued = refl; free = refl; unarmed = refl }
   free (suc zero) k = record { issued = refl; free = refl; unarmed = refl }
   free (suc (suc n)) k = record { issued = refl; free = refl; unarmed = refl }
@@ -124,7 +124,7 @@ module _ (c : Outset) where
   present (suc zero) = refl
   present (suc (suc n)) = refl
 
-  knows : Knows answered (at no_slots booted)
+  knows : DriverRelation answered (at_slots no_slots booted)
   knows = agreeing answered no_slots (tape c) read_memory (unfit c) second
       (record { own_first = refl; own_second = refl; disks = (refl, refl); present = present; ids = refl; sizes = refl; bytes = refl; lasting = (refl, refl); still = c.still })
       free free_apart (λ f b from small. past_driver f b from) (λ n e may at_port. ⊎_elim (λ z. absurd (nowhere e z.0)) (λ z. absurd (nowhere e z)) may)
@@ -223,10 +223,10 @@ of_served Such tended = (tended, (tended, (tended, ((λ is. cc, tended), (tended
 -- then, and the ports on which something had failed.
 pub record Restart : Type 0 where
   pub ask : Ask DeviceStep
-  pub said : Said
+  pub said : CallResult
   pub steps : List Step
   pub machine : Machine
-  pub port : PortState
+  pub port : DevicePort
   pub looked : List Access
   pub outset : Outset
   pub failed : List Port
@@ -235,7 +235,7 @@ module _ (c : Restart) where
   abbrev pub old_device : Device
   old_device = dev (tape c.outset) c.port
 
-  abbrev pub old : Instant Device
+  abbrev pub old : JointState Device
   old = record { device = old_device; moment = record { machine = c.machine; ports = both } }
 
   abbrev pub accesses : List Access
@@ -257,7 +257,7 @@ module _ (c : Restart) where
     pub running : All (LeavesCommand (port_at 0)) c.looked
     pub unfound : (e : Pending) (slot : ℕ) → ServesRequest c.machine read_memory c.port 0 slot e.request.id → bit 1 slot ≡ false → ⊥
     pub told : (e : Pending) (o : Outcome) → Contains c.steps (Answer e o) → o ≡ outcome.Unplugged
-    pub own : AllOwn c.steps × AllTold c.machine c.steps × ((n : ℕ) → PutsIn n [] c.steps)
+    pub own : AllOwn c.steps × AllTold c.machine c.steps × ((n : ℕ) → PutsInDisks n [] c.steps)
     pub plugged : issued.plugged ≡ c.port.plugged ++ []
 
   module _ (is : IsRestart) where
@@ -337,15 +337,15 @@ module _ (c : Restart) where
       exact = λ e slot on s. (λ ok. absurd (none_ok e ok), λ clear. absurd (is.unfound e slot s clear.0));
     }
 
-    pub trouble : (n : ℕ) → LosesNoTrouble evidence old one after_it (port_at n)
-    trouble zero = record {
+    pub port_error : (n : ℕ) → LosesNoPortError evidence old one after_it (port_at n)
+    port_error zero = record {
       errors = λ ready why. inl (inl (named 0));
       changes = λ tends why. inl (inl (named 0));
       fault = λ ready g. absurd (not_ready_then ready);
       fatal = λ ready g. absurd (not_ready_then ready);
       disk = λ ready g. absurd (not_ready_then ready);
     }
-    trouble (suc n) = no_trouble evidence old one after_it (port_at (suc n)) [] (sym (append-nil _)) (All-nil (IsCalm (suc n))) (served_ready (suc n)) (λ ready. (there (suc n) ready, quiet n ready))
+    port_error (suc n) = no_trouble evidence old one after_it (port_at (suc n)) [] (sym (append-nil _)) (All-nil (IsCalm (suc n))) (served_ready (suc n)) (λ ready. (there (suc n) ready, quiet n ready))
 
     pub well : (n : ℕ) → RunsWellAnew evidence accesses old one after_it (port_at n)
     well zero = λ why ready. absurd (not_ready_then ready)

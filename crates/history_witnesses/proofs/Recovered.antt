@@ -19,16 +19,16 @@ use Rattle.adapter.specs.Memory.{changed}
 use Rattle.adapter.specs.declared.access.DeviceStep.{DeviceStep}
 use Rattle.adapter.specs.declared.command.Operation.TheVariants.{Identify}
 use Rattle.adapter.specs.declared.tape.Entry.TheVariants as entry
-use Rattle.agreement.specs.Agrees.{port_at}
-use Rattle.agreement.specs.Acts.{at}
-use Rattle.agreement.specs.Driver.{IsBacked, Knows}
-use Rattle.agreement.specs.Errors.{IsFatalOf}
-use Rattle.agreement.specs.Facts.{IsFaultOf, RunsWell}
-use Rattle.agreement.specs.Links.{IsPlugging}
-use Rattle.agreement.specs.Slots.{IsFree, IsMove}
-use Rattle.agreement.specs.Witness.{first_id}
+use Rattle.refinement.specs.Relation.{port_at}
+use Rattle.refinement.specs.Acts.{at_slots}
+use Rattle.refinement.specs.Driver.{IsBacked, DriverRelation}
+use Rattle.refinement.specs.Errors.{IsFatalOf}
+use Rattle.refinement.specs.Facts.{IsFaultOf, RunsWell}
+use Rattle.refinement.specs.Links.{IsPlugging}
+use Rattle.refinement.specs.Slots.{IsEmptySlot, IsMove}
+use Rattle.refinement.specs.Witness.{first_id}
 use Rattle.block_machine.specs.Events.{Service, Served, Happens}
-use Rattle.block_machine.specs.Histories.{Happening, Instant}
+use Rattle.block_machine.specs.Histories.{Happening, JointState}
 use Rattle.block_machine.specs.Left.{after}
 use Rattle.block_machine.specs.State.{Pending, Machine}
 use Rattle.block_machine.specs.Steps.{Step, Answer}
@@ -37,7 +37,7 @@ use Rattle.identify.specs.declared.wanted.Wanted.TheVariants.{Any}
 use Rattle.error_recovery.specs.Evidence.{GainsRunning}
 use Rattle.driver_history.specs.Heeding.{ServesReady}
 use Rattle.driver_history.specs.Evidence.{Gains, IsEvidencedOf, ShowsLoss, ShowsFailure}
-use Rattle.driver_history.specs.Histories.{Ties, TiesPort, FindsDone, IsAnsweredOk, IsIssuedOn, LosesNoTrouble, RunsWellAnew, TendsPort}
+use Rattle.driver_history.specs.Histories.{CallCorresponds, PortCorresponds, FindsDone, IsAnsweredOk, IsIssuedOn, LosesNoPortError, RunsWellAnew, TendsPort}
 use Rattle.driver_history.specs.Holds.{HoldsOf, HoldsWith, IsReadyAt}
 use Rattle.driver_history.specs.Trace.{LeavesCommand}
 use Rattle.port_control.specs.Engines.{Stops}
@@ -63,10 +63,10 @@ answer = Answer waiting (outcome.DeviceError 0x41 0x40)
 abbrev answered : Machine
 answered = after issuing (answer ∷ [])
 
-abbrev recovered_at : Instant Device
+abbrev recovered_at : JointState Device
 recovered_at = record { device = recovered; moment = record { machine = answered; ports = both } }
 
-free : (n k : ℕ) → IsFree (having (started ∷ second ∷ []) n) k
+free : (n k : ℕ) → IsEmptySlot (having (started ∷ second ∷ []) n) k
 free zero k = record { issued = refl; free = refl; unarmed = refl }
 free (suc zero) k = record { issued = refl; free = refl; unarmed = refl }
 free (suc (suc n)) k = record { issued = refl; free = refl; unarmed = refl }
@@ -76,7 +76,7 @@ present zero = refl
 present (suc zero) = refl
 present (suc (suc n)) = refl
 
-knows : Knows answered (at no_slots recovered)
+knows : DriverRelation answered (at_slots no_slots recovered)
 knows = agreeing answered no_slots tape_failed read_memory started second
     (record { own_first = refl; own_second = refl; disks = (refl, refl); present = present; ids = refl; sizes = refl; bytes = refl; lasting = (refl, refl); still = refl })
     free free_apart (λ f b from small. past_driver f b from) (λ n e may at_port. ⊎_elim (λ z. absurd (nowhere e z.0)) (λ z. absurd (nowhere e z)) may)
@@ -228,15 +228,15 @@ too_early g =
     let since = g.since in
     omega (arith, since, long, parts)
 
-trouble : (n : ℕ) → LosesNoTrouble fault_evidence submitted_at both recovered (port_at n)
-trouble zero = record {
+port_error : (n : ℕ) → LosesNoPortError fault_evidence submitted_at both recovered (port_at n)
+port_error zero = record {
   errors = λ ready why. inl (inl (named 0));
   changes = λ tends why. inl (inl (named 0));
   fault = λ ready g. absurd (too_early g);
   fatal = λ ready g. absurd (ran_none (IsFatalOf 0) 0 submitted recovered (gained_none (IsFatalOf 0) submitted recovered (entry.Fault fault ∷ []) refl (All-cons (λ e. IsFatalOf 0 e → ⊥) (entry.Fault fault) [] (λ x. x) (All-nil (λ e. IsFatalOf 0 e → ⊥)))) g);
   disk = λ ready g. absurd (ran_none (IsPlugging 0) 0 submitted recovered (gained_none (IsPlugging 0) submitted recovered (entry.Fault fault ∷ []) refl (All-cons (λ e. IsPlugging 0 e → ⊥) (entry.Fault fault) [] (λ x. x) (All-nil (λ e. IsPlugging 0 e → ⊥)))) g);
 }
-trouble (suc n) = no_trouble fault_evidence submitted_at both recovered (port_at (suc n)) (entry.Fault fault ∷ []) refl (fault_alone (suc n) (omega arith)) (served_ready (suc n)) (quiet (suc n))
+port_error (suc n) = no_trouble fault_evidence submitted_at both recovered (port_at (suc n)) (entry.Fault fault ∷ []) refl (fault_alone (suc n) (omega arith)) (served_ready (suc n)) (quiet (suc n))
 
 -- the bits of PxIS are clear again
 quiet_again : (place : ℕ) → started.is place ≡ false
@@ -264,13 +264,13 @@ well : (n : ℕ) → RunsWellAnew fault_evidence recovery_accesses submitted_at 
 well zero = λ why ready plugs unfailed unbroken how. runs_well
 well (suc n) = λ why. absurd (⊎_elim (unnamed n).stopped (unnamed n).stuck why)
 
-part_of : (n : ℕ) → TiesPort submitted_at service recovery_accesses (port_at n)
+part_of : (n : ℕ) → PortCorresponds submitted_at service recovery_accesses (port_at n)
 part_of n = record {
   finds = λ is e on. service_finds n e on;
   faults = λ alone. absurd (true≢false (sym alone.shows.fault ∙ (no_flags n 30)));
-  tries = λ served none. tries_ready recovery_accesses submitted_at both recovered (port_at n) (served_ready n served);
+  probes = λ served none. tries_ready recovery_accesses submitted_at both recovered (port_at n) (served_ready n served);
   boots = (λ is f. absurd (⊎_elim (λ fatal. (quiet n is).1 (inl fatal)) (quiet n is).0 f), inl (refl, refl, refl, refl, refl, refl));
-  trouble = trouble n;
+  port_error = port_error n;
   well = well n;
   heeds = heeds n;
 }
@@ -320,7 +320,7 @@ happens = record {
   };
 }
 
-ties : Ties (Any ∷ Any ∷ []) submitted_at service
+ties : CallCorresponds (Any ∷ Any ∷ []) submitted_at service
 ties = record {
   accesses = recovery_accesses;
   came = (does, serving (TendsPort both) recovery_accesses of_served);

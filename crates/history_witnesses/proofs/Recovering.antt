@@ -8,16 +8,16 @@ use Rattle.hba_regs.specs.declared.reg.PortReg.{PortReg}
 use Rattle.hba_regs.specs.declared.reg.PortReg.TheVariants.{Is, Cmd, Tfd, Serr, Sact, Ci}
 use Rattle.adapter.specs.Access.{Access, DoesAll, PortShows, Reads, Writes, note, port_written}
 use Rattle.adapter.specs.Access.Access.{Reading, Writing}
-use Rattle.adapter.specs.Device.{PortState, Device}
+use Rattle.adapter.specs.Device.{DevicePort, Device}
 use Rattle.adapter.specs.Memory.{changed}
 use Rattle.history_witnesses.specs.Allowed.{AreAllowed}
 use Rattle.adapter.specs.Steps.{Steps, with_fault}
-use Rattle.adapter.specs.Steps.Step.{Fault as FaultStep}
+use Rattle.adapter.specs.Steps.DeviceTransition.{Fault as FaultStep}
 use Rattle.adapter.specs.declared.tape.Entry.{Entry}
 use Rattle.adapter.specs.declared.tape.Entry.TheVariants as entry
 use Rattle.adapter.specs.declared.tape.Fault as tape_fault
-use Rattle.agreement.specs.Agrees.{port_at}
-use Rattle.block_machine.specs.Ports.{Fault}
+use Rattle.refinement.specs.Relation.{port_at}
+use Rattle.block_machine.specs.Ports.{RequestFault}
 use Rattle.block_machine.specs.State.{Pending}
 use Rattle.error_recovery.specs.Evidence.{HasFailed}
 use Rattle.driver_history.specs.Evidence.{IsFaultTold}
@@ -37,43 +37,43 @@ fault = record { port = record { 0 = 0 }; slot = record { 0 = 0 }; status = 0x41
 abbrev pub tape_failed : List Entry
 tape_failed = pages ++ entry.Fault fault ∷ []
 
-abbrev dev : PortState → Device
+abbrev dev : DevicePort → Device
 dev p = device_with tape_failed read_memory (p ∷ second ∷ [])
 
-abbrev failed : PortState
+abbrev failed : DevicePort
 failed = with_fault taken false 0x40 0
 
-abbrev seen_ci : PortState
+abbrev seen_ci : DevicePort
 seen_ci = record failed { notes = note Ci 1 failed }
 
-abbrev seen_masks : PortState
+abbrev seen_masks : DevicePort
 seen_masks = record seen_ci { notes = note Sact 0 seen_ci }
 
-abbrev looked : PortState
+abbrev looked : DevicePort
 looked = record seen_masks { notes = note Tfd 0x4041 seen_masks }
 
-abbrev commanded : PortState
+abbrev commanded : DevicePort
 commanded = record looked { notes = note Cmd 0xc011 looked }
 
-abbrev stopping : PortState
+abbrev stopping : DevicePort
 stopping = port_written Cmd 0xc010 3 commanded
 
-abbrev stopped : PortState
+abbrev stopped : DevicePort
 stopped = record (fall stopping) { notes = note Cmd 0x4010 (fall stopping) }
 
-abbrev unchanged_link : PortState
+abbrev unchanged_link : DevicePort
 unchanged_link = port_written Serr 0xffffffff 3 stopped
 
-abbrev cleared : PortState
+abbrev cleared : DevicePort
 cleared = port_written Is 0xffffffff 3 unchanged_link
 
-abbrev checked : PortState
+abbrev checked : DevicePort
 checked = record cleared { notes = note Tfd 0x4041 cleared }
 
-abbrev asked_again : PortState
+abbrev asked_again : DevicePort
 asked_again = record checked { notes = note Cmd 0x4010 checked }
 
-abbrev pub started : PortState
+abbrev pub started : DevicePort
 started = port_written Cmd 0x4011 3 asked_again
 
 fails : Steps (device_with pages read_memory (taken ∷ second ∷ [])) (dev failed)
@@ -95,10 +95,10 @@ reads_masks = record {
 }
 
 -- an access of port 0
-reads_here : (r : PortReg) (v : ℕ) (p : PortState) → PortShows r v p → Reads (Px (port_at 0) r) v (dev p) (dev (record p { notes = note r v p }))
+reads_here : (r : PortReg) (v : ℕ) (p : DevicePort) → PortShows r v p → Reads (Px (port_at 0) r) v (dev p) (dev (record p { notes = note r v p }))
 reads_here r v p shows = reads tape_failed read_memory 0 (p ∷ second ∷ []) (record p { notes = note r v p } ∷ second ∷ []) (but_first p (record p { notes = note r v p }) (second ∷ [])) r v shows refl
 
-writes_here : (r : PortReg) (v : ℕ) (p : PortState) → Writes (Px (port_at 0) r) v (dev p) (dev (port_written r v 3 p))
+writes_here : (r : PortReg) (v : ℕ) (p : DevicePort) → Writes (Px (port_at 0) r) v (dev p) (dev (port_written r v 3 p))
 writes_here r v p = writes tape_failed read_memory 0 (p ∷ second ∷ []) (port_written r v 3 p ∷ second ∷ []) (but_first p (port_written r v 3 p) (second ∷ [])) r v refl
 
 abbrev pub until_stop : List Access
@@ -231,7 +231,7 @@ has_failed = record {
   port_is = refl;
 }
 
-pub told : (t : Fault) → t ≡ told_fault → IsFaultTold submitted_at recovered recovery_accesses t
+pub told : (t : RequestFault) → t ≡ told_fault → IsFaultTold submitted_at recovered recovery_accesses t
 told t is = subst (IsFaultTold submitted_at recovered recovery_accesses) (sym is) (record {
   pending = waiting;
   here = (0, omega arith, refl);

@@ -9,16 +9,16 @@ use Rattle.ata_types.specs.declared.request.RequestId.{RequestId}
 use Rattle.byteorder.specs.Endian.{little_from}
 use Rattle.hba_regs.specs.Bits.{bit}
 use Rattle.adapter.specs.Commands.{command_of, is_ranged}
-use Rattle.adapter.specs.Device.{PortState}
+use Rattle.adapter.specs.Device.{DevicePort}
 use Rattle.adapter.specs.Memory.{bytes_at, patched}
 use Rattle.adapter.specs.declared.command.Operation.{Operation}
 use Rattle.adapter.specs.declared.command.Operation.TheVariants as operation
-use Rattle.agreement.specs.Agrees.{SameMemory, port_at}
-use Rattle.agreement.specs.Facts.{IsDisturbance, RunsWell}
-use Rattle.agreement.specs.Places.{table_of}
-use Rattle.agreement.specs.Served.{second_id}
-use Rattle.agreement.specs.Slots.{IsMove, ServesRequest, op_of}
-use Rattle.agreement.specs.Witness.{first_id}
+use Rattle.refinement.specs.Relation.{SameMemory, port_at}
+use Rattle.refinement.specs.Facts.{IsDisturbance, RunsWell}
+use Rattle.refinement.specs.Places.{table_of}
+use Rattle.refinement.specs.Served.{second_id}
+use Rattle.refinement.specs.Slots.{IsMove, ServesRequest, op_of}
+use Rattle.refinement.specs.Witness.{first_id}
 use Rattle.block_machine.specs.State.{Accepted, Pending, unanswered}
 use Rattle.block_machine.specs.declared.due.Unanswered.{Unanswered}
 use Rattle.driver_history.specs.Evidence.{StaysHealthy}
@@ -253,7 +253,7 @@ found_one = record {
 -- ---- the history
 
 -- a port that stands so, with its commands as they are, runs well
-runs_well : (p : PortState) → Stands p → RunsWell p
+runs_well : (p : DevicePort) → Stands p → RunsWell p
 runs_well p stands = record {
   st = was (λ q. q.st);
   cr = was (λ q. q.cr);
@@ -266,7 +266,7 @@ runs_well p stands = record {
   quiet = record { serr_n = was (λ q. q.serr_n); serr_x = was (λ q. q.serr_x); quiet = λ place from to. stands.quiet place from };
 }
   where
-    was : {A : Type 0} (part : PortState → A) → part (but_commands p) ≡ part (but_commands (running_port 0))
+    was : {A : Type 0} (part : DevicePort → A) → part (but_commands p) ≡ part (but_commands (running_port 0))
     was part = ap part stands.same
 
 -- nothing goes wrong on it in such a service

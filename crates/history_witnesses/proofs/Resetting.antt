@@ -18,15 +18,15 @@ use Rattle.adapter.specs.Access.{Access}
 use Rattle.adapter.specs.Access.Access.{Reading, Writing}
 use Rattle.adapter.specs.Device.{Device}
 use Rattle.adapter.specs.declared.access.DeviceStep.{DeviceStep}
-use Rattle.agreement.specs.Acts.{at}
-use Rattle.agreement.specs.Agrees.{port_at}
-use Rattle.agreement.specs.Driver.{IsBacked, Knows}
-use Rattle.agreement.specs.Links.{SparesRegister}
-use Rattle.agreement.specs.Places.{list_of, received_of}
-use Rattle.agreement.specs.Slots.{IsFree}
-use Rattle.agreement.specs.Witness.{first_id}
+use Rattle.refinement.specs.Acts.{at_slots}
+use Rattle.refinement.specs.Relation.{port_at}
+use Rattle.refinement.specs.Driver.{IsBacked, DriverRelation}
+use Rattle.refinement.specs.Links.{SparesRegister}
+use Rattle.refinement.specs.Places.{list_of, received_of}
+use Rattle.refinement.specs.Slots.{IsEmptySlot}
+use Rattle.refinement.specs.Witness.{first_id}
 use Rattle.block_machine.specs.Events.{AnswersReset, Happens, IsRebooted, Reset, ShowsDisk, WasReset}
-use Rattle.block_machine.specs.Histories.{Happening, Instant}
+use Rattle.block_machine.specs.Histories.{Happening, JointState}
 use Rattle.block_machine.specs.Left.{after}
 use Rattle.block_machine.specs.Ports.{AreFit, Evidence, IsInterrupted, MayBecome, Ports}
 use Rattle.block_machine.specs.State.{Machine, Pending}
@@ -34,7 +34,7 @@ use Rattle.block_machine.specs.Steps.{Answer, Release, Step}
 use Rattle.host_boot.specs.Taken.{wanted_of}
 use Rattle.identify.specs.declared.wanted.Wanted.TheVariants.{Any}
 use Rattle.driver_history.specs.Evidence.{IsEvidencedOf}
-use Rattle.driver_history.specs.Histories.{ServesPort, Ties, TiesPort}
+use Rattle.driver_history.specs.Histories.{IsPortServed, CallCorresponds, PortCorresponds}
 use Rattle.driver_history.specs.Holds.{HoldsOf}
 use Rattle.driver_history.specs.Trace.{IsDriversOwn, IsOfPorts, LeavesEngine, ResetsLink}
 use Rattle.history_witnesses.specs.Reset.{ResetIsAHistory, adapter_reset, booting, rebooting}
@@ -77,7 +77,7 @@ reset = record {
 abbrev pub answered : Machine
 answered = after issuing steps
 
-abbrev pub rebooted_at : Instant Device
+abbrev pub rebooted_at : JointState Device
 rebooted_at = record { device = rebooted; moment = record { machine = answered; ports = unfit_ports } }
 
 -- ---- the ports
@@ -185,8 +185,8 @@ happens = record {
 own : All IsDriversOwn rebooting
 own = All-from_recursion IsDriversOwn rebooting (tt, (tt, (tt, (tt, (tt, (tt, (tt, (tt, (tt, (tt, (tt, (tt, (tt, (tt, (tt, (tt, (tt, (tt, (tt, (tt, (tt, (tt, (tt, (tt, (tt, (tt, (tt, (tt, (tt, (tt, (tt, tt)))))))))))))))))))))))))))))))
 
-of_ports : All (IsOfPorts (ServesPort both)) rebooting
-of_ports = All-from_recursion (IsOfPorts (ServesPort both)) rebooting (tt, (tt, (tt, (refl, (refl, (refl, (refl, (refl, (refl, (refl, (refl, (refl, (refl, (refl, (refl, (refl, (refl, (refl, (refl, (refl, (refl, (refl, (refl, (refl, (refl, (refl, (refl, (refl, (refl, (refl, (refl, tt)))))))))))))))))))))))))))))))
+of_ports : All (IsOfPorts (IsPortServed both)) rebooting
+of_ports = All-from_recursion (IsOfPorts (IsPortServed both)) rebooting (tt, (tt, (tt, (refl, (refl, (refl, (refl, (refl, (refl, (refl, (refl, (refl, (refl, (refl, (refl, (refl, (refl, (refl, (refl, (refl, (refl, (refl, (refl, (refl, (refl, (refl, (refl, (refl, (refl, (refl, (refl, tt)))))))))))))))))))))))))))))))
 
 -- what follows COMRESET
 abbrev after_link : ℕ → List Access
@@ -270,13 +270,13 @@ evidenced n =
 
 -- ---- what it owes each port
 
-part_of : (n : ℕ) → TiesPort submitted_at reset rebooting (port_at n)
+part_of : (n : ℕ) → PortCorresponds submitted_at reset rebooting (port_at n)
 part_of n = record {
   finds = tt;
   faults = tt;
-  tries = tt;
+  probes = tt;
   boots = λ served. inr (links n served);
-  trouble = record {
+  port_error = record {
     errors = λ ready why. inl (inl (stopped_served n (was_served n ready)));
     changes = λ tends why. inl (inl (stopped_served n tends.0));
     fault = λ ready g. absurd (not_ready n ready);
@@ -309,12 +309,12 @@ backed = record {
 
 -- ---- what holds after it
 
-free : (n k : ℕ) → IsFree (having (unfit 0 ∷ unfit 1 ∷ []) n) k
+free : (n k : ℕ) → IsEmptySlot (having (unfit 0 ∷ unfit 1 ∷ []) n) k
 free zero k = record { issued = refl; free = refl; unarmed = refl }
 free (suc zero) k = record { issued = refl; free = refl; unarmed = refl }
 free (suc (suc n)) k = record { issued = refl; free = refl; unarmed = refl }
 
-knows : Knows answered (at no_slots rebooted)
+knows : DriverRelation answered (at_slots no_slots rebooted)
 knows = agreeing answered no_slots pages read_memory (unfit 0) (unfit 1)
     (record { own_first = refl; own_second = refl; disks = (refl, refl); present = present; ids = refl; sizes = refl; bytes = refl; lasting = (refl, refl); still = refl })
     free free_apart (λ f b from small. past_driver f b from) (λ n e may at_port. ⊎_elim (λ z. absurd (nowhere e z.0)) (λ z. absurd (nowhere e z)) may)
@@ -349,7 +349,7 @@ holds_of (suc zero) = record {
 }
 holds_of (suc (suc n)) = unserved_at no_slots rebooted_at (suc (suc n)) refl refl (record { free = λ slot. refl; unparked = refl }) (λ e here. absurd (nowhere e here)) (λ e kept. absurd (nowhere e kept))
 
-pub ties : Ties (Any ∷ Any ∷ []) submitted_at reset
+pub ties : CallCorresponds (Any ∷ Any ∷ []) submitted_at reset
 ties = record {
   accesses = rebooting;
   came = (does, own, of_ports, record { rest = Reading Ghc 0 ∷ Writing Ghc 0x80000002 ∷ (booting 0 ++ booting 1); here = refl }, (record { ae = refl; no_reset = refl }, refl));

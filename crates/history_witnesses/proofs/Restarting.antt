@@ -5,13 +5,13 @@ use Rattle.hba_regs.specs.declared.reg.Reg.TheVariants.{Px}
 use Rattle.hba_regs.specs.declared.reg.PortReg.{PortReg}
 use Rattle.hba_regs.specs.declared.reg.PortReg.TheVariants.{Clb, Clbu, Fb, Fbu, Is, Cmd, Tfd, Sig, Ssts, Sctl, Serr, Sact, Ci}
 use Rattle.adapter.specs.Access.{DoesAll, PortShows, Reads, Writes, note, port_written}
-use Rattle.adapter.specs.Device.{Notes, PortState, Device}
+use Rattle.adapter.specs.Device.{Notes, DevicePort, Device}
 use Rattle.adapter.specs.Memory.{changed}
 use Rattle.adapter.specs.Rules.{MayCommand}
-use Rattle.adapter.specs.Steps.{Can, Step, after, with_link}
-use Rattle.adapter.specs.Steps.Step.{FrFall, LinkUp}
+use Rattle.adapter.specs.Steps.{Can, DeviceTransition, device_after, with_link}
+use Rattle.adapter.specs.Steps.DeviceTransition.{FrFall, LinkUp}
 use Rattle.adapter.specs.declared.tape.Entry.{Entry}
-use Rattle.agreement.specs.Agrees.{port_at}
+use Rattle.refinement.specs.Relation.{port_at}
 use Rattle.history_witnesses.specs.Allowed.{AreAllowed}
 use Rattle.history_witnesses.specs.Restart.{placing, resetting, restarting, stopping}
 use Rattle.history_witnesses.specs.Scene.{device_with, having}
@@ -23,30 +23,30 @@ use Rattle.history_witnesses.proofs.Submitting.{issued, pages, second}
 -- ---- accesses of port 0
 
 module _ (tape : List Entry) where
-  abbrev pub dev : PortState → Device
+  abbrev pub dev : DevicePort → Device
   dev p = device_with tape read_memory (p ∷ second ∷ [])
 
-  alike : (p q : PortState) → dev q ≡ record (dev p) { port = changed (having (p ∷ second ∷ [])) 0 q }
+  alike : (p q : DevicePort) → dev q ≡ record (dev p) { port = changed (having (p ∷ second ∷ [])) 0 q }
   alike p q = put_device tape read_memory 0 (p ∷ second ∷ []) (q ∷ second ∷ []) q refl (but_first p q (second ∷ []))
 
-  unfoldable pub reads_here : (r : PortReg) (v : ℕ) (p : PortState) → PortShows r v p → Reads (Px (port_at 0) r) v (dev p) (dev (record p { notes = note r v p }))
+  unfoldable pub reads_here : (r : PortReg) (v : ℕ) (p : DevicePort) → PortShows r v p → Reads (Px (port_at 0) r) v (dev p) (dev (record p { notes = note r v p }))
   reads_here r v p shows = reads tape read_memory 0 (p ∷ second ∷ []) (record p { notes = note r v p } ∷ second ∷ []) (but_first p (record p { notes = note r v p }) (second ∷ [])) r v shows refl
 
-  unfoldable pub writes_here : (r : PortReg) (v : ℕ) (p : PortState) → Writes (Px (port_at 0) r) v (dev p) (dev (port_written r v (length tape) p))
+  unfoldable pub writes_here : (r : PortReg) (v : ℕ) (p : DevicePort) → Writes (Px (port_at 0) r) v (dev p) (dev (port_written r v (length tape) p))
   writes_here r v p = writes tape read_memory 0 (p ∷ second ∷ []) (port_written r v (length tape) p ∷ second ∷ []) (but_first p (port_written r v (length tape) p) (second ∷ [])) r v refl
 
   -- a register is read when the device has just made a step
-  reads_after : (step : Step) (p q : PortState) (r : PortReg) (v : ℕ) → Can step (dev p) → dev q ≡ after step (dev p) → PortShows r v q → Reads (Px (port_at 0) r) v (dev p) (dev (record q { notes = note r v q }))
+  reads_after : (step : DeviceTransition) (p q : DevicePort) (r : PortReg) (v : ℕ) → Can step (dev p) → dev q ≡ device_after step (dev p) → PortShows r v q → Reads (Px (port_at 0) r) v (dev p) (dev (record q { notes = note r v q }))
   reads_after step p q r v can is shows = record { mid = dev q; steps = record { steps = step ∷ []; lead = (can, is) }; shows = shows; effect = alike q (record q { notes = note r v q }) }
 
 -- ---- the way
 
 -- FR has fallen
-abbrev unheard : PortState → PortState
+abbrev unheard : DevicePort → DevicePort
 unheard p = record p { fr = false }
 
 -- the link is up, and the device isn't an ATA disk
-abbrev up : PortState → PortState
+abbrev up : DevicePort → DevicePort
 up p = with_link p 0xeb140101 false
 
 -- What is so of port 0, with the read issued, when its masks are read: what the tape has gained since the ports were booted, the bits of PxIS,
@@ -62,70 +62,70 @@ module _ (c : Outset) where
   abbrev pub tape : List Entry
   tape = pages ++ c.gained
 
-  abbrev pub outset : PortState
+  abbrev pub outset : DevicePort
   outset = record issued { is = c.flags; broken = c.broken; notes = c.notes }
 
-  abbrev seen_ci : PortState
+  abbrev seen_ci : DevicePort
   seen_ci = record outset { notes = note Ci 1 outset }
 
-  abbrev seen_masks : PortState
+  abbrev seen_masks : DevicePort
   seen_masks = record seen_ci { notes = note Sact 0 seen_ci }
 
-  abbrev commanded : PortState
+  abbrev commanded : DevicePort
   commanded = record seen_masks { notes = note Cmd 0xc011 seen_masks }
 
-  abbrev stopping_port : PortState
+  abbrev stopping_port : DevicePort
   stopping_port = port_written Cmd 0xc010 (length tape) commanded
 
-  abbrev stopped : PortState
+  abbrev stopped : DevicePort
   stopped = record (fall stopping_port) { notes = note Cmd 0x4010 (fall stopping_port) }
 
-  abbrev commanded_again : PortState
+  abbrev commanded_again : DevicePort
   commanded_again = record stopped { notes = note Cmd 0x4010 stopped }
 
-  abbrev closing : PortState
+  abbrev closing : DevicePort
   closing = port_written Cmd 0x4000 (length tape) commanded_again
 
-  abbrev closed : PortState
+  abbrev closed : DevicePort
   closed = record (unheard closing) { notes = note Cmd 0 (unheard closing) }
 
-  abbrev with_list : PortState
+  abbrev with_list : DevicePort
   with_list = port_written Clb 0 (length tape) closed
 
-  abbrev with_lists : PortState
+  abbrev with_lists : DevicePort
   with_lists = port_written Clbu 0 (length tape) with_list
 
-  abbrev with_area : PortState
+  abbrev with_area : DevicePort
   with_area = port_written Fb 0x400 (length tape) with_lists
 
-  abbrev placed : PortState
+  abbrev placed : DevicePort
   placed = port_written Fbu 0 (length tape) with_area
 
-  abbrev asked_again : PortState
+  abbrev asked_again : DevicePort
   asked_again = record placed { notes = note Cmd 0 placed }
 
-  abbrev hearing : PortState
+  abbrev hearing : DevicePort
   hearing = port_written Cmd 0x10 (length tape) asked_again
 
-  abbrev sending : PortState
+  abbrev sending : DevicePort
   sending = port_written Sctl 1 (length tape) hearing
 
-  abbrev awaiting : PortState
+  abbrev awaiting : DevicePort
   awaiting = port_written Sctl 0 (length tape) sending
 
-  abbrev shown : PortState
+  abbrev shown : DevicePort
   shown = record (up awaiting) { notes = note Ssts 3 (up awaiting) }
 
-  abbrev unchanged : PortState
+  abbrev unchanged : DevicePort
   unchanged = port_written Serr 0xffffffff (length tape) shown
 
-  abbrev quieted : PortState
+  abbrev quieted : DevicePort
   quieted = port_written Is 0xffffffff (length tape) unchanged
 
-  abbrev idle : PortState
+  abbrev idle : DevicePort
   idle = record quieted { notes = note Tfd 0x77 quieted }
 
-  abbrev pub unfit : PortState
+  abbrev pub unfit : DevicePort
   unfit = record idle { notes = note Sig 0xeb140101 idle }
 
   -- ---- accesses, one after another

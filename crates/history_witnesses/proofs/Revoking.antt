@@ -8,14 +8,14 @@ use Rattle.ata_types.specs.declared.grant.GrantRow.{GrantRow}
 use Rattle.ata_types.specs.declared.request.Outcome.{Outcome}
 use Rattle.adapter.specs.Device.{Device}
 use Rattle.adapter.specs.declared.access.DeviceStep.{DeviceStep}
-use Rattle.agreement.specs.Agrees.{port_at}
+use Rattle.refinement.specs.Relation.{port_at}
 use Rattle.block_machine.specs.Events.{Happens, RevokeOf, WasRevoked}
 use Rattle.block_machine.specs.Histories.{Happening}
 use Rattle.block_machine.specs.Rules.{HasRow}
 use Rattle.block_machine.specs.State.{Pending}
 use Rattle.block_machine.specs.Steps.{Answer, Revoke, Step}
 use Rattle.identify.specs.declared.wanted.Wanted.TheVariants.{Any}
-use Rattle.driver_history.specs.Histories.{IssuesOn, Ties, TiesPort}
+use Rattle.driver_history.specs.Histories.{IssuesOn, CallCorresponds, PortCorresponds}
 use Rattle.driver_history.specs.Trace.{LeavesEngine}
 use Rattle.history_witnesses.specs.Revocation.{RevocationIsAHistory}
 use Rattle.history_witnesses.proofs.Accepting.{asked, both, first, in_book, issued_agrees, issued_at, issued_under, submit, submit_happens, submit_parts, submit_ties, waiting_for}
@@ -71,18 +71,18 @@ happens = record {
   };
 }
 
-part : (n : ℕ) → TiesPort (issued_at 0) revoke [] (port_at n)
+part : (n : ℕ) → PortCorresponds (issued_at 0) revoke [] (port_at n)
 part n = record {
   finds = tt;
   faults = tt;
-  tries = tt;
+  probes = tt;
   boots = tt;
-  trouble = no_trouble nothing (issued_at 0) both submitted (port_at n) [] refl (All-nil (IsCalm n)) (served_ready n) (quiet n);
+  port_error = no_trouble nothing (issued_at 0) both submitted (port_at n) [] refl (All-nil (IsCalm n)) (served_ready n) (quiet n);
   well = λ why. absurd (⊎_elim (nowhere (port_at n)) (nowhere (port_at n)) why);
   heeds = λ why. ⊎_elim (nowhere (port_at n)) (nowhere (port_at n)) why;
 }
 
-unfoldable ties : Ties (Any ∷ Any ∷ []) (issued_at 0) revoke
+unfoldable ties : CallCorresponds (Any ∷ Any ∷ []) (issued_at 0) revoke
 ties = record {
   accesses = [];
   came = (refl, ((row 0, (0, omega arith, refl), (refl, refl)), All-nil (IssuesOn (port_at 0)), λ ready. refl));

@@ -6,18 +6,18 @@ use Rattle.ata_types.specs.declared.Port.{Port}
 use Rattle.ata_types.specs.declared.request.Op.TheVariants.{Read, Trim}
 use Rattle.ata_types.specs.declared.request.RequestId.{RequestId}
 use Rattle.adapter.specs.Commands.{Meaning, is_queued}
-use Rattle.adapter.specs.Device.{PortState}
-use Rattle.adapter.specs.Says.{cut}
+use Rattle.adapter.specs.Device.{DevicePort}
+use Rattle.adapter.specs.Decoding.{piece_addresses}
 use Rattle.adapter.specs.declared.command.Operation.TheVariants.{Identify}
 use Rattle.adapter.specs.declared.tape.Entry.{Entry}
-use Rattle.agreement.specs.Agrees.{AreApart, SameMemory}
-use Rattle.agreement.specs.Places.{place_in}
-use Rattle.agreement.specs.Slots.{IsDropped, IsEnded, IsFree, IsMove, IsServed as IsServedAs, Serves, IsTaken, ServesRequest, Stage, Told, Waits, op_of}
-use Rattle.agreement.specs.Witness.{first_id}
-use Rattle.block_machine.specs.Due.{NoneDue, holds_back, is_clear, is_plain}
+use Rattle.refinement.specs.Relation.{ServeApart, SameMemory}
+use Rattle.refinement.specs.Places.{place_in}
+use Rattle.refinement.specs.Slots.{IsDropped, IsEnded, IsEmptySlot, IsMove, RelatesSlot, Serves, IsTakenFor, ServesRequest, Stage, SlotDecodesTo, Waits, op_of}
+use Rattle.refinement.specs.Witness.{first_id}
+use Rattle.block_machine.specs.Due.{NoneDue, waits_for, is_clear, is_plain}
 use Rattle.block_machine.specs.State.{Block, Machine, Pending}
-use Rattle.block_machine.specs.Steps.{issue, newly_accepted}
-use Rattle.block_machine.specs.declared.due.Mode.{Mode}
+use Rattle.block_machine.specs.Steps.{newly_issued, newly_accepted}
+use Rattle.block_machine.specs.declared.due.QueueMode.{QueueMode}
 use Rattle.block_machine.specs.declared.due.Unanswered.{Unanswered}
 use Rattle.driver_history.specs.Holds.{IsOfKind, mode_of}
 use Rattle.history_witnesses.specs.Scene.{queueing_cap}
@@ -31,15 +31,15 @@ use Rattle.history_witnesses.proofs.Submitting.{sent}
 
 -- a read of sector k into frame n that was issued once
 abbrev pub outstanding_as : RequestId → ℕ → ℕ → (ℕ → Block) → Pending
-outstanding_as id k n held = issue (newly_accepted (accepted_as id k n held))
+outstanding_as id k n held = newly_issued (newly_accepted (accepted_as id k n held))
 
 -- the request at an age
 abbrev pub aged : ℕ → Pending → Pending
 aged age e = record e { age = age }
 
-unfoldable pub serves_one : (m : Machine) (memory : ℕ → ℕ) (p : PortState) (slot : ℕ) (c : Meaning) (id : RequestId) (k n : ℕ) (held : ℕ → Block) (age : ℕ) → p.bases.clb ≡ 0 → slot < 32
-    → Contains m.book (aged age (outstanding_as id k n held)) → op_of c.operation ≡ Some Read → c.first ≡ k → Told memory 0 0 slot c (cut (4096 * n) 1)
-    → Stage memory p 0 slot (aged age (outstanding_as id k n held)) c (cut (4096 * n) 1) → ServesRequest m memory p 0 slot id
+unfoldable pub serves_one : (m : Machine) (memory : ℕ → ℕ) (p : DevicePort) (slot : ℕ) (c : Meaning) (id : RequestId) (k n : ℕ) (held : ℕ → Block) (age : ℕ) → p.bases.clb ≡ 0 → slot < 32
+    → Contains m.book (aged age (outstanding_as id k n held)) → op_of c.operation ≡ Some Read → c.first ≡ k → SlotDecodesTo memory 0 0 slot c (piece_addresses (4096 * n) 1)
+    → Stage memory p 0 slot (aged age (outstanding_as id k n held)) c (piece_addresses (4096 * n) 1) → ServesRequest m memory p 0 slot id
 serves_one m memory p slot c id k n held age list below here op first told stage =
     record {
       pending = aged age (outstanding_as id k n held);
@@ -48,23 +48,23 @@ serves_one m memory p slot c id k n held age list below here op first told stage
       port_is = refl;
       placed = record { port_below = omega arith; slot_below = below; list = list };
       command = c;
-      places = cut (4096 * n) 1;
-      told = subst (λ (at : ℕ). Told memory at 0 slot c (cut (4096 * n) 1)) (sym list) told;
+      places = piece_addresses (4096 * n) 1;
+      told = subst (λ (at : ℕ). SlotDecodesTo memory at 0 slot c (piece_addresses (4096 * n) 1)) (sym list) told;
       means = record { op = op; first = λ _. first; places_are = (refl, places); head = λ e. absurd (let x : Read ≡ Trim = e in cc) };
       stage = stage;
     }
   where
-    places : (i : ℕ) → i < 1 → slice_index (cut (4096 * n) 1) i ≡ place_in (frame n ∷ []) i
+    places : (i : ℕ) → i < 1 → slice_index (piece_addresses (4096 * n) 1) i ≡ place_in (frame n ∷ []) i
     places zero low = omega arith
     places (suc i) low = absurd (omega (arith, low))
 
 -- A slot of a running port that has neither an issued command nor a taken one serves no request that hasn't ended.
-pub serves_none : (m : Machine) (memory : ℕ → ℕ) (p : PortState) (slot : ℕ) (id : RequestId) (s : ServesRequest m memory p 0 slot id) → p.st ≡ true → p.ci slot ≡ false → p.taken slot ≡ None
+pub serves_none : (m : Machine) (memory : ℕ → ℕ) (p : DevicePort) (slot : ℕ) (id : RequestId) (s : ServesRequest m memory p 0 slot id) → p.st ≡ true → p.ci slot ≡ false → p.taken slot ≡ None
     → s.pending.ended ≡ false → ⊥
 serves_none m memory p slot id s started unissued free unended = ⊎_elim
     (λ (w : Waits memory p 0 slot s.pending s.command). true≢false (sym w.issued ∙ unissued))
     (λ r. ⊎_elim
-    (λ (w : IsTaken memory p 0 slot s.pending s.command s.places). let x : None ≡ Some w.command = sym free ∙ w.taken in cc)
+    (λ (w : IsTakenFor memory p 0 slot s.pending s.command s.places). let x : None ≡ Some w.command = sym free ∙ w.taken in cc)
     (λ r. ⊎_elim
     (λ (w : IsEnded p slot s.pending). true≢false (sym w.ended ∙ unended))
     (λ (w : IsDropped p slot s.pending). true≢false (sym started ∙ w.stopped)) r) r)
@@ -72,14 +72,14 @@ serves_none m memory p slot id s started unissued free unended = ⊎_elim
 
 -- ---- slot 0 alone is in use
 
-first_apart : AreApart first_slots.uses
+first_apart : ServeApart first_slots.uses
 first_apart q k q' k' id u v = let one = serves_first q k id u in let other = serves_first q' k' id v in (one.0 ∙ sym other.0, one.1 ∙ sym other.1)
 
-module _ (disk : Kind) (m : Machine) (more : List Entry) (memory : ℕ → ℕ) (p : PortState) (c : Meaning) (k n : ℕ) (held : ℕ → Block) (age : ℕ) where
+module _ (disk : Kind) (m : Machine) (more : List Entry) (memory : ℕ → ℕ) (p : DevicePort) (c : Meaning) (k n : ℕ) (held : ℕ → Block) (age : ℕ) where
   abbrev the_request : Pending
   the_request = aged age (outstanding_as first_id k n held)
 
-  abbrev mode : Mode
+  abbrev mode : QueueMode
   mode = mode_of queueing_cap disk.info
 
   -- Request 1, a read by this command, is the one of the book; it is in slot 0 of port 0, and no other slot is in use.
@@ -93,24 +93,24 @@ module _ (disk : Kind) (m : Machine) (more : List Entry) (memory : ℕ → ℕ) 
     pub op : op_of c.operation ≡ Some Read
     pub first : c.first ≡ k
     pub kind : is_queued c.operation ≡ not (is_plain (mode_of queueing_cap disk.info) Read)
-    pub told : Told memory 0 0 0 c (cut (4096 * n) 1)
-    pub stage : Stage memory p 0 0 (aged age (outstanding_as first_id k n held)) c (cut (4096 * n) 1)
-    pub others : (slot : ℕ) → IsFree p (suc slot)
+    pub told : SlotDecodesTo memory 0 0 0 c (piece_addresses (4096 * n) 1)
+    pub stage : Stage memory p 0 0 (aged age (outstanding_as first_id k n held)) c (piece_addresses (4096 * n) 1)
+    pub others : (slot : ℕ) → IsEmptySlot p (suc slot)
     pub frames : SameMemory m memory
 
   module _ (has : HasOne) where
     pub the_one : (e : Pending) → Contains m.book e → e ≡ the_request
     the_one e here = only the_request e (subst (λ (es : List Pending). Contains es e) has.book here)
 
-    slots : (slot : ℕ) → IsServedAs m memory (sent disk.page ++ more) p 0 slot (uses_first 0 slot)
-    slots zero = serves_one m memory p 0 c first_id k n held age (ap (λ (q : PortState). q.bases.clb) has.stands.same) (omega arith) (subst (λ (es : List Pending). Contains es the_request) (sym has.book) (0, omega arith, refl)) has.op has.first has.told has.stage
+    slots : (slot : ℕ) → RelatesSlot m memory (sent disk.page ++ more) p 0 slot (uses_first 0 slot)
+    slots zero = serves_one m memory p 0 c first_id k n held age (ap (λ (q : DevicePort). q.bases.clb) has.stands.same) (omega arith) (subst (λ (es : List Pending). Contains es the_request) (sym has.book) (0, omega arith, refl)) has.op has.first has.told has.stage
     slots (suc slot) = has.others slot
 
     kind_of : (e : Pending) → e ≡ the_request → IsOfKind mode (served_with disk first_slots m more memory p) 0 0 e
     kind_of e is = subst (IsOfKind mode (served_with disk first_slots m more memory p) 0 0) (sym is) (record {
       command = c;
-      places = cut (4096 * n) 1;
-      told = subst (λ (at : ℕ). Told memory at 0 0 c (cut (4096 * n) 1)) (sym (ap (λ (q : PortState). q.bases.clb) has.stands.same)) has.told;
+      places = piece_addresses (4096 * n) 1;
+      told = subst (λ (at : ℕ). SlotDecodesTo memory at 0 0 c (piece_addresses (4096 * n) 1)) (sym (ap (λ (q : DevicePort). q.bases.clb) has.stands.same)) has.told;
       kind = has.kind;
     })
 
@@ -134,7 +134,7 @@ module _ (disk : Kind) (m : Machine) (more : List Entry) (memory : ℕ → ℕ) 
 -- ---- nothing is due
 
 -- no request is due where each is issued
-pub none_due : (mode : Mode) (book : List Unanswered) → ((r : Unanswered) → Contains book r → r.issued ≡ true) → (port : Port) → NoneDue mode book port
+pub none_due : (mode : QueueMode) (book : List Unanswered) → ((r : Unanswered) → Contains book r → r.issued ≡ true) → (port : Port) → NoneDue mode book port
 none_due mode book all port r at_port due =
-    let held : is_clear mode book r ≡ false = ap (λ (issued : Bool). not issued && not (list_any (holds_back mode r) book)) (all r due.here) in
+    let held : is_clear mode book r ≡ false = ap (λ (issued : Bool). not issued && not (list_any (waits_for mode r) book)) (all r due.here) in
     absurd (true≢false (sym due.clear ∙ held))

@@ -4,15 +4,15 @@ use Rattle.hba_regs.specs.declared.reg.Reg.TheVariants.{Px}
 use Rattle.hba_regs.specs.declared.reg.PortReg.TheVariants.{Ci}
 use Rattle.adapter.specs.Access.{Access, DoesAll, port_written}
 use Rattle.adapter.specs.Access.Access.{Writing, Storing}
-use Rattle.adapter.specs.Device.{PortState, Taken, Device}
+use Rattle.adapter.specs.Device.{DevicePort, FetchedCommand, Device}
 use Rattle.adapter.specs.FirstRead.{header_bytes}
 use Rattle.adapter.specs.Memory.{changed, patched}
 use Rattle.adapter.specs.ReadDone.{read_of}
-use Rattle.adapter.specs.Says.{cut}
+use Rattle.adapter.specs.Decoding.{piece_addresses}
 use Rattle.adapter.specs.Steps.{Steps, begun, with_fetch}
-use Rattle.adapter.specs.Steps.Step.{Fetch}
+use Rattle.adapter.specs.Steps.DeviceTransition.{Fetch}
 use Rattle.adapter.specs.declared.tape.Entry.{Entry}
-use Rattle.agreement.specs.Agrees.{port_at}
+use Rattle.refinement.specs.Relation.{port_at}
 use Rattle.history_witnesses.specs.Scene.{device_with, fit_page, page_entry, running_port}
 use Rattle.history_witnesses.proofs.Command.{place_bytes, read_bytes, read_memory, told, zeros}
 use Rattle.history_witnesses.proofs.Devices.{but_first, other_bit, put_device, step_first, stores, writes}
@@ -26,13 +26,13 @@ sent page = page_entry page 0 ∷ page_entry page 1 ∷ []
 abbrev pub pages : List Entry
 pages = sent fit_page
 
-abbrev pub second : PortState
+abbrev pub second : DevicePort
 second = running_port 1
 
 abbrev pub booted : Device
 booted = device_with pages zeros (running_port 0 ∷ second ∷ [])
 
-abbrev pub issued : PortState
+abbrev pub issued : DevicePort
 issued = port_written Ci 1 2 (running_port 0)
 
 abbrev pub submitted : Device
@@ -63,16 +63,16 @@ others_clear k = other_bit (suc k) (omega arith)
 
 -- ---- and taken by the device
 
-abbrev pub command : Taken
-command = begun (read_of 100 1) (cut 0x64000 1)
+abbrev pub command : FetchedCommand
+command = begun (read_of 100 1) (piece_addresses 0x64000 1)
 
-abbrev pub taken : PortState
-taken = with_fetch issued 0 (read_of 100 1) (cut 0x64000 1)
+abbrev pub taken : DevicePort
+taken = with_fetch issued 0 (read_of 100 1) (piece_addresses 0x64000 1)
 
 -- and then the device does more
 pub fetches : (new : Device) → Steps (device_with pages read_memory (taken ∷ second ∷ [])) new → Steps submitted new
 unfolding changed
-fetches new = step_first (Fetch 0 0 (read_of 100 1) (cut 0x64000 1)) submitted (device_with pages read_memory (taken ∷ second ∷ [])) new
+fetches new = step_first (Fetch 0 0 (read_of 100 1) (piece_addresses 0x64000 1)) submitted (device_with pages read_memory (taken ∷ second ∷ [])) new
     (record {
       fetchable = record { st = refl; issued = refl; free = refl };
       working = record { running = refl; present = refl; fresh = refl; admitted = refl; whole = refl };

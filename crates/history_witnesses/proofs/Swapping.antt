@@ -7,17 +7,17 @@ use Rattle.hba_regs.specs.declared.reg.PortReg.TheVariants.{Sact, Ci}
 use Rattle.adapter.specs.Access.{Access, DoesAll, PortShows, note}
 use Rattle.adapter.specs.Access.Access.{Reading}
 use Rattle.adapter.specs.Commands.{is_queued}
-use Rattle.adapter.specs.Device.{Disk, PortState, Taken, Device}
-use Rattle.adapter.specs.FirstRead.{sector_of}
+use Rattle.adapter.specs.Device.{Disk, DevicePort, FetchedCommand, Device}
+use Rattle.adapter.specs.FirstRead.{first_read_sector}
 use Rattle.adapter.specs.Memory.{changed, patched}
-use Rattle.adapter.specs.Says.{Says, cut}
+use Rattle.adapter.specs.Decoding.{DecodesTo, piece_addresses}
 use Rattle.adapter.specs.Steps.{admits, Brings, IsAlone, IsWorking, Steps, begun, done_entry, move_of, with_done, with_fetch, with_move}
-use Rattle.adapter.specs.Steps.Step.{Fetch, Move, Done}
+use Rattle.adapter.specs.Steps.DeviceTransition.{Fetch, Move, Done}
 use Rattle.adapter.specs.declared.command.Operation.TheVariants.{ReadQueued, Trim}
 use Rattle.adapter.specs.declared.tape.Entry.{Entry}
 use Rattle.adapter.specs.declared.tape.Entry.TheVariants as entry
-use Rattle.agreement.specs.Agrees.{port_at}
-use Rattle.agreement.specs.Slots.{Told}
+use Rattle.refinement.specs.Relation.{port_at}
+use Rattle.refinement.specs.Slots.{SlotDecodesTo}
 use Rattle.history_witnesses.specs.Allowed.{AreAllowed}
 use Rattle.history_witnesses.specs.Queued.{first_found, second_found}
 use Rattle.history_witnesses.specs.Scene.{device_with, queueing_page}
@@ -30,49 +30,49 @@ use Rattle.history_witnesses.proofs.Submitting.{second, sent}
 
 -- ---- steps on port 0
 
-abbrev pub reads_into : ℕ → ℕ → Taken
-reads_into k n = begun (queued_read k) (cut (4096 * n) 1)
+abbrev pub reads_into : ℕ → ℕ → FetchedCommand
+reads_into k n = begun (queued_read k) (piece_addresses (4096 * n) 1)
 
 -- the sector is moved, and the command ends with a Set Device Bits FIS
-abbrev pub finished : ℕ → ℕ → ℕ → PortState → PortState
-finished slot k n p = with_done (with_move p slot (reads_into k n) (sector_of k)) slot 3 ReadQueued
+abbrev pub finished : ℕ → ℕ → ℕ → DevicePort → DevicePort
+finished slot k n p = with_done (with_move p slot (reads_into k n) (first_read_sector k)) slot 3 ReadQueued
 
-works : (p : PortState) → Stands p → IsWorking p ReadQueued
+works : (p : DevicePort) → Stands p → IsWorking p ReadQueued
 works p stands = record {
-  running = ap (λ (q : PortState). q.cr) stands.same;
-  present = ap (λ (q : PortState). q.present) stands.same;
-  fresh = ap (λ (q : PortState). q.fresh) stands.same;
-  admitted = ap (λ (q : PortState). admits q.halt ReadQueued) stands.same;
-  whole = ap (λ (q : PortState). q.broken) stands.same;
+  running = ap (λ (q : DevicePort). q.cr) stands.same;
+  present = ap (λ (q : DevicePort). q.present) stands.same;
+  fresh = ap (λ (q : DevicePort). q.fresh) stands.same;
+  admitted = ap (λ (q : DevicePort). admits q.halt ReadQueued) stands.same;
+  whole = ap (λ (q : DevicePort). q.broken) stands.same;
 }
 
-module _ (tape : List Entry) (memory : ℕ → ℕ) (p : PortState) (stands : Stands p) (slot k n : ℕ) where
+module _ (tape : List Entry) (memory : ℕ → ℕ) (p : DevicePort) (stands : Stands p) (slot k n : ℕ) where
   -- the command is taken, and then the device does more
-  fetches : p.ci slot ≡ true → p.taken slot ≡ None → IsAlone p ReadQueued → Told memory 0 0 slot (queued_read k) (cut (4096 * n) 1) → (new : Device)
-      → Steps (device_with tape memory (with_fetch p slot (queued_read k) (cut (4096 * n) 1) ∷ second ∷ [])) new → Steps (device_with tape memory (p ∷ second ∷ [])) new
-  fetches issued free alone told new = step_first (Fetch 0 slot (queued_read k) (cut (4096 * n) 1)) (device_with tape memory (p ∷ second ∷ [])) (device_with tape memory (taken ∷ second ∷ [])) new
+  fetches : p.ci slot ≡ true → p.taken slot ≡ None → IsAlone p ReadQueued → SlotDecodesTo memory 0 0 slot (queued_read k) (piece_addresses (4096 * n) 1) → (new : Device)
+      → Steps (device_with tape memory (with_fetch p slot (queued_read k) (piece_addresses (4096 * n) 1) ∷ second ∷ [])) new → Steps (device_with tape memory (p ∷ second ∷ [])) new
+  fetches issued free alone told new = step_first (Fetch 0 slot (queued_read k) (piece_addresses (4096 * n) 1)) (device_with tape memory (p ∷ second ∷ [])) (device_with tape memory (taken ∷ second ∷ [])) new
       (record {
-        fetchable = record { st = ap (λ (q : PortState). q.st) stands.same; issued = issued; free = free };
+        fetchable = record { st = ap (λ (q : DevicePort). q.st) stands.same; issued = issued; free = free };
         working = works p stands;
         alone = alone;
-        says = subst (λ (list : ℕ). Says memory list slot (queued_read k) (cut (4096 * n) 1)) (sym (ap (λ (q : PortState). q.bases.clb) stands.same)) told.says;
+        says = subst (λ (list : ℕ). DecodesTo memory list slot (queued_read k) (piece_addresses (4096 * n) 1)) (sym (ap (λ (q : DevicePort). q.bases.clb) stands.same)) told.says;
       })
       (put_device tape memory 0 (p ∷ second ∷ []) (taken ∷ second ∷ []) taken refl (but_first p taken (second ∷ [])))
     where
-      taken : PortState
-      taken = with_fetch p slot (queued_read k) (cut (4096 * n) 1)
+      taken : DevicePort
+      taken = with_fetch p slot (queued_read k) (piece_addresses (4096 * n) 1)
 
   -- so it is once the sector was moved, and the command has ended
   finishes : p.taken slot ≡ Some (reads_into k n) → k < 256 → (new : Device)
-      → Steps (device_with ((tape ++ entry.Move (move_of 0 slot (reads_into k n) (sector_of k)) ∷ []) ++ done_entry 0 slot ReadQueued ∷ []) (patched memory (4096 * n) (sector_of k)) (finished slot k n p ∷ second ∷ [])) new
+      → Steps (device_with ((tape ++ entry.Move (move_of 0 slot (reads_into k n) (first_read_sector k)) ∷ []) ++ done_entry 0 slot ReadQueued ∷ []) (patched memory (4096 * n) (first_read_sector k)) (finished slot k n p ∷ second ∷ [])) new
       → Steps (device_with tape memory (p ∷ second ∷ [])) new
   finishes taken low new rest =
-      step_first (Move 0 slot (reads_into k n) (sector_of k)) (device_with tape memory (p ∷ second ∷ [])) (device_with tape_moved memory_moved (moved ∷ second ∷ [])) new
+      step_first (Move 0 slot (reads_into k n) (first_read_sector k)) (device_with tape memory (p ∷ second ∷ [])) (device_with tape_moved memory_moved (moved ∷ second ∷ [])) new
       (record {
         works = record { taken = taken; working = works p stands };
         left = omega arith;
         sector = is_sector k low;
-        brings = subst (λ (disk : Disk). Brings disk memory (reads_into k n) ReadQueued (sector_of k)) (sym (ap (λ (q : PortState). q.disk) stands.same)) (omega (arith, low), ap sector_of (let same : k ≡ k + 0 = omega arith in same));
+        brings = subst (λ (disk : Disk). Brings disk memory (reads_into k n) ReadQueued (first_read_sector k)) (sym (ap (λ (q : DevicePort). q.disk) stands.same)) (omega (arith, low), ap first_read_sector (let same : k ≡ k + 0 = omega arith in same));
       })
       (put_device tape_moved memory_moved 0 (p ∷ second ∷ []) (moved ∷ second ∷ []) moved refl (but_first p moved (second ∷ [])))
       (step_first (Done 0 slot 3 (record (reads_into k n) { moved = 1 })) (device_with tape_moved memory_moved (moved ∷ second ∷ [])) (device_with tape_done memory_moved (finished slot k n p ∷ second ∷ [])) new
@@ -83,17 +83,17 @@ module _ (tape : List Entry) (memory : ℕ → ℕ) (p : PortState) (stands : St
       })
       (put_device tape_done memory_moved 0 (moved ∷ second ∷ []) (finished slot k n p ∷ second ∷ []) (finished slot k n p) refl (but_first moved (finished slot k n p) (second ∷ []))) rest)
     where
-      moved : PortState
-      moved = with_move p slot (reads_into k n) (sector_of k)
+      moved : DevicePort
+      moved = with_move p slot (reads_into k n) (first_read_sector k)
 
       tape_moved : List Entry
-      tape_moved = tape ++ entry.Move (move_of 0 slot (reads_into k n) (sector_of k)) ∷ []
+      tape_moved = tape ++ entry.Move (move_of 0 slot (reads_into k n) (first_read_sector k)) ∷ []
 
       tape_done : List Entry
       tape_done = tape_moved ++ done_entry 0 slot ReadQueued ∷ []
 
       memory_moved : ℕ → ℕ
-      memory_moved = patched memory (4096 * n) (sector_of k)
+      memory_moved = patched memory (4096 * n) (first_read_sector k)
 
       works_moved : IsWorking moved ReadQueued
       works_moved = let w = works p stands in record { running = w.running; present = w.present; fresh = w.fresh; admitted = w.admitted; whole = w.whole }
@@ -103,14 +103,14 @@ module _ (tape : List Entry) (memory : ℕ → ℕ) (p : PortState) (stands : St
 
 -- ---- the masks are read
 
-abbrev pub seen : ℕ → ℕ → PortState → PortState
+abbrev pub seen : ℕ → ℕ → DevicePort → DevicePort
 seen ci sact p = record p { notes = note Sact sact (record p { notes = note Ci ci p }) }
 
-module _ (old : Device) (tape : List Entry) (memory : ℕ → ℕ) (p : PortState) (ci sact : ℕ) (steps : Steps old (device_with tape memory (p ∷ second ∷ []))) (waits : PortShows Ci ci p) (active : PortShows Sact sact p) where
+module _ (old : Device) (tape : List Entry) (memory : ℕ → ℕ) (p : DevicePort) (ci sact : ℕ) (steps : Steps old (device_with tape memory (p ∷ second ∷ []))) (waits : PortShows Ci ci p) (active : PortShows Sact sact p) where
   abbrev masks : List Access
   masks = Reading (Px (port_at 0) Ci) ci ∷ Reading (Px (port_at 0) Sact) sact ∷ []
 
-  abbrev with_ci : PortState
+  abbrev with_ci : DevicePort
   with_ci = record p { notes = note Ci ci p }
 
   unfoldable reads_masks : DoesAll masks old (device_with tape memory (seen ci sact p ∷ second ∷ []))
@@ -136,17 +136,17 @@ module _ (old : Device) (tape : List Entry) (memory : ℕ → ℕ) (p : PortStat
 
 -- ---- both are taken
 
-abbrev first_taken : PortState
-first_taken = with_fetch two_issued 0 (queued_read 100) (cut (4096 * 100) 1)
+abbrev first_taken : DevicePort
+first_taken = with_fetch two_issued 0 (queued_read 100) (piece_addresses (4096 * 100) 1)
 
-abbrev both_taken : PortState
-both_taken = with_fetch first_taken 1 (queued_read 101) (cut (4096 * 101) 1)
+abbrev both_taken : DevicePort
+both_taken = with_fetch first_taken 1 (queued_read 101) (piece_addresses (4096 * 101) 1)
 
 -- the first command is queued, so the second may be taken beside it
 beside : IsAlone first_taken ReadQueued
-beside zero t is = let same : reads_into 100 100 ≡ t = some_same (sym (changed_here two_issued.taken 0 (Some (reads_into 100 100))) ∙ is) in ap (λ (t : Taken). is_queued t.meaning.operation) (sym same)
+beside zero t is = let same : reads_into 100 100 ≡ t = some_same (sym (changed_here two_issued.taken 0 (Some (reads_into 100 100))) ∙ is) in ap (λ (t : FetchedCommand). is_queued t.meaning.operation) (sym same)
   where
-    some_same : {t : Taken} → Some (reads_into 100 100) ≡ Some t → reads_into 100 100 ≡ t
+    some_same : {t : FetchedCommand} → Some (reads_into 100 100) ≡ Some t → reads_into 100 100 ≡ t
     some_same e = cc
 beside (suc k) t is = absurd (let x : None ≡ Some t = sym (past_first two_issued.taken (Some (reads_into 100 100)) k) ∙ is in cc)
 
@@ -159,10 +159,10 @@ none_waits (suc (suc k)) = past_second (changed two_issued.ci 0 false) false k �
 
 -- ---- the second ends
 
-abbrev second_done : PortState
+abbrev second_done : DevicePort
 second_done = finished 1 101 101 both_taken
 
-abbrev pub found : PortState
+abbrev pub found : DevicePort
 found = seen 0 1 second_done
 
 -- the bit of the first is left in PxSACT
@@ -198,10 +198,10 @@ found_stands = record { same = refl; quiet = undisturbed both_taken.is (λ place
 
 -- ---- and then the first
 
-abbrev first_done : PortState
+abbrev first_done : DevicePort
 first_done = finished 0 100 100 found
 
-abbrev pub found_again : PortState
+abbrev pub found_again : DevicePort
 found_again = seen 0 0 first_done
 
 pub none_active : (k : ℕ) → found_again.sact k ≡ false
@@ -220,19 +220,19 @@ again_stands = record { same = refl; quiet = undisturbed found.is found_stands.q
 -- ---- what the services do
 
 abbrev pub ends : ℕ → ℕ → ℕ → List Entry
-ends slot k n = entry.Move (move_of 0 slot (reads_into k n) (sector_of k)) ∷ done_entry 0 slot ReadQueued ∷ []
+ends slot k n = entry.Move (move_of 0 slot (reads_into k n) (first_read_sector k)) ∷ done_entry 0 slot ReadQueued ∷ []
 
 abbrev pub pages : List Entry
 pages = sent queueing_page
 
 abbrev pub swapped_memory : ℕ → ℕ
-swapped_memory = patched two_memory (4096 * 101) (sector_of 101)
+swapped_memory = patched two_memory (4096 * 101) (first_read_sector 101)
 
 abbrev pub swapped : Device
 swapped = device_with (pages ++ ends 1 101 101) swapped_memory (found ∷ second ∷ [])
 
 abbrev pub ended : Device
-ended = device_with (pages ++ (ends 1 101 101 ++ ends 0 100 100)) (patched swapped_memory (4096 * 100) (sector_of 100)) (found_again ∷ second ∷ [])
+ended = device_with (pages ++ (ends 1 101 101 ++ ends 0 100 100)) (patched swapped_memory (4096 * 100) (first_read_sector 100)) (found_again ∷ second ∷ [])
 
 abbrev issued_device : Device
 issued_device = device_with pages two_memory (two_issued ∷ second ∷ [])
@@ -241,7 +241,7 @@ abbrev second_ended : Device
 second_ended = device_with (pages ++ ends 1 101 101) swapped_memory (second_done ∷ second ∷ [])
 
 abbrev first_ended : Device
-first_ended = device_with (pages ++ (ends 1 101 101 ++ ends 0 100 100)) (patched swapped_memory (4096 * 100) (sector_of 100)) (first_done ∷ second ∷ [])
+first_ended = device_with (pages ++ (ends 1 101 101 ++ ends 0 100 100)) (patched swapped_memory (4096 * 100) (first_read_sector 100)) (first_done ∷ second ∷ [])
 
 stays : (d : Device) → Steps d d
 stays d = record { steps = []; lead = refl }
@@ -262,5 +262,5 @@ pub finds_second : (does : DoesAll second_found issued_device swapped) × AreAll
 finds_second = finds issued_device (pages ++ ends 1 101 101) swapped_memory second_done 0 1 second_ends (λ k low. no_bit k ∙ sym (none_waits k)) (λ k low. sym (one_active k))
 
 pub finds_first : (does : DoesAll first_found swapped ended) × AreAllowed first_found swapped ended does
-finds_first = finds swapped (pages ++ (ends 1 101 101 ++ ends 0 100 100)) (patched swapped_memory (4096 * 100) (sector_of 100)) first_done 0 0 first_ends
+finds_first = finds swapped (pages ++ (ends 1 101 101 ++ ends 0 100 100)) (patched swapped_memory (4096 * 100) (first_read_sector 100)) first_done 0 0 first_ends
     (λ k low. no_bit k ∙ sym (none_waits k)) (λ k low. no_bit k ∙ sym (none_active k))

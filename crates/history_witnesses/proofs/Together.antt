@@ -5,15 +5,15 @@ use Rattle.std.specs.List.{Contains}
 use Rattle.ata_types.specs.declared.Port.{Port}
 use Rattle.ata_types.specs.declared.request.RequestId.{RequestId}
 use Rattle.adapter.specs.Device.{Device}
-use Rattle.adapter.specs.Says.{cut}
-use Rattle.agreement.specs.Acts.{InSlots}
-use Rattle.agreement.specs.Agrees.{AreApart, port_at}
-use Rattle.agreement.specs.Served.{second_id}
-use Rattle.agreement.specs.Slots.{Free, IsServed as IsServedAs, Serves, Stage, Uses}
-use Rattle.agreement.specs.Witness.{first_id}
+use Rattle.adapter.specs.Decoding.{piece_addresses}
+use Rattle.refinement.specs.Acts.{InSlots}
+use Rattle.refinement.specs.Relation.{ServeApart, port_at}
+use Rattle.refinement.specs.Served.{second_id}
+use Rattle.refinement.specs.Slots.{Free, RelatesSlot, Serves, Stage, SlotStates}
+use Rattle.refinement.specs.Witness.{first_id}
 use Rattle.block_machine.specs.Due.{IsDue, is_plain}
 use Rattle.block_machine.specs.Events.{IsIssuedIn}
-use Rattle.block_machine.specs.Histories.{Instant}
+use Rattle.block_machine.specs.Histories.{JointState}
 use Rattle.block_machine.specs.Left.{after}
 use Rattle.block_machine.specs.State.{Block, Machine, Pending, unanswered}
 use Rattle.block_machine.specs.Steps.{Accept, Issue, May, newly_accepted}
@@ -35,7 +35,7 @@ use Rattle.history_witnesses.proofs.Swapping.{pages}
 
 -- ---- the machine
 
-abbrev pub first : Instant Device
+abbrev pub first : JointState Device
 first = instant_with queueing_disks no_slots start [] zeros (running_port 0)
 
 abbrev pub submission_one : Submission
@@ -58,7 +58,7 @@ abbrev first_issuing : Machine
 first_issuing = issued_on.issuing submission_one
 
 -- slot 0 of port 0 serves request 1, and slot 1 request 2
-abbrev pub two_uses : Uses
+abbrev pub two_uses : SlotStates
 two_uses zero zero = Serves first_id
 two_uses zero (suc zero) = Serves second_id
 two_uses zero (suc (suc slot)) = Free
@@ -151,10 +151,10 @@ in_book e here = either outstanding_first outstanding_second e here
 pub each_has : (P : Pending → Type 0) → P outstanding_first → P outstanding_second → (e : Pending) → Contains both_issuing.book e → P e
 each_has P a b e here = ⊎_elim (λ (is : e ≡ outstanding_first). subst P (sym is) a) (λ (is : e ≡ outstanding_second). subst P (sym is) b) (in_book e here)
 
-waits_in : (k n slot : ℕ) (id : RequestId) (block : ℕ → Block) → two_issued.ci slot ≡ true → two_issued.sact slot ≡ true → Stage two_memory two_issued 0 slot (outstanding_as id k n block) (queued_read k) (cut (4096 * n) 1)
+waits_in : (k n slot : ℕ) (id : RequestId) (block : ℕ → Block) → two_issued.ci slot ≡ true → two_issued.sact slot ≡ true → Stage two_memory two_issued 0 slot (outstanding_as id k n block) (queued_read k) (piece_addresses (4096 * n) 1)
 waits_in k n slot id block issued active = inl (record { started = refl; issued = issued; free = refl; sact = active; block = tt; untouched = λ i. sym (le-ltb i 0 (omega arith)); unended = refl })
 
-two_serve : (slot : ℕ) → IsServedAs both_issuing two_memory pages two_issued 0 slot (two_uses 0 slot)
+two_serve : (slot : ℕ) → RelatesSlot both_issuing two_memory pages two_issued 0 slot (two_uses 0 slot)
 two_serve zero = serves_one both_issuing two_memory two_issued 0 (queued_read 100) first_id 100 100 held 0 refl (omega arith) (0, omega arith, refl) refl refl first_told (waits_in 100 100 0 first_id held refl refl)
 two_serve (suc zero) = serves_one both_issuing two_memory two_issued 1 (queued_read 101) second_id 101 101 held_too 0 refl (omega arith) (1, omega arith, refl) refl refl second_told (waits_in 101 101 1 second_id held_too refl refl)
 two_serve (suc (suc slot)) = record { issued = neither slot; free = refl; unarmed = neither slot }
@@ -163,7 +163,7 @@ pub not_second : first_id ≡ second_id → ⊥
 not_second same = let n : 1 ≡ 2 = ap (λ (id : RequestId). id.0) same in omega (arith, n)
 
 -- no two slots serve the same
-two_apart : AreApart two_uses
+two_apart : ServeApart two_uses
 two_apart zero zero zero zero id u v = (refl, refl)
 two_apart zero (suc zero) zero (suc zero) id u v = (refl, refl)
 two_apart zero zero zero (suc zero) id u v = absurd (let x : Serves first_id ≡ Serves second_id = u ∙ sym v in not_second cc)
@@ -197,8 +197,8 @@ two_requests = record {
     kind_of = each_has (λ x. true ≡ not (is_plain queued x.request.asked.op)) refl refl
 
     kinds : (slot : ℕ) (e : Pending) → Contains both_issuing.book e → two_uses 0 slot ≡ Serves e.request.id → IsOfKind queued (issued_on.submitted_at submission_two).device 0 slot e
-    kinds zero e here u = record { command = queued_read 100; places = cut 0x64000 1; told = first_told; kind = kind_of e here }
-    kinds (suc zero) e here u = record { command = queued_read 101; places = cut 0x65000 1; told = second_told; kind = kind_of e here }
+    kinds zero e here u = record { command = queued_read 100; places = piece_addresses 0x64000 1; told = first_told; kind = kind_of e here }
+    kinds (suc zero) e here u = record { command = queued_read 101; places = piece_addresses 0x65000 1; told = second_told; kind = kind_of e here }
     kinds (suc (suc slot)) e here u = absurd (let x : Free ≡ Serves e.request.id = u in cc)
 
 pub two_agree : Agreeing queueing_disks two_slots both_issuing [] two_memory two_issued

@@ -6,13 +6,14 @@ use Rattle.adapter.specs.Device.{Device}
 use Rattle.adapter.specs.Rules.{IsFree, MayRead, MayWrite}
 
 -- The access keeps to the rules in the state in which it has its effect, after what the device did first.
-abbrev pub IsAllowed : (access : Access) (old new : Device) → Does access old new → Type 0
-IsAllowed (Reading r v) old new does = MayRead r does.mid
-IsAllowed (Writing r v) old new does = MayWrite r v does.mid
-IsAllowed (Loading at bytes) old new does = IsFree at (length bytes) new
-IsAllowed (Storing at bytes) old new does = IsFree at (length bytes) does.mid
+abbrev pub IsAllowedAccess : (access : Access) (old new : Device) → Does access old new → Type 0
+IsAllowedAccess (Reading r v) old new does = MayRead r does.mid
+IsAllowedAccess (Writing r v) old new does = MayWrite r v does.mid
+IsAllowedAccess (Loading at bytes) old new does = IsFree at (length bytes) new
+IsAllowedAccess (Storing at bytes) old new does = IsFree at (length bytes) does.mid
 
 -- so does each of these, one after another
 abbrev pub AreAllowed : (accesses : List Access) (old new : Device) → DoesAll accesses old new → Type 0
 AreAllowed [] old new does = Unit {0}
-AreAllowed (access ∷ accesses) old new does = IsAllowed access old does.0 does.1 × AreAllowed accesses does.0 new does.2
+AreAllowed (access ∷ accesses) old new does = IsAllowedAccess access old does.0 does.1
+    × AreAllowed accesses does.0 new does.2

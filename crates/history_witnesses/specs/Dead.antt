@@ -10,13 +10,13 @@ use Rattle.adapter.specs.Access.{Access}
 use Rattle.adapter.specs.Access.Access.{Reading, Writing}
 use Rattle.adapter.specs.Device.{Device}
 use Rattle.adapter.specs.declared.access.DeviceStep.{DeviceStep}
-use Rattle.agreement.specs.Agrees.{port_at}
-use Rattle.agreement.specs.Witness.{first_id}
+use Rattle.refinement.specs.Relation.{port_at}
+use Rattle.refinement.specs.Witness.{first_id}
 use Rattle.block_machine.specs.Events.{Submit, Service, Reset, Submitted, Served, WasReset}
-use Rattle.block_machine.specs.Histories.{Instant, Happening, now}
+use Rattle.block_machine.specs.Histories.{JointState, Happening, now}
 use Rattle.block_machine.specs.State.{Pending}
 use Rattle.identify.specs.declared.wanted.Wanted.TheVariants.{Any}
-use Rattle.driver_history.specs.Histories.{IsHistory, TiesPort}
+use Rattle.driver_history.specs.Histories.{IsDriverHistory, PortCorresponds}
 
 -- HR of GHC is set, and is read 1 still
 abbrev pub reset_accesses : List Access
@@ -26,7 +26,7 @@ reset_accesses = Writing Ghc 0x80000001 ∷ Reading Ghc 0x80000001 ∷ []
 -- unanswered; and a service, which makes no access, answers it PortDead: its frames are kept. Each port's part in these
 -- calls is done, whether it stays healthy or not.
 pub record DeathIsAHistory : Type 0 where
-  pub first : Instant Device
+  pub first : JointState Device
   pub submit : Happening Device DeviceStep
   pub asked : Request
   pub submits : (submit.event.ask ≡ Submit asked) × (submit.event.said ≡ Submitted (Ok first_id))
@@ -36,10 +36,10 @@ pub record DeathIsAHistory : Type 0 where
   pub service : Happening Device DeviceStep
   pub serves : (service.event.ask ≡ Service)
       × (service.event.said ≡ Served (record { id = first_id; client = asked.client; outcome = PortDead } ∷ []))
-  pub history : IsHistory (Any ∷ Any ∷ []) first (service ∷ reset ∷ submit ∷ [])
+  pub history : IsDriverHistory (Any ∷ Any ∷ []) first (service ∷ reset ∷ submit ∷ [])
   pub kept : Pending
   pub keeps : Contains (now first (service ∷ reset ∷ submit ∷ [])).moment.machine.kept kept
       × (kept.request.id ≡ first_id)
   pub accesses : (history.0.2.accesses ≡ reset_accesses) × (history.2.accesses ≡ [])
-  pub reset_parts : (port : Port) → TiesPort (now first (submit ∷ [])) reset history.0.2.accesses port
-  pub service_parts : (port : Port) → TiesPort (now first (reset ∷ submit ∷ [])) service history.2.accesses port
+  pub reset_parts : (port : Port) → PortCorresponds (now first (submit ∷ [])) reset history.0.2.accesses port
+  pub service_parts : (port : Port) → PortCorresponds (now first (reset ∷ submit ∷ [])) service history.2.accesses port

@@ -15,14 +15,14 @@ use Rattle.adapter.specs.Device.{Device}
 use Rattle.adapter.specs.declared.access.DeviceStep.{DeviceStep}
 use Rattle.adapter.specs.declared.access.DeviceStep.TheVariants.{Fatal}
 use Rattle.adapter.specs.declared.access.FatalError.TheVariants.{Interface}
-use Rattle.agreement.specs.Agrees.{port_at}
-use Rattle.agreement.specs.Witness.{first_id}
+use Rattle.refinement.specs.Relation.{port_at}
+use Rattle.refinement.specs.Witness.{first_id}
 use Rattle.block_machine.specs.Events.{Submit, Service, Device as Told, Submitted, Served, Stepped}
-use Rattle.block_machine.specs.Histories.{Instant, Happening, now}
+use Rattle.block_machine.specs.Histories.{JointState, Happening, now}
 use Rattle.block_machine.specs.Ports.{Evidence}
 use Rattle.identify.specs.declared.wanted.Wanted.TheVariants.{Any}
 use Rattle.error_recovery.specs.Evidence.{ShowsFatal}
-use Rattle.driver_history.specs.Histories.{IsHistory, TiesPort}
+use Rattle.driver_history.specs.Histories.{IsDriverHistory, PortCorresponds}
 use Rattle.history_witnesses.specs.Allowed.{AreAllowed}
 use Rattle.history_witnesses.specs.Restart.{restart_evidence, restarting}
 
@@ -44,7 +44,7 @@ fatal_evidence = restart_evidence (port_at 0 ∷ [])
 -- the read is answered Unplugged. The service's accesses keep to the adapter's rules. Each port's part in the three
 -- calls is done, whether it stays healthy or not.
 pub record FatalErrorIsAHistory : Type 0 where
-  pub first : Instant Device
+  pub first : JointState Device
   pub submit : Happening Device DeviceStep
   pub asked : Request
   pub reads : asked.op ≡ Read
@@ -60,8 +60,8 @@ pub record FatalErrorIsAHistory : Type 0 where
   pub unfit : service.event.ports.state (port_at 0) ≡ Unfit 8
   pub does : DoesAll fatal_accesses told.device service.device
   pub allowed : AreAllowed fatal_accesses told.device service.device does
-  pub history : IsHistory (Any ∷ Any ∷ []) first (service ∷ told ∷ submit ∷ [])
+  pub history : IsDriverHistory (Any ∷ Any ∷ []) first (service ∷ told ∷ submit ∷ [])
   pub accesses : history.2.accesses ≡ fatal_accesses
-  pub submit_parts : (port : Port) → TiesPort first submit history.0.0.2.accesses port
-  pub told_parts : (port : Port) → TiesPort (now first (submit ∷ [])) told history.0.2.accesses port
-  pub service_parts : (port : Port) → TiesPort (now first (told ∷ submit ∷ [])) service history.2.accesses port
+  pub submit_parts : (port : Port) → PortCorresponds first submit history.0.0.2.accesses port
+  pub told_parts : (port : Port) → PortCorresponds (now first (submit ∷ [])) told history.0.2.accesses port
+  pub service_parts : (port : Port) → PortCorresponds (now first (told ∷ submit ∷ [])) service history.2.accesses port

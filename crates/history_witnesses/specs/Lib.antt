@@ -1,6 +1,6 @@
 pub mod Scene
 pub mod Allowed
-pub mod Begun
+pub mod CommandToFinish
 pub mod Recovery
 pub mod Loss
 pub mod Dead

@@ -12,13 +12,13 @@ use Rattle.adapter.specs.Access.{Access, DoesAll}
 use Rattle.adapter.specs.Access.Access.{Reading, Writing}
 use Rattle.adapter.specs.Device.{Device}
 use Rattle.adapter.specs.declared.access.DeviceStep.{DeviceStep}
-use Rattle.agreement.specs.Agrees.{port_at}
-use Rattle.agreement.specs.Witness.{first_id}
+use Rattle.refinement.specs.Relation.{port_at}
+use Rattle.refinement.specs.Witness.{first_id}
 use Rattle.block_machine.specs.Events.{Submit, Service, Submitted, Served}
-use Rattle.block_machine.specs.Histories.{Instant, Happening, now}
+use Rattle.block_machine.specs.Histories.{JointState, Happening, now}
 use Rattle.block_machine.specs.Ports.{Evidence}
 use Rattle.identify.specs.declared.wanted.Wanted.TheVariants.{Any}
-use Rattle.driver_history.specs.Histories.{IsHistory, TiesPort}
+use Rattle.driver_history.specs.Histories.{IsDriverHistory, PortCorresponds}
 use Rattle.history_witnesses.specs.Allowed.{AreAllowed}
 
 -- the turn of port 0: the masks are read
@@ -49,7 +49,7 @@ loss_evidence = record {
 -- stopped, and absent after the call. The service's accesses keep to the adapter's rules. Each port's part in both
 -- calls is done, whether it stays healthy or not.
 pub record LossIsAHistory : Type 0 where
-  pub first : Instant Device
+  pub first : JointState Device
   pub ready : (first.moment.ports.state (port_at 0) ≡ Ready) × (first.moment.ports.state (port_at 1) ≡ Ready)
   pub submit : Happening Device DeviceStep
   pub asked : Request
@@ -67,7 +67,7 @@ pub record LossIsAHistory : Type 0 where
   pub evidence : service.event.evidence ≡ loss_evidence
   pub still : service.event.ports.state (port_at 0) ≡ Ready
   pub absent : service.event.ports.state (port_at 1) ≡ Absent
-  pub history : IsHistory (Any ∷ Any ∷ []) first (service ∷ submit ∷ [])
+  pub history : IsDriverHistory (Any ∷ Any ∷ []) first (service ∷ submit ∷ [])
   pub turns : history.2.accesses ≡ finding_turn ++ losing_turn
-  pub submit_parts : (port : Port) → TiesPort first submit history.0.2.accesses port
-  pub service_parts : (port : Port) → TiesPort (now first (submit ∷ [])) service history.2.accesses port
+  pub submit_parts : (port : Port) → PortCorresponds first submit history.0.2.accesses port
+  pub service_parts : (port : Port) → PortCorresponds (now first (submit ∷ [])) service history.2.accesses port

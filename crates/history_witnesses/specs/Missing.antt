@@ -1,4 +1,4 @@
--- A history in which an unfit disk is taken out after a reset, and a service tries the port (this project's own).
+-- A history in which an unfit disk is taken out after a reset, and a service probes the port (this project's own).
 use Rattle.std.specs.Prelude.{true, ◌≡◌, ◌++◌, List, [], ◌∷◌}
 use Rattle.ata_types.specs.declared.Port.{Port}
 use Rattle.ata_types.specs.declared.PortState.TheVariants.{Absent, Unfit}
@@ -9,11 +9,11 @@ use Rattle.adapter.specs.Access.Access.{Reading, Writing}
 use Rattle.adapter.specs.Device.{Device}
 use Rattle.adapter.specs.declared.access.DeviceStep.{DeviceStep}
 use Rattle.adapter.specs.declared.access.DeviceStep.TheVariants as asked
-use Rattle.agreement.specs.Agrees.{port_at}
+use Rattle.refinement.specs.Relation.{port_at}
 use Rattle.block_machine.specs.Events.{Device as Told, Service, Stepped, Served}
-use Rattle.block_machine.specs.Histories.{Instant, Happening, now}
+use Rattle.block_machine.specs.Histories.{JointState, Happening, now}
 use Rattle.identify.specs.declared.wanted.Wanted.TheVariants.{Any}
-use Rattle.driver_history.specs.Histories.{IsHistory, TiesPort}
+use Rattle.driver_history.specs.Histories.{IsDriverHistory, PortCorresponds}
 use Rattle.history_witnesses.specs.Allowed.{AreAllowed}
 
 -- A look at an unfit port shows that a disk went (PRCS), and no device; the port is given up: it is stopped already. No
@@ -33,7 +33,7 @@ passing = Reading (Px (port_at 1) Is) 0 ∷ Reading (Px (port_at 1) Ssts) 3 ∷ 
 -- follows finds that out, and makes the port absent; it leaves the other as it is. The service's accesses keep to the
 -- adapter's rules. Each port's part in both calls is done.
 pub record MissingDiskIsAHistory : Type 0 where
-  pub first : Instant Device
+  pub first : JointState Device
   pub past : List (Happening Device DeviceStep)
   pub unfit : ((now first past).moment.ports.state (port_at 0) ≡ Unfit 8)
       × ((now first past).moment.ports.state (port_at 1) ≡ Unfit 8)
@@ -46,7 +46,7 @@ pub record MissingDiskIsAHistory : Type 0 where
   pub stays : service.event.ports.state (port_at 1) ≡ Unfit 8
   pub does : DoesAll (looking ++ passing) unplug.device service.device
   pub allowed : AreAllowed (looking ++ passing) unplug.device service.device does
-  pub history : IsHistory (Any ∷ Any ∷ []) first (service ∷ unplug ∷ past)
+  pub history : IsDriverHistory (Any ∷ Any ∷ []) first (service ∷ unplug ∷ past)
   pub accesses : history.2.accesses ≡ looking ++ passing
-  pub unplug_parts : (port : Port) → TiesPort (now first past) unplug history.0.2.accesses port
-  pub service_parts : (port : Port) → TiesPort (now first (unplug ∷ past)) service history.2.accesses port
+  pub unplug_parts : (port : Port) → PortCorresponds (now first past) unplug history.0.2.accesses port
+  pub service_parts : (port : Port) → PortCorresponds (now first (unplug ∷ past)) service history.2.accesses port

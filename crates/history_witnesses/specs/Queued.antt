@@ -13,16 +13,16 @@ use Rattle.adapter.specs.Access.{Access, DoesAll}
 use Rattle.adapter.specs.Access.Access.{Reading}
 use Rattle.adapter.specs.Device.{Device}
 use Rattle.adapter.specs.declared.access.DeviceStep.{DeviceStep}
-use Rattle.agreement.specs.Agrees.{port_at}
-use Rattle.agreement.specs.Facts.{RunsWell}
-use Rattle.agreement.specs.Served.{second_id}
-use Rattle.agreement.specs.Witness.{first_id}
-use Rattle.block_machine.specs.Events.{Submit, Service, Said, Submitted, Served, IsIssuedIn}
-use Rattle.block_machine.specs.Histories.{Instant, Happening, now}
+use Rattle.refinement.specs.Relation.{port_at}
+use Rattle.refinement.specs.Facts.{RunsWell}
+use Rattle.refinement.specs.Served.{second_id}
+use Rattle.refinement.specs.Witness.{first_id}
+use Rattle.block_machine.specs.Events.{Submit, Service, CallResult, Submitted, Served, IsIssuedIn}
+use Rattle.block_machine.specs.Histories.{JointState, Happening, now}
 use Rattle.block_machine.specs.State.{Pending}
 use Rattle.identify.specs.declared.wanted.Wanted.TheVariants.{Any}
 use Rattle.driver_history.specs.Evidence.{StaysHealthy}
-use Rattle.driver_history.specs.Histories.{IsHistory, TiesPort}
+use Rattle.driver_history.specs.Histories.{IsDriverHistory, PortCorresponds}
 use Rattle.history_witnesses.specs.Allowed.{AreAllowed}
 use Rattle.history_witnesses.specs.Scene.{queued}
 
@@ -35,7 +35,7 @@ abbrev pub first_found : List Access
 first_found = Reading (Px (port_at 0) Ci) 0 ∷ Reading (Px (port_at 0) Sact) 0 ∷ []
 
 -- this request alone is answered, with Ok
-abbrev pub tells_done : RequestId → Request → Said
+abbrev pub tells_done : RequestId → Request → CallResult
 tells_done id asked = Served (record { id = id; client = asked.client; outcome = outcome.Ok } ∷ [])
 
 -- Port 0 queues commands, 32 at a time, and stays ready. Two reads of it are accepted, each issued in the same call, in
@@ -44,7 +44,7 @@ tells_done id asked = Served (record { id = id; client = asked.client; outcome =
 -- services' accesses keep to the adapter's rules; nothing goes wrong on the port in them, and it runs well in the end.
 -- Each port's part in the four calls is done, whether it stays healthy or not.
 pub record OrderIsFree : Type 0 where
-  pub first : Instant Device
+  pub first : JointState Device
   pub queues : first.moment.ports.mode (port_at 0) ≡ queued
   pub submit_first : Happening Device DeviceStep
   pub asked_first : Request
@@ -75,12 +75,12 @@ pub record OrderIsFree : Type 0 where
   pub finds_first : DoesAll first_found serve_second.device serve_first.device
   pub allowed : AreAllowed second_found submit_second.device serve_second.device finds_second
       × AreAllowed first_found serve_second.device serve_first.device finds_first
-  pub history : IsHistory (Any ∷ Any ∷ []) first (serve_first ∷ serve_second ∷ submit_second ∷ submit_first ∷ [])
+  pub history : IsDriverHistory (Any ∷ Any ∷ []) first (serve_first ∷ serve_second ∷ submit_second ∷ submit_first ∷ [])
   pub accesses : (history.0.2.accesses ≡ second_found) × (history.2.accesses ≡ first_found)
-  pub submit_first_parts : (port : Port) → TiesPort first submit_first history.0.0.0.2.accesses port
-  pub submit_second_parts : (port : Port) → TiesPort (now first (submit_first ∷ [])) submit_second
+  pub submit_first_parts : (port : Port) → PortCorresponds first submit_first history.0.0.0.2.accesses port
+  pub submit_second_parts : (port : Port) → PortCorresponds (now first (submit_first ∷ [])) submit_second
       history.0.0.2.accesses port
-  pub serve_second_parts : (port : Port) → TiesPort (now first (submit_second ∷ submit_first ∷ [])) serve_second
+  pub serve_second_parts : (port : Port) → PortCorresponds (now first (submit_second ∷ submit_first ∷ [])) serve_second
       history.0.2.accesses port
-  pub serve_first_parts : (port : Port) → TiesPort (now first (serve_second ∷ submit_second ∷ submit_first ∷ []))
+  pub serve_first_parts : (port : Port) → PortCorresponds (now first (serve_second ∷ submit_second ∷ submit_first ∷ []))
       serve_first history.2.accesses port

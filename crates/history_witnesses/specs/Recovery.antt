@@ -1,6 +1,6 @@
 -- A history with a service that tells a plain read's fault, and leaves its port ready and running (this project's own;
 -- AHCI 1.3.1, 6.2.2).
-use Rattle.agreement.specs.Facts.{RunsWell}
+use Rattle.refinement.specs.Facts.{RunsWell}
 use Rattle.std.specs.Prelude.{◌≡◌, List, [], ◌∷◌, Ok}
 use Rattle.ata_types.specs.declared.Port.{Port}
 use Rattle.ata_types.specs.declared.PortState.TheVariants.{Ready}
@@ -13,13 +13,13 @@ use Rattle.adapter.specs.Access.{Access, DoesAll}
 use Rattle.adapter.specs.Access.Access.{Reading, Writing}
 use Rattle.adapter.specs.Device.{Device}
 use Rattle.adapter.specs.declared.access.DeviceStep.{DeviceStep}
-use Rattle.agreement.specs.Agrees.{port_at}
-use Rattle.agreement.specs.Witness.{first_id}
+use Rattle.refinement.specs.Relation.{port_at}
+use Rattle.refinement.specs.Witness.{first_id}
 use Rattle.block_machine.specs.Events.{Submit, Service, Submitted, Served}
-use Rattle.block_machine.specs.Histories.{Instant, Happening, now}
-use Rattle.block_machine.specs.Ports.{Fault, Evidence}
+use Rattle.block_machine.specs.Histories.{JointState, Happening, now}
+use Rattle.block_machine.specs.Ports.{RequestFault, Evidence}
 use Rattle.identify.specs.declared.wanted.Wanted.TheVariants.{Any}
-use Rattle.driver_history.specs.Histories.{IsHistory, TiesPort}
+use Rattle.driver_history.specs.Histories.{IsDriverHistory, PortCorresponds}
 use Rattle.history_witnesses.specs.Allowed.{AreAllowed}
 
 -- The masks are read, then PxTFD; the port is stopped; PxSERR and PxIS are cleared; PxTFD is read again, and ST is set.
@@ -32,7 +32,7 @@ recovery_accesses =
     ∷ []
 
 -- what is named: request 1 failed, with status 41h and error 40h; port 0 failed, and was stopped
-abbrev pub told_fault : Fault
+abbrev pub told_fault : RequestFault
 told_fault = record { id = first_id; status = 0x41; error = 0x40 }
 
 abbrev pub fault_evidence : Evidence
@@ -50,7 +50,7 @@ fault_evidence = record {
 -- answers it with that fault, and leaves the port ready: it runs well. The service's accesses keep to the adapter's
 -- rules. Each port's part in both calls is done, whether it stays healthy or not.
 pub record RecoveryTies : Type 0 where
-  pub first : Instant Device
+  pub first : JointState Device
   pub submit : Happening Device DeviceStep
   pub asked : Request
   pub reads : asked.op ≡ Read
@@ -65,7 +65,7 @@ pub record RecoveryTies : Type 0 where
   pub well : RunsWell (service.device.port 0)
   pub does : DoesAll recovery_accesses submit.device service.device
   pub allowed : AreAllowed recovery_accesses submit.device service.device does
-  pub history : IsHistory (Any ∷ Any ∷ []) first (service ∷ submit ∷ [])
+  pub history : IsDriverHistory (Any ∷ Any ∷ []) first (service ∷ submit ∷ [])
   pub accesses : history.2.accesses ≡ recovery_accesses
-  pub submit_parts : (port : Port) → TiesPort first submit history.0.2.accesses port
-  pub service_parts : (port : Port) → TiesPort (now first (submit ∷ [])) service history.2.accesses port
+  pub submit_parts : (port : Port) → PortCorresponds first submit history.0.2.accesses port
+  pub service_parts : (port : Port) → PortCorresponds (now first (submit ∷ [])) service history.2.accesses port

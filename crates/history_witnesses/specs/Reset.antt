@@ -12,13 +12,13 @@ use Rattle.adapter.specs.Access.{Access, DoesAll}
 use Rattle.adapter.specs.Access.Access.{Reading, Writing}
 use Rattle.adapter.specs.Device.{Device}
 use Rattle.adapter.specs.declared.access.DeviceStep.{DeviceStep}
-use Rattle.agreement.specs.Agrees.{port_at}
-use Rattle.agreement.specs.Places.{list_of, received_of}
-use Rattle.agreement.specs.Witness.{first_id}
+use Rattle.refinement.specs.Relation.{port_at}
+use Rattle.refinement.specs.Places.{list_of, received_of}
+use Rattle.refinement.specs.Witness.{first_id}
 use Rattle.block_machine.specs.Events.{Submit, Reset, Submitted, WasReset}
-use Rattle.block_machine.specs.Histories.{Instant, Happening, now}
+use Rattle.block_machine.specs.Histories.{JointState, Happening, now}
 use Rattle.identify.specs.declared.wanted.Wanted.TheVariants.{Any}
-use Rattle.driver_history.specs.Histories.{IsHistory, TiesPort}
+use Rattle.driver_history.specs.Histories.{IsDriverHistory, PortCorresponds}
 use Rattle.history_witnesses.specs.Allowed.{AreAllowed}
 
 -- HR of GHC is set, and is read 0; then AE and IE are set
@@ -46,7 +46,7 @@ rebooting = adapter_reset ++ (booting 0 ++ booting 1)
 -- port is booted, and no ATA disk is found. So both are unfit, the read is answered Unplugged, and its frame is given
 -- back. The reset's accesses keep to the adapter's rules. Each port's part in both calls is done.
 pub record ResetIsAHistory : Type 0 where
-  pub first : Instant Device
+  pub first : JointState Device
   pub submit : Happening Device DeviceStep
   pub asked : Request
   pub submits : (submit.event.ask ≡ Submit asked) × (submit.event.said ≡ Submitted (Ok first_id))
@@ -60,7 +60,7 @@ pub record ResetIsAHistory : Type 0 where
   pub freed : (now first (reset ∷ submit ∷ [])).moment.machine.lent frame ≡ None
   pub does : DoesAll rebooting submit.device reset.device
   pub allowed : AreAllowed rebooting submit.device reset.device does
-  pub history : IsHistory (Any ∷ Any ∷ []) first (reset ∷ submit ∷ [])
+  pub history : IsDriverHistory (Any ∷ Any ∷ []) first (reset ∷ submit ∷ [])
   pub accesses : history.2.accesses ≡ rebooting
-  pub submit_parts : (port : Port) → TiesPort first submit history.0.2.accesses port
-  pub reset_parts : (port : Port) → TiesPort (now first (submit ∷ [])) reset history.2.accesses port
+  pub submit_parts : (port : Port) → PortCorresponds first submit history.0.2.accesses port
+  pub reset_parts : (port : Port) → PortCorresponds (now first (submit ∷ [])) reset history.2.accesses port

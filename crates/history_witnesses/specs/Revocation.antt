@@ -4,19 +4,19 @@ use Rattle.ata_types.specs.declared.Port.{Port}
 use Rattle.ata_types.specs.declared.request.Request.{Request}
 use Rattle.adapter.specs.Device.{Device}
 use Rattle.adapter.specs.declared.access.DeviceStep.{DeviceStep}
-use Rattle.agreement.specs.Witness.{first_id}
+use Rattle.refinement.specs.Witness.{first_id}
 use Rattle.block_machine.specs.Events.{RevokeOf, Submit, Submitted, WasRevoked}
-use Rattle.block_machine.specs.Histories.{Instant, Happening, now}
+use Rattle.block_machine.specs.Histories.{JointState, Happening, now}
 use Rattle.block_machine.specs.State.{Pending}
 use Rattle.block_machine.specs.Steps.{HasGrant}
 use Rattle.identify.specs.declared.wanted.Wanted.TheVariants.{Any}
-use Rattle.driver_history.specs.Histories.{IsHistory, TiesPort}
+use Rattle.driver_history.specs.Histories.{IsDriverHistory, PortCorresponds}
 
 -- A read is accepted and issued, and then its grant is revoked. Since no request of it waits, none is answered, and
 -- no access is made. The read goes on: it is issued still, though its grant is gone. Each port's part in both calls is
 -- done.
 pub record RevocationIsAHistory : Type 0 where
-  pub first : Instant Device
+  pub first : JointState Device
   pub submit : Happening Device DeviceStep
   pub asked : Request
   pub submits : (submit.event.ask ≡ Submit asked) × (submit.event.said ≡ Submitted (Ok first_id))
@@ -26,7 +26,7 @@ pub record RevocationIsAHistory : Type 0 where
   pub book : (now first (revoke ∷ submit ∷ [])).moment.machine.book ≡ issued ∷ []
   pub goes_on : (issued.request.asked ≡ asked) × (issued.issued ≡ true)
   pub gone : HasGrant (now first (revoke ∷ submit ∷ [])).moment.machine issued → ⊥
-  pub history : IsHistory (Any ∷ Any ∷ []) first (revoke ∷ submit ∷ [])
+  pub history : IsDriverHistory (Any ∷ Any ∷ []) first (revoke ∷ submit ∷ [])
   pub accesses : history.2.accesses ≡ []
-  pub submit_parts : (port : Port) → TiesPort first submit history.0.2.accesses port
-  pub revoke_parts : (port : Port) → TiesPort (now first (submit ∷ [])) revoke history.2.accesses port
+  pub submit_parts : (port : Port) → PortCorresponds first submit history.0.2.accesses port
+  pub revoke_parts : (port : Port) → PortCorresponds (now first (submit ∷ [])) revoke history.2.accesses port

@@ -4,7 +4,7 @@ use Rattle.ata_types.specs.declared.PortState as shown
 use Rattle.ata_types.specs.declared.PortState.TheVariants.{Absent}
 use Rattle.ata_types.specs.declared.limits.TheConstants.{READINGS}
 use Rattle.adapter.specs.Access.{named_causes}
-use Rattle.adapter.specs.Device.{PortState, Device}
+use Rattle.adapter.specs.Device.{DevicePort, Device}
 use Rattle.adapter.specs.FirstRead.{first_read, no_notes, quiet_port, reading_port}
 use Rattle.adapter.specs.Steps.{noted_bytes}
 use Rattle.adapter.specs.declared.command.Direction.TheVariants.{ToMemory}
@@ -12,9 +12,9 @@ use Rattle.adapter.specs.declared.command.Operation.TheVariants.{Identify}
 use Rattle.adapter.specs.declared.tape.Entry.{Entry}
 use Rattle.adapter.specs.declared.tape.Entry.TheVariants as entry
 use Rattle.adapter.specs.declared.tape.Move as tape_move
-use Rattle.agreement.specs.Places.{scratch_of}
+use Rattle.refinement.specs.Places.{scratch_of}
 use Rattle.block_machine.specs.Ports.{Ports}
-use Rattle.block_machine.specs.declared.due.Mode.{Mode}
+use Rattle.block_machine.specs.declared.due.QueueMode.{QueueMode}
 use Rattle.driver_history.specs.Holds.{mode_of}
 use Rattle.identify.specs.declared.DiskInfo.{DiskInfo}
 use Rattle.port_control.specs.Ports.{programmed}
@@ -55,7 +55,7 @@ page_entry page port = entry.Move (page_move page port)
 
 -- The port runs with the disk of the first read, in its own places, and tells of its causes; a device was seen, and no
 -- command is in a slot.
-abbrev pub running_port : ℕ → PortState
+abbrev pub running_port : ℕ → DevicePort
 running_port port = record reading_port {
   bases = programmed port;
   ci = λ _. false;
@@ -64,7 +64,7 @@ running_port port = record reading_port {
 }
 
 -- these are the first ports, and the others are as after a reset
-abbrev pub having : List PortState → ℕ → PortState
+abbrev pub having : List DevicePort → ℕ → DevicePort
 having ports port = slice_index_or ports port quiet_port
 
 -- its adapter has 32 slots, and supports native command queuing (CAP: AHCI 1.3.1, 3.1.1)
@@ -72,17 +72,17 @@ abbrev pub queueing_cap : ℕ
 queueing_cap = 0x40001f03
 
 -- the adapter of the first read, but for that, which tells of its causes, with this tape, this memory, and these ports
-abbrev pub device_with : List Entry → (ℕ → ℕ) → List PortState → Device
+abbrev pub device_with : List Entry → (ℕ → ℕ) → List DevicePort → Device
 device_with tape memory ports =
     record first_read { cap = queueing_cap; ie = true; tape = tape; memory = memory; port = having ports }
 
 -- ---- what clients see
 
 -- commands are plain, one at a time; or queued, 32 at a time
-abbrev pub plain : Mode
+abbrev pub plain : QueueMode
 plain = record { queued = false; usable = 1 }
 
-abbrev pub queued : Mode
+abbrev pub queued : QueueMode
 queued = record { queued = true; usable = 32 }
 
 -- These ports are served, and in these states; their disks are alike, and this is what their page says.

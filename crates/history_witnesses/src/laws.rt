@@ -1,5 +1,5 @@
 // Laws of the definitions: the clause is the theorem. These functions do nothing.
-ghost use Rattle.history_witnesses.specs.Begun.{ReadyPortHasBegun};
+ghost use Rattle.history_witnesses.specs.CommandToFinish.{ReadyPortHasBegun};
 ghost use Rattle.history_witnesses.specs.Dead.{DeathIsAHistory};
 ghost use Rattle.history_witnesses.specs.Fatal.{FatalErrorIsAHistory};
 ghost use Rattle.history_witnesses.specs.Hung.{HungPortIsAHistory};
@@ -11,60 +11,60 @@ ghost use Rattle.history_witnesses.specs.Reset.{ResetIsAHistory};
 ghost use Rattle.history_witnesses.specs.Missing.{MissingDiskIsAHistory};
 
 /// There is an instant at which a history may begin with ports that are ready.
-pub fn a_ready_port_has_begun()
+pub fn law_a_ready_port_has_begun()
     ensures { ReadyPortHasBegun }
 {}
 
 /// There is a history with a service that answers a plain read with its fault, and leaves the port running well: all
 /// that is asked of its calls is met.
-pub fn a_recovery_ties()
+pub fn law_a_recovery_ties()
     ensures { RecoveryTies }
 {}
 
 /// There is a history with a service that finds a read done on one port, and loses the disk of another: all that is
 /// asked of its calls is met.
-pub fn a_loss_is_a_history()
+pub fn law_a_loss_is_a_history()
     ensures { LossIsAHistory }
 {}
 
 /// There is a history with a reset that doesn't end, and a service that tells its ports dead: all that is asked of its
 /// calls is met.
-pub fn a_death_is_a_history()
+pub fn law_a_death_is_a_history()
     ensures { DeathIsAHistory }
 {}
 
 /// There is a history with two queued reads of one port, of which the second ends first, and is answered first: all
 /// that is asked of its calls is met.
-pub fn queued_requests_end_in_any_order()
+pub fn law_queued_requests_end_in_any_order()
     ensures { OrderIsFree }
 {}
 
 /// There is a history with a service that finds a fatal error on a port, gives the port up, and boots it anew: all that
 /// is asked of its calls is met.
-pub fn a_fatal_error_is_a_history()
+pub fn law_a_fatal_error_is_a_history()
     ensures { FatalErrorIsAHistory }
 {}
 
 /// There is a history with a read that never ends, and three ticks, of which the third finds its port hung, gives it
 /// up, and boots it anew: all that is asked of its calls is met.
-pub fn a_hung_port_is_a_history()
+pub fn law_a_hung_port_is_a_history()
     ensures { HungPortIsAHistory }
 {}
 
 /// There is a history in which a grant is revoked while a read of it is issued, which goes on: all that is asked of
 /// its calls is met.
-pub fn a_revocation_is_a_history()
+pub fn law_a_revocation_is_a_history()
     ensures { RevocationIsAHistory }
 {}
 
 /// There is a history with a reset that ends, which boots both ports, tells the read that was issued so, and gives its
 /// frame back: all that is asked of its calls is met.
-pub fn an_ended_reset_is_a_history()
+pub fn law_an_ended_reset_is_a_history()
     ensures { ResetIsAHistory }
 {}
 
 /// There is a history in which an unfit disk is taken out, and the service that follows makes its port absent: all that
 /// is asked of its calls is met.
-pub fn a_missing_disk_is_a_history()
+pub fn law_a_missing_disk_is_a_history()
     ensures { MissingDiskIsAHistory }
 {}

@@ -9,11 +9,11 @@ use Rattle.hba_regs.specs.declared.reg.Reg.TheVariants.{Ghc}
 use Rattle.adapter.specs.Access.{Access, Reads, Writes}
 use Rattle.adapter.specs.Access.Access.{Reading, Writing}
 use Rattle.adapter.specs.Device.{Device}
-use Rattle.agreement.specs.Driven.{AnyUse, IsTold}
-use Rattle.agreement.specs.Links.{SameAdapter}
+use Rattle.refinement.specs.Driven.{AnyUse, IsSimulatedAlong}
+use Rattle.refinement.specs.Links.{SameAdapter}
 use Rattle.host_boot.specs.Resets.{ReadsGlobalControl, AwaitsHr, AwaitsReset, IsOfReset, Resets, StaysReset}
 use Rattle.host_boot.specs.Laws.{Laws}
-use Rattle.host_boot.specs.Laws.Stretch.{Resetting}
+use Rattle.host_boot.specs.Laws.Fragment.{Resetting}
 use Rattle.host_boot.proofs.Stretching.{told_both, told_more}
 
 -- HR was set, and GHC alone was read so many times, at last with HR still one
@@ -26,7 +26,7 @@ pub record AsksAgain (n : ℕ) (accesses : List Access) : Type 0 where
 
 -- the reset is pending after so many readings
 pub record IsResetting (start : Device) (n : ℕ) (d : Device) : Type 0 where
-  pub told : IsTold (AsksAgain n) IsOfReset AnyUse start d
+  pub told : IsSimulatedAlong (AsksAgain n) IsOfReset AnyUse start d
   pub pending : d.hr ≡ true
   pub same : SameAdapter start d
 
@@ -60,7 +60,7 @@ module _ (laws : Laws) (start : Device) where
   pub resetting_begins : (d : Device) → Writes Ghc 0x80000001 start d → IsResetting start 0 d
   resetting_begins d call = record {
     told = told_more (λ accesses. accesses ≡ Writing Ghc 0x80000001 ∷ []) (AsksAgain 0) IsOfReset AnyUse (λ uses. uses) start d asks_none
-        (laws.stretches.writes Resetting Ghc 0x80000001 start d refl (λ mid steps. tt) (λ uses is. tt) call);
+        (laws.fragments.writes Resetting Ghc 0x80000001 start d refl (λ mid steps. tt) (λ uses is. tt) call);
     pending = laws.hr_begins 0x80000001 start d refl call;
     same = laws.access_same (Writing Ghc 0x80000001) start d call;
   }
@@ -70,10 +70,10 @@ module _ (laws : Laws) (start : Device) where
     same = laws.same_more start d e w.same (laws.access_same (Reading Ghc v) d e call)
 
     -- what is told with one more reading
-    with_reading : (Tells : List Access → Type 0) → ((early late : List Access) → AsksAgain n early → late ≡ Reading Ghc v ∷ [] → Tells (early ++ late)) → IsTold Tells IsOfReset AnyUse start e
+    with_reading : (Tells : List Access → Type 0) → ((early late : List Access) → AsksAgain n early → late ≡ Reading Ghc v ∷ [] → Tells (early ++ late)) → IsSimulatedAlong Tells IsOfReset AnyUse start e
     with_reading Tells join =
         told_both laws (AsksAgain n) (λ accesses. accesses ≡ Reading Ghc v ∷ []) Tells join Resetting Resetting (λ uses. uses) (λ uses. uses) (λ access may. may) (λ uses any. tt) start d e w.told
-        (laws.stretches.reads Resetting Ghc v d e tt call)
+        (laws.fragments.reads Resetting Ghc v d e tt call)
 
     pub resetting_goes_on : bit v 0 ≡ true → IsResetting start (n + 1) e
     resetting_goes_on shows = record {

@@ -7,30 +7,30 @@ use Rattle.hba_regs.specs.Bits.{bit, field}
 use Rattle.hba_regs.specs.declared.reg.Reg.TheVariants.{Cap, Px}
 use Rattle.adapter.specs.Access.{Access, Reads}
 use Rattle.adapter.specs.Access.Access.{Reading, Writing, Loading, Storing}
-use Rattle.adapter.specs.Device.{Device, PortState}
+use Rattle.adapter.specs.Device.{Device, DevicePort}
 use Rattle.adapter.specs.Rules.{HasPort, IsOn}
-use Rattle.agreement.specs.Driven.{AnyUse, IsControl, IsDrivenBy, IsFollowed, IsTold, LeavesPort}
-use Rattle.agreement.specs.Driver.{AllFree}
+use Rattle.refinement.specs.Driven.{AnyUse, IsControl, IsDrivenBy, IsSimulated, IsSimulatedAlong, LeavesPort}
+use Rattle.refinement.specs.Driver.{AllFree}
 use Rattle.identify.specs.declared.wanted.Wanted.{Wanted}
 use Rattle.identify.specs.declared.wanted.Wanted.TheVariants.{Nothing}
 use Rattle.port_control.specs.Engines.{Stops, StopsBoth}
-use Rattle.port_control.specs.Ports.{IsClearing, IsStopped, Shows, WritesCommand}
+use Rattle.port_control.specs.Ports.{IsClearing, IsStopped, BacksFault, WritesCommand}
 use Rattle.port_control.specs.declared.PortFault.TheVariants.{NoDevice}
 use Rattle.port_boot.specs.States.{IsBootTo, IsBootable, IsOfBoot}
 use Rattle.host_boot.specs.Again.{BootsAgain, BootsIfThere, BootsStopped, IsOfStart}
 use Rattle.host_boot.specs.Laws.{Laws}
-use Rattle.host_boot.specs.Laws.Stretch.{Clearing, Starting, Surveying}
+use Rattle.host_boot.specs.Laws.Fragment.{Clearing, Starting, Surveying}
 use Rattle.host_boot.specs.Taken.{Boots, GoesThrough, HaltsFound, IsSurvey, StandsBehind, WroteControl}
 use Rattle.host_boot.specs.declared.Booted.{Booted}
-use Rattle.host_boot.specs.declared.Found.{Found}
-use Rattle.host_boot.specs.declared.Found.TheVariants.{Unserved, Ready, Unready}
+use Rattle.host_boot.specs.declared.ProbeResult.{ProbeResult}
+use Rattle.host_boot.specs.declared.ProbeResult.TheVariants.{Unserved, Ready, Unready}
 use Rattle.host_boot.proofs.Hosting.{cap_on}
 use Rattle.host_boot.proofs.Stopping.{boot_sticks, bootable_over, ended_since, since_stop, still_there, then_boot, then_boot_to}
 use Rattle.host_boot.proofs.Stretching.{by_then, driven_as, same_over}
 use Rattle.host_boot.proofs.Taking.{boots_same}
 
 -- a port that is left to the device stays stopped
-stopped_on : (old new : PortState) → LeavesPort old new → IsStopped old → IsStopped new
+stopped_on : (old new : DevicePort) → LeavesPort old new → IsStopped old → IsStopped new
 stopped_on old new l is = record {
   halted = record {
     st = l.keeps.st is.halted.st;
@@ -42,8 +42,8 @@ stopped_on old new l is = record {
 }
 
 -- what halts a port that is ready then
-pub found_halts : (wanted : Wanted) (port : Port) (old new : Device) (found : Found) → BootsStopped wanted port found old new → HaltsFound found port.0 new
-found_halts wanted port old new found b info is = (subst (λ (f : Found). BootsStopped wanted port f old new) is b).halts
+pub found_halts : (wanted : Wanted) (port : Port) (old new : Device) (found : ProbeResult) → BootsStopped wanted port found old new → HaltsFound found port.0 new
+found_halts wanted port old new found b info is = (subst (λ (f : ProbeResult). BootsStopped wanted port f old new) is b).halts
 
 -- looking at a port is of its boot
 clearing_of_start : (port : Port) (access : Access) → IsControl IsClearing port access → IsOfStart port access
@@ -55,7 +55,7 @@ clearing_of_start port (Loading at bytes) is = absurd is
 clearing_of_start port (Storing at bytes) is = absurd is
 
 -- a port was booted, once this was read of CAP, which is as it was
-abbrev boots_again : (port : Port) (v : ℕ) (booted : Booted) (wanted : Wanted) (old asked new : Device) → IsFollowed (IsOfStart port) (λ uses. AllFree uses port.0) old asked →
+abbrev boots_again : (port : Port) (v : ℕ) (booted : Booted) (wanted : Wanted) (old asked new : Device) → IsSimulated (IsOfStart port) (λ uses. AllFree uses port.0) old asked →
     BootsStopped wanted port booted.found asked new → booted.slots ≡ field v 8 5 + 1 → booted.queued ≡ bit v 30 → v ≡ new.cap → BootsAgain wanted port booted old new
 boots_again port v booted wanted old asked new asks boots slots queued cap = record {
   asked = asked;
@@ -67,30 +67,30 @@ boots_again port v booted wanted old asked new asks boots slots queued cap = rec
 
 module _ (laws : Laws) where
   -- the accesses of a boot
-  pub booted_driven : (wanted : Wanted) (port : Port) (found : Found) (old new : Device) → BootsStopped wanted port found old new → IsDrivenBy (IsOfBoot port) old new
+  pub booted_driven : (wanted : Wanted) (port : Port) (found : ProbeResult) (old new : Device) → BootsStopped wanted port found old new → IsDrivenBy (IsOfBoot port) old new
   booted_driven wanted port Unserved old new b = absurd b
   booted_driven wanted port (Ready info) old new b = b.boots.followed.driven
   booted_driven wanted port (Unready state) old new b = laws.boots_driven port state old new b.boots
 
   -- ---- when the adapter is taken over: the port was stopped before
 
-  module _ (port : Port) (old mid : Device) (stops : IsTold (Stops port) (IsControl WritesCommand port) AnyUse old mid) (wanted : Wanted) (new : Device) where
-    pub found_boots : (found : Found) → BootsStopped wanted port found mid new → Boots port found old new
+  module _ (port : Port) (old mid : Device) (stops : IsSimulatedAlong (Stops port) (IsControl WritesCommand port) AnyUse old mid) (wanted : Wanted) (new : Device) where
+    pub found_boots : (found : ProbeResult) → BootsStopped wanted port found mid new → Boots port found old new
     found_boots Unserved b = absurd b
     found_boots (Ready info) b = then_boot laws port old mid stops new b.boots
     found_boots (Unready state) b = then_boot_to laws port old mid stops new state b.boots
 
-    pub found_stands : (found : Found) → BootsStopped wanted port found mid new → wanted ≢ Nothing → HasPort old port.0 → StandsBehind wanted found port.0 new
+    pub found_stands : (found : ProbeResult) → BootsStopped wanted port found mid new → wanted ≢ Nothing → HasPort old port.0 → StandsBehind wanted found port.0 new
     found_stands Unserved b wants there = absurd b
     found_stands (Ready info) b wants there = ((wants, (still_there port old new (boots_same laws port old new (Ready info) (found_boots (Ready info) b)) there).1), b.ready)
     found_stands (Unready state) b wants there = ((wants, (still_there port old new (boots_same laws port old new (Unready state) (found_boots (Unready state) b)) there).1), b.ended)
 
-    pub found_reset : (found : Found) → BootsStopped wanted port found mid new → WroteControl found port.0 (length old.tape) new
+    pub found_reset : (found : ProbeResult) → BootsStopped wanted port found mid new → WroteControl found port.0 (length old.tape) new
     found_reset Unserved b = absurd b
     found_reset (Ready info) b = since_stop laws port old mid stops _ b.since
     found_reset (Unready state) b = ended_since laws port old mid stops new state b.since
 
-    pub found_way : (found : Found) → BootsStopped wanted port found mid new → GoesThrough port found old new
+    pub found_way : (found : ProbeResult) → BootsStopped wanted port found mid new → GoesThrough port found old new
     found_way Unserved b = absurd b
     found_way (Ready info) b = (mid, stops.followed.driven, b.boots.followed.driven, b.way, b.news)
     found_way (Unready state) b = (
@@ -105,16 +105,16 @@ module _ (laws : Laws) where
   -- ---- later: CAP is read before
 
   module _ (v : ℕ) (old asked : Device) (asks : Reads Cap v old asked) where
-    asked_followed : IsFollowed IsSurvey AnyUse old asked
-    asked_followed = (laws.stretches.reads Surveying Cap v old asked tt asks).followed
+    asked_followed : IsSimulated IsSurvey AnyUse old asked
+    asked_followed = (laws.fragments.reads Surveying Cap v old asked tt asks).followed
 
     -- what was read is what the adapter is capable of, whatever is done then
     pub asked_cap : (May : Access → Type 0) (new : Device) → IsDrivenBy May asked new → v ≡ new.cap
     asked_cap May new driven = asks.shows ∙ (sym (ap (λ (d : Device). d.cap) asks.effect) ∙ sym (same_over laws May asked new driven).cap)
 
     module _ (port : Port) where
-      pub asked_starts : IsFollowed (IsOfStart port) (λ uses. AllFree uses port.0) old asked
-      asked_starts = (laws.stretches.wider Surveying (Starting port) (λ uses. uses) (λ access is. inl is) (λ uses free. tt) old asked asked_followed).followed
+      pub asked_starts : IsSimulated (IsOfStart port) (λ uses. AllFree uses port.0) old asked
+      asked_starts = (laws.fragments.wider Surveying (Starting port) (λ uses. uses) (λ access is. inl is) (λ uses free. tt) old asked asked_followed).followed
 
       pub asked_bootable : IsBootable port old → IsBootable port asked
       asked_bootable b = bootable_over laws Surveying port old asked (λ uses free. tt) asked_followed b.there b.room b.agreed (cap_on laws v old asked b.on asks)
@@ -128,9 +128,9 @@ module _ (laws : Laws) where
           boots_again port v booted wanted old asked new asked_starts boots slots queued (asked_cap (IsOfBoot port) new (booted_driven wanted port booted.found asked new boots))
 
       -- and then the port is looked at
-      module _ (seen : Device) (looks : IsFollowed (IsControl IsClearing port) AnyUse asked seen) where
-        pub seen_starts : IsFollowed (IsOfStart port) (λ uses. AllFree uses port.0) old seen
-        seen_starts = (laws.stretches.both (Starting port) (Clearing port) (λ uses. uses) (λ uses. uses) (clearing_of_start port) (λ uses free. tt) old asked seen asked_starts looks).followed
+      module _ (seen : Device) (looks : IsSimulated (IsControl IsClearing port) AnyUse asked seen) where
+        pub seen_starts : IsSimulated (IsOfStart port) (λ uses. AllFree uses port.0) old seen
+        seen_starts = (laws.fragments.both (Starting port) (Clearing port) (λ uses. uses) (λ uses. uses) (clearing_of_start port) (λ uses free. tt) old asked seen asked_starts looks).followed
 
         pub seen_bootable : IsOn seen → IsBootable port asked → IsBootable port seen
         seen_bootable on b = bootable_over laws (Clearing port) port asked seen (λ uses free. tt) looks b.there b.room b.agreed on
@@ -145,5 +145,5 @@ module _ (laws : Laws) where
 
         -- or it shows none, and is absent
         pub seen_absent : (booted : Booted) (wanted : Wanted) (new : Device) → new ≡ seen → booted.found ≡ Unready Absent → IsStopped (seen.port port.0) →
-            Shows NoDevice (seen.port port.0).notes → BootsIfThere wanted port booted old new
+            BacksFault NoDevice (seen.port port.0).notes → BootsIfThere wanted port booted old new
         seen_absent booted wanted new same found stopped none = subst (BootsIfThere wanted port booted old) (sym same) (inr (found, seen_starts, (stopped, none)))

@@ -10,8 +10,8 @@ use Rattle.adapter.specs.Access.{Access}
 use Rattle.adapter.specs.Access.Access.{Reading, Writing, Loading, Storing}
 use Rattle.adapter.specs.Device.{Device}
 use Rattle.adapter.specs.Rules.{IsOn}
-use Rattle.agreement.specs.Driven.{IsControl, IsDrivenBy, IsOf}
-use Rattle.agreement.specs.Links.{HasDeviceOrNone}
+use Rattle.refinement.specs.Driven.{IsControl, IsDrivenBy, IsOf}
+use Rattle.refinement.specs.Links.{HasDeviceOrNone}
 use Rattle.identify.specs.declared.wanted.Wanted.{Wanted}
 use Rattle.port_control.specs.Ports.{WritesCommand}
 use Rattle.port_boot.specs.States.{IsBootTo, IsOfBoot, StopsOnWay}
@@ -19,8 +19,8 @@ use Rattle.host_boot.specs.Again.{BootsAgain, BootsIfThere, BootsStopped, IsOfSt
 use Rattle.host_boot.specs.Laws.{Laws}
 use Rattle.host_boot.specs.Taken.{FoundBadDisk, IsServed, IsSurvey, StandsBehind}
 use Rattle.host_boot.specs.declared.Booted.{Booted}
-use Rattle.host_boot.specs.declared.Found.{Found}
-use Rattle.host_boot.specs.declared.Found.TheVariants.{Unserved, Ready, Unready}
+use Rattle.host_boot.specs.declared.ProbeResult.{ProbeResult}
+use Rattle.host_boot.specs.declared.ProbeResult.TheVariants.{Unserved, Ready, Unready}
 use Rattle.host_boot.proofs.Booting.{booted_driven}
 use Rattle.host_boot.proofs.Showing.{gently, way_shown}
 use Rattle.host_boot.proofs.Stopping.{boot_sticks}
@@ -63,14 +63,14 @@ module _ (laws : Laws) where
         still : IsServed wanted port.0 new
         still = served_over wanted port old new again_driven served
 
-        by : (found : Found) → BootsStopped wanted port found b.asked new → StandsBehind wanted found port.0 new
+        by : (found : ProbeResult) → BootsStopped wanted port found b.asked new → StandsBehind wanted found port.0 new
         by Unserved none = absurd none
         by (Ready info) is = (still, is.ready)
         by (Unready state) is = (still, is.ended)
 
     pub again_shown : (state : PortState) → IsOn old → FoundBadDisk state → booted.found ≡ Unready state → HasDeviceOrNone (new.port port.0)
     again_shown state on bad is =
-        let boots : BootsStopped wanted port (Unready state) b.asked new = subst (λ (found : Found). BootsStopped wanted port found b.asked new) is b.boots in
+        let boots : BootsStopped wanted port (Unready state) b.asked new = subst (λ (found : ProbeResult). BootsStopped wanted port found b.asked new) is b.boots in
         let asked : IsOn b.asked = on_over laws (IsOf port) old b.asked surveyed (laws.of_spares_ghc port) on in
         way_shown laws port state b.asked new bad asked (
           b.asked,
@@ -91,7 +91,7 @@ module _ (laws : Laws) where
     pub there_stands : BootsIfThere wanted port booted old new → IsServed wanted port.0 old → StandsBehind wanted booted.found port.0 new
     there_stands (inl is) served = again_stands wanted port booted old new is.0 served
     there_stands (inr is) served =
-        subst (λ (found : Found). StandsBehind wanted found port.0 new) (sym is.0) (served_over wanted port old new (start_driven port old new is.1.driven) served, is.2)
+        subst (λ (found : ProbeResult). StandsBehind wanted found port.0 new) (sym is.0) (served_over wanted port old new (start_driven port old new is.1.driven) served, is.2)
 
     pub there_shown : (state : PortState) → IsOn old → BootsIfThere wanted port booted old new → FoundBadDisk state → booted.found ≡ Unready state → HasDeviceOrNone (new.port port.0)
     there_shown state on (inl is) bad found = again_shown wanted port booted old new is.0 state on bad found

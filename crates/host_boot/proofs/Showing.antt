@@ -13,16 +13,16 @@ use Rattle.adapter.specs.Access.Access.{Reading, Writing, Loading, Storing}
 use Rattle.adapter.specs.Device.{Device}
 use Rattle.adapter.specs.Idle.{IsIdle}
 use Rattle.adapter.specs.Rules.{IsOn}
-use Rattle.agreement.specs.Driven.{IsControl, IsDrivenBy, IsOf}
-use Rattle.agreement.specs.Links.{HasDeviceOrNone, SparesRegister}
+use Rattle.refinement.specs.Driven.{IsControl, IsDrivenBy, IsOf}
+use Rattle.refinement.specs.Links.{HasDeviceOrNone, SparesRegister}
 use Rattle.disk_page.specs.Asking.{IsAsking}
 use Rattle.port_control.specs.Ports.{FindsLink, FindsSignature, HasLink, IsPlacing, Looks, ReadsNot, ReadsUntil, ReadsWithout, ShowsIdle, WasReset, WritesCommand}
 use Rattle.port_control.specs.declared.PortFault.{PortFault}
 use Rattle.port_control.specs.declared.PortFault.TheVariants.{NoDevice, Busy, EngineStuck, NotAta}
-use Rattle.port_boot.specs.States.{EndsEarly, EndsLate, TellsFault}
-use Rattle.host_boot.specs.Taken.{FoundBadDisk, GoesOver, GoesThrough, found_of}
-use Rattle.host_boot.specs.declared.Found.{Found}
-use Rattle.host_boot.specs.declared.Found.TheVariants.{Unserved, Unready}
+use Rattle.port_boot.specs.States.{EndsEarly, EndsLate, IsStateOfFault}
+use Rattle.host_boot.specs.Taken.{FoundBadDisk, GoesOver, GoesThrough, probe_result_of}
+use Rattle.host_boot.specs.declared.ProbeResult.{ProbeResult}
+use Rattle.host_boot.specs.declared.ProbeResult.TheVariants.{Unserved, Unready}
 use Rattle.host_boot.proofs.Running.{IsOfOther, other_spares, taken_last}
 use Rattle.host_boot.specs.Laws.{Laws}
 use Rattle.host_boot.proofs.Stretching.{by_one, by_then, driven_as, on_over, placing_driven, stop_driven}
@@ -110,7 +110,7 @@ module _ (laws : Laws) where
 
     early_shown : (state : PortState) (old new : Device) → state ≢ Absent → IsOn old → EndsEarly port state old new → Shown new
     early_shown state old new other on e =
-        looks_shown e.fault e.resets.ended new (λ none. other (subst (TellsFault state) none e.told))
+        looks_shown e.fault e.resets.ended new (λ none. other (subst (IsStateOfFault state) none e.told))
         (reset_on (Looks port e.fault) e.placed new (placing_on old e.placed on e.places) e.resets) e.resets.rest
 
     stop_gentle : (old new : Device) → IsDrivenBy (IsControl WritesCommand port) old new → IsDrivenBy (IsGentle port) old new
@@ -159,7 +159,7 @@ module _ (laws : Laws) where
     way_shown Dead old new bad on way = absurd bad
 
   -- and so it is once all were booted
-  pub taken_shown : (port : Port) (state : PortState) (ports : List Found) (old new : Device) → IsIdle old → FoundBadDisk state → found_of ports port.0 ≡ Unready state
+  pub taken_shown : (port : Port) (state : PortState) (ports : List ProbeResult) (old new : Device) → IsIdle old → FoundBadDisk state → probe_result_of ports port.0 ≡ Unready state
       → GoesOver ports old new → HasDeviceOrNone (new.port port.0)
   taken_shown port state ports old new idle bad is way =
       taken_last laws (λ d. HasDeviceOrNone (d.port port.0)) port (Unready state) (λ e. absurd (let z : Unready state ≡ Unserved = e in cc))

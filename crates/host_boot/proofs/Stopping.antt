@@ -10,51 +10,51 @@ use Rattle.adapter.specs.Access.{Access}
 use Rattle.adapter.specs.Device.{Device}
 use Rattle.adapter.specs.Rules.{IsOn, HasPort}
 use Rattle.adapter.specs.declared.command.Operation.TheVariants.{Identify}
-use Rattle.agreement.specs.Driven.{AgreesWith, AnyUse, IsControl, IsFollowed, IsTold, IsToldTo}
-use Rattle.agreement.specs.Driver.{AllFree}
-use Rattle.agreement.specs.Slots.{Own, Uses, put}
-use Rattle.agreement.specs.Links.{SameAdapter}
+use Rattle.refinement.specs.Driven.{RelatesWith, AnyUse, IsControl, IsSimulated, IsSimulatedAlong, IsSimulatedAlongTo}
+use Rattle.refinement.specs.Driver.{AllFree}
+use Rattle.refinement.specs.Slots.{Own, SlotStates, put}
+use Rattle.refinement.specs.Links.{SameAdapter}
 use Rattle.port_control.specs.Engines.{FailsToStop, Stops, StopsBoth, StopsReceiving, Sticks}
 use Rattle.port_control.specs.Ports.{WritesCommand}
 use Rattle.port_boot.specs.States.{IsBoot, IsBootTo, IsBootable, IsOfBoot, StopsOnWay}
 use Rattle.host_boot.specs.Taken.{SticksOnWay, TellsEngines, WroteControl}
-use Rattle.host_boot.specs.declared.Found.{Found}
-use Rattle.host_boot.specs.declared.Found.TheVariants.{Unserved, Ready, Unready}
-use Rattle.host_boot.specs.Laws.{Laws, Stretch, fits_of, may_of}
-use Rattle.agreement.specs.Tape.{Tells}
+use Rattle.host_boot.specs.declared.ProbeResult.{ProbeResult}
+use Rattle.host_boot.specs.declared.ProbeResult.TheVariants.{Unserved, Ready, Unready}
+use Rattle.host_boot.specs.Laws.{Laws, Fragment, fits_of, may_of}
+use Rattle.refinement.specs.Tape.{TapeTells}
 use Rattle.host_boot.proofs.Stretching.{told_both, told_more, same_over, tape_over, told_wider}
-use Rattle.host_boot.specs.Laws.Stretch.{Booting, Commanding}
+use Rattle.host_boot.specs.Laws.Fragment.{Booting, Commanding}
 
 pub still_there : (port : Port) (old new : Device) → SameAdapter old new → HasPort old port.0 → HasPort new port.0
 still_there port old new same there = (there.0, ap (λ (pi : ℕ). bit pi port.0) same.pi ∙ there.1)
 
 -- a boot to a dead port tells of the engine that is stuck
-pub boot_sticks : (Tells : List Access → Type 0) (port : Port) (old new : Device) → IsBootTo Tells port Dead old new → SticksOnWay port old new
-boot_sticks Tells port old new (inl b) = record { driven = b.followed.driven; sticks = b.tells }
-boot_sticks Tells port old new (inr b) = record { driven = b.followed.driven; sticks = b.tells }
+pub boot_sticks : (TapeTells : List Access → Type 0) (port : Port) (old new : Device) → IsBootTo TapeTells port Dead old new → SticksOnWay port old new
+boot_sticks TapeTells port old new (inl b) = record { driven = b.followed.driven; sticks = b.tells }
+boot_sticks TapeTells port old new (inr b) = record { driven = b.followed.driven; sticks = b.tells }
 
 module _ (laws : Laws) where
   -- a port may be booted after accesses that leave its slots as they are
-  pub bootable_over : (kind : Stretch) (port : Port) (old new : Device) → ((uses : Uses) → AllFree uses port.0 → fits_of kind uses) → IsFollowed (may_of kind) (fits_of kind) old new →
-      HasPort old port.0 → DRIVER_BYTES ≤ old.size → AgreesWith (λ uses. AllFree uses port.0) old → IsOn new → IsBootable port new
+  pub bootable_over : (kind : Fragment) (port : Port) (old new : Device) → ((uses : SlotStates) → AllFree uses port.0 → fits_of kind uses) → IsSimulated (may_of kind) (fits_of kind) old new →
+      HasPort old port.0 → DRIVER_BYTES ≤ old.size → RelatesWith (λ uses. AllFree uses port.0) old → IsOn new → IsBootable port new
   bootable_over kind port old new fits f there room a on =
       let same = same_over laws (may_of kind) old new f.driven in
       record {
         on = on;
         there = still_there port old new same there;
         room = let size = same.size in omega (arith, size, room);
-        agreed = (a.0, a.1, laws.stretches.agreed kind (λ uses. uses) a.0 old new (fits a.0 a.1) f a.2);
+        agreed = (a.0, a.1, laws.fragments.agreed kind (λ uses. uses) a.0 old new (fits a.0 a.1) f a.2);
       }
 
-  stop_boots : (Tells : List Access → Type 0) (port : Port) (old mid : Device) → IsTold Tells (IsControl WritesCommand port) AnyUse old mid → IsBoot Tells port old mid
-  stop_boots Tells port old mid stops = told_wider laws Tells (Commanding port) (Booting port) (λ uses. uses) old mid (laws.command_of_boot port) (λ uses free. tt) stops
+  stop_boots : (TapeTells : List Access → Type 0) (port : Port) (old mid : Device) → IsSimulatedAlong TapeTells (IsControl WritesCommand port) AnyUse old mid → IsBoot TapeTells port old mid
+  stop_boots TapeTells port old mid stops = told_wider laws TapeTells (Commanding port) (Booting port) (λ uses. uses) old mid (laws.command_of_boot port) (λ uses free. tt) stops
 
   -- where it didn't stop, its engine is stuck
-  pub stuck_boots : (port : Port) (old mid : Device) → IsTold (FailsToStop port) (IsControl WritesCommand port) AnyUse old mid → IsBoot (Sticks port) port old mid
+  pub stuck_boots : (port : Port) (old mid : Device) → IsSimulatedAlong (FailsToStop port) (IsControl WritesCommand port) AnyUse old mid → IsBoot (Sticks port) port old mid
   stuck_boots port old mid f = told_more (FailsToStop port) (Sticks port) (IsOfBoot port) (λ uses. AllFree uses port.0) (λ uses. uses) old mid (laws.failing_sticks port) (stop_boots (FailsToStop port) port old mid f)
 
-  module _ (port : Port) (old mid : Device) (stops : IsTold (Stops port) (IsControl WritesCommand port) AnyUse old mid) where
-    pub bootable : HasPort old port.0 → DRIVER_BYTES ≤ old.size → AgreesWith (λ uses. AllFree uses port.0) old → IsOn mid → IsBootable port mid
+  module _ (port : Port) (old mid : Device) (stops : IsSimulatedAlong (Stops port) (IsControl WritesCommand port) AnyUse old mid) where
+    pub bootable : HasPort old port.0 → DRIVER_BYTES ≤ old.size → RelatesWith (λ uses. AllFree uses port.0) old → IsOn mid → IsBootable port mid
     bootable there room agreed on = bootable_over (Commanding port) port old mid (λ uses free. tt) stops.followed there room agreed on
 
     pub since_stop : (since : ℕ) → length mid.tape ≤ since → length old.tape ≤ since
@@ -65,12 +65,12 @@ module _ (laws : Laws) where
 
     module _ (new : Device) where
       -- both engines fell: the one before the boot, and the other in it
-      both : (Tells : List Access → Type 0) → ((accesses : List Access) → Tells accesses → StopsReceiving port accesses) → IsBoot Tells port mid new → IsBoot (StopsBoth port) port old new
-      both Tells tells f = told_both laws (Stops port) Tells (StopsBoth port) (λ early late first then. (laws.falls_then early late 0 15 port first, laws.falls_since early late 4 14 port (tells late then)))
+      both : (TapeTells : List Access → Type 0) → ((accesses : List Access) → TapeTells accesses → StopsReceiving port accesses) → IsBoot TapeTells port mid new → IsBoot (StopsBoth port) port old new
+      both TapeTells tells f = told_both laws (Stops port) TapeTells (StopsBoth port) (λ early late first then. (laws.falls_then early late 0 15 port first, laws.falls_since early late 4 14 port (tells late then)))
           (Booting port) (Booting port) (λ uses. uses) (λ uses. uses) (λ access may. may) (λ uses free. free) old mid new (stop_boots (Stops port) port old mid stops) f
 
       -- or one is stuck
-      dies : (next : Uses → Uses) → IsToldTo (Sticks port) (IsOfBoot port) (λ uses. AllFree uses port.0) next mid new → IsToldTo (Sticks port) (IsOfBoot port) (λ uses. AllFree uses port.0) next old new
+      dies : (next : SlotStates → SlotStates) → IsSimulatedAlongTo (Sticks port) (IsOfBoot port) (λ uses. AllFree uses port.0) next mid new → IsSimulatedAlongTo (Sticks port) (IsOfBoot port) (λ uses. AllFree uses port.0) next old new
       dies next f = told_both laws (Stops port) (Sticks port) (Sticks port) (λ early late any is. laws.sticks_since early late port is) (Booting port) (Booting port) (λ uses. uses) next
           (λ access may. may) (λ uses free. free) old mid new (stop_boots (Stops port) port old mid stops) f
 
@@ -101,7 +101,7 @@ module _ (laws : Laws) where
   both_since port early late is = (laws.falls_since early late 0 15 port is.0, laws.falls_since early late 4 14 port is.1)
 
   -- what one property goes on with, and the other, they tell of each port
-  tells_on : (port : Port) (found : Found) (a b : List Access) → (StopsBoth port a → StopsBoth port b) → (Sticks port a → Sticks port b) → TellsEngines port found a → TellsEngines port found b
+  tells_on : (port : Port) (found : ProbeResult) (a b : List Access) → (StopsBoth port a → StopsBoth port b) → (Sticks port a → Sticks port b) → TellsEngines port found a → TellsEngines port found b
   tells_on port Unserved a b both stick is = tt
   tells_on port (Ready info) a b both stick is = both is
   tells_on port (Unready Dead) a b both stick is = stick is
@@ -110,8 +110,8 @@ module _ (laws : Laws) where
   tells_on port (Unready Foreign) a b both stick is = both is
   tells_on port (Unready (Unfit n)) a b both stick is = both is
 
-  pub tells_then : (port : Port) (found : Found) (early late : List Access) → TellsEngines port found early → TellsEngines port found (early ++ late)
+  pub tells_then : (port : Port) (found : ProbeResult) (early late : List Access) → TellsEngines port found early → TellsEngines port found (early ++ late)
   tells_then port found early late = tells_on port found early (early ++ late) (both_then port early late) (laws.sticks_then early late port)
 
-  pub tells_since : (port : Port) (found : Found) (early late : List Access) → TellsEngines port found late → TellsEngines port found (early ++ late)
+  pub tells_since : (port : Port) (found : ProbeResult) (early late : List Access) → TellsEngines port found late → TellsEngines port found (early ++ late)
   tells_since port found early late = tells_on port found late (early ++ late) (both_since port early late) (laws.sticks_since early late port)

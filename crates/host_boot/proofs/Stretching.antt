@@ -6,12 +6,12 @@ use Rattle.hba_regs.specs.declared.reg.Reg.TheVariants.{Ghc}
 use Rattle.adapter.specs.Access.{Access, Does}
 use Rattle.adapter.specs.Device.{Device}
 use Rattle.adapter.specs.Rules.{IsOn}
-use Rattle.agreement.specs.Driven.{AnyAccess, Grows, IsControl, IsDrivenBy, IsOf, IsToldTo, NoneWrites}
-use Rattle.agreement.specs.Facts.{Undisturbed}
-use Rattle.agreement.specs.Links.{SameAdapter, SparesRegister}
-use Rattle.agreement.specs.Slots.{Uses}
+use Rattle.refinement.specs.Driven.{AnyAccess, Grows, IsControl, IsDrivenBy, IsOf, IsSimulatedAlongTo, NoneWrites}
+use Rattle.refinement.specs.Facts.{Undisturbed}
+use Rattle.refinement.specs.Links.{SameAdapter, SparesRegister}
+use Rattle.refinement.specs.Slots.{SlotStates}
 use Rattle.port_control.specs.Ports.{IsPlacing, WritesCommand}
-use Rattle.host_boot.specs.Laws.{Laws, Stretch, fits_of, may_of}
+use Rattle.host_boot.specs.Laws.{Laws, Fragment, fits_of, may_of}
 
 -- ---- accesses of one kind
 
@@ -26,8 +26,8 @@ pub driven_as : (May More : Access → Type 0) (old new : Device) → ((access :
 driven_as May More old new kind a = record { accesses = a.accesses; all = a.all; only = All-weaker May More kind a.accesses a.only }
 
 -- more is told of a list
-pub told_more : (Tells More : List Access → Type 0) (May : Access → Type 0) (Fits : Uses → Type 0) (next : Uses → Uses) (old new : Device) → ((accesses : List Access) → Tells accesses → More accesses) →
-    IsToldTo Tells May Fits next old new → IsToldTo More May Fits next old new
+pub told_more : (Tells More : List Access → Type 0) (May : Access → Type 0) (Fits : SlotStates → Type 0) (next : SlotStates → SlotStates) (old new : Device) → ((accesses : List Access) → Tells accesses → More accesses) →
+    IsSimulatedAlongTo Tells May Fits next old new → IsSimulatedAlongTo More May Fits next old new
 told_more Tells More May Fits next old new more a = record { followed = a.followed; tells = more a.followed.driven.accesses a.tells }
 
 module _ (laws : Laws) where
@@ -67,17 +67,17 @@ module _ (laws : Laws) where
   -- ---- stretches that are followed
 
   -- what is told of a stretch, also where it is of a wider kind
-  pub told_wider : (Tells : List Access → Type 0) (kind more : Stretch) (next : Uses → Uses) (old new : Device) → ((access : Access) → may_of kind access → may_of more access) →
-      ((uses : Uses) → fits_of more uses → fits_of kind uses) → IsToldTo Tells (may_of kind) (fits_of kind) next old new → IsToldTo Tells (may_of more) (fits_of more) next old new
+  pub told_wider : (Tells : List Access → Type 0) (kind more : Fragment) (next : SlotStates → SlotStates) (old new : Device) → ((access : Access) → may_of kind access → may_of more access) →
+      ((uses : SlotStates) → fits_of more uses → fits_of kind uses) → IsSimulatedAlongTo Tells (may_of kind) (fits_of kind) next old new → IsSimulatedAlongTo Tells (may_of more) (fits_of more) next old new
   told_wider Tells kind more next old new wider fits a =
-      let f = laws.stretches.wider kind more next wider fits old new a.followed in
+      let f = laws.fragments.wider kind more next wider fits old new a.followed in
       record { followed = f.followed; tells = subst Tells (sym f.tells) a.tells }
 
   -- of two, one after another
   module _ (First Second Tells : List Access → Type 0) (join : (early late : List Access) → First early → Second late → Tells (early ++ late)) where
-    pub told_both : (kind then : Stretch) (first second : Uses → Uses) → ((access : Access) → may_of then access → may_of kind access) → ((uses : Uses) → fits_of kind uses → fits_of then (first uses)) →
-        (old mid new : Device) → IsToldTo First (may_of kind) (fits_of kind) first old mid → IsToldTo Second (may_of then) (fits_of then) second mid new →
-        IsToldTo Tells (may_of kind) (fits_of kind) (λ uses. second (first uses)) old new
+    pub told_both : (kind then : Fragment) (first second : SlotStates → SlotStates) → ((access : Access) → may_of then access → may_of kind access) → ((uses : SlotStates) → fits_of kind uses → fits_of then (first uses)) →
+        (old mid new : Device) → IsSimulatedAlongTo First (may_of kind) (fits_of kind) first old mid → IsSimulatedAlongTo Second (may_of then) (fits_of then) second mid new →
+        IsSimulatedAlongTo Tells (may_of kind) (fits_of kind) (λ uses. second (first uses)) old new
     told_both kind then first second wider on old mid new a b =
-        let f = laws.stretches.both kind then first second wider on old mid new a.followed b.followed in
+        let f = laws.fragments.both kind then first second wider on old mid new a.followed b.followed in
         record { followed = f.followed; tells = subst Tells (sym f.tells) (join a.followed.driven.accesses b.followed.driven.accesses a.tells b.tells) }

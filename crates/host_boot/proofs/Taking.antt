@@ -19,57 +19,57 @@ use Rattle.adapter.specs.Idle.{IsIdle, IsIdlePort}
 use Rattle.adapter.specs.Rules.{IsOn}
 use Rattle.adapter.specs.declared.command.Operation.{Operation}
 use Rattle.adapter.specs.declared.command.Operation.TheVariants.{Identify}
-use Rattle.agreement.specs.Agrees.{port_at}
-use Rattle.agreement.specs.Driven.{AnyUse, IsAgreed, IsDrivenBy, IsFollowed, IsFollowedTo, IsOf, IsToldTo, IsUse, LeavesPort, NoneWrites, SendsNone, AreDevices}
-use Rattle.agreement.specs.Driver.{AllFree}
-use Rattle.agreement.specs.Halting.{IsHaltedAsTaken}
-use Rattle.agreement.specs.Links.{SameAdapter, SparesRegister}
-use Rattle.agreement.specs.Slots.{Free, Own, Uses, put}
+use Rattle.refinement.specs.Relation.{port_at}
+use Rattle.refinement.specs.Driven.{AnyUse, IsRelated, IsDrivenBy, IsSimulated, IsSimulatedTo, IsOf, IsSimulatedAlongTo, IsUse, LeavesPort, NoneWrites, SendsNone, AreDevices}
+use Rattle.refinement.specs.Driver.{AllFree}
+use Rattle.refinement.specs.Halting.{IsHaltedAsTaken}
+use Rattle.refinement.specs.Links.{SameAdapter, SparesRegister}
+use Rattle.refinement.specs.Slots.{Free, Own, SlotStates, put}
 use Rattle.identify.specs.declared.wanted.Wanted.{Wanted}
 use Rattle.identify.specs.declared.wanted.Wanted.TheVariants.{Nothing}
 use Rattle.port_control.specs.Engines.{StopsBoth}
 use Rattle.port_boot.specs.States.{IsBoot, IsBootTo, IsOfBoot}
-use Rattle.host_boot.specs.Taken.{Boots, GoesOver, HaltsFound, IsLeft, IsOfHost, IsOfTaking, LeavesPorts, StandsBehind, TakesOver, TellsEngines, WroteControl, found_of, unused, wanted_of}
+use Rattle.host_boot.specs.Taken.{Boots, GoesOver, HaltsFound, IsUnusedOrDead, IsOfHost, IsOfTaking, LeavesPorts, StandsBehind, TakesOver, TellsEngines, WroteControl, probe_result_of, unused, wanted_of}
 use Rattle.host_boot.specs.declared.Host.{Host}
-use Rattle.host_boot.specs.declared.Found.{Found}
-use Rattle.host_boot.specs.declared.Found.TheVariants.{Unserved, Ready, Unready}
+use Rattle.host_boot.specs.declared.ProbeResult.{ProbeResult}
+use Rattle.host_boot.specs.declared.ProbeResult.TheVariants.{Unserved, Ready, Unready}
 use Rattle.host_boot.proofs.Stopping.{tells_then, tells_since}
 use Rattle.host_boot.proofs.Leaving.{idle_on, is_served, stands_on, reset_on}
-use Rattle.agreement.specs.Acts.{Comes, InSlots, at}
+use Rattle.refinement.specs.Acts.{Comes, InSlots, at_slots}
 use Rattle.host_boot.specs.Laws.{Laws, Fitting, uses_of}
 use Rattle.block_machine.specs.Steps.{May}
-use Rattle.agreement.specs.Tape.{Tells}
+use Rattle.refinement.specs.Tape.{TapeTells}
 use Rattle.host_boot.proofs.Stretching.{driven_as, same_over, tape_over, told_both, told_more, told_wider}
 use Rattle.host_boot.specs.Laws.Fitting.{AnyUses, PortUnused, Only}
-use Rattle.host_boot.specs.Laws.Stretch.{Booting, Hosting, Taking}
+use Rattle.host_boot.specs.Laws.Fragment.{Booting, Hosting, Taking}
 
 -- the uses are these at last
-abbrev GoesTo : (Access → Type 0) → Uses → Uses → Device → Device → Type 0
-GoesTo May first uses old new = IsFollowedTo May (IsUse first) (λ _. uses) old new
+abbrev GoesTo : (Access → Type 0) → SlotStates → SlotStates → Device → Device → Type 0
+GoesTo May first uses old new = IsSimulatedTo May (IsUse first) (λ _. uses) old new
 
 -- what they tell of the first ports
-abbrev TellsFirst : List Found → ℕ → List Access → Type 0
-TellsFirst ports n accesses = (port : ℕ) → port < n → TellsEngines (port_at port) (found_of ports port) accesses
+abbrev TellsFirst : List ProbeResult → ℕ → List Access → Type 0
+TellsFirst ports n accesses = (port : ℕ) → port < n → TellsEngines (port_at port) (probe_result_of ports port) accesses
 
 -- So many ports were booted, as they were found, and the others are idle still.
-pub record IsUnderway (wanted : List Wanted) (ports : List Found) (n : ℕ) (start d : Device) : Type 0 where
+pub record IsUnderway (wanted : List Wanted) (ports : List ProbeResult) (n : ℕ) (start d : Device) : Type 0 where
   pub on : IsOn d
   pub same : SameAdapter start d
   pub long : length ports ≡ 4
-  pub uses : Uses
-  pub left : (port slot : ℕ) → IsLeft ports uses port slot
+  pub uses : SlotStates
+  pub left : (port slot : ℕ) → IsUnusedOrDead ports uses port slot
   pub free : (port slot : ℕ) → n ≤ port → uses port slot ≡ Free
-  pub told : IsToldTo (TellsFirst ports n) (IsOfTaking wanted) (IsUse unused) (λ _. uses) start d
-  pub agreed : IsAgreed uses d
-  pub stands : (port : ℕ) → port < n → StandsBehind (wanted_of wanted port) (found_of ports port) port d
-  pub reset : (port : ℕ) → port < n → WroteControl (found_of ports port) port (length start.tape) d
-  pub halts : (port : ℕ) → port < n → HaltsFound (found_of ports port) port d
+  pub told : IsSimulatedAlongTo (TellsFirst ports n) (IsOfTaking wanted) (IsUse unused) (λ _. uses) start d
+  pub agreed : IsRelated uses d
+  pub stands : (port : ℕ) → port < n → StandsBehind (wanted_of wanted port) (probe_result_of ports port) port d
+  pub reset : (port : ℕ) → port < n → WroteControl (probe_result_of ports port) port (length start.tape) d
+  pub halts : (port : ℕ) → port < n → HaltsFound (probe_result_of ports port) port d
   pub idle : (port : ℕ) → n ≤ port → IsIdlePort (d.port port)
 
 host_spares : (q : Port) (r : PortReg) → NoneWrites IsOfHost (Px q r)
 host_spares q r (Reading x v) is = tt
-host_spares q r (Loading at bytes) is = absurd is
-host_spares q r (Storing at bytes) is = absurd is
+host_spares q r (Loading at_slots bytes) is = absurd is
+host_spares q r (Storing at_slots bytes) is = absurd is
 host_spares q r (Writing Ghc v) is = λ (e : Ghc ≡ Px q r). absurd cc
 host_spares q r (Writing Cap v) is = absurd is
 host_spares q r (Writing Is v) is = absurd is
@@ -81,46 +81,46 @@ host_spares q r (Writing (Px p x) v) is = absurd is
 
 module _ (laws : Laws) where
   -- what halts a port is of a taken command still, over what was followed without a write of its PxCMD, where it was found ready
-  still_halts : (May : Access → Type 0) (Fits : Uses → Type 0) (next : Uses → Uses) (uses : Uses) (q : ℕ) (old new : Device) → NoneWrites May (Px (port_at q) Cmd) → Fits uses
-      → IsFollowedTo May Fits next old new → IsAgreed uses old → (wanted : Wanted) (found : Found) → StandsBehind wanted found q new → HaltsFound found q old → HaltsFound found q new
+  still_halts : (May : Access → Type 0) (Fits : SlotStates → Type 0) (next : SlotStates → SlotStates) (uses : SlotStates) (q : ℕ) (old new : Device) → NoneWrites May (Px (port_at q) Cmd) → Fits uses
+      → IsSimulatedTo May Fits next old new → IsRelated uses old → (wanted : Wanted) (found : ProbeResult) → StandsBehind wanted found q new → HaltsFound found q old → HaltsFound found q new
   still_halts May Fits next uses q old new spares fits f a wanted found stands halts info is =
       let slots : InSlots = record { uses = uses; parked = a.parked } in
       let c = f.comes slots a.machine a.reached a.knows fits in
       let then : IsHaltedAsTaken (new.port q) =
-      laws.halts_acts (port_at q) c.acts (at slots old) (at (record slots { uses = next uses }) new) a.machine a.reached a.knows c.done
+      laws.halts_acts (port_at q) c.acts (at_slots slots old) (at_slots (record slots { uses = next uses }) new) a.machine a.reached a.knows c.done
       (subst (All (SparesRegister (Px (port_at q) Cmd))) (sym c.accesses_are) (All-weaker May (SparesRegister (Px (port_at q) Cmd)) spares f.driven.accesses f.driven.only)) (λ _. halts info is) in
-      then (subst (λ (x : Found). StandsBehind wanted x q new) is stands).1.runs.st
+      then (subst (λ (x : ProbeResult). StandsBehind wanted x q new) is stands).1.runs.st
 
-  module _ (wanted : List Wanted) (first : Uses) where
+  module _ (wanted : List Wanted) (first : SlotStates) where
     -- nothing is put to use
-    pub goes_on : (old new : Device) → IsFollowed (IsOfTaking wanted) AnyUse old new → GoesTo (IsOfTaking wanted) first first old new
+    pub goes_on : (old new : Device) → IsSimulated (IsOfTaking wanted) AnyUse old new → GoesTo (IsOfTaking wanted) first first old new
     goes_on old new a = record {
       driven = a.driven;
       comes = λ s m reached x is.
-          subst (λ (u : Uses). Comes a.driven.accesses (at s old) m (at (record s { uses = u }) new) (AreDevices (IsOfTaking wanted) s.uses)) is (a.comes s m reached x tt);
+          subst (λ (u : SlotStates). Comes a.driven.accesses (at_slots s old) m (at_slots (record s { uses = u }) new) (AreDevices (IsOfTaking wanted) s.uses)) is (a.comes s m reached x tt);
     }
 
     -- and then others, with what is told of both
-    pub then_told : (Before Here Tells : List Access → Type 0) → ((early late : List Access) → Before early → Here late → Tells (early ++ late)) → (fitting : Fitting) (next : Uses → Uses) (uses : Uses)
-        (old mid new : Device) → uses_of fitting uses → IsToldTo Before (IsOfTaking wanted) (IsUse first) (λ _. uses) old mid → IsToldTo Here (IsOfTaking wanted) (uses_of fitting) next mid new →
-        IsToldTo Tells (IsOfTaking wanted) (IsUse first) (λ _. next uses) old new
-    then_told Before Here Tells join fitting next uses old mid new fits a b =
-        told_both laws Before Here Tells join (Taking wanted (Only first)) (Taking wanted fitting) (λ _. uses) next (λ access may. may) (λ were is. fits) old mid new a b
+    pub then_told : (Before Here TapeTells : List Access → Type 0) → ((early late : List Access) → Before early → Here late → TapeTells (early ++ late)) → (fitting : Fitting) (next : SlotStates → SlotStates) (uses : SlotStates)
+        (old mid new : Device) → uses_of fitting uses → IsSimulatedAlongTo Before (IsOfTaking wanted) (IsUse first) (λ _. uses) old mid → IsSimulatedAlongTo Here (IsOfTaking wanted) (uses_of fitting) next mid new →
+        IsSimulatedAlongTo TapeTells (IsOfTaking wanted) (IsUse first) (λ _. next uses) old new
+    then_told Before Here TapeTells join fitting next uses old mid new fits a b =
+        told_both laws Before Here TapeTells join (Taking wanted (Only first)) (Taking wanted fitting) (λ _. uses) next (λ access may. may) (λ were is. fits) old mid new a b
 
-  module _ (wanted : List Wanted) (ports : List Found) (port : Port) (below : port.0 < 4) (start old new : Device) (found : Found)
+  module _ (wanted : List Wanted) (ports : List ProbeResult) (port : Port) (below : port.0 < 4) (start old new : Device) (found : ProbeResult)
       (u : IsUnderway wanted ports port.0 start old) (on : IsOn new) (stands : StandsBehind (wanted_of wanted port.0) found port.0 new)
       (reset : WroteControl found port.0 (length old.tape) new) (halts : HaltsFound found port.0 new) where
     abbrev Later : Type 0
     Later = IsUnderway wanted (slice_set ports port.0 found) (port.0 + 1) start new
 
-    here_is : found_of (slice_set ports port.0 found) port.0 ≡ found
+    here_is : probe_result_of (slice_set ports port.0 found) port.0 ≡ found
     here_is = get_or-set_same ports port.0 found Unserved (let l = u.long in omega (arith, l, below))
 
-    other_is : (q : ℕ) → q ≢ port.0 → found_of (slice_set ports port.0 found) q ≡ found_of ports q
+    other_is : (q : ℕ) → q ≢ port.0 → probe_result_of (slice_set ports port.0 found) q ≡ probe_result_of ports q
     other_is q other = get_or-set_other ports port.0 q found Unserved other
 
     -- what was used before it, is
-    was_left : (q slot : ℕ) → q ≢ port.0 → IsLeft (slice_set ports port.0 found) u.uses q slot
+    was_left : (q slot : ℕ) → q ≢ port.0 → IsUnusedOrDead (slice_set ports port.0 found) u.uses q slot
     was_left q slot other = elim (u.left q slot) [
       | inl free ↦ inl free
       | inr (head, own, dead) ↦ inr (head, own, other_is q other ∙ dead)
@@ -138,22 +138,22 @@ module _ (laws : Laws) where
       pub later_same : SameAdapter start new
       later_same = laws.same_more start old new u.same (same_over laws (IsOfBoot port) old new driven)
 
-      at_other : (q : ℕ) → q ≢ port.0 → q < port.0 → StandsBehind (wanted_of wanted q) (found_of (slice_set ports port.0 found) q) q new
+      at_other : (q : ℕ) → q ≢ port.0 → q < port.0 → StandsBehind (wanted_of wanted q) (probe_result_of (slice_set ports port.0 found) q) q new
       at_other q other less =
-          let P : Found → Type 0 = λ f. StandsBehind (wanted_of wanted q) f q new in
+          let P : ProbeResult → Type 0 = λ f. StandsBehind (wanted_of wanted q) f q new in
           subst P (sym (other_is q other))
-          (stands_on laws.found q old new (alone q other) (same_over laws (IsOfBoot port) old new driven) (wanted_of wanted q) (found_of ports q)
+          (stands_on laws.found q old new (alone q other) (same_over laws (IsOfBoot port) old new driven) (wanted_of wanted q) (probe_result_of ports q)
           (λ alive. quiet (port_at q) other (λ own. elim (u.left q 0) [
             | inl free ↦ absurd (let e : Own Identify ≡ Free = sym own ∙ free in cc)
             | inr (head, is, dead) ↦ alive dead
           ]))
           (u.stands q less))
 
-      pub later_stands : (q : ℕ) → q < port.0 + 1 → StandsBehind (wanted_of wanted q) (found_of (slice_set ports port.0 found) q) q new
+      pub later_stands : (q : ℕ) → q < port.0 + 1 → StandsBehind (wanted_of wanted q) (probe_result_of (slice_set ports port.0 found) q) q new
       later_stands q less = elim (cases_eq q port.0) [
         | inl e ↦
-            let P : ℕ → Type 0 = λ k. StandsBehind (wanted_of wanted k) (found_of (slice_set ports port.0 found) k) k new in
-            let Q : Found → Type 0 = λ f. StandsBehind (wanted_of wanted port.0) f port.0 new in
+            let P : ℕ → Type 0 = λ k. StandsBehind (wanted_of wanted k) (probe_result_of (slice_set ports port.0 found) k) k new in
+            let Q : ProbeResult → Type 0 = λ f. StandsBehind (wanted_of wanted port.0) f port.0 new in
             subst P (sym e) (subst Q (sym here_is) stands)
         | inr other ↦ at_other q other (omega (arith, less, other))
       ]
@@ -165,7 +165,7 @@ module _ (laws : Laws) where
           let n : length old.tape ≡ length start.tape + length g.0 = ap (λ es. length es) g.1 ∙ length-append start.tape g.0 in
           omega (arith, n)
 
-      since_start : (f : Found) → WroteControl f port.0 (length old.tape) new → WroteControl f port.0 (length start.tape) new
+      since_start : (f : ProbeResult) → WroteControl f port.0 (length old.tape) new → WroteControl f port.0 (length start.tape) new
       since_start Unserved is = is
       since_start (Ready info) is = le_trans longer is
       since_start (Unready Absent) is = le_trans longer is
@@ -174,15 +174,15 @@ module _ (laws : Laws) where
       since_start (Unready (Unfit n)) is = le_trans longer is
       since_start (Unready Dead) is = is
 
-      pub later_reset : (q : ℕ) → q < port.0 + 1 → WroteControl (found_of (slice_set ports port.0 found) q) q (length start.tape) new
+      pub later_reset : (q : ℕ) → q < port.0 + 1 → WroteControl (probe_result_of (slice_set ports port.0 found) q) q (length start.tape) new
       later_reset q less = elim (cases_eq q port.0) [
         | inl e ↦
-            let P : ℕ → Type 0 = λ k. WroteControl (found_of (slice_set ports port.0 found) k) k (length start.tape) new in
-            let Q : Found → Type 0 = λ f. WroteControl f port.0 (length start.tape) new in
+            let P : ℕ → Type 0 = λ k. WroteControl (probe_result_of (slice_set ports port.0 found) k) k (length start.tape) new in
+            let Q : ProbeResult → Type 0 = λ f. WroteControl f port.0 (length start.tape) new in
             subst P (sym e) (subst Q (sym here_is) (since_start found reset))
         | inr other ↦
-            let Q : Found → Type 0 = λ f. WroteControl f q (length start.tape) new in
-            subst Q (sym (other_is q other)) (reset_on q old new (alone q other) (found_of ports q) (length start.tape) (u.reset q (omega (arith, less, other))))
+            let Q : ProbeResult → Type 0 = λ f. WroteControl f q (length start.tape) new in
+            subst Q (sym (other_is q other)) (reset_on q old new (alone q other) (probe_result_of ports q) (length start.tape) (u.reset q (omega (arith, less, other))))
       ]
 
       pub later_idle : (q : ℕ) → port.0 + 1 ≤ q → IsIdlePort (new.port q)
@@ -199,23 +199,23 @@ module _ (laws : Laws) where
     later_engines : (early late : List Access) → TellsFirst ports port.0 early → TellsEngines port found late → TellsFirst (slice_set ports port.0 found) (port.0 + 1) (early ++ late)
     later_engines early late before here q less = elim (cases_eq q port.0) [
       | inl e ↦
-          let P : ℕ → Type 0 = λ k. TellsEngines (port_at k) (found_of (slice_set ports port.0 found) k) (early ++ late) in
-          let Q : Found → Type 0 = λ f. TellsEngines port f (early ++ late) in
+          let P : ℕ → Type 0 = λ k. TellsEngines (port_at k) (probe_result_of (slice_set ports port.0 found) k) (early ++ late) in
+          let Q : ProbeResult → Type 0 = λ f. TellsEngines port f (early ++ late) in
           subst P (sym e) (subst Q (sym here_is) (tells_since laws port found early late here))
       | inr other ↦
-          let Q : Found → Type 0 = λ f. TellsEngines (port_at q) f (early ++ late) in
-          subst Q (sym (other_is q other)) (tells_then laws (port_at q) (found_of ports q) early late (before q (omega (arith, less, other))))
+          let Q : ProbeResult → Type 0 = λ f. TellsEngines (port_at q) f (early ++ late) in
+          subst Q (sym (other_is q other)) (tells_then laws (port_at q) (probe_result_of ports q) early late (before q (omega (arith, less, other))))
     ]
 
     -- and where nothing was done
     same_engines : found ≡ Unserved → (accesses : List Access) → TellsFirst ports port.0 accesses → TellsFirst (slice_set ports port.0 found) (port.0 + 1) accesses
     same_engines is accesses before q less = elim (cases_eq q port.0) [
       | inl e ↦
-          let P : ℕ → Type 0 = λ k. TellsEngines (port_at k) (found_of (slice_set ports port.0 found) k) accesses in
-          let Q : Found → Type 0 = λ f. TellsEngines port f accesses in
+          let P : ℕ → Type 0 = λ k. TellsEngines (port_at k) (probe_result_of (slice_set ports port.0 found) k) accesses in
+          let Q : ProbeResult → Type 0 = λ f. TellsEngines port f accesses in
           subst P (sym e) (subst Q (sym (here_is ∙ is)) tt)
       | inr other ↦
-          let Q : Found → Type 0 = λ f. TellsEngines (port_at q) f accesses in
+          let Q : ProbeResult → Type 0 = λ f. TellsEngines (port_at q) f accesses in
           subst Q (sym (other_is q other)) (before q (omega (arith, less, other)))
     ]
 
@@ -225,26 +225,26 @@ module _ (laws : Laws) where
     unused_here slot = u.free port.0 slot (omega arith)
 
     -- what halts the ports
-    later_halts : (next : Uses → Uses) → IsFollowedTo (IsOfBoot port) (λ uses. AllFree uses port.0) next old new
-        → ((q : ℕ) → q < port.0 + 1 → StandsBehind (wanted_of wanted q) (found_of (slice_set ports port.0 found) q) q new)
-        → (q : ℕ) → q < port.0 + 1 → HaltsFound (found_of (slice_set ports port.0 found) q) q new
+    later_halts : (next : SlotStates → SlotStates) → IsSimulatedTo (IsOfBoot port) (λ uses. AllFree uses port.0) next old new
+        → ((q : ℕ) → q < port.0 + 1 → StandsBehind (wanted_of wanted q) (probe_result_of (slice_set ports port.0 found) q) q new)
+        → (q : ℕ) → q < port.0 + 1 → HaltsFound (probe_result_of (slice_set ports port.0 found) q) q new
     later_halts next f stand q less = elim (cases_eq q port.0) [
       | inl e ↦
-          let P : ℕ → Type 0 = λ k. HaltsFound (found_of (slice_set ports port.0 found) k) k new in
-          let Q : Found → Type 0 = λ f. HaltsFound f port.0 new in
+          let P : ℕ → Type 0 = λ k. HaltsFound (probe_result_of (slice_set ports port.0 found) k) k new in
+          let Q : ProbeResult → Type 0 = λ f. HaltsFound f port.0 new in
           subst P (sym e) (subst Q (sym here_is) halts)
       | inr other ↦
-          let Q : Found → Type 0 = λ f. HaltsFound f q old in
+          let Q : ProbeResult → Type 0 = λ f. HaltsFound f q old in
           still_halts (IsOfBoot port) (λ uses. AllFree uses port.0) next u.uses q old new (λ access may. laws.of_spares port (port_at q) Cmd other access (laws.of_boot port access may)) unused_here f u.agreed
-          (wanted_of wanted q) (found_of (slice_set ports port.0 found) q) (stand q less) (subst Q (sym (other_is q other)) (u.halts q (omega (arith, less, other))))
+          (wanted_of wanted q) (probe_result_of (slice_set ports port.0 found) q) (stand q less) (subst Q (sym (other_is q other)) (u.halts q (omega (arith, less, other))))
     ]
 
     pub booted : found ≢ Unserved → IsBoot (TellsEngines port found) port old new → Later
     booted served told =
-        let f : IsFollowed (IsOfBoot port) (λ uses. AllFree uses port.0) old new = told.followed in
+        let f : IsSimulated (IsOfBoot port) (λ uses. AllFree uses port.0) old new = told.followed in
         let quiet : (q : Port) → q.0 ≢ port.0 → (u.uses q.0 0 ≡ Own Identify → ⊥) → SendsNone q.0 Identify old new =
         λ (q : Port) (other : q.0 ≢ port.0) (not : u.uses q.0 0 ≡ Own Identify → ⊥).
-        laws.stretches.silent (Booting port) (λ uses. uses) u.uses q Identify old new unused_here (λ access may. laws.of_spares port q Ci other access (laws.of_boot port access may))
+        laws.fragments.silent (Booting port) (λ uses. uses) u.uses q Identify old new unused_here (λ access may. laws.of_spares port q Ci other access (laws.of_boot port access may))
         (λ access may. laws.of_spares port q Sact other access (laws.of_boot port access may)) refl not f u.agreed in
         record {
           on = on;
@@ -259,7 +259,7 @@ module _ (laws : Laws) where
           told = then_told wanted unused (TellsFirst ports port.0) (TellsEngines port found) (TellsFirst (slice_set ports port.0 found) (port.0 + 1)) later_engines (PortUnused port) (λ uses. uses)
               u.uses start old new unused_here u.told
               (told_wider laws (TellsEngines port found) (Booting port) (Taking wanted (PortUnused port)) (λ uses. uses) old new (taking f.driven quiet served) (λ uses free. free) told);
-          agreed = laws.stretches.agreed (Booting port) (λ uses. uses) u.uses old new unused_here f u.agreed;
+          agreed = laws.fragments.agreed (Booting port) (λ uses. uses) u.uses old new unused_here f u.agreed;
           stands = later_stands f.driven quiet;
           halts = later_halts (λ uses. uses) f (later_stands f.driven quiet);
           reset = later_reset f.driven quiet;
@@ -268,20 +268,20 @@ module _ (laws : Laws) where
 
     -- ---- or it is dead, and its disk may yet send its page
 
-    abbrev Asked : Uses → Uses
+    abbrev Asked : SlotStates → SlotStates
     Asked uses = put uses port.0 0 (Own Identify)
 
-    pub died : found ≡ Unready Dead → IsToldTo (TellsEngines port found) (IsOfBoot port) (λ uses. AllFree uses port.0) Asked old new → Later
+    pub died : found ≡ Unready Dead → IsSimulatedAlongTo (TellsEngines port found) (IsOfBoot port) (λ uses. AllFree uses port.0) Asked old new → Later
     died dead told =
-        let f : IsFollowedTo (IsOfBoot port) (λ uses. AllFree uses port.0) Asked old new = told.followed in
+        let f : IsSimulatedTo (IsOfBoot port) (λ uses. AllFree uses port.0) Asked old new = told.followed in
         let served : found ≢ Unserved = λ (e : found ≡ Unserved). absurd (let k : Unready Dead ≡ Unserved = sym dead ∙ e in cc) in
         let quiet : (q : Port) → q.0 ≢ port.0 → (u.uses q.0 0 ≡ Own Identify → ⊥) → SendsNone q.0 Identify old new =
         λ (q : Port) (other : q.0 ≢ port.0) (not : u.uses q.0 0 ≡ Own Identify → ⊥).
-        laws.stretches.silent (Booting port) Asked u.uses q Identify old new unused_here (λ access may. laws.of_spares port q Ci other access (laws.of_boot port access may))
+        laws.fragments.silent (Booting port) Asked u.uses q Identify old new unused_here (λ access may. laws.of_spares port q Ci other access (laws.of_boot port access may))
         (λ access may. laws.of_spares port q Sact other access (laws.of_boot port access may)) refl not f u.agreed in
         let stays : (q : ℕ) (o : Operation) → u.uses q 0 ≡ Own o → Asked u.uses q 0 ≡ Own o =
         λ (q : ℕ) (o : Operation) (e : u.uses q 0 ≡ Own o).
-        laws.put_other u.uses port.0 0 (Own Identify) q 0 (λ at head. absurd (let k : Own o ≡ Free = sym e ∙ u.free q 0 (omega (arith, at)) in cc)) ∙ e in
+        laws.put_other u.uses port.0 0 (Own Identify) q 0 (λ at_slots head. absurd (let k : Own o ≡ Free = sym e ∙ u.free q 0 (omega (arith, at_slots)) in cc)) ∙ e in
         record {
           on = on;
           same = later_same f.driven quiet;
@@ -292,20 +292,20 @@ module _ (laws : Laws) where
               | inl head ↦ inr (
                 head,
                 let P : ℕ → Type 0 = λ k. Asked u.uses k 0 ≡ Own Identify in subst P (sym e) (laws.put_same u.uses port.0 0 (Own Identify)),
-                let P : ℕ → Type 0 = λ k. found_of (slice_set ports port.0 found) k ≡ Unready Dead in subst P (sym e) (here_is ∙ dead),
+                let P : ℕ → Type 0 = λ k. probe_result_of (slice_set ports port.0 found) k ≡ Unready Dead in subst P (sym e) (here_is ∙ dead),
               )
-              | inr tail ↦ inl (laws.put_other u.uses port.0 0 (Own Identify) q slot (λ at head. tail head) ∙ u.free q slot (omega (arith, e)))
+              | inr tail ↦ inl (laws.put_other u.uses port.0 0 (Own Identify) q slot (λ at_slots head. tail head) ∙ u.free q slot (omega (arith, e)))
             ]
             | inr other ↦ elim (was_left q slot other) [
-              | inl free ↦ inl (laws.put_other u.uses port.0 0 (Own Identify) q slot (λ at head. other at) ∙ free)
+              | inl free ↦ inl (laws.put_other u.uses port.0 0 (Own Identify) q slot (λ at_slots head. other at_slots) ∙ free)
               | inr (head, own, is) ↦ inr (head, stays q Identify own, is)
             ]
           ];
-          free = λ q slot more. laws.put_other u.uses port.0 0 (Own Identify) q slot (λ at head. absurd (omega (arith, at, more))) ∙ u.free q slot (omega (arith, more));
+          free = λ q slot more. laws.put_other u.uses port.0 0 (Own Identify) q slot (λ at_slots head. absurd (omega (arith, at_slots, more))) ∙ u.free q slot (omega (arith, more));
           told = then_told wanted unused (TellsFirst ports port.0) (TellsEngines port found) (TellsFirst (slice_set ports port.0 found) (port.0 + 1)) later_engines (PortUnused port) Asked
               u.uses start old new unused_here u.told
               (told_wider laws (TellsEngines port found) (Booting port) (Taking wanted (PortUnused port)) Asked old new (taking f.driven quiet served) (λ uses free. free) told);
-          agreed = laws.stretches.agreed (Booting port) Asked u.uses old new unused_here f u.agreed;
+          agreed = laws.fragments.agreed (Booting port) Asked u.uses old new unused_here f u.agreed;
           stands = later_stands f.driven quiet;
           halts = later_halts Asked f (later_stands f.driven quiet);
           reset = later_reset f.driven quiet;
@@ -331,30 +331,30 @@ module _ (laws : Laws) where
           agreed = u.agreed;
           stands = λ q less. elim (cases_eq q port.0) [
             | inl e ↦
-                let R : ℕ → Type 0 = λ k. StandsBehind (wanted_of wanted k) (found_of (slice_set ports port.0 found) k) k old in
-                let Q : Found → Type 0 = λ f. StandsBehind (wanted_of wanted port.0) f port.0 old in
+                let R : ℕ → Type 0 = λ k. StandsBehind (wanted_of wanted k) (probe_result_of (slice_set ports port.0 found) k) k old in
+                let Q : ProbeResult → Type 0 = λ f. StandsBehind (wanted_of wanted port.0) f port.0 old in
                 let D : Device → Type 0 = λ d. StandsBehind (wanted_of wanted port.0) found port.0 d in
                 subst R (sym e) (subst Q (sym here_is) (subst D same stands))
             | inr other ↦
-                let Q : Found → Type 0 = λ f. StandsBehind (wanted_of wanted q) f q old in
+                let Q : ProbeResult → Type 0 = λ f. StandsBehind (wanted_of wanted q) f q old in
                 subst Q (sym (other_is q other)) (u.stands q (omega (arith, less, other)))
           ];
           reset = λ q less. elim (cases_eq q port.0) [
             | inl e ↦
-                let R : ℕ → Type 0 = λ k. WroteControl (found_of (slice_set ports port.0 found) k) k (length start.tape) old in
-                let Q : Found → Type 0 = λ f. WroteControl f port.0 (length start.tape) old in
+                let R : ℕ → Type 0 = λ k. WroteControl (probe_result_of (slice_set ports port.0 found) k) k (length start.tape) old in
+                let Q : ProbeResult → Type 0 = λ f. WroteControl f port.0 (length start.tape) old in
                 subst R (sym e) (subst Q (sym (here_is ∙ is)) tt)
             | inr other ↦
-                let Q : Found → Type 0 = λ f. WroteControl f q (length start.tape) old in
+                let Q : ProbeResult → Type 0 = λ f. WroteControl f q (length start.tape) old in
                 subst Q (sym (other_is q other)) (u.reset q (omega (arith, less, other)))
           ];
           halts = λ q less. elim (cases_eq q port.0) [
             | inl e ↦
-                let R : ℕ → Type 0 = λ k. HaltsFound (found_of (slice_set ports port.0 found) k) k old in
-                let Q : Found → Type 0 = λ f. HaltsFound f port.0 old in
+                let R : ℕ → Type 0 = λ k. HaltsFound (probe_result_of (slice_set ports port.0 found) k) k old in
+                let Q : ProbeResult → Type 0 = λ f. HaltsFound f port.0 old in
                 subst R (sym e) (subst Q (sym (here_is ∙ is)) (λ info ready. let z : Unserved ≡ Ready info = ready in absurd cc))
             | inr other ↦
-                let Q : Found → Type 0 = λ f. HaltsFound f q old in
+                let Q : ProbeResult → Type 0 = λ f. HaltsFound f q old in
                 subst Q (sym (other_is q other)) (u.halts q (omega (arith, less, other)))
           ];
           idle = λ q more. u.idle q (omega (arith, more));
@@ -364,34 +364,34 @@ module _ (laws : Laws) where
     pub next : Boots port found old new → Later
     next boots = by found refl boots
       where
-        booted_as : (f : Found) → found ≡ f → f ≢ Unserved → IsBoot (TellsEngines port f) port old new → Later
-        booted_as f is served b = booted (λ e. served (sym is ∙ e)) (subst (λ (x : Found). IsBoot (TellsEngines port x) port old new) (sym is) b)
+        booted_as : (f : ProbeResult) → found ≡ f → f ≢ Unserved → IsBoot (TellsEngines port f) port old new → Later
+        booted_as f is served b = booted (λ e. served (sym is ∙ e)) (subst (λ (x : ProbeResult). IsBoot (TellsEngines port x) port old new) (sym is) b)
 
         by_state : (state : PortState) → found ≡ Unready state → IsBootTo (StopsBoth port) port state old new → Later
         by_state Dead is (inl b) = booted_as (Unready Dead) is (λ e. absurd cc) b
-        by_state Dead is (inr b) = died is (subst (λ (x : Found). IsToldTo (TellsEngines port x) (IsOfBoot port) (λ uses. AllFree uses port.0) Asked old new) (sym is) b)
+        by_state Dead is (inr b) = died is (subst (λ (x : ProbeResult). IsSimulatedAlongTo (TellsEngines port x) (IsOfBoot port) (λ uses. AllFree uses port.0) Asked old new) (sym is) b)
         by_state Absent is b = booted_as (Unready Absent) is (λ e. absurd cc) b
         by_state ReadyState is b = booted_as (Unready ReadyState) is (λ e. absurd cc) b
         by_state Foreign is b = booted_as (Unready Foreign) is (λ e. absurd cc) b
         by_state (Unfit n) is b = booted_as (Unready (Unfit n)) is (λ e. absurd cc) b
 
-        by : (f : Found) → found ≡ f → Boots port f old new → Later
+        by : (f : ProbeResult) → found ≡ f → Boots port f old new → Later
         by Unserved is same = passed is same
         by (Ready info) is b = booted_as (Ready info) is (λ e. absurd cc) b
         by (Unready state) is b = by_state state is b
 
   -- the adapter is what it was
-  pub boots_same : (port : Port) (old new : Device) (found : Found) → Boots port found old new → SameAdapter old new
+  pub boots_same : (port : Port) (old new : Device) (found : ProbeResult) → Boots port found old new → SameAdapter old new
   boots_same port old new Unserved is = subst (SameAdapter old) (sym is) (laws.same_refl old)
   boots_same port old new (Ready info) f = same_over laws (IsOfBoot port) old new f.followed.driven
   boots_same port old new (Unready state) f = same_over laws (IsOfBoot port) old new (laws.stops_driven port state old new f)
 
-  hosting : (wanted : List Wanted) (old new : Device) → IsFollowed IsOfHost AnyUse old new → IsFollowed (IsOfTaking wanted) AnyUse old new
-  hosting wanted old new f = (laws.stretches.wider Hosting (Taking wanted AnyUses) (λ uses. uses) (λ access may. inl may) (λ uses is. is) old new f).followed
+  hosting : (wanted : List Wanted) (old new : Device) → IsSimulated IsOfHost AnyUse old new → IsSimulated (IsOfTaking wanted) AnyUse old new
+  hosting wanted old new f = (laws.fragments.wider Hosting (Taking wanted AnyUses) (λ uses. uses) (λ access may. inl may) (λ uses is. is) old new f).followed
 
   module _ (wanted : List Wanted) (start : Device) where
     -- no port was booted yet
-    pub begins : (ports : List Found) (d : Device) → length ports ≡ 4 → IsIdle start → IsAgreed unused start → IsOn d → LeavesPorts start d → IsFollowed IsOfHost AnyUse start d →
+    pub begins : (ports : List ProbeResult) (d : Device) → length ports ≡ 4 → IsIdle start → IsRelated unused start → IsOn d → LeavesPorts start d → IsSimulated IsOfHost AnyUse start d →
         IsUnderway wanted ports 0 start d
     begins ports d long idle agreed on leaves f = record {
       on = on;
@@ -401,7 +401,7 @@ module _ (laws : Laws) where
       left = λ port slot. inl refl;
       free = λ port slot more. refl;
       told = record { followed = goes_on wanted unused start d (hosting wanted start d f); tells = λ port less. absurd (omega (arith, less)) };
-      agreed = laws.stretches.agreed Hosting (λ uses. uses) unused start d tt f agreed;
+      agreed = laws.fragments.agreed Hosting (λ uses. uses) unused start d tt f agreed;
       stands = λ port less. absurd (omega (arith, less));
       reset = λ port less. absurd (omega (arith, less));
       halts = λ port less. absurd (omega (arith, less));
@@ -409,19 +409,19 @@ module _ (laws : Laws) where
     }
 
     -- all were
-    module _ (ports : List Found) (d new : Device) (u : IsUnderway wanted ports 4 start d) (leaves : LeavesPorts d new) (f : IsFollowed IsOfHost AnyUse d new) where
+    module _ (ports : List ProbeResult) (d new : Device) (u : IsUnderway wanted ports 4 start d) (leaves : LeavesPorts d new) (f : IsSimulated IsOfHost AnyUse d new) where
       abbrev Silent : ℕ → Type 0
       Silent port = SendsNone port Identify d new
 
-      silent : (port : ℕ) → found_of ports port ≢ Unready Dead → Silent port
-      silent port alive = laws.stretches.silent Hosting (λ uses. uses) u.uses (port_at port) Identify d new tt (host_spares (port_at port) Ci) (host_spares (port_at port) Sact) refl
+      silent : (port : ℕ) → probe_result_of ports port ≢ Unready Dead → Silent port
+      silent port alive = laws.fragments.silent Hosting (λ uses. uses) u.uses (port_at port) Identify d new tt (host_spares (port_at port) Ci) (host_spares (port_at port) Sact) refl
           (λ own. elim (u.left port 0) [
             | inl free ↦ absurd (let e : Own Identify ≡ Free = sym own ∙ free in cc)
             | inr (head, is, dead) ↦ alive dead
           ]) f u.agreed
 
-      all_told : IsToldTo (TellsFirst ports 4) (IsOfTaking wanted) (IsUse unused) (λ _. u.uses) start new
-      all_told = then_told wanted unused (TellsFirst ports 4) (λ late. Unit {0}) (TellsFirst ports 4) (λ early late is any port less. tells_then laws (port_at port) (found_of ports port) early late (is port less))
+      all_told : IsSimulatedAlongTo (TellsFirst ports 4) (IsOfTaking wanted) (IsUse unused) (λ _. u.uses) start new
+      all_told = then_told wanted unused (TellsFirst ports 4) (λ late. Unit {0}) (TellsFirst ports 4) (λ early late is any port less. tells_then laws (port_at port) (probe_result_of ports port) early late (is port less))
           AnyUses (λ uses. uses) u.uses start d new tt u.told (record { followed = hosting wanted d new f; tells = tt })
 
       pub ends : (host : Host) → host.ports ≡ ports → host.slots ≡ new.cap / 256 % 32 + 1 → host.queued ≡ bit new.cap 30 → IsOn new → new.ie ≡ true → GoesOver ports start new → TakesOver wanted host start new
@@ -432,19 +432,19 @@ module _ (laws : Laws) where
         slots = slots;
         queued = queued;
         stands = λ port less.
-            let P : List Found → Type 0 = λ ps. StandsBehind (wanted_of wanted port) (found_of ps port) port new in
-            subst P (sym is) (stands_on laws.found port d new (leaves port) (same_over laws IsOfHost d new f.driven) (wanted_of wanted port) (found_of ports port) (silent port) (u.stands port less));
+            let P : List ProbeResult → Type 0 = λ ps. StandsBehind (wanted_of wanted port) (probe_result_of ps port) port new in
+            subst P (sym is) (stands_on laws.found port d new (leaves port) (same_over laws IsOfHost d new f.driven) (wanted_of wanted port) (probe_result_of ports port) (silent port) (u.stands port less));
         reset = λ port less.
-            let P : List Found → Type 0 = λ ps. WroteControl (found_of ps port) port (length start.tape) new in
-            subst P (sym is) (reset_on port d new (leaves port) (found_of ports port) (length start.tape) (u.reset port less));
+            let P : List ProbeResult → Type 0 = λ ps. WroteControl (probe_result_of ps port) port (length start.tape) new in
+            subst P (sym is) (reset_on port d new (leaves port) (probe_result_of ports port) (length start.tape) (u.reset port less));
         halts = λ port less.
-            let P : List Found → Type 0 = λ ps. HaltsFound (found_of ps port) port new in
-            subst P (sym is) (still_halts IsOfHost AnyUse (λ uses. uses) u.uses port d new (host_spares (port_at port) Cmd) tt f u.agreed (wanted_of wanted port) (found_of ports port)
-            (stands_on laws.found port d new (leaves port) (same_over laws IsOfHost d new f.driven) (wanted_of wanted port) (found_of ports port) (silent port) (u.stands port less)) (u.halts port less));
-        way = let P : List Found → Type 0 = λ ps. GoesOver ps start new in subst P (sym is) way;
+            let P : List ProbeResult → Type 0 = λ ps. HaltsFound (probe_result_of ps port) port new in
+            subst P (sym is) (still_halts IsOfHost AnyUse (λ uses. uses) u.uses port d new (host_spares (port_at port) Cmd) tt f u.agreed (wanted_of wanted port) (probe_result_of ports port)
+            (stands_on laws.found port d new (leaves port) (same_over laws IsOfHost d new f.driven) (wanted_of wanted port) (probe_result_of ports port) (silent port) (u.stands port less)) (u.halts port less));
+        way = let P : List ProbeResult → Type 0 = λ ps. GoesOver ps start new in subst P (sym is) way;
         uses = u.uses;
-        left = λ port slot. let P : List Found → Type 0 = λ ps. IsLeft ps u.uses port slot in subst P (sym is) (u.left port slot);
+        left = λ port slot. let P : List ProbeResult → Type 0 = λ ps. IsUnusedOrDead ps u.uses port slot in subst P (sym is) (u.left port slot);
         followed = all_told.followed;
-        engines = let P : List Found → Type 0 = λ ps. TellsFirst ps 4 all_told.followed.driven.accesses in subst P (sym is) all_told.tells;
-        agreed = laws.stretches.agreed Hosting (λ uses. uses) u.uses d new tt f u.agreed;
+        engines = let P : List ProbeResult → Type 0 = λ ps. TellsFirst ps 4 all_told.followed.driven.accesses in subst P (sym is) all_told.tells;
+        agreed = laws.fragments.agreed Hosting (λ uses. uses) u.uses d new tt f u.agreed;
       }

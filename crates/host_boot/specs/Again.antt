@@ -5,19 +5,19 @@ use Rattle.ata_types.specs.declared.PortState.TheVariants.{Absent}
 use Rattle.hba_regs.specs.Bits.{bit}
 use Rattle.adapter.specs.Access.{Access}
 use Rattle.adapter.specs.Device.{Device}
-use Rattle.agreement.specs.Driven.{IsFollowed}
-use Rattle.agreement.specs.Driver.{AllFree}
+use Rattle.refinement.specs.Driven.{IsSimulated}
+use Rattle.refinement.specs.Driver.{AllFree}
 use Rattle.identify.specs.Wanted.{serial_of}
 use Rattle.identify.specs.declared.wanted.Wanted.{Wanted}
 use Rattle.port_boot.specs.Outcomes.{EndsReady, EndsUnready}
 use Rattle.port_boot.specs.States.{EndsAs, IsOfBoot}
 use Rattle.host_boot.specs.Taken.{IsSurvey}
 use Rattle.host_boot.specs.declared.Booted.{Booted}
-use Rattle.host_boot.specs.declared.Found.{Found}
-use Rattle.host_boot.specs.declared.Found.TheVariants.{Unserved, Ready, Unready}
+use Rattle.host_boot.specs.declared.ProbeResult.{ProbeResult}
+use Rattle.host_boot.specs.declared.ProbeResult.TheVariants.{Unserved, Ready, Unready}
 
 -- what a boot of a stopped port promises, by what the port is found to be
-abbrev pub BootsStopped : Wanted → Port → Found → Device → Device → Type 0
+abbrev pub BootsStopped : Wanted → Port → ProbeResult → Device → Device → Type 0
 BootsStopped wanted port Unserved old new = ⊥
 BootsStopped wanted port (Ready info) old new = EndsReady (serial_of wanted) port info old new
 BootsStopped wanted port (Unready state) old new = EndsUnready (serial_of wanted) port state old new
@@ -29,7 +29,7 @@ IsOfStart port access = IsSurvey access ⊎ IsOfBoot port access
 -- The adapter was asked what it is capable of (CAP), the port was looked at, if at all, and then it was booted.
 pub record BootsAgain (wanted : Wanted) (port : Port) (booted : Booted) (old new : Device) : Type 0 where
   pub asked : Device
-  pub asks : IsFollowed (IsOfStart port) (λ uses. AllFree uses port.0) old asked
+  pub asks : IsSimulated (IsOfStart port) (λ uses. AllFree uses port.0) old asked
   pub boots : BootsStopped wanted port booted.found asked new
   pub slots : booted.slots ≡ new.cap / 256 % 32 + 1
   pub queued : booted.queued ≡ bit new.cap 30
@@ -39,5 +39,5 @@ pub record BootsAgain (wanted : Wanted) (port : Port) (booted : Booted) (old new
 abbrev pub BootsIfThere : Wanted → Port → Booted → Device → Device → Type 0
 BootsIfThere wanted port booted old new =
     ((b : BootsAgain wanted port booted old new) × ((b.asked.port port.0).ssts_det ≡ 3))
-    ⊎ ((booted.found ≡ Unready Absent) × IsFollowed (IsOfStart port) (λ uses. AllFree uses port.0) old new
+    ⊎ ((booted.found ≡ Unready Absent) × IsSimulated (IsOfStart port) (λ uses. AllFree uses port.0) old new
     × EndsAs (serial_of wanted) Absent port.0 new)

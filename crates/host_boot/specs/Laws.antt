@@ -3,22 +3,22 @@ use Rattle.std.specs.Prelude.{ℕ, true, false, ◌≡◌, ◌≢◌, ◌%◌, �
 use Rattle.ata_types.specs.declared.Port.{Port}
 use Rattle.ata_types.specs.declared.PortState.{PortState as ShownState}
 use Rattle.adapter.specs.Access.{Access, Does, DoesAll, Reads, Writes}
-use Rattle.agreement.specs.Laws.{StretchLaws, TapeLaws}
-use Rattle.agreement.specs.Driver.{AllFree, Known, Knows}
-use Rattle.agreement.specs.Driven.{AnyAccess, AnyUse, IsAgreed, IsControl, IsDrivenBy, IsOf, IsUse, LeavesPort, SendsNone}
+use Rattle.refinement.specs.Laws.{FragmentLaws, TapeLaws}
+use Rattle.refinement.specs.Driver.{AllFree, DriverState, DriverRelation}
+use Rattle.refinement.specs.Driven.{AnyAccess, AnyUse, IsRelated, IsControl, IsDrivenBy, IsOf, IsUse, LeavesPort, SendsNone}
 use Rattle.hba_regs.specs.declared.reg.PortReg.TheVariants.{Cmd, Sctl, Ssts}
 use Rattle.ata_types.specs.declared.PortState.TheVariants.{Dead}
-use Rattle.adapter.specs.Device.{Device, PortState}
+use Rattle.adapter.specs.Device.{Device, DevicePort}
 use Rattle.identify.specs.declared.DiskInfo.{DiskInfo}
 use Rattle.port_boot.specs.States.{EndsAs, GetsReady, HasFitDisk, IsBootTo, IsOfBoot, IsReady, RunsOn, ShowsOwnDisk, StopsOnWay}
 use Rattle.adapter.specs.declared.tape.Entry.{Entry}
 use Rattle.port_control.specs.Engines.{FailsToStop, Falls, Sticks, StopsBoth}
-use Rattle.agreement.specs.Slots.{Free, Use, Uses, put}
+use Rattle.refinement.specs.Slots.{Free, SlotState, SlotStates, put}
 use Rattle.hba_regs.specs.declared.reg.Reg.TheVariants.{Ghc, Px}
-use Rattle.agreement.specs.Acts.{Act, AreDone, accesses_of}
-use Rattle.agreement.specs.Halting.{IsHaltedAsTaken}
-use Rattle.agreement.specs.Links.{HasDeviceOrNone, SameAdapter, SparesRegister}
-use Rattle.block_machine.specs.Histories.{IsReached}
+use Rattle.refinement.specs.Acts.{Act, AreDone, accesses_of}
+use Rattle.refinement.specs.Halting.{IsHaltedAsTaken}
+use Rattle.refinement.specs.Links.{HasDeviceOrNone, SameAdapter, SparesRegister}
+use Rattle.block_machine.specs.Histories.{IsReachable}
 use Rattle.block_machine.specs.State.{Machine}
 use Rattle.adapter.specs.declared.command.Operation.TheVariants.{Identify}
 use Rattle.adapter.specs.Idle.{IsIdle, TellsDisks}
@@ -30,7 +30,7 @@ use Rattle.port_control.specs.Ports.{IsClearing, IsPlacing, WritesCommand}
 use Rattle.adapter.specs.Kept.{Keeps}
 use Rattle.hba_regs.specs.declared.reg.PortReg.{PortReg}
 use Rattle.adapter.specs.Access.Access.{Writing}
-use Rattle.agreement.specs.Facts.{RunsWell, Undisturbed}
+use Rattle.refinement.specs.Facts.{RunsWell, Undisturbed}
 use Rattle.adapter.specs.Steps.{Steps}
 use Rattle.identify.specs.declared.wanted.Wanted.{Wanted}
 use Rattle.hba_regs.specs.Bits.{bit}
@@ -41,9 +41,9 @@ use Rattle.hba_regs.specs.Bits.{bit}
 pub data Fitting : Type 0 where
   AnyUses : Fitting
   PortUnused : Port → Fitting
-  Only : Uses → Fitting
+  Only : SlotStates → Fitting
 
-abbrev pub uses_of : Fitting → Uses → Type 0
+abbrev pub uses_of : Fitting → SlotStates → Type 0
 uses_of AnyUses = AnyUse
 uses_of (PortUnused port) = λ uses. AllFree uses port.0
 uses_of (Only uses) = IsUse uses
@@ -51,17 +51,17 @@ uses_of (Only uses) = IsUse uses
 -- a port is stopped, or booted, with none of its slots used; registers of the adapter's own are read and written, or
 -- CAP and PI alone are read; a port is looked at, or all of this is done for its boot; or all ports are taken over; or
 -- the adapter is reset
-pub data Stretch : Type 0 where
-  Commanding : Port → Stretch
-  Booting : Port → Stretch
-  Hosting : Stretch
-  Surveying : Stretch
-  Clearing : Port → Stretch
-  Starting : Port → Stretch
-  Taking : List Wanted → Fitting → Stretch
-  Resetting : Stretch
+pub data Fragment : Type 0 where
+  Commanding : Port → Fragment
+  Booting : Port → Fragment
+  Hosting : Fragment
+  Surveying : Fragment
+  Clearing : Port → Fragment
+  Starting : Port → Fragment
+  Taking : List Wanted → Fitting → Fragment
+  Resetting : Fragment
 
-abbrev pub may_of : Stretch → Access → Type 0
+abbrev pub may_of : Fragment → Access → Type 0
 may_of (Commanding port) = IsControl WritesCommand port
 may_of (Booting port) = IsOfBoot port
 may_of Hosting = IsOfHost
@@ -71,7 +71,7 @@ may_of (Starting port) = IsOfStart port
 may_of (Taking wanted fitting) = IsOfTaking wanted
 may_of Resetting = IsOfReset
 
-abbrev pub fits_of : Stretch → Uses → Type 0
+abbrev pub fits_of : Fragment → SlotStates → Type 0
 fits_of (Commanding port) = AnyUse
 fits_of (Booting port) = λ uses. AllFree uses port.0
 fits_of Hosting = AnyUse
@@ -99,7 +99,7 @@ pub record FoundLaws : Type 0 where
 pub record Laws : Type 0 where
   pub found : FoundLaws
   -- one access
-  pub steps_keep : (old new : Device) → Steps old new → Keeps old new
+  pub law_steps_keep : (old new : Device) → Steps old new → Keeps old new
   pub access_on : (access : Access) (old new : Device) → IsOn old
       → ((v : ℕ) → access ≡ Writing Ghc v → (bit v 31 ≡ true) × (bit v 0 ≡ false)) → Does access old new → IsOn new
   pub access_same : (access : Access) (old new : Device) → Does access old new → SameAdapter old new
@@ -119,7 +119,7 @@ pub record Laws : Type 0 where
   pub own_begins : (port : Port) (old new : Device) → GetsReady port old new → ShowsOwnDisk (new.port port.0)
   pub shows_device : (port : Port) (v : ℕ) (old new : Device) → Reads (Px port Ssts) v old new → v % 16 ≡ 3
       → HasDeviceOrNone (new.port port.0)
-  -- stretches
+  -- fragments
   pub does_append : (early late : List Access) (old mid new : Device) → DoesAll early old mid → DoesAll late mid new
       → DoesAll (early ++ late) old new
   pub same_refl : (d : Device) → SameAdapter d d
@@ -128,16 +128,16 @@ pub record Laws : Type 0 where
       → DoesAll accesses old new → IsOn new
   pub left : (port : Port) (q : ℕ) (old new : Device) → q ≢ port.0 → IsOn old → IsDrivenBy (IsOf port) old new
       → LeavesPort (old.port q) (new.port q)
-  pub leaves_more : (old mid new : PortState) → LeavesPort old mid → LeavesPort mid new → LeavesPort old new
+  pub leaves_more : (old mid new : DevicePort) → LeavesPort old mid → LeavesPort mid new → LeavesPort old new
   pub of_spares : (port q : Port) (r : PortReg) → q.0 ≢ port.0 → (access : Access) → IsOf port access
       → SparesRegister (Px q r) access
   pub of_spares_ghc : (port : Port) (access : Access) → IsOf port access → SparesRegister Ghc access
   pub same_any : (old new : Device) → IsDrivenBy AnyAccess old new → SameAdapter old new
   pub tape_any : (old new : Device) → IsDrivenBy AnyAccess old new → (gained : List Entry)
       × (new.tape ≡ old.tape ++ gained)
-  pub idle_agrees : (d : Device) → IsIdle d → TellsDisks d → IsAgreed (λ port slot. Free) d
-  pub put_same : (uses : Uses) (port slot : ℕ) (u : Use) → put uses port slot u port slot ≡ u
-  pub put_other : (uses : Uses) (port slot : ℕ) (u : Use) (other_port other_slot : ℕ)
+  pub idle_agrees : (d : Device) → IsIdle d → TellsDisks d → IsRelated (λ port slot. Free) d
+  pub put_same : (uses : SlotStates) (port slot : ℕ) (u : SlotState) → put uses port slot u port slot ≡ u
+  pub put_other : (uses : SlotStates) (port slot : ℕ) (u : SlotState) (other_port other_slot : ℕ)
       → (other_port ≡ port → other_slot ≡ slot → ⊥) → put uses port slot u other_port other_slot ≡ uses other_port
       other_slot
   -- a port
@@ -165,8 +165,9 @@ pub record Laws : Type 0 where
       → All (SparesRegister (Px port Cmd)) accesses → RunsOn port.0 old new
   pub well_on : (port : ℕ) (old new : Device) → RunsOn port old new → Undisturbed port old new
       → RunsWell (old.port port) → RunsWell (new.port port)
-  pub halts_acts : (port : Port) (acts : List Act) (k later : Known) (m : Machine) → IsReached m → Knows m k
+  pub halts_acts : (port : Port) (acts : List Act) (k later : DriverState) (m : Machine) → IsReachable m
+      → DriverRelation m k
       → AreDone acts k m later → All (SparesRegister (Px port Cmd)) (accesses_of acts)
       → IsHaltedAsTaken (k.device.port port.0) → IsHaltedAsTaken (later.device.port port.0)
   -- this crate's kinds of accesses
-  pub stretches : StretchLaws Stretch may_of fits_of
+  pub fragments : FragmentLaws Fragment may_of fits_of

@@ -6,8 +6,8 @@ use Rattle.adapter.specs.Access.{Access}
 use Rattle.adapter.specs.Access.Access.{Reading, Writing}
 use Rattle.adapter.specs.Device.{Device}
 use Rattle.adapter.specs.Idle.{IsIdle}
-use Rattle.agreement.specs.Driven.{AnyUse, IsFollowed}
-use Rattle.agreement.specs.Links.{SameAdapter}
+use Rattle.refinement.specs.Driven.{AnyUse, IsSimulated}
+use Rattle.refinement.specs.Links.{SameAdapter}
 
 -- ---- accesses
 
@@ -44,7 +44,7 @@ AwaitsReset accesses = AwaitsHr true accesses
 -- The adapter was reset: GHC was read 64 times at most, and HR was read 0 at last. It is idle: none of its slots has a
 -- command any more. A machine that agreed followed, by steps of the device alone.
 pub record Resets (old new : Device) : Type 0 where
-  pub followed : IsFollowed IsOfReset AnyUse old new
+  pub followed : IsSimulated IsOfReset AnyUse old new
   pub awaited : AwaitsHr false followed.driven.accesses
   pub often : length followed.driven.accesses ≤ 65
   pub idle : IsIdle new
@@ -53,7 +53,7 @@ pub record Resets (old new : Device) : Type 0 where
 -- The adapter didn't end its reset: GHC was read 64 times, at last with HR one, and it is one still. A machine that
 -- agreed followed.
 pub record StaysReset (old new : Device) : Type 0 where
-  pub followed : IsFollowed IsOfReset AnyUse old new
+  pub followed : IsSimulated IsOfReset AnyUse old new
   pub awaited : AwaitsReset followed.driven.accesses
   pub often : length followed.driven.accesses ≡ 65
   pub pending : new.hr ≡ true

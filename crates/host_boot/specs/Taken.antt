@@ -9,16 +9,16 @@ use Rattle.hba_regs.specs.Bits.{bit}
 use Rattle.hba_regs.specs.declared.reg.Reg.TheVariants.{Cap, Ghc, Pi}
 use Rattle.adapter.specs.Access.{Access, Writes}
 use Rattle.adapter.specs.Access.Access.{Reading, Writing}
-use Rattle.adapter.specs.Device.{PortState, Device}
+use Rattle.adapter.specs.Device.{DevicePort, Device}
 use Rattle.adapter.specs.Idle.{IsIdlePort}
 use Rattle.adapter.specs.Rules.{IsOn}
 use Rattle.adapter.specs.declared.command.Operation.TheVariants.{Identify}
-use Rattle.agreement.specs.Agrees.{port_at}
-use Rattle.agreement.specs.Driven.{AgreesWith, IsAgreed, IsControl, IsDrivenBy, IsFollowedTo, IsUse, LeavesPort}
-use Rattle.agreement.specs.Driver.{AllFree}
-use Rattle.agreement.specs.Halting.{HaltsAsTaken}
-use Rattle.agreement.specs.Links.{SameAdapter}
-use Rattle.agreement.specs.Slots.{Free, Own, Uses}
+use Rattle.refinement.specs.Relation.{port_at}
+use Rattle.refinement.specs.Driven.{RelatesWith, IsRelated, IsControl, IsDrivenBy, IsSimulatedTo, IsUse, LeavesPort}
+use Rattle.refinement.specs.Driver.{AllFree}
+use Rattle.refinement.specs.Halting.{HaltsAsTaken}
+use Rattle.refinement.specs.Links.{SameAdapter}
+use Rattle.refinement.specs.Slots.{Free, Own, SlotStates}
 use Rattle.identify.specs.Wanted.{serial_of}
 use Rattle.identify.specs.declared.DiskInfo.{DiskInfo}
 use Rattle.identify.specs.declared.wanted.Wanted.{Wanted}
@@ -26,8 +26,8 @@ use Rattle.identify.specs.declared.wanted.Wanted.TheVariants.{Nothing}
 use Rattle.port_control.specs.Engines.{StopsBoth, Sticks}
 use Rattle.port_control.specs.Ports.{WritesCommand}
 use Rattle.port_boot.specs.States.{EndsAs, EndsEarly, EndsLate, GetsReady, HasFitDisk, IsBoot, IsBootTo, IsEarly, IsLate, IsOfBoot, IsReady, ShowsNews}
-use Rattle.host_boot.specs.declared.Found.{Found}
-use Rattle.host_boot.specs.declared.Found.TheVariants.{Unserved, Ready, Unready}
+use Rattle.host_boot.specs.declared.ProbeResult.{ProbeResult}
+use Rattle.host_boot.specs.declared.ProbeResult.TheVariants.{Unserved, Ready, Unready}
 use Rattle.host_boot.specs.declared.Host.{Host}
 
 -- ---- ports
@@ -37,8 +37,8 @@ abbrev pub wanted_of : List Wanted → ℕ → Wanted
 wanted_of wanted port = slice_index_or wanted port Nothing
 
 -- what a port was found to be
-abbrev pub found_of : List Found → ℕ → Found
-found_of ports port = slice_index_or ports port Unserved
+abbrev pub probe_result_of : List ProbeResult → ℕ → ProbeResult
+probe_result_of ports port = slice_index_or ports port Unserved
 
 -- a disk is wanted in the port, and the adapter has it
 abbrev pub IsServed : Wanted → ℕ → Device → Type 0
@@ -52,43 +52,43 @@ FoundBadDisk _ = ⊥
 
 -- What stands behind what a port was found to be. One that isn't served is as idle as it was; what stands behind the
 -- others is what their boot found.
-abbrev pub StandsBehind : Wanted → Found → ℕ → Device → Type 0
+abbrev pub StandsBehind : Wanted → ProbeResult → ℕ → Device → Type 0
 StandsBehind wanted Unserved port d = (IsServed wanted port d → ⊥) × IsIdlePort (d.port port)
 StandsBehind wanted (Ready info) port d = IsServed wanted port d × IsReady (serial_of wanted) port d info
 StandsBehind wanted (Unready state) port d = IsServed wanted port d × EndsAs (serial_of wanted) state port d
 
 -- What still stands behind it as long as the port isn't booted anew: behind a ready port, which takes commands, a disk
 -- that fits.
-abbrev pub StillStandsBehind : Wanted → Found → ℕ → Device → Type 0
+abbrev pub StillStandsBehind : Wanted → ProbeResult → ℕ → Device → Type 0
 StillStandsBehind wanted (Ready info) port d = IsServed wanted port d × HasFitDisk (serial_of wanted) port d info
 StillStandsBehind wanted found port d = StandsBehind wanted found port d
 
 -- What has to be left of a port for that: of a ready one, DET of PxSCTL, PxIE, and when PxSCTL was written; any other
 -- is left to the device.
-abbrev pub LeavesFound : Found → PortState → PortState → Type 0
+abbrev pub LeavesFound : ProbeResult → DevicePort → DevicePort → Type 0
 LeavesFound (Ready info) old new =
     (new.sctl_det ≡ old.sctl_det) × (new.ie ≡ old.ie) × (new.notes.sctl_written_at ≡ old.notes.sctl_written_at)
 LeavesFound found old new = LeavesPort old new
 
 -- PxSCTL of the port was written after the tape was so long, unless the port isn't served, or was dead before that
-abbrev pub WroteControl : Found → ℕ → ℕ → Device → Type 0
+abbrev pub WroteControl : ProbeResult → ℕ → ℕ → Device → Type 0
 WroteControl Unserved port since d = Unit {0}
 WroteControl (Unready Dead) port since d = Unit {0}
 WroteControl _ port since d = since ≤ (d.port port).notes.sctl_written_at
 
 -- what halts a port that was found ready is of a command that is taken
-abbrev pub HaltsFound : Found → ℕ → Device → Type 0
+abbrev pub HaltsFound : ProbeResult → ℕ → Device → Type 0
 HaltsFound found port d = (info : DiskInfo) → found ≡ Ready info → HaltsAsTaken (d.port port)
 
 -- What accesses tell of the engines of a port that was found to be this: both fell, as was read after each was cleared.
 -- Of a dead port 64 readings in a row showed one that runs still; and one that isn't served wasn't stopped.
-abbrev pub TellsEngines : Port → Found → List Access → Type 0
+abbrev pub TellsEngines : Port → ProbeResult → List Access → Type 0
 TellsEngines port Unserved accesses = Unit {0}
 TellsEngines port (Unready Dead) accesses = Sticks port accesses
 TellsEngines port _ accesses = StopsBoth port accesses
 
 -- A port that isn't served isn't touched; another was stopped and booted, and its accesses tell of its engines.
-abbrev pub Boots : Port → Found → Device → Device → Type 0
+abbrev pub Boots : Port → ProbeResult → Device → Device → Type 0
 Boots port Unserved old new = new ≡ old
 Boots port (Ready info) old new = IsBoot (StopsBoth port) port old new
 Boots port (Unready state) old new = IsBootTo (StopsBoth port) port state old new
@@ -128,7 +128,7 @@ pub record SticksOnWay (port : Port) (old new : Device) : Type 0 where
 -- The port was stopped, and then booted, by accesses of a boot of this port alone: it is ready, and each access of that
 -- is told, with what it shows of trouble; or it isn't, and what was seen is told. Of each dead one the engine that is
 -- stuck is told.
-abbrev pub GoesThrough : Port → Found → Device → Device → Type 0
+abbrev pub GoesThrough : Port → ProbeResult → Device → Device → Type 0
 GoesThrough port Unserved old new = new ≡ old
 GoesThrough port (Ready info) old new = (stopped : Device) × IsDrivenBy (IsControl WritesCommand port) old stopped
     × IsDrivenBy (IsOfBoot port) stopped new × GetsReady port stopped new × ShowsNews port.0 stopped new
@@ -145,12 +145,12 @@ pub record MayBootIdle (port : Port) (implemented : ℕ) (d : Device) : Type 0 w
   pub small : port.0 < 4
   pub there : implemented ≡ d.pi
   pub room : DRIVER_BYTES ≤ d.size
-  pub agreed : AgreesWith (λ uses. AllFree uses port.0) d
+  pub agreed : RelatesWith (λ uses. AllFree uses port.0) d
   pub idle : IsIdlePort (d.port port.0)
 
 -- It was found to be this: what stands behind that; PxSCTL was written in it; what halts a ready one is of a command
 -- that is taken; what it is to a machine that agrees; and its way.
-pub record FindsPort (wanted : Wanted) (port : Port) (found : Found) (old new : Device) : Type 0 where
+pub record FindsPort (wanted : Wanted) (port : Port) (found : ProbeResult) (old new : Device) : Type 0 where
   pub stands : StandsBehind wanted found port.0 new
   pub reset : WroteControl found port.0 (length old.tape) new
   pub halts : HaltsFound found port.0 new
@@ -160,14 +160,14 @@ pub record FindsPort (wanted : Wanted) (port : Port) (found : Found) (old new : 
 -- ---- the whole way
 
 -- so it was with these ports, one after another, of which the first has this number
-abbrev pub GoThrough : ℕ → List Found → Device → Device → Type 0
+abbrev pub GoThrough : ℕ → List ProbeResult → Device → Device → Type 0
 GoThrough port [] old new = new ≡ old
 GoThrough port (found ∷ rest) old new = (mid : Device) × GoesThrough (port_at port) found old mid
     × GoThrough (port + 1) rest mid new
 
 -- The adapter was switched on with interrupts off, and CAP and PI were read; then each port went its way, in rising
 -- number; and last of all the adapter was let interrupt (AHCI 1.3.1, 3.1.2 and 10.1.2).
-pub record GoesOver (ports : List Found) (old new : Device) : Type 0 where
+pub record GoesOver (ports : List ProbeResult) (old new : Device) : Type 0 where
   pub switched : Device
   pub switches : Writes Ghc 0x80000000 old switched
   pub surveyed : Device
@@ -179,13 +179,13 @@ pub record GoesOver (ports : List Found) (old new : Device) : Type 0 where
 -- ---- the whole
 
 -- no slot is used
-abbrev pub unused : Uses
+abbrev pub unused : SlotStates
 unused = λ port slot. Free
 
 -- A slot isn't used; or it is slot 0 of a port that is dead, which may have IDENTIFY DEVICE still.
-abbrev pub IsLeft : List Found → Uses → ℕ → ℕ → Type 0
-IsLeft ports uses port slot = (uses port slot ≡ Free)
-    ⊎ ((slot ≡ 0) × (uses port 0 ≡ Own Identify) × (found_of ports port ≡ Unready Dead))
+abbrev pub IsUnusedOrDead : List ProbeResult → SlotStates → ℕ → ℕ → Type 0
+IsUnusedOrDead ports uses port slot = (uses port slot ≡ Free)
+    ⊎ ((slot ≡ 0) × (uses port 0 ≡ Own Identify) × (probe_result_of ports port ≡ Unready Dead))
 
 -- An idle adapter was taken over: it is on, and may interrupt; what is told of it is so; each of its ports is as it was
 -- found, by a COMRESET of this very call; what halts a ready one is of a command that is taken; and the machine
@@ -196,12 +196,13 @@ pub record TakesOver (wanted : List Wanted) (host : Host) (old new : Device) : T
   pub same : SameAdapter old new
   pub slots : host.slots ≡ new.cap / 256 % 32 + 1
   pub queued : host.queued ≡ bit new.cap 30
-  pub stands : (port : ℕ) → port < 4 → StandsBehind (wanted_of wanted port) (found_of host.ports port) port new
-  pub reset : (port : ℕ) → port < 4 → WroteControl (found_of host.ports port) port (length old.tape) new
-  pub halts : (port : ℕ) → port < 4 → HaltsFound (found_of host.ports port) port new
+  pub stands : (port : ℕ) → port < 4 → StandsBehind (wanted_of wanted port) (probe_result_of host.ports port) port new
+  pub reset : (port : ℕ) → port < 4 → WroteControl (probe_result_of host.ports port) port (length old.tape) new
+  pub halts : (port : ℕ) → port < 4 → HaltsFound (probe_result_of host.ports port) port new
   pub way : GoesOver host.ports old new
-  pub uses : Uses
-  pub left : (port slot : ℕ) → IsLeft host.ports uses port slot
-  pub followed : IsFollowedTo (IsOfTaking wanted) (IsUse unused) (λ _. uses) old new
-  pub engines : (port : ℕ) → port < 4 → TellsEngines (port_at port) (found_of host.ports port) followed.driven.accesses
-  pub agreed : IsAgreed uses new
+  pub uses : SlotStates
+  pub left : (port slot : ℕ) → IsUnusedOrDead host.ports uses port slot
+  pub followed : IsSimulatedTo (IsOfTaking wanted) (IsUse unused) (λ _. uses) old new
+  pub engines : (port : ℕ) → port < 4
+      → TellsEngines (port_at port) (probe_result_of host.ports port) followed.driven.accesses
+  pub agreed : IsRelated uses new

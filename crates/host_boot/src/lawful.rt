@@ -1,24 +1,26 @@
 // What laws of the crates below say of this crate's accesses, for its proofs. Nothing comes of calling it.
-ghost use Rattle.host_boot.specs.Laws.{Laws, Stretch, fits_of, may_of};
+ghost use Rattle.host_boot.specs.Laws.{Laws, Fragment, fits_of, may_of};
 
-use adapter::laws::{accesses_compose, steps_keep};
-use agreement::disks::{none_comes_in, reset_is_idle};
-use agreement::facts::{adapter_stays, device_or_none_stays, reset_is_found, switching_on};
-use agreement::kinds::{Kinds, stretch_laws_hold};
-use agreement::laws::putting_is_of_one_slot;
-use agreement::recovering::halts_are_of_taken_commands;
-use agreement::stretches::{agreeing_goes_on, other_ports_are_left, tape_laws_hold};
+use adapter::laws::{law_accesses_compose, law_steps_keep};
 use port_boot::laws::{
-    a_boot_is_of_its_port, a_disk_is_in_where_one_shows, a_port_runs_on, boots_are_driven,
-    what_was_found_goes_on,
+    law_a_boot_is_of_its_port, law_a_disk_is_in_where_one_shows, law_a_port_runs_on,
+    law_boots_are_driven, law_what_was_found_goes_on,
 };
-use port_control::laws::{calls_are_of_one_port, what_is_told_of_engines_stays};
+use port_control::laws::{law_calls_are_of_one_port, law_what_is_told_of_engines_stays};
+use refinement::disks::{law_none_comes_in, law_reset_is_idle};
+use refinement::facts::{
+    law_adapter_stays, law_device_or_none_stays, law_reset_is_found, law_switching_on,
+};
+use refinement::fragments::{law_agreeing_goes_on, law_other_ports_are_left, law_tapes};
+use refinement::kinds::{Kinds, law_fragments};
+use refinement::laws::law_putting_is_of_one_slot;
+use refinement::recovering::law_halts_are_of_taken_commands;
 
 /// This crate's kinds of accesses.
 enum Boots {}
 
 impl Kinds for Boots {
-    ghost Kind = { Stretch };
+    ghost Kind = { Fragment };
 
     ghost may = { may_of };
 
@@ -26,28 +28,28 @@ impl Kinds for Boots {
 }
 
 /// The laws that the proofs of this crate rest on.
-pub fn laws_hold()
+pub fn law_base()
     ensures { Laws }
 {
-    accesses_compose();
-    steps_keep();
-    none_comes_in();
-    adapter_stays();
-    device_or_none_stays();
-    reset_is_found();
-    reset_is_idle();
-    switching_on();
-    stretch_laws_hold::<Boots>();
-    putting_is_of_one_slot();
-    halts_are_of_taken_commands();
-    agreeing_goes_on();
-    other_ports_are_left();
-    tape_laws_hold();
-    a_boot_is_of_its_port();
-    a_disk_is_in_where_one_shows();
-    a_port_runs_on();
-    boots_are_driven();
-    what_was_found_goes_on();
-    calls_are_of_one_port();
-    what_is_told_of_engines_stays();
+    law_accesses_compose();
+    law_steps_keep();
+    law_none_comes_in();
+    law_adapter_stays();
+    law_device_or_none_stays();
+    law_reset_is_found();
+    law_reset_is_idle();
+    law_switching_on();
+    law_fragments::<Boots>();
+    law_putting_is_of_one_slot();
+    law_halts_are_of_taken_commands();
+    law_agreeing_goes_on();
+    law_other_ports_are_left();
+    law_tapes();
+    law_a_boot_is_of_its_port();
+    law_a_disk_is_in_where_one_shows();
+    law_a_port_runs_on();
+    law_boots_are_driven();
+    law_what_was_found_goes_on();
+    law_calls_are_of_one_port();
+    law_what_is_told_of_engines_stays();
 }

@@ -9,81 +9,81 @@ ghost use Rattle.adapter.specs.Idle.{IsIdle};
 ghost use Rattle.adapter.specs.Rules.{IsOn, HasPort};
 ghost use Rattle.adapter.specs.Steps.{Steps};
 ghost use Rattle.adapter.specs.declared.command.Operation.TheVariants.{Identify};
-ghost use Rattle.agreement.specs.Driven.{IsDrivenBy, IsOf, SendsNone};
-ghost use Rattle.agreement.specs.Facts.{IsRecorded, RunsWell, Undisturbed};
-ghost use Rattle.agreement.specs.Links.{HasDeviceOrNone, SameAdapter};
-ghost use Rattle.agreement.specs.Places.{list_of};
+ghost use Rattle.refinement.specs.Driven.{IsDrivenBy, IsOf, SendsNone};
+ghost use Rattle.refinement.specs.Facts.{IsRecorded, RunsWell, Undisturbed};
+ghost use Rattle.refinement.specs.Links.{HasDeviceOrNone, SameAdapter};
+ghost use Rattle.refinement.specs.Places.{list_of};
 ghost use Rattle.identify.specs.declared.DiskInfo.{DiskInfo};
 ghost use Rattle.identify.specs.declared.wanted.Wanted.{Wanted};
 ghost use Rattle.host_boot.specs.Again.{BootsAgain, BootsIfThere, IsOfStart};
-ghost use Rattle.host_boot.specs.Taken.{FoundBadDisk, IsServed, LeavesFound, LeavesPorts, StandsBehind, StillStandsBehind, TakesOver, found_of};
+ghost use Rattle.host_boot.specs.Taken.{FoundBadDisk, IsServed, LeavesFound, LeavesPorts, StandsBehind, StillStandsBehind, TakesOver, probe_result_of};
 ghost use Rattle.host_boot.specs.declared.Booted.{Booted};
-ghost use Rattle.host_boot.specs.declared.Found.{Found};
-ghost use Rattle.host_boot.specs.declared.Found.TheVariants.{Unserved, Ready, Unready};
+ghost use Rattle.host_boot.specs.declared.ProbeResult.{ProbeResult};
+ghost use Rattle.host_boot.specs.declared.ProbeResult.TheVariants.{Unserved, Ready, Unready};
 ghost use Rattle.host_boot.specs.declared.Host.{Host};
 ghost use Rattle.port_boot.specs.States.{ShowsOwnDisk};
 
-use super::lawful::laws_hold;
+use super::lawful::law_base;
 
 /// What stands behind what a port was found to be still stands as long as the port isn't booted anew. A boot begins it.
 /// It goes on where the adapter is the same, enough is left of the port, and its disk sends no page of IDENTIFY DEVICE,
 /// which a dead port's may.
-pub fn what_was_found_still_stands()
-    ensures begins { (wanted : Wanted) (found : Found) (port : ℕ) (d : Device) → StandsBehind wanted found port d
+pub fn law_what_was_found_still_stands()
+    ensures begins { (wanted : Wanted) (found : ProbeResult) (port : ℕ) (d : Device) → StandsBehind wanted found port d
         → StillStandsBehind wanted found port d }
-    ensures goes_on { (wanted : Wanted) (found : Found) (port : ℕ) (old new : Device) → SameAdapter old new
+    ensures goes_on { (wanted : Wanted) (found : ProbeResult) (port : ℕ) (old new : Device) → SameAdapter old new
         → LeavesFound found (old.port port) (new.port port) → (found ≢ Unready Dead → SendsNone port Identify old new)
         → StillStandsBehind wanted found port old → StillStandsBehind wanted found port new }
 {
-    laws_hold();
+    law_base();
 }
 
 /// What the device does by itself leaves every port to it, while no reset is pending; and the adapter is what it was.
-pub fn the_device_leaves_ports()
+pub fn law_the_device_leaves_ports()
     ensures ports { (old new : Device) → old.hr ≡ false → Steps old new → LeavesPorts old new }
     ensures adapter { (old new : Device) → Steps old new → SameAdapter old new }
 {
-    laws_hold();
+    law_base();
 }
 
 /// A server may begin with what was taken over. The adapter has each port that is served. A port that was found ready
 /// has its command list in its place, with ST set; where nothing went wrong on it in the whole taking over, it runs
 /// well; and whatever went wrong, its faults since ST was set are on record; and a disk is in, if it shows one. A port
 /// that was found unfit or foreign shows a device, or has no disk in.
-pub fn what_was_taken_over_may_be_served()
+pub fn law_what_was_taken_over_may_be_served()
     ensures there { (wanted : List Wanted) (host : Host) (port : ℕ) (old new : Device) → TakesOver wanted host old new
-        → port < 4 → found_of host.ports port ≢ Unserved → HasPort new port }
+        → port < 4 → probe_result_of host.ports port ≢ Unserved → HasPort new port }
     ensures ready { (wanted : List Wanted) (host : Host) (port : ℕ) (info : DiskInfo) (old new : Device)
-        → TakesOver wanted host old new → port < 4 → found_of host.ports port ≡ Ready info
+        → TakesOver wanted host old new → port < 4 → probe_result_of host.ports port ≡ Ready info
         → ((new.port port).st ≡ true) × ((new.port port).bases.clb ≡ list_of port) × HasPort new port }
     ensures well { (wanted : List Wanted) (host : Host) (port : ℕ) (info : DiskInfo) (old new : Device) → IsIdle old
-        → TakesOver wanted host old new → found_of host.ports port ≡ Ready info → Undisturbed port old new
+        → TakesOver wanted host old new → probe_result_of host.ports port ≡ Ready info → Undisturbed port old new
         → RunsWell (new.port port) }
     ensures recorded { (wanted : List Wanted) (host : Host) (port : ℕ) (info : DiskInfo) (old new : Device) → IsIdle old
-        → TakesOver wanted host old new → found_of host.ports port ≡ Ready info
+        → TakesOver wanted host old new → probe_result_of host.ports port ≡ Ready info
         → IsRecorded new.tape (new.port port) port }
     ensures shown { (wanted : List Wanted) (host : Host) (port : ℕ) (state : PortState) (old new : Device) → IsIdle old
-        → TakesOver wanted host old new → FoundBadDisk state → found_of host.ports port ≡ Unready state
+        → TakesOver wanted host old new → FoundBadDisk state → probe_result_of host.ports port ≡ Unready state
         → HasDeviceOrNone (new.port port) }
     ensures own { (wanted : List Wanted) (host : Host) (port : ℕ) (info : DiskInfo) (old new : Device) → IsIdle old
-        → TakesOver wanted host old new → found_of host.ports port ≡ Ready info → ShowsOwnDisk (new.port port) }
+        → TakesOver wanted host old new → probe_result_of host.ports port ≡ Ready info → ShowsOwnDisk (new.port port) }
 {
-    laws_hold();
+    law_base();
 }
 
 /// A port that runs well does so still after accesses of another port, where nothing goes wrong on it meanwhile.
-pub fn other_ports_run_well()
+pub fn law_other_ports_run_well()
     ensures { (port other : Port) (old new : Device) → port.0 ≢ other.0 → IsOn old → IsDrivenBy (IsOf other) old new
         → Undisturbed port.0 old new → RunsWell (old.port port.0) → RunsWell (new.port port.0) }
 {
-    laws_hold();
+    law_base();
 }
 
 /// A server may go on with a port that was booted again. The accesses are of the port alone; what stands behind it is
 /// what was found; and one that was found unfit or foreign shows a device, or has no disk in. A port that does so still
 /// does after accesses of another port. The same is so of a port that was booted if a device showed; and so are the
 /// accesses of either of the port, one by one.
-pub fn what_was_booted_again_may_be_served()
+pub fn law_what_was_booted_again_may_be_served()
     ensures driven { (wanted : Wanted) (port : Port) (booted : Booted) (old new : Device)
         → BootsAgain wanted port booted old new → IsDrivenBy (IsOf port) old new }
     ensures stands { (wanted : Wanted) (port : Port) (booted : Booted) (old new : Device)
@@ -104,5 +104,5 @@ pub fn what_was_booted_again_may_be_served()
     ensures beside { (port other : Port) (old new : Device) → port.0 ≢ other.0 → IsOn old
         → IsDrivenBy (IsOf other) old new → HasDeviceOrNone (old.port port.0) → HasDeviceOrNone (new.port port.0) }
 {
-    laws_hold();
+    law_base();
 }

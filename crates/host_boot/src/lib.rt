@@ -1,8 +1,8 @@
 //! Takes an idle adapter over, resets it, and boots single ports anew.
 //!
 //! (AHCI 1.3.1, 10.1.2 and 10.4.3; which ports are served is this project's own.) `take_over` asks
-//! for an idle adapter with the driver's memory, and `reset` for nothing. `boot_again` and
-//! `boot_if_there` ask for a stopped port, no slot of which is used. Callers go by what stands
+//! for an idle adapter with the driver's memory, and `reset` for nothing. `reboot_port` and
+//! `reboot_if_present` ask for a stopped port, no slot of which is used. Callers go by what stands
 //! behind each port that was found (`StillStandsBehind`), which stays until the port is booted
 //! anew.
 #![tactic(auto)]
@@ -12,7 +12,7 @@ ghost use Rattle.hba_regs.specs.declared.reg.Reg.TheVariants.{Ghc};
 ghost use Rattle.adapter.specs.Access.{Writes};
 ghost use Rattle.adapter.specs.Idle.{IsIdle};
 ghost use Rattle.adapter.specs.Rules.{IsOn};
-ghost use Rattle.agreement.specs.Driven.{AnyUse, IsDrivenBy, IsFollowed};
+ghost use Rattle.refinement.specs.Driven.{AnyUse, IsDrivenBy, IsSimulated};
 ghost use Rattle.port_boot.specs.States.{IsBootable};
 ghost use Rattle.port_control.specs.Ports.{IsStopped};
 ghost use Rattle.host_boot.specs.Again.{BootsAgain, BootsIfThere, BootsStopped};
@@ -25,7 +25,7 @@ use adapter::Adapter;
 use ata_types::{DRIVER_BYTES, PORTS, Port, PortState, READINGS};
 use hba_regs::{Capabilities, GlobalControl, Reg, is_set};
 use identify::{DiskInfo, Wanted};
-use lawful::laws_hold;
+use lawful::law_base;
 use port_boot::boot;
 use port_control::{Stopped, shows_device, stop};
 
@@ -37,7 +37,7 @@ pub use resetting::{AdapterStuck, reset};
 
 /// What a port was found to be.
 #[derive(Clone, Copy, PartialEq, Eq, Debug)]
-pub enum Found {
+pub enum ProbeResult {
     /// It isn't wanted, or the adapter doesn't have it: it isn't touched.
     Unserved,
     /// It runs, and its disk says this of itself.
@@ -54,7 +54,7 @@ pub struct Host {
     /// Whether it has native command queuing (CAP.SNCQ).
     pub queued: bool,
     /// Its ports, by number.
-    pub ports: [Found; PORTS],
+    pub ports: [ProbeResult; PORTS],
 }
 
 /// A port that was booted anew, and what the adapter is capable of.
@@ -65,7 +65,7 @@ pub struct Booted {
     /// Whether the adapter has native command queuing (CAP.SNCQ).
     pub queued: bool,
     /// What the port was found to be. It is served still.
-    pub found: Found,
+    pub found: ProbeResult,
 }
 
 /// Switches an idle adapter on, with interrupts off (AHCI 1.3.1, 10.1.2).
@@ -74,10 +74,10 @@ fn power_on<A: Adapter>(adapter: &mut A)
     ensures on { IsOn (A.device adapter.new) }
     ensures switches { Writes Ghc 0x80000000 (A.device adapter.old) (A.device adapter.new) }
     ensures leaves { LeavesPorts (A.device adapter.old) (A.device adapter.new) }
-    ensures followed { IsFollowed IsOfHost AnyUse (A.device adapter.old) (A.device adapter.new) }
+    ensures followed { IsSimulated IsOfHost AnyUse (A.device adapter.old) (A.device adapter.new) }
     ensures cost { MakesAtMost 1 (A.access_count adapter.old) (A.access_count adapter.new) }
 {
-    laws_hold();
+    law_base();
     adapter.write(Reg::Ghc, GlobalControl::AE.0);
 }
 
@@ -86,20 +86,20 @@ fn survey<A: Adapter>(adapter: &mut A) -> (Capabilities, u32)
     requires on { IsOn (A.device adapter.old) }
     ensures on { IsOn (A.device adapter.new) }
     ensures leaves { LeavesPorts (A.device adapter.old) (A.device adapter.new) }
-    ensures followed { IsFollowed IsOfHost AnyUse (A.device adapter.old) (A.device adapter.new) }
+    ensures followed { IsSimulated IsOfHost AnyUse (A.device adapter.old) (A.device adapter.new) }
     ensures surveys { IsDrivenBy IsSurvey (A.device adapter.old) (A.device adapter.new) }
     ensures capable { result.0.0 ≡ (A.device adapter.new).cap }
     ensures there { result.1 ≡ (A.device adapter.new).pi }
     ensures cost { MakesAtMost 2 (A.access_count adapter.old) (A.access_count adapter.new) }
 {
-    laws_hold();
+    law_base();
     let capabilities = Capabilities(adapter.read(Reg::Cap));
     let implemented = adapter.read(Reg::Pi);
     (capabilities, implemented)
 }
 
 /// Boots a stopped port, no slot of which is used: what it was found to be.
-fn boot_stopped<A: Adapter>(adapter: &mut A, stopped: Stopped, wanted: &Wanted) -> Found
+fn boot_stopped<A: Adapter>(adapter: &mut A, stopped: Stopped, wanted: &Wanted) -> ProbeResult
     requires bootable { IsBootable stopped.port (A.device adapter.old) }
     requires stopped { IsStopped ((A.device adapter.old).port stopped.port.0) }
     ensures on { IsOn (A.device adapter.new) }
@@ -107,24 +107,29 @@ fn boot_stopped<A: Adapter>(adapter: &mut A, stopped: Stopped, wanted: &Wanted) 
     ensures cost { MakesAtMost BOOT_ACCESSES (A.access_count adapter.old) (A.access_count adapter.new) }
 {
     match boot(adapter, stopped, &wanted.serial()) {
-        Ok(info) => Found::Ready(info),
-        Err(state) => Found::Unready(state),
+        Ok(info) => ProbeResult::Ready(info),
+        Err(state) => ProbeResult::Unready(state),
     }
 }
 
 /// Boots an idle port, if it is wanted and the adapter has it.
-fn boot_port<A: Adapter>(adapter: &mut A, port: Port, implemented: u32, wanted: &Wanted) -> Found
+fn boot_port<A: Adapter>(
+    adapter: &mut A,
+    port: Port,
+    implemented: u32,
+    wanted: &Wanted,
+) -> ProbeResult
     requires may { MayBootIdle port implemented (A.device adapter.old) }
     ensures on { IsOn (A.device adapter.new) }
     ensures finds { FindsPort wanted.now port result (A.device adapter.old) (A.device adapter.new) }
     ensures cost { MakesAtMost FIRST_BOOT_ACCESSES (A.access_count adapter.old) (A.access_count adapter.new) }
 {
-    laws_hold();
+    law_base();
     if *wanted == Wanted::Nothing || !is_set(implemented, u32::from(port.0)) {
-        return Found::Unserved;
+        return ProbeResult::Unserved;
     }
     let Ok(stopped) = stop(adapter, port) else {
-        return Found::Unready(PortState::Dead);
+        return ProbeResult::Unready(PortState::Dead);
     };
     boot_stopped(adapter, stopped, wanted)
 }
@@ -136,10 +141,10 @@ fn enable_interrupts<A: Adapter>(adapter: &mut A)
     ensures tells { (A.device adapter.new).ie ≡ true }
     ensures enables { Writes Ghc 0x80000002 (A.device adapter.old) (A.device adapter.new) }
     ensures leaves { LeavesPorts (A.device adapter.old) (A.device adapter.new) }
-    ensures followed { IsFollowed IsOfHost AnyUse (A.device adapter.old) (A.device adapter.new) }
+    ensures followed { IsSimulated IsOfHost AnyUse (A.device adapter.old) (A.device adapter.new) }
     ensures cost { MakesAtMost 1 (A.access_count adapter.old) (A.access_count adapter.new) }
 {
-    laws_hold();
+    law_base();
     adapter.write(Reg::Ghc, GlobalControl::AE.0 | GlobalControl::IE.0);
 }
 
@@ -152,10 +157,10 @@ pub fn take_over<A: Adapter>(adapter: &mut A, wanted: &[Wanted; PORTS]) -> Host
     ensures four { length result.ports ≡ 4 }
     ensures cost { MakesAtMost TAKE_OVER_ACCESSES (A.access_count adapter.old) (A.access_count adapter.new) }
 {
-    laws_hold();
+    law_base();
     power_on(adapter);
     let (capabilities, implemented) = survey(adapter);
-    let mut ports = [Found::Unserved; PORTS];
+    let mut ports = [ProbeResult::Unserved; PORTS];
     for number in 0..PORTS {
         ports[number] = boot_port(adapter, Port(number as u8), implemented, &wanted[number]);
     }
@@ -169,14 +174,14 @@ pub fn take_over<A: Adapter>(adapter: &mut A, wanted: &[Wanted; PORTS]) -> Host
 
 /// Boots a port that was stopped, and no slot of which is used: as a port is booted when its adapter is taken over
 /// (AHCI 1.3.1, 10.1.2). CAP is read first, since its disk may be another, which takes commands in another way.
-pub fn boot_again<A: Adapter>(adapter: &mut A, stopped: Stopped, wanted: &Wanted) -> Booted
+pub fn reboot_port<A: Adapter>(adapter: &mut A, stopped: Stopped, wanted: &Wanted) -> Booted
     requires bootable { IsBootable stopped.port (A.device adapter.old) }
     requires stopped { IsStopped ((A.device adapter.old).port stopped.port.0) }
     ensures on { IsOn (A.device adapter.new) }
     ensures boots { BootsAgain wanted.now stopped.port result (A.device adapter.old) (A.device adapter.new) }
     ensures cost { MakesAtMost BOOT_AGAIN_ACCESSES (A.access_count adapter.old) (A.access_count adapter.new) }
 {
-    laws_hold();
+    law_base();
     let capabilities = Capabilities(adapter.read(Reg::Cap));
     let found = boot_stopped(adapter, stopped, wanted);
     Booted {
@@ -187,9 +192,9 @@ pub fn boot_again<A: Adapter>(adapter: &mut A, stopped: Stopped, wanted: &Wanted
 }
 
 /// Boots a port that was stopped since its device went or came, and no slot of which is used, if a device shows
-/// (PxSSTS, once PxSERR was cleared): as `boot_again` does. Else the port is absent. Since PxSCTL was last written a
+/// (PxSSTS, once PxSERR was cleared): as `reboot_port` does. Else the port is absent. Since PxSCTL was last written a
 /// device was seen, or 64 readings of PxSSTS found none.
-pub fn boot_if_there<A: Adapter>(adapter: &mut A, stopped: Stopped, wanted: &Wanted) -> Booted
+pub fn reboot_if_present<A: Adapter>(adapter: &mut A, stopped: Stopped, wanted: &Wanted) -> Booted
     requires bootable { IsBootable stopped.port (A.device adapter.old) }
     requires stopped { IsStopped ((A.device adapter.old).port stopped.port.0) }
     requires saw { ((A.device adapter.old).port stopped.port.0).notes.link_count ≡ READINGS }
@@ -197,12 +202,12 @@ pub fn boot_if_there<A: Adapter>(adapter: &mut A, stopped: Stopped, wanted: &Wan
     ensures boots { BootsIfThere wanted.now stopped.port result (A.device adapter.old) (A.device adapter.new) }
     ensures cost { MakesAtMost BOOT_IF_THERE_ACCESSES (A.access_count adapter.old) (A.access_count adapter.new) }
 {
-    laws_hold();
+    law_base();
     let capabilities = Capabilities(adapter.read(Reg::Cap));
     let found = if shows_device(adapter, stopped.port()) {
         boot_stopped(adapter, stopped, wanted)
     } else {
-        Found::Unready(PortState::Absent)
+        ProbeResult::Unready(PortState::Absent)
     };
     Booted {
         slots: capabilities.last_slot() as u8 + 1,

@@ -4,7 +4,7 @@ ghost use Rattle.host_boot.specs.Resets.{Resets, StaysReset};
 ghost use Rattle.adapter.specs.Counted.{MakesAtMost};
 ghost use Rattle.host_boot.specs.Costs.{RESET_ACCESSES};
 
-use super::lawful::laws_hold;
+use super::lawful::law_base;
 use adapter::Adapter;
 use ata_types::READINGS;
 use hba_regs::{GlobalControl, Reg};
@@ -21,7 +21,7 @@ pub fn reset<A: Adapter>(adapter: &mut A) -> Result<(), AdapterStuck>
     ensures stuck { IfErr result (λ why. StaysReset (A.device adapter.old) (A.device adapter.new)) }
     ensures cost { MakesAtMost RESET_ACCESSES (A.access_count adapter.old) (A.access_count adapter.new) }
 {
-    laws_hold();
+    law_base();
     adapter.write(Reg::Ghc, GlobalControl::AE.0 | GlobalControl::HR.0);
     for _reading in 0..READINGS {
         let shown = GlobalControl(adapter.read(Reg::Ghc));

@@ -6,7 +6,7 @@
 
 ghost use Rattle.std.specs.Prelude.{◌≡◌, ◌<◌, ◌↔◌, IsTrue, IfOk, IfErr, sum};
 ghost use Rattle.std.specs.Int.{bit_at};
-ghost use Rattle.identify.specs.Page.{AllowsTrim, Applies, Describes, HasNoFault, IsFirstFault, IsSerial, number_of, sector_count, word};
+ghost use Rattle.identify.specs.Page.{AllowsTrim, UnfitApplies, Describes, HasNoUnfit, IsFirstUnfit, IsSerial, unfit_number, sector_count, identity_word};
 
 mod wanted;
 
@@ -50,7 +50,7 @@ impl Unfit {
 
     /// The cause's number, 1 to 6: the lowest that applies is told.
     pub fn number(self) -> u8
-        ensures { result ≡ number_of self }
+        ensures { result ≡ unfit_number self }
     {
         match self {
             Unfit::BadChecksum => 1,
@@ -84,17 +84,17 @@ const MOST_SECTORS: u64 = 1 << 48;
 /// The page's word of this number.
 fn word_of(page: &[u8; 512], number: usize) -> u16
     requires { number < 256 }
-    ensures { result ≡ word page.now number }
+    ensures { result ≡ identity_word page.now number }
 {
     LittleEndian::read_u16(&page[2 * number..])
 }
 
 /// Whether a word's bit is one.
-fn has_bit(word: u16, place: u32) -> bool
+fn has_bit(identity_word: u16, place: u32) -> bool
     requires { place < 16 }
-    ensures { IsTrue result ↔ (bit_at word place ≡ 1) }
+    ensures { IsTrue result ↔ (bit_at identity_word place ≡ 1) }
 {
-    word >> place & 1 == 1
+    identity_word >> place & 1 == 1
 }
 
 /// The sum of the page's bytes.
@@ -143,7 +143,7 @@ fn has_trim(page: &[u8; 512]) -> bool
 
 /// Whether the page has this fault.
 fn applies(page: &[u8; 512], fault: Unfit) -> bool
-    ensures { IsTrue result ↔ Applies page.now fault }
+    ensures { IsTrue result ↔ UnfitApplies page.now fault }
 {
     match fault {
         Unfit::BadChecksum => page[510] == 0xa5 && sum_of(page) % 256 != 0,
@@ -177,8 +177,8 @@ fn info_of(page: &[u8; 512]) -> DiskInfo
 /// What the 512 bytes of an IDENTIFY DEVICE page tell of the disk (ACS-3, 7.12.7). Where causes make it unfit for this
 /// server, the one with the lowest number is told (this project's own).
 pub fn parse(page: &[u8; 512]) -> Result<DiskInfo, Unfit>
-    ensures unfit { IfErr result (IsFirstFault page.now) }
-    ensures fit { IfOk result (λ _. HasNoFault page.now) }
+    ensures unfit { IfErr result (IsFirstUnfit page.now) }
+    ensures fit { IfOk result (λ _. HasNoUnfit page.now) }
     ensures info { IfOk result (Describes page.now) }
 {
     for fault in Unfit::ORDER {

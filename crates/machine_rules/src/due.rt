@@ -5,14 +5,14 @@ ghost use Rattle.block_machine.specs.Due as due;
 
 use arrayvec::ArrayVec;
 use ata_types::Port;
-use block_machine::{Mode, Unanswered, holds_back, is_plain};
+use block_machine::{QueueMode, Unanswered, is_plain, waits_for};
 
 /// Whether a request of the book stands in the way of `r`.
-fn is_held(mode: Mode, book: &[Unanswered], r: &Unanswered) -> bool
-    ensures { result ≡ list_any (due.holds_back mode r.now) book.now }
+fn is_held(mode: QueueMode, book: &[Unanswered], r: &Unanswered) -> bool
+    ensures { result ≡ list_any (due.waits_for mode r.now) book.now }
 {
     for other in book {
-        if holds_back(mode, r, other) {
+        if waits_for(mode, r, other) {
             return true;
         }
     }
@@ -20,14 +20,14 @@ fn is_held(mode: Mode, book: &[Unanswered], r: &Unanswered) -> bool
 }
 
 /// Whether the request waits, and nothing in the book stands in its way.
-pub fn is_clear(mode: Mode, book: &[Unanswered], r: &Unanswered) -> bool
+pub fn is_clear(mode: QueueMode, book: &[Unanswered], r: &Unanswered) -> bool
     ensures { result ≡ due.is_clear mode book.now r.now }
 {
     !r.issued && !is_held(mode, book, r)
 }
 
 /// How many earlier requests of its port are clear to go.
-pub fn ahead(mode: Mode, book: &[Unanswered], r: &Unanswered) -> usize
+pub fn ahead(mode: QueueMode, book: &[Unanswered], r: &Unanswered) -> usize
     ensures { result ≡ due.ahead mode book.now r.now }
 {
     let mut count = 0;
@@ -41,7 +41,7 @@ pub fn ahead(mode: Mode, book: &[Unanswered], r: &Unanswered) -> usize
 }
 
 /// How many usable slots of the port are free.
-pub fn free_slots(mode: Mode, book: &[Unanswered], port: Port) -> usize
+pub fn free_slots(mode: QueueMode, book: &[Unanswered], port: Port) -> usize
     ensures { result ≡ due.free_slots mode book.now port }
 {
     let mut issued = 0usize;
@@ -54,7 +54,7 @@ pub fn free_slots(mode: Mode, book: &[Unanswered], port: Port) -> usize
 }
 
 /// Whether the request of the book is due.
-pub fn is_due(mode: Mode, book: &[Unanswered], r: &Unanswered) -> bool
+pub fn is_due(mode: QueueMode, book: &[Unanswered], r: &Unanswered) -> bool
     ensures { result ≡ due.is_due mode book.now r.now }
 {
     is_clear(mode, book, r)
@@ -62,7 +62,7 @@ pub fn is_due(mode: Mode, book: &[Unanswered], r: &Unanswered) -> bool
 }
 
 /// The due requests of the book, in its order, for a port that takes commands in this mode.
-pub fn due_list(mode: Mode, book: &[Unanswered]) -> ArrayVec<Unanswered, 128>
+pub fn due_list(mode: QueueMode, book: &[Unanswered]) -> ArrayVec<Unanswered, 128>
     requires { length book.now ≤ 128 }
     ensures { result.items ≡ filter (due.is_due mode book.now) book.now }
 {

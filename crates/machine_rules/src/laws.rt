@@ -16,7 +16,7 @@ ghost use Rattle.block_machine.specs.Refusals.{Situation, IsFirstRefusal};
 ghost use Rattle.block_machine.specs.Due.{overlap};
 
 /// One rule is the first that a request breaks.
-pub fn first_broken_rule_is_one()
+pub fn law_first_broken_rule_is_one()
     ensures { (rows : List GrantRow) (owner : Frame → Option ClientId)
         (lent : Frame → Option RequestId)
         (r : Request) (one other : Rule) → IsFirstBroken rows owner lent r one
@@ -24,12 +24,12 @@ pub fn first_broken_rule_is_one()
 {}
 
 /// One cause is the first that applies to a request.
-pub fn first_refusal_is_one()
+pub fn law_first_refusal_is_one()
     ensures { (s : Situation) (r : Request) (one other : Refusal) → AllPairs DifferInName s.rows
         → IsFirstRefusal s r one → IsFirstRefusal s r other → one ≡ other }
 {}
 
 /// Two ranges overlap, by the test, where a sector is in both.
-pub fn overlap_is_tested()
+pub fn law_overlap_is_tested()
     ensures { (a b : Range) → IsTrue (overlap a b) ↔ Overlaps a b }
 {}

@@ -2,7 +2,7 @@
 // then the first that applies.
 ghost use Rattle.std.specs.Prelude.{false, ◌≡◌, ◌⊎◌, ◌<◌, ◌≤◌, ◌↔◌, IsTrue, IfSome, IfNone, slice_get, count_by, ◌==◌};
 ghost use Rattle.ata_types.specs.Grant.{Allows, Covers};
-ghost use Rattle.block_machine.specs.Rules.{IsNamed, Names, IsCount, frames_for, Breaks, HasFault, BreaksNone, IsFirstBroken, rank};
+ghost use Rattle.block_machine.specs.Rules.{IsNamed, Names, IsAllowedCount, frames_for, Breaks, HasFault, BreaksNone, IsFirstBroken, rank};
 ghost use Rattle.block_machine.specs.Refusals.{Applies, IsAcceptable, IsFirstRefusal, MemApplies, IsOpen, IsFirstMemFault};
 ghost use Rattle.machine_rules.specs.Plain.{for_frame, shown_at, situation_in, RowHas, SomeRowHas, IsFirstNumbered};
 
@@ -53,7 +53,7 @@ pub struct Tables {
 
 /// Whether the operation may have so many sectors.
 fn is_count(op: Op, count: u32) -> bool
-    ensures { IsTrue result ↔ IsCount op count }
+    ensures { IsTrue result ↔ IsAllowedCount op count }
 {
     match op {
         Op::Read | Op::Write => 1 <= count && count <= MOST_REQUEST_SECTORS,

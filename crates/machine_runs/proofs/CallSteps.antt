@@ -7,9 +7,9 @@ use Rattle.ata_types.specs.declared.grant.GrantRow.{GrantRow}
 use Rattle.ata_types.specs.declared.request.Request.{Request}
 use Rattle.block_machine.specs.Ports.{Ports}
 use Rattle.block_machine.specs.State.{Accepted, Pending, Machine}
-use Rattle.block_machine.specs.Steps.{Step, Accept, Issue, Touch, End, Age, Again, Answer, Release, Revoke, Unplug, Replace, Store, Load, IsNew, after_step, issue, touch, mark_ended, requeued, older}
+use Rattle.block_machine.specs.Steps.{Step, Accept, Issue, Touch, End, Age, Again, Answer, Release, Revoke, Unplug, Replace, Store, Load, IsNew, after_step, newly_issued, touch, mark_ended, requeued, older}
 use Rattle.block_machine.specs.Left.{after, IsAccept}
-use Rattle.block_machine.specs.Events.{Ask, Submit, StoreAt, LoadAt, Service, Tick, Reset, State, Device, RevokeOf, AllMay, IsDevices, IsServers, Belong, accepts_of, issues_it, IsIssuedIn}
+use Rattle.block_machine.specs.Events.{Ask, Submit, StoreAt, LoadAt, Service, Tick, Reset, State, Device, RevokeOf, AllMay, IsByDevice, IsByServer, Belong, accepts_of, issues_it, IsIssuedIn}
 use Rattle.block_machine.proofs.Members.{contains_none, contains_here, contains_there, contains_cases, map_in, at_cases, without_in, append_in}
 use Rattle.block_machine.proofs.Keeps.{older_keeps, older_issued}
 use Rattle.block_machine.proofs.Counting.{count_cons}
@@ -72,7 +72,7 @@ came m (Issue mode p) e h =
     }))
     (λ c. inl (stayed_same m (Issue mode p) e r.0 r.1 (r.2 ∙ c.1)
     (ne_eqb p.request.id.0 e.request.id.0 (λ same. c.0 (ap (λ (y : Pending). y.request.id.0) (sym (r.2 ∙ c.1)) ∙ sym same)))))
-    (at_cases p.request.id issue r.0)
+    (at_cases p.request.id newly_issued r.0)
 came m (Touch p i block) e h =
     let r = map_in _ m.book e h in
     ⊎_elim
@@ -208,13 +208,13 @@ Fits ask (Age ready) = is_tick ask ≡ true
 Fits ask Release = is_reset ask ≡ true
 Fits ask _ = Unit {0}
 
-devices_fit : {D : Type 0} (ask : Ask D) (step : Step) → IsDevices step → Fits ask step
+devices_fit : {D : Type 0} (ask : Ask D) (step : Step) → IsByDevice step → Fits ask step
 devices_fit ask (Accept r) h = absurd h
 devices_fit ask (Age ready) h = absurd h
 devices_fit ask Release h = absurd h
 devices_fit ask _ h = tt
 
-servers_fit : {D : Type 0} (ask : Ask D) (ports : Ports) (step : Step) → IsServers ask ports step → Fits ask step
+servers_fit : {D : Type 0} (ask : Ask D) (ports : Ports) (step : Step) → IsByServer ask ports step → Fits ask step
 servers_fit (Submit q) ports (Accept r) h = refl
 servers_fit (Submit q) ports (Age ready) h = absurd h
 servers_fit (Submit q) ports Release h = absurd h

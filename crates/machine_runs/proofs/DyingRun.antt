@@ -11,8 +11,8 @@ use Rattle.ata_types.specs.declared.request.Outcome.{Outcome}
 use Rattle.ata_types.specs.declared.request.Outcome.TheVariants as outcome
 use Rattle.block_machine.specs.Ports.{Evidence}
 use Rattle.block_machine.specs.State.{Accepted, Pending, unanswered}
-use Rattle.block_machine.specs.Steps.{Accept, Issue, Answer, newly_accepted, issue}
-use Rattle.block_machine.specs.Events.{Submit, Service, Submitted, Served, Event, Happens, Tells, IsToldBefore, reply_of, moment_of, situation_of}
+use Rattle.block_machine.specs.Steps.{Accept, Issue, Answer, newly_accepted, newly_issued}
+use Rattle.block_machine.specs.Events.{Submit, Service, Submitted, Served, CallRecord, Happens, Tells, IsToldBefore, reply_of, moment_of, situation_of}
 use Rattle.machine_runs.specs.Worked.{DiesInAService}
 use Rattle.block_machine.proofs.Members.{contains_none, contains_here, contains_there, contains_cases}
 use Rattle.block_machine.proofs.Setting.{port, frame, empty_starts, acceptable, granted}
@@ -24,17 +24,17 @@ use Rattle.machine_runs.proofs.ResetRun.{dead_not_ready, dead_here}
 abbrev other : Accepted
 other = one_sector 0 (moment_of first run1).machine 2 Write 101 101
 
-abbrev submit : Event (Unit {0})
+abbrev submit : CallRecord (Unit {0})
 submit = call (Submit other.asked) (Submitted (Ok (id 2))) (Issue mode (newly_accepted other) ∷ Accept other ∷ [])
 
-abbrev run2 : List (Event (Unit {0}))
+abbrev run2 : List (CallRecord (Unit {0}))
 run2 = submit ∷ run1
 
 abbrev one : Pending
-one = issue (newly_accepted write)
+one = newly_issued (newly_accepted write)
 
 abbrev two : Pending
-two = issue (newly_accepted other)
+two = newly_issued (newly_accepted other)
 
 -- the port met a fatal error; it was stopped, and got stuck then
 abbrev seen : Evidence
@@ -43,10 +43,10 @@ seen = record { faults = []; lost = []; gone = []; failed = port ∷ []; fatal =
 abbrev told : List (Pending × Outcome)
 told = (one, outcome.PortDead) ∷ (two, outcome.PortDead) ∷ []
 
-abbrev service : Event (Unit {0})
+abbrev service : CallRecord (Unit {0})
 service = record { ask = Service; said = Served (map reply_of told); evidence = seen; steps = Answer two outcome.PortDead ∷ Answer one outcome.PortDead ∷ []; ports = ports_in Dead }
 
-abbrev run3 : List (Event (Unit {0}))
+abbrev run3 : List (CallRecord (Unit {0}))
 run3 = service ∷ run2
 
 quiet : IsQuiet 0 (moment_of first run1)

@@ -11,10 +11,10 @@ use Rattle.ata_types.specs.declared.request.RequestId.{RequestId}
 use Rattle.block_machine.specs.Ports.{Evidence, Ports}
 use Rattle.block_machine.specs.Rules.{HasRow, IsUnder, is_under}
 use Rattle.block_machine.specs.State.{Accepted, Pending, Machine}
-use Rattle.block_machine.specs.Steps.{Step, Accept, Issue, Touch, End, Age, Again, Answer, Revoke, HasGrant, May, MayMove, after_step, at, issue, touch, mark_ended, requeued, older, newly_accepted}
+use Rattle.block_machine.specs.Steps.{Step, Accept, Issue, Touch, End, Age, Again, Answer, Revoke, HasGrant, May, MayStillMove, after_step, at, newly_issued, touch, mark_ended, requeued, older, newly_accepted}
 use Rattle.block_machine.specs.Left.{after}
-use Rattle.block_machine.specs.Events.{Moment, Ask, RevokeOf, Said, WasRevoked, Event, AllMay, Belong, IsAnswered, IsDevices, IsRun, IsServers, moment_of, steps_of}
-use Rattle.block_machine.proofs.Accepts.{accepted_is_granted}
+use Rattle.block_machine.specs.Events.{AbstractState, Ask, RevokeOf, CallResult, WasRevoked, CallRecord, AllMay, Belong, IsAnswered, IsByDevice, IsRun, IsByServer, moment_of, steps_of}
+use Rattle.block_machine.proofs.Accepts.{law_accepted_is_granted}
 use Rattle.block_machine.proofs.EventLemmas.{moment_is, run_legal, run_starts}
 use Rattle.block_machine.proofs.Keeps.{keeps, older_issued}
 use Rattle.block_machine.proofs.Members.{append_in, at_cases, contains_cases, contains_here, contains_none, contains_there, map_in, without_in}
@@ -40,7 +40,7 @@ changed_or_was m step id f e h changed =
     ⊎_elim (λ c. changed r.0 r.1 c.0 (r.2 ∙ c.1)) (λ c. inl (subst (λ (y : Pending). Contains m.book y) (sym (r.2 ∙ c.1)) r.1)) (at_cases id f r.0)
 
 -- a request that moves is issued
-is_issued : (m : Machine) → Sound m → (p o : Pending) → MayMove m p → Contains m.book o → o.request.id.0 ≡ p.request.id.0 → o.issued ≡ true
+is_issued : (m : Machine) → Sound m → (p o : Pending) → MayStillMove m p → Contains m.book o → o.request.id.0 ≡ p.request.id.0 → o.issued ≡ true
 is_issued m s p o (inl moves) here same = ap (λ (y : Pending). y.issued) (s.one o p here moves.0 same) ∙ moves.1
 is_issued m s p o (inr kept) here same = absurd (s.apart o p here kept same)
 
@@ -54,9 +54,9 @@ older_waits ready o waits = go o.issued (ready o.request.port) waits
 waits_from : (m : Machine) (step : Step) (e : Pending) → May m step → Sound m → Contains (after_step m step).book e → e.issued ≡ false → From m step e
 waits_from m (Accept r) e may s h waits = ⊎_elim
     (λ i. inl i)
-    (λ (is : e ≡ newly_accepted r). let g = accepted_is_granted m r may in inr (tt, subst (λ (y : Pending). HasGrant m y) (sym is) (g.row, g.named.0, g.named.1)))
+    (λ (is : e ≡ newly_accepted r). let g = law_accepted_is_granted m r may in inr (tt, subst (λ (y : Pending). HasGrant m y) (sym is) (g.row, g.named.0, g.named.1)))
     (append_in m.book (newly_accepted r) e h)
-waits_from m (Issue mode p) e may s h waits = changed_or_was m (Issue mode p) p.request.id issue e h
+waits_from m (Issue mode p) e may s h waits = changed_or_was m (Issue mode p) p.request.id newly_issued e h
     (λ o here same is. absurd (false≢true (sym waits ∙ ap (λ (y : Pending). y.issued) is)))
 waits_from m (Touch p i block) e may s h waits = changed_or_was m (Touch p i block) p.request.id (touch i) e h
     (λ o here same is. absurd (false≢true (sym waits ∙ ap (λ (y : Pending). y.issued) is ∙ is_issued m s p o may.0 here same)))
@@ -105,11 +105,11 @@ abbrev is_revocation : {D : Type 0} → Ask D → Bool
 is_revocation (RevokeOf client number) = true
 is_revocation _ = false
 
-devices_leave : (step : Step) → IsDevices step → LeavesRows step
+devices_leave : (step : Step) → IsByDevice step → LeavesRows step
 devices_leave (Revoke client number) h = absurd h
 devices_leave _ h = tt
 
-servers_leave : {D : Type 0} (ask : Ask D) (ports : Ports) (step : Step) → is_revocation ask ≡ false → IsServers ask ports step → LeavesRows step
+servers_leave : {D : Type 0} (ask : Ask D) (ports : Ports) (step : Step) → is_revocation ask ≡ false → IsByServer ask ports step → LeavesRows step
 servers_leave (RevokeOf client number) ports step other h = absurd (true≢false other)
 servers_leave ask ports (Revoke client number) other h = absurd h
 servers_leave ask ports _ other h = tt
@@ -124,7 +124,7 @@ module _ (D : Type 0) (client : ClientId) (number : ℕ) (ports : Ports) (m : Ma
   abbrev Its : List Step → Type 0
   Its steps = Belong {D = D} (RevokeOf client number) ports steps
 
-  not_newer : (step : Step) → IsDevices step ⊎ IsServers {D = D} (RevokeOf client number) ports step → IsNewer step → ⊥
+  not_newer : (step : Step) → IsByDevice step ⊎ IsByServer {D = D} (RevokeOf client number) ports step → IsNewer step → ⊥
   not_newer (Accept r) (inl d) newer = d
   not_newer (Accept r) (inr h) newer = h
   not_newer (Again p) (inl d) newer = d
@@ -169,7 +169,7 @@ in_filter {A} passes (y ∷ ys) x h is = ⊎_elim
 
 -- ---- each call
 
-granted_event : {D : Type 0} (ask : Ask D) (said : Said) (old : Moment) (evidence : Evidence) (steps : List Step) (ports : Ports) → IsAnswered ask said old evidence steps (record { machine = after old.machine steps; ports = ports })
+granted_event : {D : Type 0} (ask : Ask D) (said : CallResult) (old : AbstractState) (evidence : Evidence) (steps : List Step) (ports : Ports) → IsAnswered ask said old evidence steps (record { machine = after old.machine steps; ports = ports })
     → Sound old.machine → AllMay old.machine steps → Belong ask ports steps → IsGrantedAll old.machine → IsGrantedAll (after old.machine steps)
 granted_event {D} (RevokeOf client number) (WasRevoked (Some replies)) old evidence steps ports a s may b g e h waits =
     let here = waited D client number ports old.machine s steps may b e h waits in
@@ -188,8 +188,8 @@ granted_event (RevokeOf client number) (WasRevoked None) old evidence steps port
 granted_event (RevokeOf client number) said old evidence steps ports a s may b g e h waits = absurd a
 granted_event ask said old evidence steps ports a s may b g e h waits = granted_after old.machine steps s may (all_leave ask ports steps refl b) g e h waits
 
-pub what_waits_has_its_grant : {D : Type 0} (first : Moment) (run : List (Event D)) (e : Pending) → IsRun first run → Contains (moment_of first run).machine.book e → e.issued ≡ false → HasGrant (moment_of first run).machine e
-what_waits_has_its_grant first [] e r h waits = absurd (nobody first.machine r.0 e (inl h))
-what_waits_has_its_grant first (event ∷ past) e r h waits =
+pub law_what_waits_has_its_grant : {D : Type 0} (first : AbstractState) (run : List (CallRecord D)) (e : Pending) → IsRun first run → Contains (moment_of first run).machine.book e → e.issued ≡ false → HasGrant (moment_of first run).machine e
+law_what_waits_has_its_grant first [] e r h waits = absurd (nobody first.machine r.0 e (inl h))
+law_what_waits_has_its_grant first (event ∷ past) e r h waits =
     let sound = subst Sound (sym (moment_is first past)) (traced first.machine (steps_of past) (run_starts first past r.0) (run_legal first past r.0)).sound in
-    granted_event event.ask event.said (moment_of first past) event.evidence event.steps event.ports r.1.answered sound r.1.may r.1.belong (λ x i w. what_waits_has_its_grant first past x r.0 i w) e h waits
+    granted_event event.ask event.said (moment_of first past) event.evidence event.steps event.ports r.1.answered sound r.1.may r.1.belong (λ x i w. law_what_waits_has_its_grant first past x r.0 i w) e h waits

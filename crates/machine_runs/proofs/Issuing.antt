@@ -11,33 +11,33 @@ use Rattle.ata_types.specs.declared.request.Outcome.{Outcome}
 use Rattle.ata_types.specs.declared.request.Outcome.TheVariants.{Aborted, Ok}
 use Rattle.block_machine.specs.Ports.{Ports, Evidence}
 use Rattle.block_machine.specs.State.{Accepted, Pending, Machine, Memory}
-use Rattle.block_machine.specs.Steps.{Step, Accept, Issue, Touch, End, Age, Again, Answer, Release, Revoke, Unplug, Replace, Store, Load, May, after_step, at, issue, touch, mark_ended, requeued, older}
+use Rattle.block_machine.specs.Steps.{Step, Accept, Issue, Touch, End, Age, Again, Answer, Release, Revoke, Unplug, Replace, Store, Load, May, after_step, at, newly_issued, touch, mark_ended, requeued, older}
 use Rattle.block_machine.specs.Left.{after, IsLegal, IsStart, HoldsLeft}
 use Rattle.block_machine.specs.Confined.{WithinLimits}
-use Rattle.block_machine.specs.Events.{Moment, Event, AllLawful, AnswersHold, EveryReadHolds, IsLawful, IsRun, issues_it, moment_of, steps_of}
+use Rattle.block_machine.specs.Events.{AbstractState, CallRecord, AllLawful, AnswersHold, EveryReadHolds, IsLawful, IsRun, issues_it, moment_of, steps_of}
 use Rattle.block_machine.proofs.Members.{contains_none, contains_here, contains_there, contains_cases, map_in, into_map, at_cases, without_in, append_in}
 use Rattle.block_machine.proofs.Keeps.{older_keeps, older_issued}
-use Rattle.block_machine.proofs.Limits.{limits_hold, older_issues}
+use Rattle.block_machine.proofs.Limits.{law_limits_hold, older_issues}
 use Rattle.block_machine.proofs.Sound.{Sound}
 use Rattle.block_machine.proofs.Runs.{traced, nobody}
 use Rattle.block_machine.proofs.Counting.{count_cons, count_append, issued_not_due}
-use Rattle.machine_runs.specs.Told.{IsAnsweredOk, waits_again}
+use Rattle.machine_runs.specs.Told.{CallAnswersOk, waits_again}
 use Rattle.block_machine.proofs.EventLemmas.{moment_is, run_starts, run_legal, step_of_run}
-use Rattle.machine_runs.proofs.Once.{answered_was_accepted}
-use Rattle.machine_runs.proofs.Touching.{ok_was_touched, ok_was_ended}
+use Rattle.machine_runs.proofs.Once.{law_answered_was_accepted}
+use Rattle.machine_runs.proofs.Touching.{law_ok_was_touched, law_ok_was_ended}
 
 -- Each answer is lawful.
 
-abbrev IsLawfulStep : Moment → Evidence → Ports → Step → Type 0
+abbrev IsLawfulStep : AbstractState → Evidence → Ports → Step → Type 0
 IsLawfulStep old evidence ports (Answer e o) = IsLawful old evidence ports e o
 IsLawfulStep old evidence ports step = Unit {0}
 
-lawful_first : (old : Moment) (evidence : Evidence) (ports : Ports) (step : Step) (before : List Step) → AllLawful old evidence ports (step ∷ before) → AllLawful old evidence ports before × IsLawfulStep old evidence ports step
+lawful_first : (old : AbstractState) (evidence : Evidence) (ports : Ports) (step : Step) (before : List Step) → AllLawful old evidence ports (step ∷ before) → AllLawful old evidence ports before × IsLawfulStep old evidence ports step
 lawful_first old evidence ports (Answer e o) before l = l
 lawful_first old evidence ports (Again e) before l = (l.0, tt)
 lawful_first old evidence ports _ before l = (l, tt)
 
-lawful_in : (old : Moment) (evidence : Evidence) (ports : Ports) (steps : List Step) → AllLawful old evidence ports steps → (step : Step) → Contains steps step → IsLawfulStep old evidence ports step
+lawful_in : (old : AbstractState) (evidence : Evidence) (ports : Ports) (steps : List Step) → AllLawful old evidence ports steps → (step : Step) → Contains steps step → IsLawfulStep old evidence ports step
 lawful_in old evidence ports [] l step h = absurd (contains_none step h)
 lawful_in old evidence ports (x ∷ before) l step h =
     let first = lawful_first old evidence ports x before l in
@@ -46,9 +46,9 @@ lawful_in old evidence ports (x ∷ before) l step h =
     (λ i. lawful_in old evidence ports before first.0 step i)
     (contains_cases x before step h)
 
-pub answers_are_lawful : {D : Type 0} (first : Moment) (past : List (Event D)) (event : Event D) (e : Pending) (outcome : Outcome) → IsRun first (event ∷ past) → Contains event.steps (Answer e outcome)
+pub law_answers_are_lawful : {D : Type 0} (first : AbstractState) (past : List (CallRecord D)) (event : CallRecord D) (e : Pending) (outcome : Outcome) → IsRun first (event ∷ past) → Contains event.steps (Answer e outcome)
     → IsLawful (moment_of first past) event.evidence event.ports e outcome
-answers_are_lawful first past event e outcome r h = lawful_in (moment_of first past) event.evidence event.ports event.steps r.1.lawful (Answer e outcome) h
+law_answers_are_lawful first past event e outcome r h = lawful_in (moment_of first past) event.evidence event.ports event.steps r.1.lawful (Answer e outcome) h
 
 -- How often an id was issued: not yet where it is still to come, as often as its unanswered request says, and four times at most.
 record IsCounted (m : Machine) (id : RequestId) (n : ℕ) : Type 0 where
@@ -91,8 +91,8 @@ counted_on m n id k next from c =
       here = λ e h same. let o = from e h in let count = c.here o.0 o.1 (o.2 ∙ same) in let issues = o.3 in omega (arith, count, issues);
     }
 
-counted_issue : (m : Machine) (p : Pending) (id : RequestId) (n : ℕ) → Contains m.book p → Sound m → (issue p).issues ≤ 4 → IsCounted m id n
-    → (b : Bool) → (p.request.id.0 == id.0) ≡ b → IsCounted (record m { book = map (at p.request.id issue) m.book }) id (cond b 1 0 + n)
+counted_issue : (m : Machine) (p : Pending) (id : RequestId) (n : ℕ) → Contains m.book p → Sound m → (newly_issued p).issues ≤ 4 → IsCounted m id n
+    → (b : Bool) → (p.request.id.0 == id.0) ≡ b → IsCounted (record m { book = map (at p.request.id newly_issued) m.book }) id (cond b 1 0 + n)
 counted_issue m p id n here s few c true e =
     let same = eqb-true p.request.id.0 id.0 e in
     let count = c.here p here same in
@@ -101,11 +101,11 @@ counted_issue m p id n here s few c true e =
       most = omega (arith, count, few);
       none = λ le. absurd (omega (arith, le, same, below));
       here = λ x h is.
-          let r = map_in (at p.request.id issue) m.book x h in
+          let r = map_in (at p.request.id newly_issued) m.book x h in
           ⊎_elim
           (λ a. let old = c.here r.0 r.1 (a.0 ∙ same) in let new = ap (λ (y : Pending). y.issues) (r.2 ∙ a.1) in omega (arith, old, new))
           (λ a. absurd (a.0 (ap (λ (y : Pending). y.request.id.0) (sym (r.2 ∙ a.1)) ∙ is ∙ sym same)))
-          (at_cases p.request.id issue r.0);
+          (at_cases p.request.id newly_issued r.0);
     }
 counted_issue m p id n here s few c false e =
     let most = c.most in
@@ -113,21 +113,21 @@ counted_issue m p id n here s few c false e =
       most = omega (arith, most);
       none = λ le. let zero = c.none le in omega (arith, zero);
       here = λ x h is.
-          let r = map_in (at p.request.id issue) m.book x h in
+          let r = map_in (at p.request.id newly_issued) m.book x h in
           ⊎_elim
           (λ a. let mine = ap (λ (y : Pending). y.request.id.0) (r.2 ∙ a.1) in absurd (eqb-false p.request.id.0 id.0 e (sym a.0 ∙ sym mine ∙ is)))
           (λ a. let old = c.here r.0 r.1 (ap (λ (y : Pending). y.request.id.0) (sym (r.2 ∙ a.1)) ∙ is) in let new = ap (λ (y : Pending). y.issues) (r.2 ∙ a.1) in omega (arith, old, new))
-          (at_cases p.request.id issue r.0);
+          (at_cases p.request.id newly_issued r.0);
     }
 
 counted_step : (m : Machine) (step : Step) (id : RequestId) (n : ℕ) → May m step → Sound m → WithinLimits (after_step m step) → IsCounted m id n → IsCounted (after_step m step) id (cond (issues_it id step) 1 0 + n)
 counted_step m (Issue mode p) id n may s limits c = counted_issue m p id n may.0 s most c (p.request.id.0 == id.0) refl
   where
-    most : (issue p).issues ≤ 4
+    most : (newly_issued p).issues ≤ 4
     most = ⊎_elim
-        (λ a. subst (λ (x : Pending). x.issues ≤ 4) a.1 (limits.issues (at p.request.id issue p) (inl (into_map (at p.request.id issue) m.book p may.0))))
+        (λ a. subst (λ (x : Pending). x.issues ≤ 4) a.1 (limits.issues (at p.request.id newly_issued p) (inl (into_map (at p.request.id newly_issued) m.book p may.0))))
         (λ a. absurd (a.0 refl))
-        (at_cases p.request.id issue p)
+        (at_cases p.request.id newly_issued p)
 counted_step m (Accept r) id n may s limits c =
     let most = c.most in
     let next : r.id.0 ≡ m.next = may.id in
@@ -154,10 +154,10 @@ counted_step m (Load k f o b) id n may s limits c = counted_on m (after_step m (
 counted : (start : Machine) (h : List Step) (id : RequestId) → IsStart start → IsLegal start h → IsCounted (after start h) id (count_by (issues_it id) h)
 counted start [] id s legal = record { most = omega arith; none = λ le. refl; here = λ e h same. absurd (nobody start s e (inl h)) }
 counted start (step ∷ past) id s legal = subst (IsCounted (after start (step ∷ past)) id) (sym (count_cons (issues_it id) step past))
-    (counted_step (after start past) step id (count_by (issues_it id) past) legal.1 (traced start past s legal.0).sound (limits_hold start (step ∷ past) s legal) (counted start past id s legal.0))
+    (counted_step (after start past) step id (count_by (issues_it id) past) legal.1 (traced start past s legal.0).sound (law_limits_hold start (step ∷ past) s legal) (counted start past id s legal.0))
 
-pub issued_four_times : {D : Type 0} (first : Moment) (run : List (Event D)) (id : RequestId) → IsRun first run → count_by (issues_it id) (steps_of run) ≤ 4
-issued_four_times first run id r = (counted first.machine (steps_of run) id (run_starts first run r) (run_legal first run r)).most
+pub law_issued_four_times : {D : Type 0} (first : AbstractState) (run : List (CallRecord D)) (id : RequestId) → IsRun first run → count_by (issues_it id) (steps_of run) ≤ 4
+law_issued_four_times first run id r = (counted first.machine (steps_of run) id (run_starts first run r) (run_legal first run r)).most
 
 -- An id that is still to come was neither issued nor made to wait again; and its unanswered request was issued once more where it is issued, and
 -- else as often as it was made to wait again.
@@ -221,7 +221,7 @@ balanced_step : (m : Machine) (step : Step) (id : RequestId) (issues waits : ℕ
 balanced_step m (Issue mode p) id issues waits may s b =
     let waited : p.issued ≡ false = false_from_ne_true p.issued (λ is. issued_not_due mode _ _ is may.1) in
     subst (IsBalanced (after_step m (Issue mode p)) id (cond (p.request.id.0 == id.0) 1 0 + issues)) (ap (λ (k : ℕ). k + waits) (cond_same (p.request.id.0 == id.0)))
-    (balanced_at m p id issue false true 1 0 may.0 s (λ _. refl) (λ _. refl) waited (λ i w e. omega (arith, e)) issues waits b (p.request.id.0 == id.0) refl)
+    (balanced_at m p id newly_issued false true 1 0 may.0 s (λ _. refl) (λ _. refl) waited (λ i w e. omega (arith, e)) issues waits b (p.request.id.0 == id.0) refl)
 balanced_step m (Again p) id issues waits may s b =
     subst (λ (k : ℕ). IsBalanced (after_step m (Again p)) id (k + issues) (cond (p.request.id.0 == id.0) 1 0 + waits)) (cond_same (p.request.id.0 == id.0))
     (balanced_at m p id requeued true false 0 1 may.0 s (λ _. refl) (λ _. refl) may.1 (λ i w e. omega (arith, e)) issues waits b (p.request.id.0 == id.0) refl)
@@ -258,16 +258,16 @@ balanced start (step ∷ past) id s legal =
     (subst (λ (n : ℕ). IsBalanced (after start (step ∷ past)) id n (cond (waits_again id step) 1 0 + count_by (waits_again id) past)) (sym (count_cons (issues_it id) step past))
     (balanced_step (after start past) step id (count_by (issues_it id) past) (count_by (waits_again id) past) legal.1 (traced start past s legal.0).sound (balanced start past id s legal.0)))
 
-pub issues_are_counted : (start : Machine) (history : List Step) (e : Pending) → IsStart start → IsLegal start history → Contains (after start history).book e
+pub law_issues_are_counted : (start : Machine) (history : List Step) (e : Pending) → IsStart start → IsLegal start history → Contains (after start history).book e
     → (count_by (issues_it e.request.id) history ≡ e.issues) × (count_by (issues_it e.request.id) history ≡ count_by (waits_again e.request.id) history + cond e.issued 1 0)
-issues_are_counted start history e starts legal here =
+law_issues_are_counted start history e starts legal here =
     ((counted start history e.request.id starts legal).here e here refl, (balanced start history e.request.id starts legal).here e here refl)
 
 -- a step of a run is one of a call's
-abort_of_run : {D : Type 0} (first : Moment) (run : List (Event D)) (e : Pending) → IsRun first run → Contains (steps_of run) (Answer e Aborted) → e.issues ≡ 4
+abort_of_run : {D : Type 0} (first : AbstractState) (run : List (CallRecord D)) (e : Pending) → IsRun first run → Contains (steps_of run) (Answer e Aborted) → e.issues ≡ 4
 abort_of_run first [] e r h = absurd (contains_none (Answer e Aborted) h)
 abort_of_run first (event ∷ past) e r h = ⊎_elim
-    (λ i. (answers_are_lawful first past event e Aborted r i).1)
+    (λ i. (law_answers_are_lawful first past event e Aborted r i).1)
     (λ i. abort_of_run first past e r.0 i)
     (Contains-append_cases event.steps (steps_of past) (Answer e Aborted) h)
 
@@ -275,19 +275,19 @@ in_middle : (late : List Step) (step : Step) (early : List Step) → Contains (l
 in_middle [] step early = contains_here step early step refl
 in_middle (x ∷ late) step early = contains_there x (late ++ step ∷ early) step (in_middle late step early)
 
-pub aborted_after_four : {D : Type 0} (first : Moment) (run : List (Event D)) (late early : List Step) (e : Pending) → IsRun first run
+pub aborted_after_four : {D : Type 0} (first : AbstractState) (run : List (CallRecord D)) (late early : List Step) (e : Pending) → IsRun first run
     → steps_of run ≡ late ++ Answer e Aborted ∷ early → count_by (issues_it e.request.id) (steps_of run) ≡ 4
 aborted_after_four first run late early e r split =
     let issues : Step → Bool = issues_it e.request.id in
     let four = abort_of_run first run e r (subst (λ (xs : List Step). Contains xs (Answer e Aborted)) (sym split) (in_middle late (Answer e Aborted) early)) in
     let u = step_of_run first run late (Answer e Aborted) early r split in
     let count = (counted first.machine early e.request.id (run_starts first run r) u.0).here e u.1.0 refl in
-    let most = issued_four_times first run e.request.id r in
+    let most = law_issued_four_times first run e.request.id r in
     let all : count_by issues (steps_of run) ≡ count_by issues (late ++ Answer e Aborted ∷ early) = ap (count_by issues) split in
     omega (arith, four, count, most, all, count_append issues late (Answer e Aborted ∷ early), count_cons issues (Answer e Aborted) early)
 
 -- one id is one request, at each moment of a run
-pub one_of_run : {D : Type 0} (first : Moment) (run : List (Event D)) (a b : Pending) → IsRun first run → Contains (moment_of first run).machine.book a → Contains (moment_of first run).machine.book b
+pub one_of_run : {D : Type 0} (first : AbstractState) (run : List (CallRecord D)) (a b : Pending) → IsRun first run → Contains (moment_of first run).machine.book a → Contains (moment_of first run).machine.book b
     → a.request.id.0 ≡ b.request.id.0 → a ≡ b
 one_of_run first run a b r h k same =
     let there : (x : Pending) → Contains (moment_of first run).machine.book x → Contains (after first.machine (steps_of run)).book x = λ x i. subst (λ (m : Machine). Contains m.book x) (moment_is first run) i in
@@ -313,24 +313,24 @@ answer_holds start memory past steps late early e holds split = go late (subst (
     go [] h = h.1
     go (x ∷ late) h = go late h.0
 
-pub ok_was_served : {D : Type 0} (first : Moment) (past : List (Event D)) (event : Event D) (e : Pending) → IsRun first (event ∷ past) → EveryReadHolds first (event ∷ past)
-    → Contains event.steps (Answer e Ok) → IsAnsweredOk first past event e
-ok_was_served first past event e r holds h =
+pub law_ok_was_served : {D : Type 0} (first : AbstractState) (past : List (CallRecord D)) (event : CallRecord D) (e : Pending) → IsRun first (event ∷ past) → EveryReadHolds first (event ∷ past)
+    → Contains event.steps (Answer e Ok) → CallAnswersOk first past event e
+law_ok_was_served first past event e r holds h =
     let p = in_place event.steps (Answer e Ok) h in
     let split : steps_of (event ∷ past) ≡ p.0 ++ Answer e Ok ∷ (p.1 ++ steps_of past) = ap (λ (xs : List Step). xs ++ steps_of past) p.2 ∙ append_assoc p.0 (Answer e Ok ∷ p.1) (steps_of past) in
     let u = step_of_run first (event ∷ past) p.0 (Answer e Ok) (p.1 ++ steps_of past) r split in
-    let issued = (answers_are_lawful first past event e Ok r h).1 in
-    let counted = (issues_are_counted first.machine (p.1 ++ steps_of past) e (run_starts first (event ∷ past) r) u.0 u.1.0).1 in
+    let issued = (law_answers_are_lawful first past event e Ok r h).1 in
+    let counted = (law_issues_are_counted first.machine (p.1 ++ steps_of past) e (run_starts first (event ∷ past) r) u.0 u.1.0).1 in
     let one : ◌≡◌ {A = ℕ} (cond e.issued 1 0) 1 = ap (λ (b : Bool). cond {A = ℕ} b 1 0) issued in
     record {
       late = p.0;
       early = p.1;
       answered = p.2;
       served = record {
-        accepted = answered_was_accepted first (event ∷ past) p.0 (p.1 ++ steps_of past) e Ok r split;
+        accepted = law_answered_was_accepted first (event ∷ past) p.0 (p.1 ++ steps_of past) e Ok r split;
         issued = omega (arith, counted, one);
-        touched = ok_was_touched first (event ∷ past) p.0 (p.1 ++ steps_of past) e r split;
-        ended = ok_was_ended first (event ∷ past) p.0 (p.1 ++ steps_of past) e r split;
+        touched = law_ok_was_touched first (event ∷ past) p.0 (p.1 ++ steps_of past) e r split;
+        ended = law_ok_was_ended first (event ∷ past) p.0 (p.1 ++ steps_of past) e r split;
       };
       holds = answer_holds first.machine (moment_of first (event ∷ past)).machine.memory (steps_of past) event.steps p.0 p.1 e holds.1 p.2;
     }

@@ -12,12 +12,12 @@ use Rattle.ata_types.specs.declared.request.Outcome.TheVariants as outcome
 use Rattle.ata_types.specs.declared.refusal.Refusal.TheVariants as refused
 use Rattle.ata_types.specs.declared.grant.GrantRow.{GrantRow}
 use Rattle.ata_types.specs.Grant.{Allows}
-use Rattle.block_machine.specs.declared.due.Mode.{Mode}
-use Rattle.block_machine.specs.Rules.{IsCount, frames_for}
+use Rattle.block_machine.specs.declared.due.QueueMode.{QueueMode}
+use Rattle.block_machine.specs.Rules.{IsAllowedCount, frames_for}
 use Rattle.block_machine.specs.Refusals.{Situation}
 use Rattle.block_machine.specs.Due.{is_flush, is_writer}
 use Rattle.block_machine.specs.State.{Block, Memory, Accepted, Pending, Machine, block_of, is_reader, written_by}
-use Rattle.block_machine.specs.Steps.{Step, Accept, Issue, Touch, End, Answer, newly_accepted, issue, touch, mark_ended, unanswered_of, IsNew}
+use Rattle.block_machine.specs.Steps.{Step, Accept, Issue, Touch, End, Answer, newly_accepted, newly_issued, touch, mark_ended, unanswered_of, IsNew}
 use Rattle.block_machine.specs.Left.{after, HoldsLeft, IsLeft, HasTouched, Wrote}
 use Rattle.machine_runs.specs.Worked.{IsLoose, GoesWrong}
 use Rattle.block_machine.proofs.Setting.{client, port, frame, row, two_rows, request, empty, its_row, is_trim, filled_starts, IsFit, acceptable}
@@ -26,7 +26,7 @@ use Rattle.block_machine.proofs.Setting.{client, port, frame, row, two_rows, req
 abbrev start : Machine
 start = record empty { memory = λ f b. f.0 }
 
-abbrev mode : Mode
+abbrev mode : QueueMode
 mode = record { queued = true; usable = 32 }
 
 -- request number n, of one sector, has frame 100 + n
@@ -34,13 +34,13 @@ abbrev one_sector : ℕ → Op → Accepted
 one_sector n op = record { id = record { 0 = n }; port = port; asked = request 0 op 100 1 (frame (100 + n) ∷ []); held = block_of start.memory (frame (100 + n) ∷ []) }
 
 abbrev one : Pending
-one = issue (newly_accepted (one_sector 1 Write))
+one = newly_issued (newly_accepted (one_sector 1 Write))
 
 abbrev two : Pending
-two = issue (newly_accepted (one_sector 2 Write))
+two = newly_issued (newly_accepted (one_sector 2 Write))
 
 abbrev read : Pending
-read = issue (newly_accepted (one_sector 3 Read))
+read = newly_issued (newly_accepted (one_sector 3 Read))
 
 -- a write is issued, and kept when its port dies
 abbrev first_part : List Step
@@ -61,7 +61,7 @@ abbrev meets : Machine → Situation
 meets m = record { rows = m.rows; owner = m.owner; lent = m.lent; state = λ p. Ready; sectors = λ p. 200; trims = λ p. true; unanswered = unanswered_of m.book; next = m.next }
 
 fit : (m : Machine) (n : ℕ) (op : Op) → m.rows ≡ two_rows → m.owner (frame (100 + n)) ≡ Some client → m.lent (frame (100 + n)) ≡ None → unanswered_of m.book client ≡ 0 → m.next < 2 ^ 64
-    → op ≢ Trim → op ≢ Flush → frames_for op 1 ≡ 1 → IsCount op 1 → Allows (row 0).rights op → IsFit 0 (meets m) (one_sector n op).asked
+    → op ≢ Trim → op ≢ Flush → frames_for op 1 ≡ 1 → IsAllowedCount op 1 → Allows (row 0).rights op → IsFit 0 (meets m) (one_sector n op).asked
 fit m n op same_rows own free none ids no_trim no_flush frames count allowed = record {
   rows = same_rows;
   mine = (0, omega arith, refl);

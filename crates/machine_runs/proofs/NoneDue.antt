@@ -6,14 +6,14 @@ use Rattle.std.proofs.lemmas.Bool.{cases_Bool, false≢true, le-ltb, or_from, tr
 use Rattle.ata_types.specs.declared.Port.{Port}
 use Rattle.ata_types.specs.declared.PortState.TheVariants.{Ready}
 use Rattle.ata_types.specs.declared.request.RequestId.{RequestId}
-use Rattle.block_machine.specs.declared.due.Mode.{Mode}
+use Rattle.block_machine.specs.declared.due.QueueMode.{QueueMode}
 use Rattle.block_machine.specs.declared.due.Unanswered.{Unanswered}
-use Rattle.block_machine.specs.Due.{NoneDue, ahead, holds_back, is_clear, is_earlier, is_plain, issued_count}
+use Rattle.block_machine.specs.Due.{NoneDue, ahead, waits_for, is_clear, is_earlier_on_port, is_plain, issued_count}
 use Rattle.block_machine.specs.Ports.{Ports, Evidence, AreFit, SamePorts, IsStuck}
 use Rattle.block_machine.specs.State.{Pending, Machine, unanswered}
 use Rattle.block_machine.specs.Steps.{Step, Accept, Issue, Touch, End, Age, Again, Answer, Store, Load, after_step, at, touch, mark_ended}
 use Rattle.block_machine.specs.Left.{after}
-use Rattle.block_machine.specs.Events.{Moment, Ask, Submit, StoreAt, LoadAt, Service, Tick, Reset, RevokeOf, State, Device, Said, Submitted, Stored, Loaded, Served, WasReset, WasRevoked, Shown, Stepped, Event, AllIssued, IsAnswered, IsDevices, IsServers, Belong, IsRun, moment_of}
+use Rattle.block_machine.specs.Events.{AbstractState, Ask, Submit, StoreAt, LoadAt, Service, Tick, Reset, RevokeOf, State, Device, CallResult, Submitted, Stored, Loaded, Served, WasReset, WasRevoked, Shown, Stepped, CallRecord, AllIssued, IsAnswered, IsByDevice, IsByServer, Belong, IsRun, moment_of}
 use Rattle.block_machine.proofs.Members.{contains_none, contains_here, contains_there, at_cases, map_in, into_map}
 use Rattle.machine_runs.proofs.RunLaws.{is_ready, run_fit}
 use Rattle.machine_runs.proofs.Issuing.{counted_more, one_of_run}
@@ -43,7 +43,7 @@ idle_due m (Again e) h = absurd h
 idle_due m (Answer e o) h = absurd h
 idle_due m _ h = refl
 
-devices_idle : (step : Step) → IsDevices step → IsIdle step
+devices_idle : (step : Step) → IsByDevice step → IsIdle step
 devices_idle (Accept r) h = absurd h
 devices_idle (Issue mode e) h = absurd h
 devices_idle (Age ready) h = absurd h
@@ -59,7 +59,7 @@ is_idle (State p) = true
 is_idle (Device d) = true
 is_idle _ = false
 
-servers_idle : {D : Type 0} (ask : Ask D) (ports : Ports) (step : Step) → is_idle ask ≡ true → IsServers ask ports step → IsIdle step
+servers_idle : {D : Type 0} (ask : Ask D) (ports : Ports) (step : Step) → is_idle ask ≡ true → IsByServer ask ports step → IsIdle step
 servers_idle (StoreAt c f o b) ports (Store _ _ _ _) t h = tt
 servers_idle (StoreAt c f o b) ports _ t h = absurd h
 servers_idle (LoadAt c f o n) ports (Load _ _ _ _) t h = tt
@@ -74,23 +74,23 @@ idle_steps ask ports m (step ∷ before) t b =
     idle_due (after m before) step (⊎_elim (devices_idle step) (servers_idle ask ports step t) b.1) ∙ idle_steps ask ports m before t b.0
 
 -- with the same ports and the same requests, none is due
-issued_still : (old new : Moment) → map unanswered new.machine.book ≡ map unanswered old.machine.book → SamePorts old.ports new.ports → AllIssued old → AllIssued new
+issued_still : (old new : AbstractState) → map unanswered new.machine.book ≡ map unanswered old.machine.book → SamePorts old.ports new.ports → AllIssued old → AllIssued new
 issued_still old new book same all port ready =
-    subst (λ (mode : Mode). NoneDue mode (map unanswered new.machine.book) port) (sym (same port).5)
+    subst (λ (mode : QueueMode). NoneDue mode (map unanswered new.machine.book) port) (sym (same port).5)
     (subst (λ (us : List Unanswered). NoneDue (old.ports.mode port) us port) (sym book) (all port (sym (same port).1 ∙ ready)))
 
 -- and where each served port is dead, none is ready
-issued_stuck : (old new : Moment) (evidence : Evidence) → AreFit new.ports → ((port : Port) → IsStuck old.ports evidence new.ports port) → AllIssued new
+issued_stuck : (old new : AbstractState) (evidence : Evidence) → AreFit new.ports → ((port : Port) → IsStuck old.ports evidence new.ports port) → AllIssued new
 issued_stuck old new evidence fit stuck port ready = absurd (⊎_elim
     (λ served. false≢true (ap is_ready (sym ((stuck port).1 served).0) ∙ ap is_ready ready))
     (λ other. false≢true (ap is_ready (sym (fit.absent port ((stuck port).0 ∙ other))) ∙ ap is_ready ready))
     (cases_Bool (old.ports.served port)))
 
 -- what these steps leave, with these ports
-abbrev left : Moment → List Step → Ports → Moment
+abbrev left : AbstractState → List Step → Ports → AbstractState
 left old steps ports = record { machine = after old.machine steps; ports = ports }
 
-issued_event : {D : Type 0} (ask : Ask D) (said : Said) (old : Moment) (evidence : Evidence) (steps : List Step) (ports : Ports)
+issued_event : {D : Type 0} (ask : Ask D) (said : CallResult) (old : AbstractState) (evidence : Evidence) (steps : List Step) (ports : Ports)
     → IsAnswered ask said old evidence steps (left old steps ports) → Belong ask ports steps → AreFit ports → AllIssued old → AllIssued (left old steps ports)
 issued_event (Submit r) (Submitted (Ok id)) old evidence steps ports a b fit all = a.3
 issued_event (Submit r) (Submitted (Err refusal)) old evidence steps ports a b fit all =
@@ -111,9 +111,9 @@ issued_event (RevokeOf c n) (WasRevoked None) old evidence steps ports a b fit a
     issued_still old (left old steps ports) (ap (λ (xs : List Step). map unanswered (after old.machine xs).book) a.1) a.2 all
 issued_event ask said old evidence steps ports a b fit all = absurd a
 
-pub none_due_between : {D : Type 0} (first : Moment) (run : List (Event D)) → IsRun first run → AllIssued (moment_of first run)
-none_due_between first [] r = λ port ready x here due. contains_none x (subst (λ (es : List Pending). Contains (map unanswered es) x) r.0.book due.here)
-none_due_between first (event ∷ past) r = issued_event event.ask event.said (moment_of first past) event.evidence event.steps event.ports r.1.answered r.1.belong r.1.fit (none_due_between first past r.0)
+pub law_none_due_between : {D : Type 0} (first : AbstractState) (run : List (CallRecord D)) → IsRun first run → AllIssued (moment_of first run)
+law_none_due_between first [] r = λ port ready x here due. contains_none x (subst (λ (es : List Pending). Contains (map unanswered es) x) r.0.book due.here)
+law_none_due_between first (event ∷ past) r = issued_event event.ask event.said (moment_of first past) event.evidence event.steps event.ports r.1.answered r.1.belong r.1.fit (law_none_due_between first past r.0)
 
 -- The only unanswered request waits for nothing: so where its port is ready, it is issued.
 
@@ -152,14 +152,14 @@ clear_from true held i h = absurd (false≢true (sym i))
 clear_from false true i h = absurd (false≢true (sym h))
 clear_from false false i h = refl
 
-pub lone_is_issued : {D : Type 0} (first : Moment) (run : List (Event D)) (e : Pending) → IsRun first run → Contains (moment_of first run).machine.book e
+pub lone_is_issued : {D : Type 0} (first : AbstractState) (run : List (CallRecord D)) (e : Pending) → IsRun first run → Contains (moment_of first run).machine.book e
     → (moment_of first run).ports.state e.request.port ≡ Ready → ((o : Pending) → Contains (moment_of first run).machine.book o → o.request.id ≡ e.request.id) → e.issued ≡ true
 lone_is_issued first run e r h ready alone = true_from_ne_false e.issued due
   where
     book : List Pending
     book = (moment_of first run).machine.book
 
-    mode : Mode
+    mode : QueueMode
     mode = (moment_of first run).ports.mode e.request.port
 
     -- each of the book is this one
@@ -177,15 +177,15 @@ lone_is_issued first run e r h ready alone = true_from_ne_false e.issued due
 
     due : e.issued ≡ false → ⊥
     due waits =
-        let alone_there = none_any (holds_back mode (unanswered e)) (map unanswered book)
-        (none (holds_back mode (unanswered e)) (held_none (e.request.port.0 == e.request.port.0) (is_plain mode e.request.asked.op) e.issued (nat_lt e.request.id.0 e.request.id.0) _ waits later)) in
-        let first_there : ahead mode (map unanswered book) (unanswered e) ≡ 0 = none_counted (λ other. is_earlier other (unanswered e) && is_clear mode (map unanswered book) other) (map unanswered book)
+        let alone_there = none_any (waits_for mode (unanswered e)) (map unanswered book)
+        (none (waits_for mode (unanswered e)) (held_none (e.request.port.0 == e.request.port.0) (is_plain mode e.request.asked.op) e.issued (nat_lt e.request.id.0 e.request.id.0) _ waits later)) in
+        let first_there : ahead mode (map unanswered book) (unanswered e) ≡ 0 = none_counted (λ other. is_earlier_on_port other (unanswered e) && is_clear mode (map unanswered book) other) (map unanswered book)
         (none _ (not_earlier (e.request.port.0 == e.request.port.0) (nat_lt e.request.id.0 e.request.id.0) _ later)) in
         let free_there : issued_count (map unanswered book) e.request.port ≡ 0 = none_counted (λ (other : Unanswered). other.port.0 == e.request.port.0 && other.issued) (map unanswered book)
         (none _ (not_issued (e.request.port.0 == e.request.port.0) e.issued waits)) in
         let usable = ((run_fit first run r).slots e.request.port ready).0 in
-        none_due_between first run r e.request.port ready (unanswered e) refl (record {
+        law_none_due_between first run r e.request.port ready (unanswered e) refl (record {
           here = into_map unanswered book e h;
-          clear = clear_from e.issued (list_any (holds_back mode (unanswered e)) (map unanswered book)) waits alone_there;
+          clear = clear_from e.issued (list_any (waits_for mode (unanswered e)) (map unanswered book)) waits alone_there;
           slot = λ queued. omega (arith, first_there, free_there, usable);
         })

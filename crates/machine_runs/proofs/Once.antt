@@ -12,7 +12,7 @@ use Rattle.block_machine.specs.State.{Accepted, Pending, Machine}
 use Rattle.block_machine.specs.Steps.{Step, Accept, Answer, May, after_step}
 use Rattle.block_machine.specs.Left.{after, IsLegal, IsStart}
 use Rattle.block_machine.specs.Confined.{WasAccepted}
-use Rattle.block_machine.specs.Events.{Moment, Ask, Submit, Service, Tick, Reset, RevokeOf, Said, Submitted, Served, WasReset, WasRevoked, Event, AllMay, Belong, Tells, IsAnswered, IsRun, accepts_it, answers_it, accepts_of, answers_of, reply_of, replies_of, all_replies, gives_id, WasGiven, moment_of, steps_of}
+use Rattle.block_machine.specs.Events.{AbstractState, Ask, Submit, Service, Tick, Reset, RevokeOf, CallResult, Submitted, Served, WasReset, WasRevoked, CallRecord, AllMay, Belong, Tells, IsAnswered, IsRun, accepts_it, answers_it, accepts_of, answers_of, reply_of, replies_of, all_replies, gives_id, WasGiven, moment_of, steps_of}
 use Rattle.block_machine.proofs.Members.{contains_none, contains_here, contains_there, contains_cases, map_in, without_in, append_in}
 use Rattle.block_machine.proofs.Sound.{Sound}
 use Rattle.block_machine.proofs.Runs.{traced, nobody}
@@ -46,8 +46,8 @@ fresh start [] id s legal = record { most = omega arith; none = λ le. refl }
 fresh start (step ∷ past) id s legal = subst (IsFresh (after start (step ∷ past)) id) (sym (count_cons (accepts_it id) step past))
     (fresh_step (after start past) step id (count_by (accepts_it id) past) legal.1 (fresh start past id s legal.0))
 
-pub accepted_once : {D : Type 0} (first : Moment) (run : List (Event D)) (id : RequestId) → IsRun first run → count_by (accepts_it id) (steps_of run) ≤ 1
-accepted_once first run id r = (fresh first.machine (steps_of run) id (run_starts first run r) (run_legal first run r)).most
+pub law_accepted_once : {D : Type 0} (first : AbstractState) (run : List (CallRecord D)) (id : RequestId) → IsRun first run → count_by (accepts_it id) (steps_of run) ≤ 1
+law_accepted_once first run id r = (fresh first.machine (steps_of run) id (run_starts first run r) (run_legal first run r)).most
 
 -- How often an id was answered: not yet where it is still to come, or unanswered, and once at most.
 record IsUntold (m : Machine) (id : RequestId) (n : ℕ) : Type 0 where
@@ -98,19 +98,19 @@ untold start [] id s legal = record { most = omega arith; none = λ le. refl; he
 untold start (step ∷ past) id s legal = subst (IsUntold (after start (step ∷ past)) id) (sym (count_cons (answers_it id) step past))
     (untold_step (after start past) step id (count_by (answers_it id) past) legal.1 (traced start past s legal.0).sound (untold start past id s legal.0))
 
-pub answered_once : {D : Type 0} (first : Moment) (run : List (Event D)) (id : RequestId) → IsRun first run → count_by (answers_it id) (steps_of run) ≤ 1
-answered_once first run id r = (untold first.machine (steps_of run) id (run_starts first run r) (run_legal first run r)).most
+pub law_answered_once : {D : Type 0} (first : AbstractState) (run : List (CallRecord D)) (id : RequestId) → IsRun first run → count_by (answers_it id) (steps_of run) ≤ 1
+law_answered_once first run id r = (untold first.machine (steps_of run) id (run_starts first run r) (run_legal first run r)).most
 
-pub answered_was_accepted : {D : Type 0} (first : Moment) (run : List (Event D)) (late early : List Step) (e : Pending) (outcome : Outcome) → IsRun first run
+pub law_answered_was_accepted : {D : Type 0} (first : AbstractState) (run : List (CallRecord D)) (late early : List Step) (e : Pending) (outcome : Outcome) → IsRun first run
     → steps_of run ≡ late ++ Answer e outcome ∷ early → WasAccepted first.machine early e.request
-answered_was_accepted first run late early e outcome r split =
+law_answered_was_accepted first run late early e outcome r split =
     let u = step_of_run first run late (Answer e outcome) early r split in
     living_accepted first.machine early (run_starts first run r) u.0 e (inl u.1.0)
 
 -- What a call says of it.
 
 -- a call tells the answers of its steps, or gives no reply
-told_or_none : {D : Type 0} (ask : Ask D) (said : Said) (old : Moment) (evidence : Evidence) (steps : List Step) (new : Moment) → IsAnswered ask said old evidence steps new
+told_or_none : {D : Type 0} (ask : Ask D) (said : CallResult) (old : AbstractState) (evidence : Evidence) (steps : List Step) (new : AbstractState) → IsAnswered ask said old evidence steps new
     → (Tells steps (replies_of said) × (is_submit ask ≡ false)) ⊎ (replies_of said ≡ [])
 told_or_none Service (Served replies) old evidence steps new a = inl (a.tells, refl)
 told_or_none Tick (Served replies) old evidence steps new a = inl (a.tells, refl)
@@ -144,7 +144,7 @@ replies_few id steps replies (inl t) =
     omega (arith, same, swapped, count_answers id steps, count_replies id t.answers)
 replies_few id steps replies (inr e) = let same = ap (count_by (λ (reply : Reply). reply.id.0 == id.0)) e in omega (arith, same)
 
-run_replies : {D : Type 0} (first : Moment) (run : List (Event D)) (id : RequestId) → IsRun first run → count_by (λ (reply : Reply). reply.id.0 == id.0) (all_replies run) ≤ count_by (answers_it id) (steps_of run)
+run_replies : {D : Type 0} (first : AbstractState) (run : List (CallRecord D)) (id : RequestId) → IsRun first run → count_by (λ (reply : Reply). reply.id.0 == id.0) (all_replies run) ≤ count_by (answers_it id) (steps_of run)
 run_replies first [] id r = omega arith
 run_replies first (event ∷ past) id r =
     let rest = run_replies first past id r.0 in
@@ -152,8 +152,8 @@ run_replies first (event ∷ past) id r =
     (⊎_elim (λ t. inl t.0) (λ e. inr e) (told_or_none event.ask event.said (moment_of first past) event.evidence event.steps _ r.1.answered)) in
     omega (arith, rest, now, count_append (λ (reply : Reply). reply.id.0 == id.0) (replies_of event.said) (all_replies past), count_append (answers_it id) event.steps (steps_of past))
 
-pub replied_once : {D : Type 0} (first : Moment) (run : List (Event D)) (id : RequestId) → IsRun first run → count_by (λ (reply : Reply). reply.id.0 == id.0) (all_replies run) ≤ 1
-replied_once first run id r = let few = run_replies first run id r in let once = answered_once first run id r in omega (arith, few, once)
+pub law_replied_once : {D : Type 0} (first : AbstractState) (run : List (CallRecord D)) (id : RequestId) → IsRun first run → count_by (λ (reply : Reply). reply.id.0 == id.0) (all_replies run) ≤ 1
+law_replied_once first run id r = let few = run_replies first run id r in let once = law_answered_once first run id r in omega (arith, few, once)
 
 -- a call that accepts says so
 accepts_count : (id : RequestId) (steps : List Step) → count_by (λ (r : Accepted). r.id.0 == id.0) (accepts_of steps) ≡ count_by (accepts_it id) steps
@@ -162,7 +162,7 @@ accepts_count id (Accept r ∷ before) =
     let rest = accepts_count id before in omega (arith, rest, count_cons (λ (x : Accepted). x.id.0 == id.0) r (accepts_of before), count_cons (accepts_it id) (Accept r) before)
 accepts_count id (step ∷ before) = let rest = accepts_count id before in omega (arith, rest, count_cons (accepts_it id) step before)
 
-gives_accepted : {D : Type 0} (id : RequestId) (ask : Ask D) (said : Said) (old : Moment) (evidence : Evidence) (steps : List Step) (new : Moment) → IsAnswered ask said old evidence steps new
+gives_accepted : {D : Type 0} (id : RequestId) (ask : Ask D) (said : CallResult) (old : AbstractState) (evidence : Evidence) (steps : List Step) (new : AbstractState) → IsAnswered ask said old evidence steps new
     → cond (gives_id id said) 1 0 ≤ count_by (accepts_it id) steps
 gives_accepted id (Submit q) (Submitted (Ok given)) old evidence steps new a =
     let one : count_by (λ (r : Accepted). r.id.0 == id.0) (accepts_of steps) ≡ cond (a.1.0.id.0 == id.0) 1 0 + 0 =
@@ -172,19 +172,19 @@ gives_accepted id (Submit q) (Submitted (Ok given)) old evidence steps new a =
 gives_accepted id ask (Submitted (Ok given)) old evidence steps new a = absurd a
 gives_accepted id ask said old evidence steps new a = omega arith
 
-run_gives : {D : Type 0} (first : Moment) (run : List (Event D)) (id : RequestId) → IsRun first run → count_by (λ (event : Event D). gives_id id event.said) run ≤ count_by (accepts_it id) (steps_of run)
+run_gives : {D : Type 0} (first : AbstractState) (run : List (CallRecord D)) (id : RequestId) → IsRun first run → count_by (λ (event : CallRecord D). gives_id id event.said) run ≤ count_by (accepts_it id) (steps_of run)
 run_gives first [] id r = omega arith
 run_gives {D} first (event ∷ past) id r =
     let rest = run_gives first past id r.0 in
     let now = gives_accepted id event.ask event.said (moment_of first past) event.evidence event.steps _ r.1.answered in
-    omega (arith, rest, now, count_cons (λ (x : Event D). gives_id id x.said) event past, count_append (accepts_it id) event.steps (steps_of past))
+    omega (arith, rest, now, count_cons (λ (x : CallRecord D). gives_id id x.said) event past, count_append (accepts_it id) event.steps (steps_of past))
 
-pub given_once : {D : Type 0} (first : Moment) (run : List (Event D)) (id : RequestId) → IsRun first run → count_by (λ (event : Event D). gives_id id event.said) run ≤ 1
-given_once first run id r = let few = run_gives first run id r in let once = accepted_once first run id r in omega (arith, few, once)
+pub law_given_once : {D : Type 0} (first : AbstractState) (run : List (CallRecord D)) (id : RequestId) → IsRun first run → count_by (λ (event : CallRecord D). gives_id id event.said) run ≤ 1
+law_given_once first run id r = let few = run_gives first run id r in let once = law_accepted_once first run id r in omega (arith, few, once)
 
 -- Each unanswered request is one that a submit asked for.
 
-accepts_asked : {D : Type 0} (r : Accepted) (ask : Ask D) (said : Said) (old : Moment) (evidence : Evidence) (steps : List Step) (ports : Ports) (new : Moment) → Belong ask ports steps
+accepts_asked : {D : Type 0} (r : Accepted) (ask : Ask D) (said : CallResult) (old : AbstractState) (evidence : Evidence) (steps : List Step) (ports : Ports) (new : AbstractState) → Belong ask ports steps
     → IsAnswered ask said old evidence steps new → Contains (accepts_of steps) r → (ask ≡ Submit r.asked) × (said ≡ Submitted (Ok r.id))
 accepts_asked {D} r (Submit q) (Submitted (Ok given)) old evidence steps ports new b a h =
     let same : r ≡ a.1.0 = ⊎_elim (λ e. e) (λ n. absurd (contains_none r n)) (contains_cases a.1.0 [] r (subst (λ (xs : List Accepted). Contains xs r) a.1.1 h)) in
@@ -195,7 +195,7 @@ accepts_asked r (Submit q) said old evidence steps ports new b a h = absurd a
 accepts_asked r ask said old evidence steps ports new b a h = absurd (contains_none r (subst (λ (xs : List Accepted). Contains xs r) (none_accepted ask steps refl (all_fit ask ports steps b)) h))
 
 -- it was there before its last call, or that asked for it
-pub came_from : {D : Type 0} (first : Moment) (past : List (Event D)) (event : Event D) (e : Pending) → IsRun first (event ∷ past) → Contains (moment_of first (event ∷ past)).machine.book e
+pub came_from : {D : Type 0} (first : AbstractState) (past : List (CallRecord D)) (event : CallRecord D) (e : Pending) → IsRun first (event ∷ past) → Contains (moment_of first (event ∷ past)).machine.book e
     → CameFrom (moment_of first past).machine event.steps e ⊎ ((event.ask ≡ Submit e.request.asked) × (event.said ≡ Submitted (Ok e.request.id)))
 came_from first past event e r h = ⊎_elim
     (λ (s : Since (moment_of first past).machine event.steps e). inl (record {
@@ -208,7 +208,7 @@ came_from first past event e r h = ⊎_elim
     (accepts_asked e.request event.ask event.said (moment_of first past) event.evidence event.steps event.ports _ r.1.belong r.1.answered a.0))
     (since (moment_of first past).machine event.steps e h)
 
-was_asked : {D : Type 0} (first : Moment) (run : List (Event D)) (e : Pending) → IsRun first run → Contains (moment_of first run).machine.book e → WasAsked e.request run
+was_asked : {D : Type 0} (first : AbstractState) (run : List (CallRecord D)) (e : Pending) → IsRun first run → Contains (moment_of first run).machine.book e → WasAsked e.request run
 was_asked first [] e r h = absurd (nobody first.machine r.0 e (inl h))
 was_asked first (event ∷ past) e r h = ⊎_elim
     (λ (c : CameFrom (moment_of first past).machine event.steps e). inr
@@ -224,15 +224,15 @@ accepted_in start (Accept new ∷ steps) past r (inr w) = ⊎_elim (λ i. inl (c
 accepted_in start (step ∷ steps) past r (inl c) = absurd c.0
 accepted_in start (step ∷ steps) past r (inr w) = accepted_in start steps past r w
 
-pub accepted_was_asked : {D : Type 0} (first : Moment) (run : List (Event D)) (r : Accepted) → IsRun first run → WasAccepted first.machine (steps_of run) r → WasAsked r run
-accepted_was_asked first [] r run w = w
-accepted_was_asked first (event ∷ past) r run w = ⊎_elim
+pub law_accepted_was_asked : {D : Type 0} (first : AbstractState) (run : List (CallRecord D)) (r : Accepted) → IsRun first run → WasAccepted first.machine (steps_of run) r → WasAsked r run
+law_accepted_was_asked first [] r run w = w
+law_accepted_was_asked first (event ∷ past) r run w = ⊎_elim
     (λ (i : Contains (accepts_of event.steps) r). inl (accepts_asked r event.ask event.said (moment_of first past) event.evidence event.steps event.ports _ run.1.belong run.1.answered i))
-    (λ was. inr (accepted_was_asked first past r run.0 was))
+    (λ was. inr (law_accepted_was_asked first past r run.0 was))
     (accepted_in first.machine event.steps (steps_of past) r w)
 
 -- so a submit of its client gave its id
-asked_given : {D : Type 0} (r : Accepted) (run : List (Event D)) → WasAsked r run → WasGiven r.id r.asked.client run
+asked_given : {D : Type 0} (r : Accepted) (run : List (CallRecord D)) → WasAsked r run → WasGiven r.id r.asked.client run
 asked_given r [] w = w
 asked_given r (event ∷ past) (inl w) = inl (r.asked, w.0, w.1, refl)
 asked_given r (event ∷ past) (inr w) = inr (asked_given r past w)
@@ -265,12 +265,12 @@ answers_in (Answer e o ∷ before) a h = ⊎_elim
 answers_in (step ∷ before) a h = contains_there step before (Answer a.0 a.1) (answers_in before a h)
 
 -- the request that a reply tells of
-abbrev pub IsRepliedBy : {D : Type 0} → Reply → Event D → List (Event D) → Type 0
+abbrev pub IsRepliedBy : {D : Type 0} → Reply → CallRecord D → List (CallRecord D) → Type 0
 IsRepliedBy reply event past = (e : Pending) × Contains event.steps (Answer e reply.outcome) × (e.request.id ≡ reply.id) × (e.request.asked.client ≡ reply.client) × WasAsked e.request past
 
-pub replied_was_asked : {D : Type 0} (first : Moment) (past : List (Event D)) (event : Event D) (reply : Reply) → IsRun first (event ∷ past) → Contains (replies_of event.said) reply
+pub law_replied_was_asked : {D : Type 0} (first : AbstractState) (past : List (CallRecord D)) (event : CallRecord D) (reply : Reply) → IsRun first (event ∷ past) → Contains (replies_of event.said) reply
     → IsRepliedBy reply event past
-replied_was_asked first past event reply r h = ⊎_elim
+law_replied_was_asked first past event reply r h = ⊎_elim
     (λ (t : Tells event.steps (replies_of event.said) × (is_submit event.ask ≡ false)).
     let a = map_in reply_of t.0.answers reply (subst (λ (xs : List Reply). Contains xs reply) t.0.told h) in
     let i = Contains-permutation t.0.answers (answers_of event.steps) a.0 t.0.same a.1 in
@@ -281,8 +281,8 @@ replied_was_asked first past event reply r h = ⊎_elim
     (λ e. absurd (contains_none reply (subst (λ (xs : List Reply). Contains xs reply) e h)))
     (told_or_none event.ask event.said (moment_of first past) event.evidence event.steps _ r.1.answered)
 
-pub replied_was_given : {D : Type 0} (first : Moment) (past : List (Event D)) (event : Event D) (reply : Reply) → IsRun first (event ∷ past) → Contains (replies_of event.said) reply
+pub law_replied_was_given : {D : Type 0} (first : AbstractState) (past : List (CallRecord D)) (event : CallRecord D) (reply : Reply) → IsRun first (event ∷ past) → Contains (replies_of event.said) reply
     → WasGiven reply.id reply.client past
-replied_was_given first past event reply r h =
-    let told = replied_was_asked first past event reply r h in
+law_replied_was_given first past event reply r h =
+    let told = law_replied_was_asked first past event reply r h in
     subst (λ (c : ClientId). WasGiven reply.id c past) told.3 (subst (λ (id : RequestId). WasGiven id told.0.request.asked.client past) told.2 (asked_given told.0.request past told.4))

@@ -7,8 +7,8 @@ use Rattle.ata_types.specs.declared.PortState.TheVariants.{Ready}
 use Rattle.ata_types.specs.declared.request.Outcome.TheVariants as outcome
 use Rattle.block_machine.specs.Ports.{MayBecome}
 use Rattle.block_machine.specs.State.{Pending, Machine, unanswered}
-use Rattle.block_machine.specs.Steps.{Issue, Again, Answer, Release, newly_accepted, issue, requeued}
-use Rattle.block_machine.specs.Events.{Moment, Reset, WasReset, Event, Happens, IsIssuedIn, reply_of, moment_of, moment_after}
+use Rattle.block_machine.specs.Steps.{Issue, Again, Answer, Release, newly_accepted, newly_issued, requeued}
+use Rattle.block_machine.specs.Events.{AbstractState, Reset, WasReset, CallRecord, Happens, IsIssuedIn, reply_of, moment_of, moment_after}
 use Rattle.machine_runs.specs.Worked.{GoesAgainInResets}
 use Rattle.block_machine.proofs.Setting.{port, empty_starts, two_rows, granted}
 use Rattle.machine_runs.proofs.Scene.{mode, ports, first, one_issued, one_told, none_told, none_unplugged, finds_none, emptied_of, only_one, of_two, ports_fit, none_dead, row_zero}
@@ -17,26 +17,26 @@ use Rattle.machine_runs.proofs.ResetRun.{halted, stopped_here}
 
 -- the write, in its n-th issue
 abbrev tried : ℕ → Pending
-tried n = record (issue (newly_accepted write)) { issues = n }
+tried n = record (newly_issued (newly_accepted write)) { issues = n }
 
 -- the read, which waits for it
 abbrev waits : Pending
 waits = newly_accepted read
 
-abbrev retry : ℕ → Event (Unit {0})
+abbrev retry : ℕ → CallRecord (Unit {0})
 retry n = record { ask = Reset; said = WasReset (Some []); evidence = halted; steps = Issue mode (requeued (tried n)) ∷ Again (tried n) ∷ Release ∷ []; ports = ports }
 
-abbrev run5 : List (Event (Unit {0}))
+abbrev run5 : List (CallRecord (Unit {0}))
 run5 = retry 3 ∷ retry 2 ∷ retry 1 ∷ run2
 
-abbrev abort : Event (Unit {0})
+abbrev abort : CallRecord (Unit {0})
 abort = record { ask = Reset; said = WasReset (Some (reply_of (tried 4, outcome.Aborted) ∷ [])); evidence = halted; steps = Issue mode waits ∷ Answer (tried 4) outcome.Aborted ∷ Release ∷ []; ports = ports }
 
 becomes : (p : Port) → MayBecome ports halted ports p
 becomes p = record { served = refl; stuck = λ dead. none_dead p dead; dies = λ h. absurd (All-contains (λ _. ⊥) [] p (All-nil (λ _. ⊥)) h); keeps = λ _. (refl, refl) }
 
 -- the moment before a reset
-abbrev before : Machine → ℕ → Moment
+abbrev before : Machine → ℕ → AbstractState
 before m n = record { machine = record m { book = tried n ∷ waits ∷ []; kept = [] }; ports = ports }
 
 again : (m : Machine) (n : ℕ) → m.rows ≡ two_rows → ((p : Port) → m.present p ≡ true) → n < 4 → Happens (before m n) (retry n)
@@ -82,11 +82,11 @@ happens6 = record {
     releases = record { later = Issue mode waits ∷ Answer (tried 4) outcome.Aborted ∷ []; earlier = []; split = refl; before = tt; once = refl };
     unplugs = none_unplugged abort.steps (moment_after (moment_of first run5) abort).machine refl;
     finds = finds_none abort.steps ports ports refl;
-    issues = λ p _. one_issued (unanswered (issue waits)) refl p;
+    issues = λ p _. one_issued (unanswered (newly_issued waits)) refl p;
     reboots = λ p. record {
-      emptied = emptied_of (issue waits ∷ []) (only_one (issue waits) (λ x. x.request.port ≡ port) refl) p;
+      emptied = emptied_of (newly_issued waits ∷ []) (only_one (newly_issued waits) (λ x. x.request.port ≡ port) refl) p;
       becomes = becomes p;
-      anew = λ e h _ _. only_one (issue waits) (λ x. IsIssuedIn x.request.id abort.steps) refl e h;
+      anew = λ e h _ _. only_one (newly_issued waits) (λ x. IsIssuedIn x.request.id abort.steps) refl e h;
       stopped = stopped_here p;
       disk = λ _. inl refl;
     };
@@ -114,7 +114,7 @@ goes_again_in_resets = record {
   after_three = refl;
   four_times = (refl, refl, refl);
   aborts = refl;
-  turn = issue waits;
+  turn = newly_issued waits;
   after_four = refl;
   issues = (refl, refl);
 }

@@ -8,8 +8,8 @@ use Rattle.ata_types.specs.declared.request.Outcome.{Outcome}
 use Rattle.ata_types.specs.declared.request.Outcome.TheVariants as outcome
 use Rattle.block_machine.specs.Ports.{Evidence, SamePorts}
 use Rattle.block_machine.specs.State.{Pending, unanswered}
-use Rattle.block_machine.specs.Steps.{Step, Issue, Age, Again, Answer, Release, newly_accepted, issue, requeued}
-use Rattle.block_machine.specs.Events.{Moment, Service, Tick, Reset, Served, WasReset, Event, TellsDead, AgesOnce, IsHung, IsIssuedIn, RestartsHung, Happens, is_age, reply_of, moment_of}
+use Rattle.block_machine.specs.Steps.{Step, Issue, Age, Again, Answer, Release, newly_accepted, newly_issued, requeued}
+use Rattle.block_machine.specs.Events.{AbstractState, Service, Tick, Reset, Served, WasReset, CallRecord, TellsDead, AgesOnce, HasTimedOut, IsIssuedIn, RestartsTimedOut, Happens, is_age, reply_of, moment_of}
 use Rattle.machine_runs.specs.Worked.{EndsWithAReset}
 use Rattle.block_machine.proofs.Members.{contains_none, contains_here, contains_cases}
 use Rattle.block_machine.proofs.Keeps.{same_port}
@@ -21,18 +21,18 @@ use Rattle.machine_runs.proofs.WaitingRun.{write, run1, happens1}
 abbrev pub aging : Port → Bool
 aging p = p.0 == 0
 
-abbrev pub tick : List Step → Event (Unit {0})
+abbrev pub tick : List Step → CallRecord (Unit {0})
 tick later = call Tick (Served []) (later ++ Age aging ∷ [])
 
-abbrev pub run2 : List (Event (Unit {0}))
+abbrev pub run2 : List (CallRecord (Unit {0}))
 run2 = tick [] ∷ run1
 
-abbrev pub run3 : List (Event (Unit {0}))
+abbrev pub run3 : List (CallRecord (Unit {0}))
 run3 = tick [] ∷ run2
 
 -- the write, issued so many ticks ago
 abbrev pub aged : ℕ → Pending
-aged n = record (issue (newly_accepted write)) { age = n }
+aged n = record (newly_issued (newly_accepted write)) { age = n }
 
 abbrev waits : Pending
 waits = requeued (aged 3)
@@ -44,38 +44,38 @@ restarts = Issue mode waits ∷ Again (aged 3) ∷ []
 abbrev pub halted : Evidence
 halted = record { faults = []; lost = []; gone = []; failed = []; fatal = []; stopped = port ∷ []; stuck = [] }
 
-abbrev restarting : Event (Unit {0})
+abbrev restarting : CallRecord (Unit {0})
 restarting = record (tick restarts) { evidence = halted }
 
-abbrev run4 : List (Event (Unit {0}))
+abbrev run4 : List (CallRecord (Unit {0}))
 run4 = restarting ∷ run3
 
 abbrev again : Pending
-again = issue waits
+again = newly_issued waits
 
 abbrev seen : Evidence
 seen = record { faults = []; lost = []; gone = []; failed = []; fatal = []; stopped = []; stuck = port ∷ [] }
 
-abbrev stuck : Event (Unit {0})
+abbrev stuck : CallRecord (Unit {0})
 stuck = record { ask = Reset; said = WasReset None; evidence = seen; steps = []; ports = ports_in Dead }
 
-abbrev run5 : List (Event (Unit {0}))
+abbrev run5 : List (CallRecord (Unit {0}))
 run5 = stuck ∷ run4
 
-abbrev service : Event (Unit {0})
+abbrev service : CallRecord (Unit {0})
 service = record { ask = Service; said = Served (reply_of (again, outcome.PortDead) ∷ []); evidence = none; steps = Answer again outcome.PortDead ∷ []; ports = ports_in Dead }
 
-abbrev run6 : List (Event (Unit {0}))
+abbrev run6 : List (CallRecord (Unit {0}))
 run6 = service ∷ run5
 
 -- the one port that is served
 pub stopped_here : (p : Port) → (p.0 == 0) ≡ true → Contains (port ∷ []) p
 stopped_here p here = contains_here port [] p (same_port p port (eqb-true p.0 0 here))
 
-abbrev reset : Event (Unit {0})
+abbrev reset : CallRecord (Unit {0})
 reset = record { ask = Reset; said = WasReset (Some []); evidence = halted; steps = Release ∷ []; ports = ports }
 
-abbrev run7 : List (Event (Unit {0}))
+abbrev run7 : List (CallRecord (Unit {0}))
 run7 = reset ∷ run6
 
 -- What holds of the parts.
@@ -90,16 +90,16 @@ ages_once later once = record {
 }
 
 -- a tick before the third leaves the port alone
-abbrev pub IsYoung : Moment → Type 0
+abbrev pub IsYoung : AbstractState → Type 0
 IsYoung m = (e : Pending) → Contains m.machine.book e → e.age < 2
 
-not_hung : (m : Moment) → IsYoung m → (p : Port) → IsHung m p → ⊥
+not_hung : (m : AbstractState) → IsYoung m → (p : Port) → HasTimedOut m p → ⊥
 not_hung m young p hung = let age = young hung.pending hung.here in let enough = hung.old_enough in omega (arith, age, enough)
 
 only_age : (step : Step) → Contains (Age aging ∷ []) step → is_age step ≡ true
 only_age step h = ⊎_elim (λ same. ap is_age same) (λ n. absurd (contains_none step n)) (contains_cases (Age aging) [] step h)
 
-pub ticks : (old : Moment) → IsYoung old → (new : Moment) → SamePorts old.ports new.ports → RestartsHung old none (Age aging ∷ []) new
+pub ticks : (old : AbstractState) → IsYoung old → (new : AbstractState) → SamePorts old.ports new.ports → RestartsTimedOut old none (Age aging ∷ []) new
 ticks old young new same = record {
   ports = λ p. inl (not_hung old young p, same p);
   again = λ e h. absurd (false≢true (only_age (Again e) h));
@@ -150,7 +150,7 @@ happens3 = record {
 
 -- the third restarts it
 
-pub hung : IsHung (moment_of first run3) port
+pub hung : HasTimedOut (moment_of first run3) port
 hung = record { ready = refl; pending = aged 2; here = contains_here (aged 2) [] (aged 2) refl; port_is = refl; issued = refl; old_enough = omega arith }
 
 abbrev again_of : Step → Option Pending
@@ -171,19 +171,19 @@ each_step P a b c step h = ⊎_elim
     (contains_cases (Again (aged 3)) (Age aging ∷ []) step n))
     (contains_cases (Issue mode waits) (Again (aged 3) ∷ Age aging ∷ []) step h)
 
-restarted : RestartsHung (moment_of first run3) halted restarting.steps (moment_of first run4)
+restarted : RestartsTimedOut (moment_of first run3) halted restarting.steps (moment_of first run4)
 restarted = record {
   ports = restarts_here (moment_of first run3).machine halted refl hung;
-  again = λ e h. each_step (λ step. (x : Pending) → again_of step ≡ Some x → IsHung (moment_of first run3) x.request.port)
+  again = λ e h. each_step (λ step. (x : Pending) → again_of step ≡ Some x → HasTimedOut (moment_of first run3) x.request.port)
       (λ x q. absurd (none_some x q))
-      (λ x q. let same : aged 3 ≡ x = some_same x q in subst (λ (y : Pending). IsHung (moment_of first run3) y.request.port) same hung)
+      (λ x q. let same : aged 3 ≡ x = some_same x q in subst (λ (y : Pending). HasTimedOut (moment_of first run3) y.request.port) same hung)
       (λ x q. absurd (none_some x q))
       (Again e) h e refl;
   answer = λ e o h. absurd (false≢true (sym (each_step (λ step. is_answer step ≡ false) refl refl refl (Answer e o) h)));
   ended = λ p _. none_ended (moment_of first run3).machine restarting.steps refl p;
   interrupts = λ p h. inl (contains_here port [] p (ready_port p h.ready));
   spares = λ p i. ⊎_elim
-      (λ h. ⊎_elim (λ (same : p ≡ port). subst (λ (x : Port). IsHung (moment_of first run3) x) (sym same) hung) (λ n. absurd (contains_none p n)) (contains_cases port [] p h))
+      (λ h. ⊎_elim (λ (same : p ≡ port). subst (λ (x : Port). HasTimedOut (moment_of first run3) x) (sym same) hung) (λ n. absurd (contains_none p n)) (contains_cases port [] p h))
       (λ h. absurd (contains_none p h))
       i;
   finds = finds_none restarting.steps ports ports refl;

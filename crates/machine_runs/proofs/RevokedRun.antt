@@ -8,8 +8,8 @@ use Rattle.ata_types.specs.declared.request.Outcome.TheVariants as outcome
 use Rattle.ata_types.specs.declared.request.Reply.{Reply}
 use Rattle.block_machine.specs.Rules.{HasRow, IsUnder}
 use Rattle.block_machine.specs.State.{Pending, frame_at, unanswered}
-use Rattle.block_machine.specs.Steps.{Step, Touch, End, Answer, Revoke, newly_accepted, issue, touch}
-use Rattle.block_machine.specs.Events.{RevokeOf, Service, Served, WasRevoked, Event, Happens, reply_of, moment_of}
+use Rattle.block_machine.specs.Steps.{Step, Touch, End, Answer, Revoke, newly_accepted, newly_issued, touch}
+use Rattle.block_machine.specs.Events.{RevokeOf, Service, Served, WasRevoked, CallRecord, Happens, reply_of, moment_of}
 use Rattle.machine_runs.specs.Revoked.{IsTakenBack}
 use Rattle.block_machine.proofs.Members.{contains_none, contains_here, contains_there, contains_cases}
 use Rattle.block_machine.proofs.Setting.{client, row, empty_starts, granted, port}
@@ -20,16 +20,16 @@ use Rattle.block_machine.specs.Ports.{Evidence}
 abbrev revoked : Reply
 revoked = reply_of (newly_accepted read, outcome.Revoked)
 
-abbrev event3 : Event (Unit {0})
+abbrev event3 : CallRecord (Unit {0})
 event3 = call (RevokeOf client 0) (WasRevoked (Some (revoked ∷ []))) (Answer (newly_accepted read) outcome.Revoked ∷ Revoke client 0 ∷ [])
 
-abbrev run3 : List (Event (Unit {0}))
+abbrev run3 : List (CallRecord (Unit {0}))
 run3 = event3 ∷ run2
 
-abbrev event4 : Event (Unit {0})
+abbrev event4 : CallRecord (Unit {0})
 event4 = call Service (Served (reply 1 ∷ [])) (served write)
 
-abbrev run4 : List (Event (Unit {0}))
+abbrev run4 : List (CallRecord (Unit {0}))
 run4 = event4 ∷ run3
 
 -- the row that is left isn't the one
@@ -45,7 +45,7 @@ told_of _ = newly_accepted write
 
 happens3 : Happens (moment_of first run2) event3
 happens3 = record {
-  may = ((tt, granted 0 row_zero refl), (contains_there (issue (newly_accepted write)) (newly_accepted read ∷ []) (newly_accepted read) (contains_here (newly_accepted read) [] (newly_accepted read) refl), no_row));
+  may = ((tt, granted 0 row_zero refl), (contains_there (newly_issued (newly_accepted write)) (newly_accepted read ∷ []) (newly_accepted read) (contains_here (newly_accepted read) [] (newly_accepted read) refl), no_row));
   belong = ((tt, inr (refl, refl)), inr refl);
   last = ((tt, λ id h i. false≢true i), λ id h i. false≢true i);
   lawful = (tt, inl refl);
@@ -58,24 +58,24 @@ happens3 = record {
     all = all;
     only = only;
     same = λ p. (refl, refl, refl, refl, refl, refl);
-    issues = λ p _. one_issued (unanswered (issue (newly_accepted write))) refl p;
+    issues = λ p _. one_issued (unanswered (newly_issued (newly_accepted write))) refl p;
   };
 }
   where
     all : (e : Pending) → Contains (moment_of first run2).machine.book e → e.issued ≡ false → IsUnder client 0 e.request.asked.client e.request.asked.grant → Contains event3.steps (Answer e outcome.Revoked)
     all e h waits under = ⊎_elim
-        (λ (same : e ≡ issue (newly_accepted write)). absurd (false≢true (sym waits ∙ ap (λ (x : Pending). x.issued) same)))
+        (λ (same : e ≡ newly_issued (newly_accepted write)). absurd (false≢true (sym waits ∙ ap (λ (x : Pending). x.issued) same)))
         (λ i. ⊎_elim
         (λ (same : e ≡ newly_accepted read). contains_here (Answer (newly_accepted read) outcome.Revoked) (Revoke client 0 ∷ []) (Answer e outcome.Revoked) (ap (λ (x : Pending). Answer x outcome.Revoked) same))
         (λ n. absurd (contains_none e n))
         (contains_cases (newly_accepted read) [] e i))
-        (contains_cases (issue (newly_accepted write)) (newly_accepted read ∷ []) e h)
+        (contains_cases (newly_issued (newly_accepted write)) (newly_accepted read ∷ []) e h)
 
     only : (e : Pending) (o : Outcome) → Contains event3.steps (Answer e o) → Contains (moment_of first run2).machine.book e × (e.issued ≡ false) × IsUnder client 0 e.request.asked.client e.request.asked.grant
     only e o h = ⊎_elim
         (λ (same : Answer e o ≡ Answer (newly_accepted read) outcome.Revoked).
         let its : e ≡ newly_accepted read = ap told_of same in (
-          contains_there (issue (newly_accepted write)) (newly_accepted read ∷ []) e (contains_here (newly_accepted read) [] e its),
+          contains_there (newly_issued (newly_accepted write)) (newly_accepted read ∷ []) e (contains_here (newly_accepted read) [] e its),
           ap (λ (x : Pending). x.issued) its,
           subst (λ (x : Pending). IsUnder client 0 x.request.asked.client x.request.asked.grant) (sym its) (refl, refl),
         ))
@@ -87,10 +87,10 @@ happens3 = record {
 
 happens4 : Happens (moment_of first run3) event4
 happens4 = record {
-  may = (((tt, (inl (contains_here (issue (newly_accepted write)) [] (issue (newly_accepted write)) refl, refl), omega arith, refl, omega arith, λ _ b lt. refl)), (inl (contains_here (touch 0 (issue (newly_accepted write))) [] (touch 0 (issue (newly_accepted write))) refl, refl), one_touched, refl)), (contains_here (done write) [] (done write) refl, tt));
+  may = (((tt, (inl (contains_here (newly_issued (newly_accepted write)) [] (newly_issued (newly_accepted write)) refl, refl), omega arith, refl, omega arith, λ _ b lt. refl)), (inl (contains_here (touch 0 (newly_issued (newly_accepted write))) [] (touch 0 (newly_issued (newly_accepted write))) refl, refl), one_touched, refl)), (contains_here (done write) [] (done write) refl, tt));
   belong = (((tt, inl tt), inl tt), inr tt);
   last = (((tt, λ id h i. false≢true i), λ id h i. false≢true i), λ id h i. false≢true i);
-  lawful = (tt, (record { pending = issue (newly_accepted write); here = contains_here (issue (newly_accepted write)) [] (issue (newly_accepted write)) refl; id_is = refl; issued = refl }, refl, one_touched, refl));
+  lawful = (tt, (record { pending = newly_issued (newly_accepted write); here = contains_here (newly_issued (newly_accepted write)) [] (newly_issued (newly_accepted write)) refl; id_is = refl; issued = refl }, refl, one_touched, refl));
   fit = ports_fit Ready refl;
   disks = λ e o h i same. (refl, refl);
   answered = plain_service (moment_of first run3).machine (moment_of first run4).machine event4.steps (reply 1 ∷ []) (one_told (done write) outcome.Ok event4.steps refl (reply 1) refl) refl (λ p. none_there p) (λ e h. absurd (contains_none e h));
@@ -99,13 +99,13 @@ happens4 = record {
 -- ---- where the port fails first
 
 abbrev running : Pending
-running = issue (newly_accepted write)
+running = newly_issued (newly_accepted write)
 
 -- port 0 failed, and was stopped
 abbrev failure : Evidence
 failure = record { faults = []; lost = []; gone = []; failed = port ∷ []; fatal = []; stopped = port ∷ []; stuck = [] }
 
-abbrev failed : Event (Unit {0})
+abbrev failed : CallRecord (Unit {0})
 failed = record (call Service (Served (reply_of (running, outcome.Revoked) ∷ [])) (Answer running outcome.Revoked ∷ [])) { evidence = failure }
 
 happens_failed : Happens (moment_of first run3) failed
@@ -142,7 +142,7 @@ is_taken_back = record {
   client = client;
   number = 0;
   takes = refl;
-  issued = issue (newly_accepted write);
+  issued = newly_issued (newly_accepted write);
   waits = newly_accepted read;
   both = refl;
   under = ((refl, refl), (refl, refl));
@@ -154,7 +154,7 @@ is_taken_back = record {
   serves = refl;
   done = done write;
   its = refl;
-  answers = contains_here (Answer (done write) outcome.Ok) (End (touch 0 (issue (newly_accepted write))) ∷ Touch (issue (newly_accepted write)) 0 (write.held 0) ∷ []) (Answer (done write) outcome.Ok) refl;
+  answers = contains_here (Answer (done write) outcome.Ok) (End (touch 0 (newly_issued (newly_accepted write))) ∷ Touch (newly_issued (newly_accepted write)) 0 (write.held 0) ∷ []) (Answer (done write) outcome.Ok) refl;
   failing = failed;
   runs_too = (((((empty_starts, ports_fit Ready refl), happens1), happens2), happens3), happens_failed);
   told_too = ((((((tt, tt), tt), tt), tt), tt), tt);

@@ -17,12 +17,12 @@ use Rattle.block_machine.specs.Ports.{Ports, Evidence, SamePorts, AreFit, IsServ
 use Rattle.block_machine.specs.State.{Accepted, Pending, Machine}
 use Rattle.block_machine.specs.Steps.{Step, Issue, Age, Touch, End, Again, Answer, Release, IsNew, touch, mark_ended}
 use Rattle.block_machine.specs.Left.{after}
-use Rattle.block_machine.specs.Events.{Moment, Ask, AllMay, Belong, IsEmptied, IsRebooted, Submit, StoreAt, LoadAt, Service, Tick, Reset, State, Device, RevokeOf, Said, Submitted, Stored, Loaded, Served, WasReset, WasRevoked, Shown, Stepped, Event, IsAnswered, Happens, AllLawful, AgesOnce, RestartsHung, ReleasesOnce, IssuesLast, IsRun, IsStillStuck, StaysStuck, accepts_of, is_age, is_release, issues_it, handles, moment_of, situation_of, moment_after}
+use Rattle.block_machine.specs.Events.{AbstractState, Ask, AllMay, Belong, IsEmptied, IsRebooted, Submit, StoreAt, LoadAt, Service, Tick, Reset, State, Device, RevokeOf, CallResult, Submitted, Stored, Loaded, Served, WasReset, WasRevoked, Shown, Stepped, CallRecord, IsAnswered, Happens, AllLawful, AgesOnce, RestartsTimedOut, ReleasesOnce, IssuesLast, IsRun, IsStillStuck, StaysStuck, accepts_of, is_age, is_release, issues_it, handles, moment_of, situation_of, moment_after}
 use Rattle.block_machine.proofs.Members.{contains_none, contains_cases, map_in}
 use Rattle.block_machine.proofs.Keeps.{at_keeps}
 use Rattle.block_machine.specs.Confined.{IsGranted}
 use Rattle.block_machine.proofs.Runs.{nobody}
-use Rattle.block_machine.proofs.Accepts.{accepted_is_granted}
+use Rattle.block_machine.proofs.Accepts.{law_accepted_is_granted}
 use Rattle.block_machine.proofs.Counting.{count_cons, count_append, count_least}
 use Rattle.machine_runs.proofs.CallSteps.{Since, IsAccepted, since, accepted_new, accepted_asked, ages_it, is_tick, is_reset, AllFit, all_fit, none_accepted, none_aged}
 
@@ -49,19 +49,19 @@ issued_once id (step ∷ before) l = go (issues_it id step) refl (issued_once id
           omega (arith, most, zero, count_cons (issues_it id) step before),
         )
 
-pub issued_once_a_call : {D : Type 0} (old : Moment) (event : Event D) (id : RequestId) → Happens old event → count_by (issues_it id) event.steps ≤ 1
-issued_once_a_call old event id h = (issued_once id event.steps h.last).1
+pub law_issued_once_a_call : {D : Type 0} (old : AbstractState) (event : CallRecord D) (id : RequestId) → Happens old event → count_by (issues_it id) event.steps ≤ 1
+law_issued_once_a_call old event id h = (issued_once id event.steps h.last).1
 
 -- What a call that was answered may have done to ports and book. `was`: a reset was stuck before it, and is so still.
-data Kind {D : Type 0} (ask : Ask D) (said : Said) (old : Moment) (evidence : Evidence) (steps : List Step) (new : Moment) (was : Type 0) : Type 0 where
+data Kind {D : Type 0} (ask : Ask D) (said : CallResult) (old : AbstractState) (evidence : Evidence) (steps : List Step) (new : AbstractState) (was : Type 0) : Type 0 where
   Leaves : is_tick ask ≡ false → is_reset ask ≡ false → SamePorts old.ports new.ports → (was → StaysStuck ask said was) → Kind ask said old evidence steps new was
   Serves : is_tick ask ≡ false → is_reset ask ≡ false → ((port : Port) → IsEmptied new port × IsServiced old.ports evidence new.ports port) → Kind ask said old evidence steps new was
-  Ticks : is_reset ask ≡ false → AgesOnce old.ports steps → RestartsHung old evidence steps new → ((port : Port) → old.ports.state port ≡ Ready → IsEmptied new port)
+  Ticks : is_reset ask ≡ false → AgesOnce old.ports steps → RestartsTimedOut old evidence steps new → ((port : Port) → old.ports.state port ≡ Ready → IsEmptied new port)
       → (was → StaysStuck ask said was) → Kind ask said old evidence steps new was
   Resets : is_tick ask ≡ false → ReleasesOnce steps → ((port : Port) → IsRebooted old evidence steps new port) → Kind ask said old evidence steps new was
   Sticks : is_tick ask ≡ false → ((port : Port) → IsStuck old.ports evidence new.ports port) → StaysStuck ask said was → Kind ask said old evidence steps new was
 
-kind : {D : Type 0} (ask : Ask D) (said : Said) (old : Moment) (evidence : Evidence) (steps : List Step) (new : Moment) (was : Type 0) → IsAnswered ask said old evidence steps new → Kind ask said old evidence steps new was
+kind : {D : Type 0} (ask : Ask D) (said : CallResult) (old : AbstractState) (evidence : Evidence) (steps : List Step) (new : AbstractState) (was : Type 0) → IsAnswered ask said old evidence steps new → Kind ask said old evidence steps new was
 kind (Submit r) (Submitted (Ok id)) old evidence steps new was a = Leaves refl refl a.2 (λ w. w)
 kind (Submit r) (Submitted (Err refusal)) old evidence steps new was a = Leaves refl refl a.2 (λ w. w)
 kind (StoreAt c f o b) (Stored None) old evidence steps new was a = Leaves refl refl a.2 (λ w. w)
@@ -94,17 +94,17 @@ ready_or : (s : PortState) → (s ≡ Ready) ⊎ (s ≢ Ready)
 ready_or Ready = inl refl
 ready_or _ = inr (λ e. false≢true (ap is_ready e))
 
-pub run_fit : {D : Type 0} (first : Moment) (run : List (Event D)) → IsRun first run → AreFit (moment_of first run).ports
+pub run_fit : {D : Type 0} (first : AbstractState) (run : List (CallRecord D)) → IsRun first run → AreFit (moment_of first run).ports
 run_fit first [] r = r.1
 run_fit first (event ∷ past) r = r.1.fit
 
 -- The port and the sectors of a request that a call accepts. Such a call leaves the ports alone.
-record IsWelcome (old : Moment) (new : Ports) (r : Accepted) : Type 0 where
+record IsWelcome (old : AbstractState) (new : Ports) (r : Accepted) : Type 0 where
   ready : old.ports.state r.port ≡ Ready
   within : r.asked.op ≢ Flush → r.asked.first.0 + r.asked.count ≤ old.ports.sectors r.port
   same : SamePorts old.ports new
 
-welcome : (old : Moment) (new : Ports) (q : Request) (n : Machine) (r : Accepted) → ((row : GrantRow) → Contains n.rows row → Contains old.machine.rows row) → r.asked ≡ q → IsNew n r → IsAcceptable (situation_of old) q → SamePorts old.ports new
+welcome : (old : AbstractState) (new : Ports) (q : Request) (n : Machine) (r : Accepted) → ((row : GrantRow) → Contains n.rows row → Contains old.machine.rows row) → r.asked ≡ q → IsNew n r → IsAcceptable (situation_of old) q → SamePorts old.ports new
     → IsWelcome old new r
 welcome old new q n r rows asked fresh ok same = record {
   ready = ⊎_elim (λ y. y) (λ ne. absurd (ok (refused.PortNotReady (old.ports.state r.port)) (ne, (g.row, named, ap old.ports.state (sym g.port))))) (ready_or (old.ports.state r.port));
@@ -123,12 +123,12 @@ welcome old new q n r rows asked fresh ok same = record {
 }
   where
     g : IsGranted n.rows r
-    g = accepted_is_granted n r fresh
+    g = law_accepted_is_granted n r fresh
 
     named : IsNamed old.machine.rows q g.row
     named = subst (λ (x : Request). IsNamed old.machine.rows x g.row) asked (rows g.row g.named.0, g.named.1)
 
-welcomed : {D : Type 0} (ask : Ask D) (said : Said) (old : Moment) (evidence : Evidence) (steps : List Step) (ports : Ports) (r : Accepted)
+welcomed : {D : Type 0} (ask : Ask D) (said : CallResult) (old : AbstractState) (evidence : Evidence) (steps : List Step) (ports : Ports) (r : Accepted)
     → IsAnswered ask said old evidence steps (record { machine = after old.machine steps; ports = ports }) → AllMay old.machine steps → Belong ask ports steps → Contains (accepts_of steps) r → IsWelcome old ports r
 welcomed {D} (Submit q) (Submitted (Ok id)) old evidence steps ports r a may b h =
     let x = accepted_new old.machine steps r may h in
@@ -138,7 +138,7 @@ welcomed (Submit q) said old evidence steps ports r a may b h = absurd a
 welcomed ask said old evidence steps ports r a may b h = absurd (contains_none r (subst (λ (xs : List Accepted). Contains xs r) (none_accepted ask steps refl (all_fit ask ports steps b)) h))
 
 -- a request that the event accepts
-welcomes : {D : Type 0} (old : Moment) (event : Event D) → Happens old event → (r : Accepted) → Contains (accepts_of event.steps) r → IsWelcome old event.ports r
+welcomes : {D : Type 0} (old : AbstractState) (event : CallRecord D) → Happens old event → (r : Accepted) → Contains (accepts_of event.steps) r → IsWelcome old event.ports r
 welcomes old event h r i = welcomed event.ask event.said old event.evidence event.steps event.ports r h.answered h.may h.belong i
 
 -- An unanswered request is on a ready port, or on one that is dead since a reset that was stuck.
@@ -146,7 +146,7 @@ welcomes old event h r i = welcomed event.ask event.said old event.evidence even
 abbrev IsPlaced : Ports → Port → Type 0 → Type 0
 IsPlaced ports port was = (ports.state port ≡ Ready) ⊎ ((ports.state port ≡ Dead) × was)
 
-emptied_ready : (m : Moment) (e : Pending) → Contains m.machine.book e → IsEmptied m e.request.port → m.ports.state e.request.port ≡ Ready
+emptied_ready : (m : AbstractState) (e : Pending) → Contains m.machine.book e → IsEmptied m e.request.port → m.ports.state e.request.port ≡ Ready
 emptied_ready m e h empty = ⊎_elim (λ y. y) (λ ne. absurd (empty ne e h refl)) (ready_or (m.ports.state e.request.port))
 
 -- a ready or dead port is served
@@ -155,7 +155,7 @@ placed_served ports port was fit placed = true_from_ne_false _ (λ f. ⊎_elim
     (λ ready. false≢true (ap is_ready (sym (fit.absent port f)) ∙ ap is_ready ready))
     (λ (dead : (ports.state port ≡ Dead) × was). false≢true (ap is_dead (sym (fit.absent port f)) ∙ ap is_dead dead.0)) placed)
 
-placed_event : {D : Type 0} (ask : Ask D) (said : Said) (old : Moment) (evidence : Evidence) (steps : List Step) (new : Moment) (was : Type 0) (e : Pending) → AreFit old.ports
+placed_event : {D : Type 0} (ask : Ask D) (said : CallResult) (old : AbstractState) (evidence : Evidence) (steps : List Step) (new : AbstractState) (was : Type 0) (e : Pending) → AreFit old.ports
     → Contains new.machine.book e → IsPlaced old.ports e.request.port was → Kind ask said old evidence steps new was → IsPlaced new.ports e.request.port (StaysStuck ask said was)
 placed_event ask said old evidence steps new was e fit here placed (Leaves t r same keep) = ⊎_elim
     (λ ready. inl ((same e.request.port).1 ∙ ready)) (λ dead. inr ((same e.request.port).1 ∙ dead.0, keep dead.1)) placed
@@ -170,26 +170,26 @@ placed_event ask said old evidence steps new was e fit here placed (Ticks r ages
 placed_event ask said old evidence steps new was e fit here placed (Resets t releases ports) = inl (emptied_ready new e here (ports e.request.port).emptied)
 placed_event ask said old evidence steps new was e fit here placed (Sticks t ports keep) = inr (((ports e.request.port).1 (placed_served old.ports e.request.port was fit placed)).0, keep)
 
-pub unanswered_where_ready : {D : Type 0} (first : Moment) (run : List (Event D)) (e : Pending) → IsRun first run → Contains (moment_of first run).machine.book e
+pub law_unanswered_where_ready : {D : Type 0} (first : AbstractState) (run : List (CallRecord D)) (e : Pending) → IsRun first run → Contains (moment_of first run).machine.book e
     → ((moment_of first run).ports.state e.request.port ≡ Ready) ⊎ (((moment_of first run).ports.state e.request.port ≡ Dead) × IsStillStuck run)
-unanswered_where_ready first [] e r h = absurd (nobody first.machine r.0 e (inl h))
-unanswered_where_ready first (event ∷ past) e r h = ⊎_elim
+law_unanswered_where_ready first [] e r h = absurd (nobody first.machine r.0 e (inl h))
+law_unanswered_where_ready first (event ∷ past) e r h = ⊎_elim
     (λ (s : Since (moment_of first past).machine event.steps e). placed_event event.ask event.said (moment_of first past) event.evidence event.steps (moment_of first (event ∷ past)) (IsStillStuck past) e
     (run_fit first past r.0) h
-    (subst (λ (x : Accepted). IsPlaced (moment_of first past).ports x.port (IsStillStuck past)) s.same (unanswered_where_ready first past s.old r.0 s.here))
+    (subst (λ (x : Accepted). IsPlaced (moment_of first past).ports x.port (IsStillStuck past)) s.same (law_unanswered_where_ready first past s.old r.0 s.here))
     (kind event.ask event.said (moment_of first past) event.evidence event.steps (moment_of first (event ∷ past)) (IsStillStuck past) r.1.answered))
     (λ (a : IsAccepted event.steps e). let w = welcomes (moment_of first past) event r.1 e.request a.0 in inl ((w.same e.request.port).1 ∙ w.ready))
     (since (moment_of first past).machine event.steps e h)
 
 -- Its sectors are sectors of the disk that the port showed.
 
-pub unanswered_on_disk : {D : Type 0} (first : Moment) (run : List (Event D)) (e : Pending) → IsRun first run → Contains (moment_of first run).machine.book e → e.request.asked.op ≢ Flush
+pub law_unanswered_on_disk : {D : Type 0} (first : AbstractState) (run : List (CallRecord D)) (e : Pending) → IsRun first run → Contains (moment_of first run).machine.book e → e.request.asked.op ≢ Flush
     → e.request.asked.first.0 + e.request.asked.count ≤ (moment_of first run).ports.sectors e.request.port
-unanswered_on_disk first [] e r h op = absurd (nobody first.machine r.0 e (inl h))
-unanswered_on_disk first (event ∷ past) e r h op = ⊎_elim
+law_unanswered_on_disk first [] e r h op = absurd (nobody first.machine r.0 e (inl h))
+law_unanswered_on_disk first (event ∷ past) e r h op = ⊎_elim
     (λ (s : Since (moment_of first past).machine event.steps e).
     let le = subst (λ (x : Accepted). x.asked.first.0 + x.asked.count ≤ (moment_of first past).ports.sectors x.port) s.same
-    (unanswered_on_disk first past s.old r.0 s.here (subst (λ (x : Accepted). x.asked.op ≢ Flush) (sym s.same) op)) in
+    (law_unanswered_on_disk first past s.old r.0 s.here (subst (λ (x : Accepted). x.asked.op ≢ Flush) (sym s.same) op)) in
     let same = (r.1.disks e s.old h s.here (ap (λ (x : Accepted). x.id) s.same)).1 in
     omega (arith, le, same))
     (λ (a : IsAccepted event.steps e).
@@ -223,7 +223,7 @@ aged_once ports steps port a =
     at_most false = omega arith
 
 -- where a call ages nothing, or ages and restarts, ages stay two at most
-young : {D : Type 0} (ask : Ask D) (said : Said) (old : Moment) (evidence : Evidence) (steps : List Step) (new : Moment) (e : Pending) → AllFit ask steps → Kind ask said old evidence steps new (Unit {0})
+young : {D : Type 0} (ask : Ask D) (said : CallResult) (old : AbstractState) (evidence : Evidence) (steps : List Step) (new : AbstractState) (e : Pending) → AllFit ask steps → Kind ask said old evidence steps new (Unit {0})
     → Contains new.machine.book e → e.issued ≡ true → ((o : Pending) → Contains old.machine.book o → o.issued ≡ true → o.age ≤ 2)
     → Since old.machine steps e ⊎ IsAccepted steps e → e.age ≤ 2
 young {D} ask said old evidence steps new e fit k here t all from = by k
@@ -242,7 +242,7 @@ young {D} ask said old evidence steps new e fit k here t all from = by k
     quiet still = unaged (none_aged ask e.request.port steps still fit)
 
     -- and where it is, and a request that keeps its issue isn't old enough to be hung
-    aged : AgesOnce old.ports steps → RestartsHung old evidence steps new → old.ports.state e.request.port ≡ Ready → e.age ≤ 2
+    aged : AgesOnce old.ports steps → RestartsTimedOut old evidence steps new → old.ports.state e.request.port ≡ Ready → e.age ≤ 2
     aged ages hung ready =
         let once = (aged_once old.ports steps e.request.port ages).0 in
         ⊎_elim
@@ -265,12 +265,12 @@ young {D} ask said old evidence steps new e fit k here t all from = by k
     by (Resets still releases ports) = quiet still
     by (Sticks still ports keep) = quiet still
 
-pub ages_are_bounded : {D : Type 0} (first : Moment) (run : List (Event D)) (e : Pending) → IsRun first run → Contains (moment_of first run).machine.book e → e.issued ≡ true → e.age ≤ 2
-ages_are_bounded first [] e r h t = absurd (nobody first.machine r.0 e (inl h))
-ages_are_bounded first (event ∷ past) e r h t = young event.ask event.said (moment_of first past) event.evidence event.steps (moment_of first (event ∷ past)) e
+pub law_ages_are_bounded : {D : Type 0} (first : AbstractState) (run : List (CallRecord D)) (e : Pending) → IsRun first run → Contains (moment_of first run).machine.book e → e.issued ≡ true → e.age ≤ 2
+law_ages_are_bounded first [] e r h t = absurd (nobody first.machine r.0 e (inl h))
+law_ages_are_bounded first (event ∷ past) e r h t = young event.ask event.said (moment_of first past) event.evidence event.steps (moment_of first (event ∷ past)) e
     (all_fit event.ask event.ports event.steps r.1.belong)
     (kind event.ask event.said (moment_of first past) event.evidence event.steps (moment_of first (event ∷ past)) (Unit {0}) r.1.answered)
-    h t (λ o i u. ages_are_bounded first past o r.0 i u) (since (moment_of first past).machine event.steps e h)
+    h t (λ o i u. law_ages_are_bounded first past o r.0 i u) (since (moment_of first past).machine event.steps e h)
 
 -- A kept request is on a dead port.
 
@@ -284,7 +284,7 @@ moved_kept ports m step before e x same quiet (inl o) =
     inl (o.0, o.1, o.2 ∙ sym same, omega (arith, none, zero, count_cons is_release step before))
 moved_kept ports m step before e x same quiet (inr dead) = inr (ap (λ (r : Accepted). ports.state r.port) same ∙ dead)
 
-kept_from : (old : Moment) (evidence : Evidence) (ports : Ports) (m : Machine) (steps : List Step) → AllLawful old evidence ports steps → (e : Pending) → Contains (after m steps).kept e
+kept_from : (old : AbstractState) (evidence : Evidence) (ports : Ports) (m : Machine) (steps : List Step) → AllLawful old evidence ports steps → (e : Pending) → Contains (after m steps).kept e
     → ((o : Pending) × Contains m.kept o × (o.request ≡ e.request) × (count_by is_release steps ≡ 0)) ⊎ (ports.state e.request.port ≡ Dead)
 kept_from old evidence ports m [] l e h = inl (e, h, refl, refl)
 kept_from old evidence ports m (Touch p i block ∷ before) l e h =
@@ -313,7 +313,7 @@ kept_from old evidence ports m (Answer p outcome.PortDead ∷ before) l e h = go
 kept_from old evidence ports m (Again p ∷ before) l e h = moved_kept ports m (Again p) before e e refl refl (kept_from old evidence ports m before l.0 e h)
 kept_from old evidence ports m (step ∷ before) l e h = moved_kept ports m step before e e refl refl (kept_from old evidence ports m before l e h)
 
-kept_event : {D : Type 0} (ask : Ask D) (said : Said) (old : Moment) (evidence : Evidence) (steps : List Step) (new : Moment) (port : Port) → AreFit old.ports
+kept_event : {D : Type 0} (ask : Ask D) (said : CallResult) (old : AbstractState) (evidence : Evidence) (steps : List Step) (new : AbstractState) (port : Port) → AreFit old.ports
     → count_by is_release steps ≡ 0 → old.ports.state port ≡ Dead → Kind ask said old evidence steps new (Unit {0}) → new.ports.state port ≡ Dead
 kept_event ask said old evidence steps new port fit none dead (Leaves t r same keep) = (same port).1 ∙ dead
 kept_event ask said old evidence steps new port fit none dead (Serves t r ports) = ((ports port).1.0 dead).1 ∙ dead
@@ -328,12 +328,12 @@ kept_event ask said old evidence steps new port fit none dead (Resets t releases
     absurd (omega (arith, split, one, none))
 kept_event ask said old evidence steps new port fit none dead (Sticks t ports keep) = ((ports port).1 (placed_served old.ports port (Unit {0}) fit (inr (dead, tt)))).0
 
-pub kept_where_dead : {D : Type 0} (first : Moment) (run : List (Event D)) (e : Pending) → IsRun first run → Contains (moment_of first run).machine.kept e → (moment_of first run).ports.state e.request.port ≡ Dead
-kept_where_dead first [] e r h = absurd (nobody first.machine r.0 e (inr h))
-kept_where_dead first (event ∷ past) e r h = ⊎_elim
+pub law_kept_where_dead : {D : Type 0} (first : AbstractState) (run : List (CallRecord D)) (e : Pending) → IsRun first run → Contains (moment_of first run).machine.kept e → (moment_of first run).ports.state e.request.port ≡ Dead
+law_kept_where_dead first [] e r h = absurd (nobody first.machine r.0 e (inr h))
+law_kept_where_dead first (event ∷ past) e r h = ⊎_elim
     (λ o. kept_event event.ask event.said (moment_of first past) event.evidence event.steps (moment_of first (event ∷ past)) e.request.port
     (run_fit first past r.0) o.3
-    (subst (λ (x : Accepted). (moment_of first past).ports.state x.port ≡ Dead) o.2 (kept_where_dead first past o.0 r.0 o.1))
+    (subst (λ (x : Accepted). (moment_of first past).ports.state x.port ≡ Dead) o.2 (law_kept_where_dead first past o.0 r.0 o.1))
     (kind event.ask event.said (moment_of first past) event.evidence event.steps (moment_of first (event ∷ past)) (Unit {0}) r.1.answered))
     (λ dead. dead)
     (kept_from (moment_of first past) event.evidence event.ports (moment_of first past).machine event.steps r.1.lawful e h)
@@ -344,7 +344,7 @@ dead_or : (s : PortState) → (s ≡ Dead) ⊎ (s ≢ Dead)
 dead_or Dead = inl refl
 dead_or _ = inr (λ e. false≢true (ap is_dead e))
 
-was_dead : {D : Type 0} (ask : Ask D) (said : Said) (old : Moment) (evidence : Evidence) (steps : List Step) (new : Moment) (port : Port) → AreFit new.ports → new.ports.state port ≡ Dead
+was_dead : {D : Type 0} (ask : Ask D) (said : CallResult) (old : AbstractState) (evidence : Evidence) (steps : List Step) (new : AbstractState) (port : Port) → AreFit new.ports → new.ports.state port ≡ Dead
     → Kind ask said old evidence steps new (Unit {0}) → (old.ports.state port ≡ Dead) ⊎ Contains evidence.stuck port
 was_dead ask said old evidence steps new port fit dead (Leaves t r same keep) = inl (sym (same port).1 ∙ dead)
 was_dead ask said old evidence steps new port fit dead (Serves t r ports) = ⊎_elim (λ was. inl was) (λ alive. inr (((ports port).1.1 alive).0.stuck dead)) (dead_or (old.ports.state port))
@@ -353,8 +353,8 @@ was_dead ask said old evidence steps new port fit dead (Resets t releases ports)
 was_dead ask said old evidence steps new port fit dead (Sticks t ports keep) =
     inr (((ports port).1 (sym (ports port).0 ∙ placed_served new.ports port (Unit {0}) fit (inr (dead, tt)))).1)
 
-pub dead_ports_were_stuck : {D : Type 0} (old : Moment) (event : Event D) (port : Port) → Happens old event → event.ports.state port ≡ Dead
+pub law_dead_ports_were_stuck : {D : Type 0} (old : AbstractState) (event : CallRecord D) (port : Port) → Happens old event → event.ports.state port ≡ Dead
     → (old.ports.state port ≡ Dead) ⊎ Contains event.evidence.stuck port
-dead_ports_were_stuck old event port h dead =
+law_dead_ports_were_stuck old event port h dead =
     was_dead event.ask event.said old event.evidence event.steps (moment_after old event) port h.fit dead
     (kind event.ask event.said old event.evidence event.steps (moment_after old event) (Unit {0}) h.answered)

@@ -18,16 +18,16 @@ use Rattle.ata_types.specs.declared.request.Outcome.TheVariants as outcome
 use Rattle.ata_types.specs.declared.refusal.Refusal.TheVariants as refused
 use Rattle.ata_types.specs.declared.refusal.MemFault.TheVariants as fault
 use Rattle.ata_types.specs.declared.grant.GrantRow.{GrantRow}
-use Rattle.block_machine.specs.declared.due.Mode.{Mode}
+use Rattle.block_machine.specs.declared.due.QueueMode.{QueueMode}
 use Rattle.block_machine.specs.declared.due.Unanswered.{Unanswered}
 use Rattle.ata_types.specs.Grant.{Allows}
-use Rattle.block_machine.specs.Rules.{IsCount, frames_for}
+use Rattle.block_machine.specs.Rules.{IsAllowedCount, frames_for}
 use Rattle.block_machine.specs.Refusals.{IsOpen}
 use Rattle.block_machine.specs.Due.{NoneDue, is_flush}
 use Rattle.block_machine.specs.State.{Accepted, Pending, Machine, block_of, unanswered}
-use Rattle.block_machine.specs.Steps.{Step, Touch, End, Answer, newly_accepted, issue, touch, mark_ended, IsNew}
+use Rattle.block_machine.specs.Steps.{Step, Touch, End, Answer, newly_accepted, newly_issued, touch, mark_ended, IsNew}
 use Rattle.block_machine.specs.Ports.{Ports, Evidence, AreFit, SamePort, IsInterrupted, MayBecome, IsServiced}
-use Rattle.block_machine.specs.Events.{Moment, Ask, Said, Event, ShowsDisk, IsHung, AnswersEnded, UnplugsAll, FindsAnother, AnswersService, Tells, situation_of, answers_of, reply_of}
+use Rattle.block_machine.specs.Events.{AbstractState, Ask, CallResult, CallRecord, ShowsDisk, HasTimedOut, AnswersEnded, UnplugsAll, FindsAnother, AnswersService, Tells, situation_of, answers_of, reply_of}
 use Rattle.block_machine.proofs.Members.{contains_none, contains_here, contains_cases, append_in, none_of}
 use Rattle.block_machine.proofs.Counting.{issued_not_due}
 use Rattle.block_machine.proofs.Keeps.{same_port}
@@ -37,7 +37,7 @@ use Rattle.block_machine.proofs.Setting.{client, on, port, frame, row, two_rows,
 abbrev pub none : Evidence
 none = record { faults = []; lost = []; gone = []; failed = []; fatal = []; stopped = []; stuck = [] }
 
-abbrev pub mode : Mode
+abbrev pub mode : QueueMode
 mode = record { queued = true; usable = 32 }
 
 -- port 0 in this state, and no other port
@@ -50,13 +50,13 @@ ports_in state = record { served = λ p. p.0 == 0; state = at_port state; serial
 abbrev pub ports : Ports
 ports = ports_in Ready
 
-abbrev pub first : Moment
+abbrev pub first : AbstractState
 first = record { machine = empty; ports = ports }
 
 abbrev pub id : ℕ → RequestId
 id n = record { 0 = n }
 
-abbrev pub call : Ask (Unit {0}) → Said → List Step → Event (Unit {0})
+abbrev pub call : Ask (Unit {0}) → CallResult → List Step → CallRecord (Unit {0})
 call ask said steps = record { ask = ask; said = said; evidence = none; steps = steps; ports = ports }
 
 abbrev pub reply : ℕ → Reply
@@ -72,10 +72,10 @@ sector_request m n op f = one_sector 0 m n op 100 f
 
 -- a request of one sector that is touched, ended and answered
 abbrev pub done : Accepted → Pending
-done r = mark_ended (touch 0 (issue (newly_accepted r)))
+done r = mark_ended (touch 0 (newly_issued (newly_accepted r)))
 
 abbrev pub served : Accepted → List Step
-served r = Answer (done r) outcome.Ok ∷ End (touch 0 (issue (newly_accepted r))) ∷ Touch (issue (newly_accepted r)) 0 (r.held 0) ∷ []
+served r = Answer (done r) outcome.Ok ∷ End (touch 0 (newly_issued (newly_accepted r))) ∷ Touch (newly_issued (newly_accepted r)) 0 (r.held 0) ∷ []
 
 -- What holds of the parts.
 
@@ -86,7 +86,7 @@ is_open m n offset count own free fits fault.FrameLent h = false≢true (sym (ap
 is_open m n offset count own free fits fault.OutsideFrame h = omega (arith, fits, h)
 
 -- a moment of a run at which the client may ask for more of the port of this number
-pub record IsQuiet (p : ℕ) (m : Moment) : Type 0 where
+pub record IsQuiet (p : ℕ) (m : AbstractState) : Type 0 where
   pub rows : m.machine.rows ≡ two_rows
   pub mine : Contains two_rows (row p)
   pub ready : m.ports.state (on p) ≡ Ready
@@ -98,7 +98,7 @@ pub row_zero : Contains two_rows (row 0)
 row_zero = contains_here (row 0) (row 1 ∷ []) (row 0) refl
 
 -- a request of one sector is fit there
-pub fit_sector : (p : ℕ) (m : Moment) (op : Op) (k n : ℕ) → IsQuiet p m → op ≢ Trim → op ≢ Flush → frames_for op 1 ≡ 1 → IsCount op 1 → Allows (row p).rights op → 100 ≤ k → k < 164
+pub fit_sector : (p : ℕ) (m : AbstractState) (op : Op) (k n : ℕ) → IsQuiet p m → op ≢ Trim → op ≢ Flush → frames_for op 1 ≡ 1 → IsAllowedCount op 1 → Allows (row p).rights op → 100 ≤ k → k < 164
     → m.machine.owner (frame n) ≡ Some client → m.machine.lent (frame n) ≡ None → IsFit p (situation_of m) (request p op k 1 (frame n ∷ []))
 fit_sector p m op k n q no_trim no_flush frames count allowed from to own free = record {
   rows = q.rows;
@@ -122,16 +122,16 @@ fit_sector p m op k n q no_trim no_flush frames count allowed from to own free =
     same : (f : Frame) → slice_get (frame n ∷ []) 0 ≡ Some f → f ≡ frame n
     same f e = sym (get_or_from_slice_get (frame n ∷ []) 0 f f e)
 
-pub write_at : (p : ℕ) (m : Moment) (k n : ℕ) → IsQuiet p m → 100 ≤ k → k < 164 → m.machine.owner (frame n) ≡ Some client → m.machine.lent (frame n) ≡ None → IsFit p (situation_of m) (request p Write k 1 (frame n ∷ []))
+pub write_at : (p : ℕ) (m : AbstractState) (k n : ℕ) → IsQuiet p m → 100 ≤ k → k < 164 → m.machine.owner (frame n) ≡ Some client → m.machine.lent (frame n) ≡ None → IsFit p (situation_of m) (request p Write k 1 (frame n ∷ []))
 write_at p m k n q from to own free = fit_sector p m Write k n q (λ e. false≢true (ap is_trim e)) (λ e. false≢true (ap is_flush e)) refl (omega arith, omega arith) refl from to own free
 
-pub fit_write : (m : Moment) (n : ℕ) → IsQuiet 0 m → m.machine.owner (frame n) ≡ Some client → m.machine.lent (frame n) ≡ None → IsFit 0 (situation_of m) (request 0 Write 100 1 (frame n ∷ []))
+pub fit_write : (m : AbstractState) (n : ℕ) → IsQuiet 0 m → m.machine.owner (frame n) ≡ Some client → m.machine.lent (frame n) ≡ None → IsFit 0 (situation_of m) (request 0 Write 100 1 (frame n ∷ []))
 fit_write m n q own free = write_at 0 m 100 n q (omega arith) (omega arith) own free
 
-pub fit_read : (p : ℕ) (m : Moment) (n : ℕ) → IsQuiet p m → m.machine.owner (frame n) ≡ Some client → m.machine.lent (frame n) ≡ None → IsFit p (situation_of m) (request p Read 100 1 (frame n ∷ []))
+pub fit_read : (p : ℕ) (m : AbstractState) (n : ℕ) → IsQuiet p m → m.machine.owner (frame n) ≡ Some client → m.machine.lent (frame n) ≡ None → IsFit p (situation_of m) (request p Read 100 1 (frame n ∷ []))
 fit_read p m n q own free = fit_sector p m Read 100 n q (λ e. false≢true (ap is_trim e)) (λ e. false≢true (ap is_flush e)) refl (omega arith, omega arith) refl (omega arith) (omega arith) own free
 
-pub fit_flush : (m : Moment) → IsQuiet 0 m → IsFit 0 (situation_of m) (request 0 Flush 0 0 [])
+pub fit_flush : (m : AbstractState) → IsQuiet 0 m → IsFit 0 (situation_of m) (request 0 Flush 0 0 [])
 fit_flush m q = record {
   rows = q.rows;
   mine = q.mine;
@@ -155,7 +155,7 @@ fit_flush m q = record {
     nothing f e = let lt = slice_get_within [] 0 f e in omega (arith, lt)
 
 -- a fit request is new to the machine
-pub new : (p : ℕ) (m : Moment) (a : Accepted) → IsQuiet p m → IsFit p (situation_of m) a.asked → a.id.0 ≡ m.machine.next → a.port ≡ on p → a.held ≡ block_of m.machine.memory a.asked.frames.items → IsNew m.machine a
+pub new : (p : ℕ) (m : AbstractState) (a : Accepted) → IsQuiet p m → IsFit p (situation_of m) a.asked → a.id.0 ≡ m.machine.next → a.port ≡ on p → a.held ≡ block_of m.machine.memory a.asked.frames.items → IsNew m.machine a
 new p m a q fit next here held = record {
   id = next;
   id_left = let few = q.few in omega (arith, few);
@@ -298,23 +298,23 @@ stay_ready evidence none p = record {
 }
 
 -- what a tick makes of each port where port 0 is hung: that becomes what it may, in this state, and the others stay as they are
-pub restarts_into : (m : Machine) (state : PortState) (evidence : Evidence) → IsHung (record { machine = m; ports = ports }) port → ((p : Port) → MayBecome ports evidence (ports_in state) p)
-    → (p : Port) → ((IsHung (record { machine = m; ports = ports }) p → ⊥) × SamePort ports (ports_in state) p) ⊎ (IsHung (record { machine = m; ports = ports }) p × MayBecome ports evidence (ports_in state) p)
+pub restarts_into : (m : Machine) (state : PortState) (evidence : Evidence) → HasTimedOut (record { machine = m; ports = ports }) port → ((p : Port) → MayBecome ports evidence (ports_in state) p)
+    → (p : Port) → ((HasTimedOut (record { machine = m; ports = ports }) p → ⊥) × SamePort ports (ports_in state) p) ⊎ (HasTimedOut (record { machine = m; ports = ports }) p × MayBecome ports evidence (ports_in state) p)
 restarts_into m state evidence hung becomes p = go (p.0 == 0) refl
   where
-    old : Moment
+    old : AbstractState
     old = record { machine = m; ports = ports }
 
-    go : (b : Bool) → (p.0 == 0) ≡ b → ((IsHung old p → ⊥) × SamePort ports (ports_in state) p) ⊎ (IsHung old p × MayBecome ports evidence (ports_in state) p)
-    go true e = inr (subst (λ (x : Port). IsHung old x) (sym (same_port p port (eqb-true p.0 0 e))) hung, becomes p)
+    go : (b : Bool) → (p.0 == 0) ≡ b → ((HasTimedOut old p → ⊥) × SamePort ports (ports_in state) p) ⊎ (HasTimedOut old p × MayBecome ports evidence (ports_in state) p)
+    go true e = inr (subst (λ (x : Port). HasTimedOut old x) (sym (same_port p port (eqb-true p.0 0 e))) hung, becomes p)
     go false e = inl (
       λ h. false≢true (sym e ∙ eq-eqb p.0 0 (ap (λ (x : Port). x.0) (ready_port p h.ready))),
       (refl, cond-false (p.0 == 0) state Absent e ∙ sym (cond-false (p.0 == 0) Ready Absent e), refl, refl, refl, refl),
     )
 
 -- a tick that restarts port 0 and finds it ready again
-pub restarts_here : (m : Machine) (evidence : Evidence) → evidence.stuck ≡ [] → IsHung (record { machine = m; ports = ports }) port
-    → (p : Port) → ((IsHung (record { machine = m; ports = ports }) p → ⊥) × SamePort ports ports p) ⊎ (IsHung (record { machine = m; ports = ports }) p × MayBecome ports evidence ports p)
+pub restarts_here : (m : Machine) (evidence : Evidence) → evidence.stuck ≡ [] → HasTimedOut (record { machine = m; ports = ports }) port
+    → (p : Port) → ((HasTimedOut (record { machine = m; ports = ports }) p → ⊥) × SamePort ports ports p) ⊎ (HasTimedOut (record { machine = m; ports = ports }) p × MayBecome ports evidence ports p)
 restarts_here m evidence none hung = restarts_into m Ready evidence hung (stay_ready evidence none)
 
 -- What a service does where it has nothing to do but to answer.

@@ -26,9 +26,9 @@ no_earlier m (Touch e i block) may r k seen w writes here less t =
     (conflict_at e.request r k here_e (or_left _ _ writes_e) (omega (arith, at)) (omega (arith, at, may.1)) seen.from seen.to)
 no_earlier m _ may r k seen w writes here less t = absurd t
 
-pub left_stays : (start : Machine) (h : List Step) (step : Step) (read : Accepted) (k n : ℕ) (block : Block) → IsStart start → IsLegal start (step ∷ h)
+pub law_left_stays : (start : Machine) (h : List Step) (step : Step) (read : Accepted) (k n : ℕ) (block : Block) → IsStart start → IsLegal start (step ∷ h)
     → HasTouched read k n h → ((e : Pending) → IsLiving (after start h) e → e.request.id ≢ read.id) → IsLeft start h read k block → IsLeft start (step ∷ h) read k block
-left_stays start h step read k n block s legal touched gone left =
+law_left_stays start h step read k n block s legal touched gone left =
     let m = after start h in
     let seen = (traced start h s legal.0).seen read k n touched in
     let same : disk_read read k (step ∷ h) ≡ disk_read read k h = cond-false (touches read.id k step) (plug_count read.port h) (disk_read read k h) (no_touch m step legal.1 read k gone) in
@@ -54,12 +54,12 @@ touched_one start (step ∷ past) s legal w x k n j o (inr a) (inl b) id = sym (
 touched_one start (step ∷ past) s legal w x k n j o (inr a) (inr b) id = touched_one start past s legal.0 w x k n j o a b id
 
 -- on a history that is legal, Left is one block
-pub left_is_one : (start : Machine) (h : List Step) (read : Accepted) (k : ℕ) (a b : Block) → IsStart start → IsLegal start h → IsLeft start h read k a → IsLeft start h read k b → a ≡ b
-left_is_one start h read k a b s legal (inl p) (inl q) =
+pub law_left_is_one : (start : Machine) (h : List Step) (read : Accepted) (k : ℕ) (a b : Block) → IsStart start → IsLegal start h → IsLeft start h read k a → IsLeft start h read k b → a ≡ b
+law_left_is_one start h read k a b s legal (inl p) (inl q) =
     let le = p.2 q.0 q.1 in
     let ge = q.2 p.0 p.1 in
     let same : p.0 ≡ q.0 = touched_one start h s legal p.0 q.0 k _ k _ p.1.touched q.1.touched (omega (arith, le, ge)) in
     p.3 ∙ ap (λ (w : Accepted). written_by w.asked.op w.held (k - w.asked.first.0)) same ∙ sym q.3
-left_is_one start h read k a b s legal (inl p) (inr q) = absurd (q.0 p.0 p.1)
-left_is_one start h read k a b s legal (inr p) (inl q) = absurd (p.0 q.0 q.1)
-left_is_one start h read k a b s legal (inr p) (inr q) = p.1 ∙ sym q.1
+law_left_is_one start h read k a b s legal (inl p) (inr q) = absurd (q.0 p.0 p.1)
+law_left_is_one start h read k a b s legal (inr p) (inl q) = absurd (p.0 q.0 q.1)
+law_left_is_one start h read k a b s legal (inr p) (inr q) = p.1 ∙ sym q.1

@@ -8,7 +8,7 @@ use Rattle.ata_types.specs.declared.request.Outcome.{Outcome}
 use Rattle.ata_types.specs.declared.request.Outcome.TheVariants as outcome
 use Rattle.block_machine.specs.State.{Pending}
 use Rattle.block_machine.specs.Steps.{Step, Touch, End, Age, Again, Answer, touch, mark_ended}
-use Rattle.block_machine.specs.Events.{Tick, Device, Served, Stepped, Event, IsHung, RestartsHung, Happens, reply_of, moment_of}
+use Rattle.block_machine.specs.Events.{Tick, Device, Served, Stepped, CallRecord, HasTimedOut, RestartsTimedOut, Happens, reply_of, moment_of}
 use Rattle.machine_runs.specs.Worked.{EndsAtATick}
 use Rattle.block_machine.proofs.Members.{contains_none, contains_here, contains_cases}
 use Rattle.block_machine.proofs.Setting.{port, empty_starts}
@@ -17,10 +17,10 @@ use Rattle.machine_runs.proofs.WaitingRun.{write, happens1}
 use Rattle.machine_runs.proofs.ResetRun.{aging, aged, halted, run3, happens2, happens3, ages_once}
 
 -- the device ends the write that is two ticks old
-abbrev ending : Event (Unit {0})
+abbrev ending : CallRecord (Unit {0})
 ending = call (Device tt) (Stepped true) (End (touch 0 (aged 2)) ∷ Touch (aged 2) 0 (write.held 0) ∷ [])
 
-abbrev run4 : List (Event (Unit {0}))
+abbrev run4 : List (CallRecord (Unit {0}))
 run4 = ending ∷ run3
 
 -- the write that has ended, so many ticks old
@@ -30,10 +30,10 @@ over = mark_ended (touch 0 (aged 2))
 abbrev older_still : Pending
 older_still = mark_ended (touch 0 (aged 3))
 
-abbrev tick : Event (Unit {0})
+abbrev tick : CallRecord (Unit {0})
 tick = record { ask = Tick; said = Served (reply_of (older_still, outcome.Ok) ∷ []); evidence = halted; steps = Answer older_still outcome.Ok ∷ Age aging ∷ []; ports = ports }
 
-abbrev run5 : List (Event (Unit {0}))
+abbrev run5 : List (CallRecord (Unit {0}))
 run5 = tick ∷ run4
 
 happens4 : Happens (moment_of first run3) ending
@@ -47,7 +47,7 @@ happens4 = record {
   answered = (((tt, tt), tt), λ p. (refl, refl, refl, refl, refl, refl));
 }
 
-hung : IsHung (moment_of first run4) port
+hung : HasTimedOut (moment_of first run4) port
 hung = record { ready = refl; pending = over; here = contains_here over [] over refl; port_is = refl; issued = refl; old_enough = omega arith }
 
 abbrev is_again : Step → Bool
@@ -63,19 +63,19 @@ abbrev port_of : Step → Port
 port_of (Answer e o) = e.request.port
 port_of _ = port
 
-restarted : RestartsHung (moment_of first run4) halted tick.steps (moment_of first run5)
+restarted : RestartsTimedOut (moment_of first run4) halted tick.steps (moment_of first run5)
 restarted = record {
   ports = restarts_here (moment_of first run4).machine halted refl hung;
   again = λ e h. absurd (false≢true (sym (each (λ step. is_again step ≡ false) refl refl (Again e) h)));
-  answer = λ e o h. each (λ step. (x : Pending) (a : Outcome) → step ≡ Answer x a → IsHung (moment_of first run4) x.request.port)
-      (λ x a q. subst (λ (y : Step). IsHung (moment_of first run4) (port_of y)) q hung)
+  answer = λ e o h. each (λ step. (x : Pending) (a : Outcome) → step ≡ Answer x a → HasTimedOut (moment_of first run4) x.request.port)
+      (λ x a q. subst (λ (y : Step). HasTimedOut (moment_of first run4) (port_of y)) q hung)
       (λ x a q. absurd (false≢true (ap is_answer q)))
       (Answer e o) h e o refl;
   ended = λ p _. last_ended (moment_of first run4).machine tick.steps [] over refl refl older_still refl (contains_here (Answer older_still outcome.Ok) (Age aging ∷ []) (Answer older_still outcome.Ok) refl) p;
   anew = λ p _ e h. absurd (contains_none e h);
   interrupts = λ p h. inl (contains_here port [] p (ready_port p h.ready));
   spares = λ p i. ⊎_elim
-      (λ h. ⊎_elim (λ (same : p ≡ port). subst (λ (x : Port). IsHung (moment_of first run4) x) (sym same) hung) (λ n. absurd (contains_none p n)) (contains_cases port [] p h))
+      (λ h. ⊎_elim (λ (same : p ≡ port). subst (λ (x : Port). HasTimedOut (moment_of first run4) x) (sym same) hung) (λ n. absurd (contains_none p n)) (contains_cases port [] p h))
       (λ h. absurd (contains_none p h))
       i;
   finds = finds_none tick.steps ports ports refl;

@@ -5,10 +5,10 @@ use Rattle.std.proofs.lemmas.Bool.{or_cases, false≢true}
 use Rattle.std.specs.List.{Contains}
 use Rattle.ata_types.specs.declared.request.Outcome.TheVariants.{Ok}
 use Rattle.block_machine.specs.State.{Accepted, Pending, Machine, sector_of, waiting}
-use Rattle.block_machine.specs.Steps.{Step, Accept, Issue, Touch, End, Age, Again, Answer, Release, Revoke, Unplug, Replace, Store, Load, IsLiving, May, MayMove, after_step, issue, touch, mark_ended, requeued, newly_accepted}
-use Rattle.block_machine.specs.Due.{conflict}
+use Rattle.block_machine.specs.Steps.{Step, Accept, Issue, Touch, End, Age, Again, Answer, Release, Revoke, Unplug, Replace, Store, Load, IsLiving, May, MayStillMove, after_step, newly_issued, touch, mark_ended, requeued, newly_accepted}
+use Rattle.block_machine.specs.Due.{must_keep_order}
 use Rattle.block_machine.specs.Left.{after, IsLegal, IsStart, IsIssue, IsTouch, IsEnd, HasTouchedSince, HasEndedSince}
-use Rattle.block_machine.specs.Events.{Moment, Event, IsRun, steps_of}
+use Rattle.block_machine.specs.Events.{AbstractState, CallRecord, IsRun, steps_of}
 use Rattle.block_machine.proofs.Members.{map_in, at_cases, without_in, append_in}
 use Rattle.block_machine.proofs.Sound.{Sound}
 use Rattle.block_machine.proofs.Keeps.{older_keeps, older_touched, older_ended}
@@ -55,9 +55,9 @@ marks m (Accept r) may s e i = ⊎_elim
 marks m (Issue mode p) may s e i =
     let r = map_in _ m.book e i in
     ⊎_elim
-    (λ c. inr (unmarked e (issue r.0) (r.2 ∙ c.1) ((λ k. refl), refl)))
+    (λ c. inr (unmarked e (newly_issued r.0) (r.2 ∙ c.1) ((λ k. refl), refl)))
     (λ c. inl (stayed m (Issue mode p) e r.0 r.1 (r.2 ∙ c.1) (λ same. c.0 (ap (λ (y : Pending). y.request.id.0) (sym (r.2 ∙ c.1)) ∙ ap (λ (x : Accepted). x.id.0) (sym same)))))
-    (at_cases p.request.id issue r.0)
+    (at_cases p.request.id newly_issued r.0)
 marks m (Touch p i block) may s e j =
     let r = map_in _ m.book e j in
     ⊎_elim
@@ -133,19 +133,19 @@ traced_marks start (step ∷ past) s legal e i = ⊎_elim
     })
     (marks (after start past) step legal.1 (traced start past s legal.0).sound e i)
 
-pub ok_was_touched : {D : Type 0} (first : Moment) (run : List (Event D)) (late early : List Step) (e : Pending) → IsRun first run → steps_of run ≡ late ++ Answer e Ok ∷ early
+pub law_ok_was_touched : {D : Type 0} (first : AbstractState) (run : List (CallRecord D)) (late early : List Step) (e : Pending) → IsRun first run → steps_of run ≡ late ++ Answer e Ok ∷ early
     → (i : ℕ) → i < e.request.asked.count → HasTouchedSince e.request (sector_of e.request i) early
-ok_was_touched first run late early e r split i lt =
+law_ok_was_touched first run late early e r split i lt =
     let u = step_of_run first run late (Answer e Ok) early r split in
     (traced_marks first.machine early (run_starts first run r) u.0 e u.1.0).touched i (u.2.0 i lt)
 
-pub ok_was_ended : {D : Type 0} (first : Moment) (run : List (Event D)) (late early : List Step) (e : Pending) → IsRun first run → steps_of run ≡ late ++ Answer e Ok ∷ early
+pub law_ok_was_ended : {D : Type 0} (first : AbstractState) (run : List (CallRecord D)) (late early : List Step) (e : Pending) → IsRun first run → steps_of run ≡ late ++ Answer e Ok ∷ early
     → HasEndedSince e.request early
-ok_was_ended first run late early e r split =
+law_ok_was_ended first run late early e r split =
     let u = step_of_run first run late (Answer e Ok) early r split in
     (traced_marks first.machine early (run_starts first run r) u.0 e u.1.0).ended u.2.1
 
 -- a request isn't moved while an earlier one that conflicts with it is there
-pub take_turns : (start : Machine) (history : List Step) (earlier later : Pending) → IsStart start → IsLegal start history → IsLiving (after start history) earlier → MayMove (after start history) later
-    → earlier.request.id.0 < later.request.id.0 → conflict (waiting earlier.request) (waiting later.request) ≡ true → ⊥
+pub take_turns : (start : Machine) (history : List Step) (earlier later : Pending) → IsStart start → IsLegal start history → IsLiving (after start history) earlier → MayStillMove (after start history) later
+    → earlier.request.id.0 < later.request.id.0 → must_keep_order (waiting earlier.request) (waiting later.request) ≡ true → ⊥
 take_turns start history earlier later starts legal living may before conflicts = (traced start history starts legal).sound.order later earlier may living before conflicts

@@ -13,8 +13,8 @@ use Rattle.ata_types.specs.declared.request.Outcome.{Outcome}
 use Rattle.ata_types.specs.declared.request.Outcome.TheVariants as outcome
 use Rattle.block_machine.specs.Ports.{Ports, Evidence, AreFit, SamePort, IsInterrupted, IsServiced}
 use Rattle.block_machine.specs.State.{Accepted, Pending, Machine, unanswered, is_reader}
-use Rattle.block_machine.specs.Steps.{Step, Accept, Issue, Touch, End, Again, Answer, Unplug, newly_accepted, issue, touch, requeued}
-use Rattle.block_machine.specs.Events.{Moment, Submit, Service, Device, Submitted, Served, Stepped, Event, Happens, UnplugsAll, Tells, IsToldBefore, IsIssuedIn, moment_after, moment_of, situation_of, steps_of, reply_of, ShowsDisk}
+use Rattle.block_machine.specs.Steps.{Step, Accept, Issue, Touch, End, Again, Answer, Unplug, newly_accepted, newly_issued, touch, requeued}
+use Rattle.block_machine.specs.Events.{AbstractState, Submit, Service, Device, Submitted, Served, Stepped, CallRecord, Happens, UnplugsAll, Tells, IsToldBefore, IsIssuedIn, moment_after, moment_of, situation_of, steps_of, reply_of, ShowsDisk}
 use Rattle.machine_runs.specs.Worked.{MeetsTrouble}
 use Rattle.block_machine.proofs.Members.{contains_none, contains_here, contains_there, contains_cases, none_of}
 use Rattle.block_machine.proofs.Keeps.{same_port}
@@ -28,68 +28,68 @@ both low high p = cond (p.0 == 0) low (cond (p.0 == 1) high Absent)
 abbrev ports_in : PortState → PortState → Ports
 ports_in low high = record { served = λ p. p.0 == 0 || p.0 == 1; state = both low high; serial = λ p. []; sectors = λ p. 200; trims = λ p. true; mode = λ p. mode }
 
-abbrev first : Moment
+abbrev first : AbstractState
 first = record { machine = empty; ports = ports_in Ready Ready }
 
-abbrev submit : Accepted → Event (Unit {0})
+abbrev submit : Accepted → CallRecord (Unit {0})
 submit r = record { ask = Submit r.asked; said = Submitted (Ok r.id); evidence = none; steps = Issue mode (newly_accepted r) ∷ Accept r ∷ []; ports = ports_in Ready Ready }
 
-abbrev run0 : List (Event (Unit {0}))
+abbrev run0 : List (CallRecord (Unit {0}))
 run0 = []
 
 abbrev lost : Accepted
 lost = one_sector 1 empty 1 Read 100 102
 
-abbrev run1 : List (Event (Unit {0}))
+abbrev run1 : List (CallRecord (Unit {0}))
 run1 = submit lost ∷ run0
 
 abbrev failed : Accepted
 failed = one_sector 0 empty 2 Write 100 100
 
-abbrev run2 : List (Event (Unit {0}))
+abbrev run2 : List (CallRecord (Unit {0}))
 run2 = submit failed ∷ run1
 
 abbrev again : Accepted
 again = one_sector 0 empty 3 Write 101 101
 
-abbrev run3 : List (Event (Unit {0}))
+abbrev run3 : List (CallRecord (Unit {0}))
 run3 = submit again ∷ run2
 
 abbrev finished : Accepted
 finished = one_sector 0 empty 4 Write 102 103
 
-abbrev run4 : List (Event (Unit {0}))
+abbrev run4 : List (CallRecord (Unit {0}))
 run4 = submit finished ∷ run3
 
 abbrev finishing : Pending
-finishing = issue (newly_accepted finished)
+finishing = newly_issued (newly_accepted finished)
 
 -- the device ends it
-abbrev ending : Event (Unit {0})
+abbrev ending : CallRecord (Unit {0})
 ending = record { ask = Device tt; said = Stepped true; evidence = none; steps = End (touch 0 finishing) ∷ Touch finishing 0 (finished.held 0) ∷ []; ports = ports_in Ready Ready }
 
-abbrev run5 : List (Event (Unit {0}))
+abbrev run5 : List (CallRecord (Unit {0}))
 run5 = ending ∷ run4
 
-abbrev unplug : Event (Unit {0})
+abbrev unplug : CallRecord (Unit {0})
 unplug = record { ask = Device tt; said = Stepped true; evidence = none; steps = Unplug (on 1) ∷ []; ports = ports_in Ready Ready }
 
-abbrev run6 : List (Event (Unit {0}))
+abbrev run6 : List (CallRecord (Unit {0}))
 run6 = unplug ∷ run5
 
 -- the request that goes again, in its n-th issue
 abbrev tried : ℕ → Pending
-tried n = record (issue (newly_accepted again)) { issues = n }
+tried n = record (newly_issued (newly_accepted again)) { issues = n }
 
 abbrev failing : Pending
-failing = issue (newly_accepted failed)
+failing = newly_issued (newly_accepted failed)
 
 abbrev losing : Pending
-losing = issue (newly_accepted lost)
+losing = newly_issued (newly_accepted lost)
 
 -- port 0 failed and told a fault, and port 1 told that its disk went; both were stopped
-abbrev trouble : Evidence
-trouble = record { faults = record { id = id 2; status = 65; error = 64 } ∷ []; lost = on 1 ∷ []; gone = on 1 ∷ []; failed = on 0 ∷ []; fatal = []; stopped = on 0 ∷ on 1 ∷ []; stuck = [] }
+abbrev port_error : Evidence
+port_error = record { faults = record { id = id 2; status = 65; error = 64 } ∷ []; lost = on 1 ∷ []; gone = on 1 ∷ []; failed = on 0 ∷ []; fatal = []; stopped = on 0 ∷ on 1 ∷ []; stuck = [] }
 
 abbrev requeuing : List Step
 requeuing = Again (tried 1) ∷ Answer failing (outcome.DeviceError 65 64) ∷ Answer (done finished) outcome.Ok ∷ []
@@ -97,16 +97,16 @@ requeuing = Again (tried 1) ∷ Answer failing (outcome.DeviceError 65 64) ∷ A
 abbrev serving : List Step
 serving = Answer losing outcome.Unplugged ∷ Issue mode (requeued (tried 1)) ∷ requeuing
 
-abbrev service : Event (Unit {0})
+abbrev service : CallRecord (Unit {0})
 service = record {
   ask = Service;
   said = Served (reply_of (failing, outcome.DeviceError 65 64) ∷ reply_of (done finished, outcome.Ok) ∷ reply_of (losing, outcome.Unplugged) ∷ []);
-  evidence = trouble;
+  evidence = port_error;
   steps = serving;
   ports = ports_in Ready Absent;
 }
 
-abbrev run7 : List (Event (Unit {0}))
+abbrev run7 : List (CallRecord (Unit {0}))
 run7 = service ∷ run6
 
 -- port 0 failed, and was stopped
@@ -114,13 +114,13 @@ abbrev failure : Evidence
 failure = record { faults = []; lost = []; gone = []; failed = on 0 ∷ []; fatal = []; stopped = on 0 ∷ []; stuck = [] }
 
 -- a service that issues it again
-abbrev retry : ℕ → Event (Unit {0})
+abbrev retry : ℕ → CallRecord (Unit {0})
 retry n = record { ask = Service; said = Served []; evidence = failure; steps = Issue mode (requeued (tried n)) ∷ Again (tried n) ∷ []; ports = ports_in Ready Absent }
 
-abbrev run9 : List (Event (Unit {0}))
+abbrev run9 : List (CallRecord (Unit {0}))
 run9 = retry 3 ∷ retry 2 ∷ run7
 
-abbrev abort : Event (Unit {0})
+abbrev abort : CallRecord (Unit {0})
 abort = record { ask = Service; said = Served (reply_of (tried 4, outcome.Aborted) ∷ []); evidence = failure; steps = Answer (tried 4) outcome.Aborted ∷ []; ports = ports_in Ready Absent }
 
 -- What holds of the ports.
@@ -189,7 +189,7 @@ stays p = (
 
 -- one of them waits for nothing
 
-quiet : (p : ℕ) (m : Moment) → Contains two_rows (row p) → m.machine.rows ≡ two_rows → m.ports.state (on p) ≡ Ready → m.ports.sectors (on p) ≡ 200 → (situation_of m).unanswered (record { 0 = 1 }) < 16 → m.machine.next < 5 → IsQuiet p m
+quiet : (p : ℕ) (m : AbstractState) → Contains two_rows (row p) → m.machine.rows ≡ two_rows → m.ports.state (on p) ≡ Ready → m.ports.sectors (on p) ≡ 200 → (situation_of m).unanswered (record { 0 = 1 }) < 16 → m.machine.next < 5 → IsQuiet p m
 quiet p m mine rows ready size room next = record { rows = rows; mine = mine; ready = ready; size = size; room = room; few = omega (arith, next) }
 
 quiet0 : IsQuiet 1 (moment_of first run0)
@@ -373,7 +373,7 @@ happens7 = record {
 -- A service that issues the request again, and the one that aborts it.
 
 -- the moment before such a service
-abbrev before : Machine → ℕ → Moment
+abbrev before : Machine → ℕ → AbstractState
 before m n = record { machine = record m { book = tried n ∷ []; kept = [] }; ports = ports_in Ready Absent }
 
 retried : (m : Machine) (n : ℕ) → m.rows ≡ two_rows → n < 4 → Happens (before m n) (retry n)

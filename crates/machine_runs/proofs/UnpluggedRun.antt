@@ -11,7 +11,7 @@ use Rattle.ata_types.specs.declared.request.Outcome.TheVariants as outcome
 use Rattle.block_machine.specs.Ports.{Evidence}
 use Rattle.block_machine.specs.State.{Pending, Machine}
 use Rattle.block_machine.specs.Steps.{Step, Age, Again, Answer, Unplug, newly_accepted, older}
-use Rattle.block_machine.specs.Events.{Moment, Tick, Device, Served, Stepped, Event, IsHung, RestartsHung, Happens, Tells, IsToldBefore, reply_of, moment_of, moment_after}
+use Rattle.block_machine.specs.Events.{AbstractState, Tick, Device, Served, Stepped, CallRecord, HasTimedOut, RestartsTimedOut, Happens, Tells, IsToldBefore, reply_of, moment_of, moment_after}
 use Rattle.machine_runs.specs.Worked.{IsTakenOutBeforeATick}
 use Rattle.block_machine.proofs.Members.{contains_none, contains_here, contains_cases, none_of}
 use Rattle.block_machine.proofs.Setting.{port, frame, empty_starts}
@@ -24,16 +24,16 @@ use Rattle.machine_runs.proofs.ResetRun as reset_run
 abbrev waits : Pending
 waits = newly_accepted read
 
-abbrev run3 : List (Event (Unit {0}))
+abbrev run3 : List (CallRecord (Unit {0}))
 run3 = reset_run.tick [] ∷ run2
 
-abbrev run4 : List (Event (Unit {0}))
+abbrev run4 : List (CallRecord (Unit {0}))
 run4 = reset_run.tick [] ∷ run3
 
-abbrev going : Event (Unit {0})
+abbrev going : CallRecord (Unit {0})
 going = call (Device tt) (Stepped true) (Unplug port ∷ [])
 
-abbrev run5 : List (Event (Unit {0}))
+abbrev run5 : List (CallRecord (Unit {0}))
 run5 = going ∷ run4
 
 -- the link had told that the disk went, and the engine was seen to stop
@@ -46,14 +46,14 @@ told = (aged 3, outcome.Unplugged) ∷ (waits, outcome.Unplugged) ∷ []
 abbrev answers : List Step
 answers = Answer waits outcome.Unplugged ∷ Answer (aged 3) outcome.Unplugged ∷ []
 
-abbrev tick : Event (Unit {0})
+abbrev tick : CallRecord (Unit {0})
 tick = record { ask = Tick; said = Served (map reply_of told); evidence = gone; steps = Answer waits outcome.Unplugged ∷ Answer (aged 3) outcome.Unplugged ∷ Age aging ∷ []; ports = ports_in Absent }
 
-abbrev run6 : List (Event (Unit {0}))
+abbrev run6 : List (CallRecord (Unit {0}))
 run6 = tick ∷ run5
 
 -- the moment before a tick
-abbrev before : Machine → ℕ → Moment
+abbrev before : Machine → ℕ → AbstractState
 before m n = record { machine = record m { book = aged n ∷ waits ∷ []; kept = [] }; ports = ports }
 
 ticked : (m : Machine) (n : ℕ) → n < 2 → Happens (before m n) (reset_run.tick [])
@@ -87,7 +87,7 @@ happens5 = record {
 
 -- The third tick.
 
-hung : IsHung (moment_of first run5) port
+hung : HasTimedOut (moment_of first run5) port
 hung = record { ready = refl; pending = aged 2; here = contains_here (aged 2) (waits ∷ []) (aged 2) refl; port_is = refl; issued = refl; old_enough = omega arith }
 
 only_port : (p : Port) → Contains (port ∷ []) p → p ≡ port
@@ -111,7 +111,7 @@ each_step P a b c step h = ⊎_elim
     (contains_cases (Answer (aged 3) outcome.Unplugged) (Age aging ∷ []) step n))
     (contains_cases (Answer waits outcome.Unplugged) (Answer (aged 3) outcome.Unplugged ∷ Age aging ∷ []) step h)
 
-restarted : RestartsHung (moment_of first run5) gone tick.steps (moment_of first run6)
+restarted : RestartsTimedOut (moment_of first run5) gone tick.steps (moment_of first run6)
 restarted = record {
   ports = restarts_into (moment_of first run5).machine Absent gone hung (λ p. record {
     served = refl;
@@ -120,12 +120,12 @@ restarted = record {
     keeps = λ _. (refl, refl);
   });
   again = λ e h. absurd (false≢true (sym (none_of is_again tick.steps (Again e) refl h)));
-  answer = λ e o h. subst (λ (x : Port). IsHung (moment_of first run5) x) (sym (each_step (λ step. port_of step ≡ port) refl refl refl (Answer e o) h)) hung;
+  answer = λ e o h. subst (λ (x : Port). HasTimedOut (moment_of first run5) x) (sym (each_step (λ step. port_of step ≡ port) refl refl refl (Answer e o) h)) hung;
   ended = λ p _. none_ended (moment_of first run5).machine tick.steps refl p;
   anew = λ p _ e h. absurd (contains_none e h);
   interrupts = λ p h. inl (contains_here port [] p (ready_port p h.ready));
   spares = λ p i. ⊎_elim
-      (λ h. subst (λ (x : Port). IsHung (moment_of first run5) x) (sym (only_port p h)) hung)
+      (λ h. subst (λ (x : Port). HasTimedOut (moment_of first run5) x) (sym (only_port p h)) hung)
       (λ h. absurd (contains_none p h))
       i;
   finds = λ e h. (λ dead. absent_not_dead e.request.port dead, λ ready. absent_not_ready e.request.port ready);

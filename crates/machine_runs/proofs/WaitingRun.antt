@@ -8,39 +8,39 @@ use Rattle.ata_types.specs.declared.request.Outcome.TheVariants as outcome
 use Rattle.block_machine.specs.declared.due.Unanswered.{Unanswered}
 use Rattle.block_machine.specs.Due.{NoneDue, is_clear}
 use Rattle.block_machine.specs.State.{Block, Accepted, is_reader, unanswered}
-use Rattle.block_machine.specs.Steps.{Accept, Issue, Touch, End, Answer, newly_accepted, issue, touch}
-use Rattle.block_machine.specs.Events.{Submit, Service, Device, Submitted, Served, Stepped, Event, Happens, moment_of, situation_of}
+use Rattle.block_machine.specs.Steps.{Accept, Issue, Touch, End, Answer, newly_accepted, newly_issued, touch}
+use Rattle.block_machine.specs.Events.{Submit, Service, Device, Submitted, Served, Stepped, CallRecord, Happens, moment_of, situation_of}
 use Rattle.machine_runs.specs.Worked.{WaitsItsTurn}
 use Rattle.block_machine.proofs.Members.{contains_none, contains_here, contains_there, contains_cases}
 use Rattle.block_machine.proofs.Counting.{issued_not_due}
 use Rattle.block_machine.proofs.Setting.{port, empty_starts, acceptable, granted}
 use Rattle.machine_runs.proofs.Scene.{mode, first, id, call, reply, sector_request, done, served, IsQuiet, row_zero, fit_write, fit_read, new, one_issued, none_there, one_told, one_touched, ports_fit, plain_service, only_one}
 
-abbrev pub run0 : List (Event (Unit {0}))
+abbrev pub run0 : List (CallRecord (Unit {0}))
 run0 = []
 
 abbrev pub write : Accepted
 write = sector_request (moment_of first run0).machine 1 Write 100
 
-abbrev pub event1 : Event (Unit {0})
+abbrev pub event1 : CallRecord (Unit {0})
 event1 = call (Submit write.asked) (Submitted (Ok (id 1))) (Issue mode (newly_accepted write) ∷ Accept write ∷ [])
 
-abbrev pub run1 : List (Event (Unit {0}))
+abbrev pub run1 : List (CallRecord (Unit {0}))
 run1 = event1 ∷ run0
 
 abbrev pub read : Accepted
 read = sector_request (moment_of first run1).machine 2 Read 101
 
-abbrev event2 : Event (Unit {0})
+abbrev event2 : CallRecord (Unit {0})
 event2 = call (Submit read.asked) (Submitted (Ok (id 2))) (Accept read ∷ [])
 
-abbrev pub run2 : List (Event (Unit {0}))
+abbrev pub run2 : List (CallRecord (Unit {0}))
 run2 = event2 ∷ run1
 
-abbrev event3 : Event (Unit {0})
+abbrev event3 : CallRecord (Unit {0})
 event3 = call Service (Served (reply 1 ∷ [])) (Issue mode (newly_accepted read) ∷ served write)
 
-abbrev run3 : List (Event (Unit {0}))
+abbrev run3 : List (CallRecord (Unit {0}))
 run3 = event3 ∷ run2
 
 -- the bytes that the write left
@@ -48,16 +48,16 @@ abbrev moved : Block
 moved = (moment_of first run3).machine.disks port 100
 
 -- the device ends the read
-abbrev event4 : Event (Unit {0})
-event4 = call (Device tt) (Stepped true) (End (touch 0 (issue (newly_accepted read))) ∷ Touch (issue (newly_accepted read)) 0 moved ∷ [])
+abbrev event4 : CallRecord (Unit {0})
+event4 = call (Device tt) (Stepped true) (End (touch 0 (newly_issued (newly_accepted read))) ∷ Touch (newly_issued (newly_accepted read)) 0 moved ∷ [])
 
-abbrev run4 : List (Event (Unit {0}))
+abbrev run4 : List (CallRecord (Unit {0}))
 run4 = event4 ∷ run3
 
-abbrev event5 : Event (Unit {0})
+abbrev event5 : CallRecord (Unit {0})
 event5 = call Service (Served (reply 2 ∷ [])) (Answer (done read) outcome.Ok ∷ [])
 
-abbrev run5 : List (Event (Unit {0}))
+abbrev run5 : List (CallRecord (Unit {0}))
 run5 = event5 ∷ run4
 
 quiet0 : IsQuiet 0 (moment_of first run0)
@@ -74,12 +74,12 @@ happens1 = record {
   lawful = tt;
   fit = ports_fit Ready refl;
   disks = λ e o h i same. (refl, refl);
-  answered = (acceptable 0 (situation_of (moment_of first run0)) write.asked (fit_write (moment_of first run0) 100 quiet0 refl refl), (write, refl, refl), λ p. (refl, refl, refl, refl, refl, refl), λ p _. one_issued (unanswered (issue (newly_accepted write))) refl p);
+  answered = (acceptable 0 (situation_of (moment_of first run0)) write.asked (fit_write (moment_of first run0) 100 quiet0 refl refl), (write, refl, refl), λ p. (refl, refl, refl, refl, refl, refl), λ p _. one_issued (unanswered (newly_issued (newly_accepted write))) refl p);
 }
 
 -- the write in its slot, and the read after it
 abbrev pub book : List Unanswered
-book = unanswered (issue (newly_accepted write)) ∷ unanswered (newly_accepted read) ∷ []
+book = unanswered (newly_issued (newly_accepted write)) ∷ unanswered (newly_accepted read) ∷ []
 
 -- neither is due
 pub none_due : (p : Port) → NoneDue mode book p
@@ -89,7 +89,7 @@ none_due p r here due = ⊎_elim
     (λ e. false≢true (ap (λ (x : Unanswered). is_clear mode book x) (sym e) ∙ due.clear))
     (λ n. contains_none r n)
     (contains_cases (unanswered (newly_accepted read)) [] r i))
-    (contains_cases (unanswered (issue (newly_accepted write))) (unanswered (newly_accepted read) ∷ []) r due.here)
+    (contains_cases (unanswered (newly_issued (newly_accepted write))) (unanswered (newly_accepted read) ∷ []) r due.here)
 
 pub happens2 : Happens (moment_of first run1) event2
 happens2 = record {
@@ -107,8 +107,8 @@ happens3 = record {
   may = (
     (
       (
-        (tt, (inl (contains_here (issue (newly_accepted write)) (newly_accepted read ∷ []) (issue (newly_accepted write)) refl, refl), omega arith, refl, omega arith, λ _ b lt. refl)),
-        (inl (contains_here (touch 0 (issue (newly_accepted write))) (newly_accepted read ∷ []) (touch 0 (issue (newly_accepted write))) refl, refl), one_touched, refl),
+        (tt, (inl (contains_here (newly_issued (newly_accepted write)) (newly_accepted read ∷ []) (newly_issued (newly_accepted write)) refl, refl), omega arith, refl, omega arith, λ _ b lt. refl)),
+        (inl (contains_here (touch 0 (newly_issued (newly_accepted write))) (newly_accepted read ∷ []) (touch 0 (newly_issued (newly_accepted write))) refl, refl), one_touched, refl),
       ),
       (contains_here (done write) (newly_accepted read ∷ []) (done write) refl, tt),
     ),
@@ -116,15 +116,15 @@ happens3 = record {
   );
   belong = ((((tt, inl tt), inl tt), inr tt), inr (refl, refl));
   last = ((((tt, λ id h i. false≢true i), λ id h i. false≢true i), λ id h i. false≢true i), λ id h i. false≢true i);
-  lawful = (tt, (record { pending = issue (newly_accepted write); here = contains_here (issue (newly_accepted write)) (newly_accepted read ∷ []) (issue (newly_accepted write)) refl; id_is = refl; issued = refl }, refl, one_touched, refl));
+  lawful = (tt, (record { pending = newly_issued (newly_accepted write); here = contains_here (newly_issued (newly_accepted write)) (newly_accepted read ∷ []) (newly_issued (newly_accepted write)) refl; id_is = refl; issued = refl }, refl, one_touched, refl));
   fit = ports_fit Ready refl;
   disks = λ e o h i same. (refl, refl);
-  answered = plain_service (moment_of first run2).machine (moment_of first run3).machine event3.steps (reply 1 ∷ []) (one_told (done write) outcome.Ok event3.steps refl (reply 1) refl) refl (λ p. one_issued (unanswered (issue (newly_accepted read))) refl p) (only_one (issue (newly_accepted read)) (λ e. e.request.port ≡ port) refl);
+  answered = plain_service (moment_of first run2).machine (moment_of first run3).machine event3.steps (reply 1 ∷ []) (one_told (done write) outcome.Ok event3.steps refl (reply 1) refl) refl (λ p. one_issued (unanswered (newly_issued (newly_accepted read))) refl p) (only_one (newly_issued (newly_accepted read)) (λ e. e.request.port ≡ port) refl);
 }
 
 happens4 : Happens (moment_of first run3) event4
 happens4 = record {
-  may = ((tt, (inl (contains_here (issue (newly_accepted read)) [] (issue (newly_accepted read)) refl, refl), omega arith, refl, omega arith, λ e. absurd (false≢true (sym (ap is_reader e))))), (inl (contains_here (touch 0 (issue (newly_accepted read))) [] (touch 0 (issue (newly_accepted read))) refl, refl), one_touched, refl));
+  may = ((tt, (inl (contains_here (newly_issued (newly_accepted read)) [] (newly_issued (newly_accepted read)) refl, refl), omega arith, refl, omega arith, λ e. absurd (false≢true (sym (ap is_reader e))))), (inl (contains_here (touch 0 (newly_issued (newly_accepted read))) [] (touch 0 (newly_issued (newly_accepted read))) refl, refl), one_touched, refl));
   belong = ((tt, inl tt), inl tt);
   last = ((tt, λ id h i. false≢true i), λ id h i. false≢true i);
   lawful = tt;
@@ -155,7 +155,7 @@ waits_its_turn = record {
   ending = event4;
   service = event5;
   comes = refl;
-  issued = issue (newly_accepted write);
+  issued = newly_issued (newly_accepted write);
   waits = newly_accepted read;
   both = refl;
   is_issued = refl;
@@ -163,11 +163,11 @@ waits_its_turn = record {
   conflicts = refl;
   done = done write;
   answers = contains_there (Issue mode (newly_accepted read)) (served write) (Answer (done write) outcome.Ok)
-      (contains_here (Answer (done write) outcome.Ok) (End (touch 0 (issue (newly_accepted write))) ∷ Touch (issue (newly_accepted write)) 0 (write.held 0) ∷ []) (Answer (done write) outcome.Ok) refl);
+      (contains_here (Answer (done write) outcome.Ok) (End (touch 0 (newly_issued (newly_accepted write))) ∷ Touch (newly_issued (newly_accepted write)) 0 (write.held 0) ∷ []) (Answer (done write) outcome.Ok) refl);
   its = refl;
   mode = mode;
   issues = contains_here (Issue mode (newly_accepted read)) (served write) (Issue mode (newly_accepted read)) refl;
-  running = issue (newly_accepted read);
+  running = newly_issued (newly_accepted read);
   issued_too = refl;
   not_ended = (refl, refl);
   told_to = refl;

@@ -9,83 +9,83 @@ use Rattle.ata_types.specs.declared.request.Op.TheVariants.{Read, Write, Flush}
 use Rattle.ata_types.specs.declared.request.Outcome.TheVariants as outcome
 use Rattle.block_machine.specs.Due.{is_flush}
 use Rattle.block_machine.specs.Ports.{Evidence}
-use Rattle.block_machine.specs.State.{Block, Disk, Accepted, block_of, is_reader, unanswered}
-use Rattle.block_machine.specs.Steps.{Step, Accept, Issue, Touch, End, Answer, Unplug, Replace, Store, Load, newly_accepted, issue, touch, mark_ended, HasHeld, SameBytes}
-use Rattle.block_machine.specs.Events.{Submit, StoreAt, LoadAt, Service, Device, Submitted, Stored, Loaded, Served, Stepped, Event, Happens, IsRun, moment_of, situation_of, steps_of, ShowsDisk}
+use Rattle.block_machine.specs.State.{Block, DiskBytes, Accepted, block_of, is_reader, unanswered}
+use Rattle.block_machine.specs.Steps.{Step, Accept, Issue, Touch, End, Answer, Unplug, Replace, Store, Load, newly_accepted, newly_issued, touch, mark_ended, HasHeld, SameBytes}
+use Rattle.block_machine.specs.Events.{Submit, StoreAt, LoadAt, Service, Device, Submitted, Stored, Loaded, Served, Stepped, CallRecord, Happens, IsRun, moment_of, situation_of, steps_of, ShowsDisk}
 use Rattle.machine_runs.specs.Worked.{FindsTheFlushed, MayComeBack, ReadsOneOf}
 use Rattle.block_machine.proofs.Members.{contains_none, contains_here, contains_there, contains_cases}
 use Rattle.block_machine.proofs.Setting.{client, port, frame, request, empty_starts, acceptable, granted}
 use Rattle.machine_runs.proofs.Scene.{none, mode, first, at_port, ports_in, id, call, reply, sector_request, done, served, is_open, IsQuiet, row_zero, fit_write, fit_read, fit_flush, new, one_issued, none_there, one_told, none_told, one_touched, ports_fit, none_dead, none_unplugged, plain_service, ready_port, shows_none, changed_here, absent_not_dead}
 
-abbrev run0 : List (Event (Unit {0}))
+abbrev run0 : List (CallRecord (Unit {0}))
 run0 = []
 
-abbrev event1 : Event (Unit {0})
+abbrev event1 : CallRecord (Unit {0})
 event1 = call (StoreAt client (frame 100) 0 (90 ∷ [])) (Stored None) (Store client (frame 100) 0 (90 ∷ []) ∷ [])
 
-abbrev run1 : List (Event (Unit {0}))
+abbrev run1 : List (CallRecord (Unit {0}))
 run1 = event1 ∷ []
 
 abbrev write : Accepted
 write = sector_request (moment_of first run1).machine 1 Write 100
 
-abbrev event2 : Event (Unit {0})
+abbrev event2 : CallRecord (Unit {0})
 event2 = call (Submit write.asked) (Submitted (Ok (id 1))) (Issue mode (newly_accepted write) ∷ Accept write ∷ [])
 
-abbrev run2 : List (Event (Unit {0}))
+abbrev run2 : List (CallRecord (Unit {0}))
 run2 = event2 ∷ run1
 
-abbrev event3 : Event (Unit {0})
+abbrev event3 : CallRecord (Unit {0})
 event3 = call Service (Served (reply 1 ∷ [])) (served write)
 
-abbrev run3 : List (Event (Unit {0}))
+abbrev run3 : List (CallRecord (Unit {0}))
 run3 = event3 ∷ run2
 
 abbrev flush : Accepted
 flush = record { id = id 2; port = port; asked = request 0 Flush 0 0 []; held = block_of (moment_of first run3).machine.memory [] }
 
-abbrev event4 : Event (Unit {0})
+abbrev event4 : CallRecord (Unit {0})
 event4 = call (Submit flush.asked) (Submitted (Ok (id 2))) (Issue mode (newly_accepted flush) ∷ Accept flush ∷ [])
 
-abbrev run4 : List (Event (Unit {0}))
+abbrev run4 : List (CallRecord (Unit {0}))
 run4 = event4 ∷ run3
 
-abbrev event5 : Event (Unit {0})
-event5 = call Service (Served (reply 2 ∷ [])) (Answer (mark_ended (issue (newly_accepted flush))) outcome.Ok ∷ End (issue (newly_accepted flush)) ∷ [])
+abbrev event5 : CallRecord (Unit {0})
+event5 = call Service (Served (reply 2 ∷ [])) (Answer (mark_ended (newly_issued (newly_accepted flush))) outcome.Ok ∷ End (newly_issued (newly_accepted flush)) ∷ [])
 
-abbrev run5 : List (Event (Unit {0}))
+abbrev run5 : List (CallRecord (Unit {0}))
 run5 = event5 ∷ run4
 
-abbrev event6 : Event (Unit {0})
+abbrev event6 : CallRecord (Unit {0})
 event6 = call (StoreAt client (frame 100) 0 (91 ∷ [])) (Stored None) (Store client (frame 100) 0 (91 ∷ []) ∷ [])
 
-abbrev run6 : List (Event (Unit {0}))
+abbrev run6 : List (CallRecord (Unit {0}))
 run6 = event6 ∷ run5
 
 abbrev later : Accepted
 later = sector_request (moment_of first run6).machine 3 Write 100
 
-abbrev event7 : Event (Unit {0})
+abbrev event7 : CallRecord (Unit {0})
 event7 = call (Submit later.asked) (Submitted (Ok (id 3))) (Issue mode (newly_accepted later) ∷ Accept later ∷ [])
 
-abbrev run7 : List (Event (Unit {0}))
+abbrev run7 : List (CallRecord (Unit {0}))
 run7 = event7 ∷ run6
 
-abbrev event8 : Event (Unit {0})
+abbrev event8 : CallRecord (Unit {0})
 event8 = call Service (Served (reply 3 ∷ [])) (served later)
 
-abbrev run8 : List (Event (Unit {0}))
+abbrev run8 : List (CallRecord (Unit {0}))
 run8 = event8 ∷ run7
 
 -- what the disk held when the flush was ended
-abbrev flushed_disk : Disk
+abbrev flushed_disk : DiskBytes
 flushed_disk = (moment_of first run5).machine.disks port
 
 -- the disk is taken out
-abbrev event9 : Event (Unit {0})
+abbrev event9 : CallRecord (Unit {0})
 event9 = call (Device tt) (Stepped true) (Unplug port ∷ [])
 
-abbrev run9 : List (Event (Unit {0}))
+abbrev run9 : List (CallRecord (Unit {0}))
 run9 = event9 ∷ run8
 
 -- what the device vouches for where port 0 told that its disk went
@@ -93,52 +93,52 @@ abbrev gone : Evidence
 gone = record { faults = []; lost = port ∷ []; gone = port ∷ []; failed = []; fatal = []; stopped = port ∷ []; stuck = [] }
 
 -- a service notices
-abbrev event10 : Event (Unit {0})
+abbrev event10 : CallRecord (Unit {0})
 event10 = record { ask = Service; said = Served []; evidence = gone; steps = []; ports = ports_in Absent }
 
-abbrev run10 : List (Event (Unit {0}))
+abbrev run10 : List (CallRecord (Unit {0}))
 run10 = event10 ∷ run9
 
 -- the disk comes back, with these bytes
-abbrev event11 : Disk → Event (Unit {0})
+abbrev event11 : DiskBytes → CallRecord (Unit {0})
 event11 disk = record { ask = Device tt; said = Stepped true; evidence = none; steps = Replace port 0 200 disk ∷ []; ports = ports_in Absent }
 
-abbrev run11 : Disk → List (Event (Unit {0}))
+abbrev run11 : DiskBytes → List (CallRecord (Unit {0}))
 run11 disk = event11 disk ∷ run10
 
 -- a service boots the port, which it stops first
 abbrev booting : Evidence
 booting = record { faults = []; lost = port ∷ []; gone = []; failed = []; fatal = []; stopped = port ∷ []; stuck = [] }
 
-abbrev event12 : Event (Unit {0})
+abbrev event12 : CallRecord (Unit {0})
 event12 = record { ask = Service; said = Served []; evidence = booting; steps = []; ports = ports_in Ready }
 
-abbrev run12 : Disk → List (Event (Unit {0}))
+abbrev run12 : DiskBytes → List (CallRecord (Unit {0}))
 run12 disk = event12 ∷ run11 disk
 
-abbrev read : Disk → Accepted
+abbrev read : DiskBytes → Accepted
 read disk = sector_request (moment_of first (run12 disk)).machine 4 Read 101
 
-abbrev event13 : Disk → Event (Unit {0})
+abbrev event13 : DiskBytes → CallRecord (Unit {0})
 event13 disk = call (Submit (read disk).asked) (Submitted (Ok (id 4))) (Issue mode (newly_accepted (read disk)) ∷ Accept (read disk) ∷ [])
 
-abbrev run13 : Disk → List (Event (Unit {0}))
+abbrev run13 : DiskBytes → List (CallRecord (Unit {0}))
 run13 disk = event13 disk ∷ run12 disk
 
-abbrev read_served : Disk → List Step
-read_served disk = Answer (done (read disk)) outcome.Ok ∷ End (touch 0 (issue (newly_accepted (read disk)))) ∷ Touch (issue (newly_accepted (read disk))) 0 (disk 100) ∷ []
+abbrev read_served : DiskBytes → List Step
+read_served disk = Answer (done (read disk)) outcome.Ok ∷ End (touch 0 (newly_issued (newly_accepted (read disk)))) ∷ Touch (newly_issued (newly_accepted (read disk))) 0 (disk 100) ∷ []
 
-abbrev event14 : Disk → Event (Unit {0})
+abbrev event14 : DiskBytes → CallRecord (Unit {0})
 event14 disk = call Service (Served (reply 4 ∷ [])) (read_served disk)
 
-abbrev run14 : Disk → List (Event (Unit {0}))
+abbrev run14 : DiskBytes → List (CallRecord (Unit {0}))
 run14 disk = event14 disk ∷ run13 disk
 
 -- the client is told the first byte
-abbrev event15 : Disk → Event (Unit {0})
+abbrev event15 : DiskBytes → CallRecord (Unit {0})
 event15 disk = call (LoadAt client (frame 101) 0 1) (Loaded (Ok (disk 100 0 ∷ []))) (Load client (frame 101) 0 (disk 100 0 ∷ []) ∷ [])
 
-abbrev run15 : Disk → List (Event (Unit {0}))
+abbrev run15 : DiskBytes → List (CallRecord (Unit {0}))
 run15 disk = event15 disk ∷ run14 disk
 
 quiet1 : IsQuiet 0 (moment_of first run1)
@@ -150,7 +150,7 @@ quiet3 = record { rows = refl; mine = row_zero; ready = refl; size = refl; room 
 quiet6 : IsQuiet 0 (moment_of first run6)
 quiet6 = record { rows = refl; mine = row_zero; ready = refl; size = refl; room = omega arith; few = omega arith }
 
-quiet12 : (disk : Disk) → IsQuiet 0 (moment_of first (run12 disk))
+quiet12 : (disk : DiskBytes) → IsQuiet 0 (moment_of first (run12 disk))
 quiet12 disk = record { rows = refl; mine = row_zero; ready = refl; size = refl; room = omega arith; few = omega arith }
 
 happens1 : Happens (moment_of first run0) event1
@@ -172,15 +172,15 @@ happens2 = record {
   lawful = tt;
   fit = ports_fit Ready refl;
   disks = λ e o h i same. (refl, refl);
-  answered = (acceptable 0 (situation_of (moment_of first run1)) write.asked (fit_write (moment_of first run1) 100 quiet1 refl refl), (write, refl, refl), λ p. (refl, refl, refl, refl, refl, refl), λ p _. one_issued (unanswered (issue (newly_accepted write))) refl p);
+  answered = (acceptable 0 (situation_of (moment_of first run1)) write.asked (fit_write (moment_of first run1) 100 quiet1 refl refl), (write, refl, refl), λ p. (refl, refl, refl, refl, refl, refl), λ p _. one_issued (unanswered (newly_issued (newly_accepted write))) refl p);
 }
 
 happens3 : Happens (moment_of first run2) event3
 happens3 = record {
-  may = (((tt, (inl (contains_here (issue (newly_accepted write)) [] (issue (newly_accepted write)) refl, refl), omega arith, refl, omega arith, λ _ b lt. refl)), (inl (contains_here (touch 0 (issue (newly_accepted write))) [] (touch 0 (issue (newly_accepted write))) refl, refl), one_touched, refl)), (contains_here (done write) [] (done write) refl, tt));
+  may = (((tt, (inl (contains_here (newly_issued (newly_accepted write)) [] (newly_issued (newly_accepted write)) refl, refl), omega arith, refl, omega arith, λ _ b lt. refl)), (inl (contains_here (touch 0 (newly_issued (newly_accepted write))) [] (touch 0 (newly_issued (newly_accepted write))) refl, refl), one_touched, refl)), (contains_here (done write) [] (done write) refl, tt));
   belong = (((tt, inl tt), inl tt), inr tt);
   last = (((tt, λ id h i. false≢true i), λ id h i. false≢true i), λ id h i. false≢true i);
-  lawful = (tt, (record { pending = issue (newly_accepted write); here = contains_here (issue (newly_accepted write)) [] (issue (newly_accepted write)) refl; id_is = refl; issued = refl }, refl, one_touched, refl));
+  lawful = (tt, (record { pending = newly_issued (newly_accepted write); here = contains_here (newly_issued (newly_accepted write)) [] (newly_issued (newly_accepted write)) refl; id_is = refl; issued = refl }, refl, one_touched, refl));
   fit = ports_fit Ready refl;
   disks = λ e o h i same. (refl, refl);
   answered = plain_service (moment_of first run2).machine (moment_of first run3).machine event3.steps (reply 1 ∷ []) (one_told (done write) outcome.Ok event3.steps refl (reply 1) refl) refl (λ p. none_there p) (λ e h. absurd (contains_none e h));
@@ -194,18 +194,18 @@ happens4 = record {
   lawful = tt;
   fit = ports_fit Ready refl;
   disks = λ e o h i same. (refl, refl);
-  answered = (acceptable 0 (situation_of (moment_of first run3)) flush.asked (fit_flush (moment_of first run3) quiet3), (flush, refl, refl), λ p. (refl, refl, refl, refl, refl, refl), λ p _. one_issued (unanswered (issue (newly_accepted flush))) refl p);
+  answered = (acceptable 0 (situation_of (moment_of first run3)) flush.asked (fit_flush (moment_of first run3) quiet3), (flush, refl, refl), λ p. (refl, refl, refl, refl, refl, refl), λ p _. one_issued (unanswered (newly_issued (newly_accepted flush))) refl p);
 }
 
 happens5 : Happens (moment_of first run4) event5
 happens5 = record {
-  may = ((tt, (inl (contains_here (issue (newly_accepted flush)) [] (issue (newly_accepted flush)) refl, refl), (λ k lt. absurd (omega (arith, lt))), refl)), (contains_here (mark_ended (issue (newly_accepted flush))) [] (mark_ended (issue (newly_accepted flush))) refl, tt));
+  may = ((tt, (inl (contains_here (newly_issued (newly_accepted flush)) [] (newly_issued (newly_accepted flush)) refl, refl), (λ k lt. absurd (omega (arith, lt))), refl)), (contains_here (mark_ended (newly_issued (newly_accepted flush))) [] (mark_ended (newly_issued (newly_accepted flush))) refl, tt));
   belong = ((tt, inl tt), inr tt);
   last = ((tt, λ id h i. false≢true i), λ id h i. false≢true i);
-  lawful = (tt, (record { pending = issue (newly_accepted flush); here = contains_here (issue (newly_accepted flush)) [] (issue (newly_accepted flush)) refl; id_is = refl; issued = refl }, refl, (λ k lt. absurd (omega (arith, lt))), refl));
+  lawful = (tt, (record { pending = newly_issued (newly_accepted flush); here = contains_here (newly_issued (newly_accepted flush)) [] (newly_issued (newly_accepted flush)) refl; id_is = refl; issued = refl }, refl, (λ k lt. absurd (omega (arith, lt))), refl));
   fit = ports_fit Ready refl;
   disks = λ e o h i same. (refl, refl);
-  answered = plain_service (moment_of first run4).machine (moment_of first run5).machine event5.steps (reply 2 ∷ []) (one_told (mark_ended (issue (newly_accepted flush))) outcome.Ok event5.steps refl (reply 2) refl) refl (λ p. none_there p) (λ e h. absurd (contains_none e h));
+  answered = plain_service (moment_of first run4).machine (moment_of first run5).machine event5.steps (reply 2 ∷ []) (one_told (mark_ended (newly_issued (newly_accepted flush))) outcome.Ok event5.steps refl (reply 2) refl) refl (λ p. none_there p) (λ e h. absurd (contains_none e h));
 }
 
 happens6 : Happens (moment_of first run5) event6
@@ -227,15 +227,15 @@ happens7 = record {
   lawful = tt;
   fit = ports_fit Ready refl;
   disks = λ e o h i same. (refl, refl);
-  answered = (acceptable 0 (situation_of (moment_of first run6)) later.asked (fit_write (moment_of first run6) 100 quiet6 refl refl), (later, refl, refl), λ p. (refl, refl, refl, refl, refl, refl), λ p _. one_issued (unanswered (issue (newly_accepted later))) refl p);
+  answered = (acceptable 0 (situation_of (moment_of first run6)) later.asked (fit_write (moment_of first run6) 100 quiet6 refl refl), (later, refl, refl), λ p. (refl, refl, refl, refl, refl, refl), λ p _. one_issued (unanswered (newly_issued (newly_accepted later))) refl p);
 }
 
 happens8 : Happens (moment_of first run7) event8
 happens8 = record {
-  may = (((tt, (inl (contains_here (issue (newly_accepted later)) [] (issue (newly_accepted later)) refl, refl), omega arith, refl, omega arith, λ _ b lt. refl)), (inl (contains_here (touch 0 (issue (newly_accepted later))) [] (touch 0 (issue (newly_accepted later))) refl, refl), one_touched, refl)), (contains_here (done later) [] (done later) refl, tt));
+  may = (((tt, (inl (contains_here (newly_issued (newly_accepted later)) [] (newly_issued (newly_accepted later)) refl, refl), omega arith, refl, omega arith, λ _ b lt. refl)), (inl (contains_here (touch 0 (newly_issued (newly_accepted later))) [] (touch 0 (newly_issued (newly_accepted later))) refl, refl), one_touched, refl)), (contains_here (done later) [] (done later) refl, tt));
   belong = (((tt, inl tt), inl tt), inr tt);
   last = (((tt, λ id h i. false≢true i), λ id h i. false≢true i), λ id h i. false≢true i);
-  lawful = (tt, (record { pending = issue (newly_accepted later); here = contains_here (issue (newly_accepted later)) [] (issue (newly_accepted later)) refl; id_is = refl; issued = refl }, refl, one_touched, refl));
+  lawful = (tt, (record { pending = newly_issued (newly_accepted later); here = contains_here (newly_issued (newly_accepted later)) [] (newly_issued (newly_accepted later)) refl; id_is = refl; issued = refl }, refl, one_touched, refl));
   fit = ports_fit Ready refl;
   disks = λ e o h i same. (refl, refl);
   answered = plain_service (moment_of first run7).machine (moment_of first run8).machine event8.steps (reply 3 ∷ []) (one_told (done later) outcome.Ok event8.steps refl (reply 3) refl) refl (λ p. none_there p) (λ e h. absurd (contains_none e h));
@@ -272,7 +272,7 @@ happens10 = record {
   };
 }
 
-happens11 : (disk : Disk) → Happens (moment_of first run10) (event11 disk)
+happens11 : (disk : DiskBytes) → Happens (moment_of first run10) (event11 disk)
 happens11 disk = record {
   may = (tt, (refl, λ _. refl));
   belong = (tt, inl tt);
@@ -294,7 +294,7 @@ shows_ready p shows = go (p.0 == 0) shows
 present : (p : Port) → at_port Ready p ≡ Ready → (moment_of first (run11 (λ k b. 0))).machine.present p ≡ true
 present p ready = ap (moment_of first (run11 (λ k b. 0))).machine.present (ready_port p ready)
 
-happens12 : (disk : Disk) → Happens (moment_of first (run11 disk)) event12
+happens12 : (disk : DiskBytes) → Happens (moment_of first (run11 disk)) event12
 happens12 disk = record {
   may = tt;
   belong = tt;
@@ -313,7 +313,7 @@ happens12 disk = record {
   };
 }
 
-happens13 : (disk : Disk) → Happens (moment_of first (run12 disk)) (event13 disk)
+happens13 : (disk : DiskBytes) → Happens (moment_of first (run12 disk)) (event13 disk)
 happens13 disk = record {
   may = ((tt, new 0 (moment_of first (run12 disk)) (read disk) (quiet12 disk) (fit_read 0 (moment_of first (run12 disk)) 101 (quiet12 disk) refl refl) refl refl refl), (contains_here (newly_accepted (read disk)) [] (newly_accepted (read disk)) refl, record { here = contains_here (unanswered (newly_accepted (read disk))) [] (unanswered (newly_accepted (read disk))) refl; clear = refl; slot = λ _. omega arith }, λ e h. absurd (contains_none e h), granted 0 row_zero refl));
   belong = ((tt, inr refl), inr (refl, refl));
@@ -321,24 +321,24 @@ happens13 disk = record {
   lawful = tt;
   fit = ports_fit Ready refl;
   disks = λ e o h i same. (refl, refl);
-  answered = (acceptable 0 (situation_of (moment_of first (run12 disk))) (read disk).asked (fit_read 0 (moment_of first (run12 disk)) 101 (quiet12 disk) refl refl), (read disk, refl, refl), λ p. (refl, refl, refl, refl, refl, refl), λ p _. one_issued (unanswered (issue (newly_accepted (read disk)))) refl p);
+  answered = (acceptable 0 (situation_of (moment_of first (run12 disk))) (read disk).asked (fit_read 0 (moment_of first (run12 disk)) 101 (quiet12 disk) refl refl), (read disk, refl, refl), λ p. (refl, refl, refl, refl, refl, refl), λ p _. one_issued (unanswered (newly_issued (newly_accepted (read disk)))) refl p);
 }
 
-happens14 : (disk : Disk) → Happens (moment_of first (run13 disk)) (event14 disk)
+happens14 : (disk : DiskBytes) → Happens (moment_of first (run13 disk)) (event14 disk)
 happens14 disk = record {
-  may = (((tt, (inl (contains_here (issue (newly_accepted (read disk))) [] (issue (newly_accepted (read disk))) refl, refl), omega arith, refl, omega arith, λ e. absurd (false≢true (sym (ap is_reader e))))), (inl (contains_here (touch 0 (issue (newly_accepted (read disk)))) [] (touch 0 (issue (newly_accepted (read disk)))) refl, refl), one_touched, refl)), (contains_here (done (read disk)) [] (done (read disk)) refl, tt));
+  may = (((tt, (inl (contains_here (newly_issued (newly_accepted (read disk))) [] (newly_issued (newly_accepted (read disk))) refl, refl), omega arith, refl, omega arith, λ e. absurd (false≢true (sym (ap is_reader e))))), (inl (contains_here (touch 0 (newly_issued (newly_accepted (read disk)))) [] (touch 0 (newly_issued (newly_accepted (read disk)))) refl, refl), one_touched, refl)), (contains_here (done (read disk)) [] (done (read disk)) refl, tt));
   belong = (((tt, inl tt), inl tt), inr tt);
   last = (((tt, λ id h i. false≢true i), λ id h i. false≢true i), λ id h i. false≢true i);
-  lawful = (tt, (record { pending = issue (newly_accepted (read disk)); here = contains_here (issue (newly_accepted (read disk))) [] (issue (newly_accepted (read disk))) refl; id_is = refl; issued = refl }, refl, one_touched, refl));
+  lawful = (tt, (record { pending = newly_issued (newly_accepted (read disk)); here = contains_here (newly_issued (newly_accepted (read disk))) [] (newly_issued (newly_accepted (read disk))) refl; id_is = refl; issued = refl }, refl, one_touched, refl));
   fit = ports_fit Ready refl;
   disks = λ e o h i same. (refl, refl);
   answered = plain_service (moment_of first (run13 disk)).machine (moment_of first (run14 disk)).machine (event14 disk).steps (reply 4 ∷ []) (one_told (done (read disk)) outcome.Ok (event14 disk).steps refl (reply 4) refl) refl (λ p. none_there p) (λ e h. absurd (contains_none e h));
 }
 
-loaded : (disk : Disk) (b : ℕ) → b < 1 → slice_index (disk 100 0 ∷ []) b ≡ (moment_of first (run14 disk)).machine.memory (frame 101) (0 + b)
+loaded : (disk : DiskBytes) (b : ℕ) → b < 1 → slice_index (disk 100 0 ∷ []) b ≡ (moment_of first (run14 disk)).machine.memory (frame 101) (0 + b)
 loaded disk b lt = let z : b ≡ 0 = omega arith in subst (λ k. slice_index (disk 100 0 ∷ []) k ≡ (moment_of first (run14 disk)).machine.memory (frame 101) (0 + k)) (sym z) refl
 
-happens15 : (disk : Disk) → Happens (moment_of first (run14 disk)) (event15 disk)
+happens15 : (disk : DiskBytes) → Happens (moment_of first (run14 disk)) (event15 disk)
 happens15 disk = record {
   may = (tt, (is_open (moment_of first (run14 disk)).machine 101 0 1 refl refl (omega arith), loaded disk));
   belong = (tt, inr (refl, refl, refl, refl));
@@ -360,7 +360,7 @@ since_flush block (inr (old, here, same)) = ⊎_elim
     (λ none. absurd (contains_none old none))
     (contains_cases (flushed_disk 100) [] old here)
 
-finds : (disk : Disk) → MayComeBack first run10 port disk → ReadsOneOf first run10 disk write later
+finds : (disk : DiskBytes) → MayComeBack first run10 port disk → ReadsOneOf first run10 disk write later
 finds disk back = record {
   plug = event11 disk;
   service = event12;
@@ -376,7 +376,7 @@ finds disk back = record {
   sector = refl;
   single = refl;
   answered = contains_there (Load client (frame 101) 0 (disk 100 0 ∷ [])) (read_served disk ++ (event13 disk).steps) (Answer (done (read disk)) outcome.Ok)
-      (contains_here (Answer (done (read disk)) outcome.Ok) (End (touch 0 (issue (newly_accepted (read disk)))) ∷ Touch (issue (newly_accepted (read disk))) 0 (disk 100) ∷ (event13 disk).steps) (Answer (done (read disk)) outcome.Ok) refl);
+      (contains_here (Answer (done (read disk)) outcome.Ok) (End (touch 0 (newly_issued (newly_accepted (read disk)))) ∷ Touch (newly_issued (newly_accepted (read disk))) 0 (disk 100) ∷ (event13 disk).steps) (Answer (done (read disk)) outcome.Ok) refl);
   memory = (moment_of first (run15 disk)).machine.memory;
   at_last = refl;
   found = ⊎_elim (λ p. inl (has (write.held 0) p)) (λ p. inr (has (later.held 0) p)) (since_flush (disk 100) (back refl 100 (omega arith)));
@@ -404,7 +404,7 @@ finds_the_flushed = record {
   differs = λ e. differ e;
   done = done later;
   its = refl;
-  answered = contains_here (Answer (done later) outcome.Ok) (End (touch 0 (issue (newly_accepted later))) ∷ Touch (issue (newly_accepted later)) 0 (later.held 0) ∷ steps_of run7) (Answer (done later) outcome.Ok) refl;
+  answered = contains_here (Answer (done later) outcome.Ok) (End (touch 0 (newly_issued (newly_accepted later))) ∷ Touch (newly_issued (newly_accepted later)) 0 (later.held 0) ∷ steps_of run7) (Answer (done later) outcome.Ok) refl;
   unflushed = unflushed;
   goes = refl;
   serves = refl;

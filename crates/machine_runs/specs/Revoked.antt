@@ -8,7 +8,7 @@ use Rattle.block_machine.specs.Rules.{IsUnder}
 use Rattle.block_machine.specs.State.{Pending}
 use Rattle.block_machine.specs.Steps.{Answer, HasGrant}
 use Rattle.block_machine.specs.Left.{AllTold}
-use Rattle.block_machine.specs.Events.{Moment, Event, RevokeOf, Service, Served, WasRevoked, IsRun, reply_of, steps_of, moment_of}
+use Rattle.block_machine.specs.Events.{AbstractState, CallRecord, RevokeOf, Service, Served, WasRevoked, IsRun, reply_of, steps_of, moment_of}
 
 -- In a run of calls two requests of one grant are unanswered at once: one is issued, and the other waits for it. Then
 -- the client's grant is revoked: the one that waits is answered Revoked, and the row is gone. The issued one stays,
@@ -16,14 +16,14 @@ use Rattle.block_machine.specs.Events.{Moment, Event, RevokeOf, Service, Served,
 -- service that finds that stops the port, and has it ready again with the disk that it had. So the request would go
 -- again, but for its grant: it is told Revoked, and its frames are given back.
 pub record IsTakenBack : Type 0 where
-  pub first : Moment
-  pub run : List (Event (Unit {0}))
+  pub first : AbstractState
+  pub run : List (CallRecord (Unit {0}))
   pub runs : IsRun first run
   pub told : AllTold first.machine (steps_of run)
   -- the run's events: these before the grant is revoked, and one after it
-  pub early : List (Event (Unit {0}))
-  pub call : Event (Unit {0})
-  pub service : Event (Unit {0})
+  pub early : List (CallRecord (Unit {0}))
+  pub call : CallRecord (Unit {0})
+  pub service : CallRecord (Unit {0})
   pub comes : run ≡ service ∷ call ∷ early
   pub client : ClientId
   pub number : ℕ
@@ -43,7 +43,7 @@ pub record IsTakenBack : Type 0 where
   pub its : done.request ≡ issued.request
   pub answers : Contains service.steps (Answer done Ok)
   -- or else the port fails first
-  pub failing : Event (Unit {0})
+  pub failing : CallRecord (Unit {0})
   pub runs_too : IsRun first (failing ∷ call ∷ early)
   pub told_too : AllTold first.machine (steps_of (failing ∷ call ∷ early))
   pub serves_too : failing.ask ≡ Service

@@ -7,14 +7,14 @@ use Rattle.block_machine.specs.State.{Accepted, Pending, Machine, sector_of}
 use Rattle.block_machine.specs.Steps.{Step, Again, Answer}
 use Rattle.block_machine.specs.Left.{HasTouchedSince, HasEndedSince, HoldsLeft}
 use Rattle.block_machine.specs.Confined.{WasAccepted}
-use Rattle.block_machine.specs.Events.{Event, Moment, Submit, Submitted, IsIssuedIn, issues_it, moment_of, steps_of}
+use Rattle.block_machine.specs.Events.{CallRecord, AbstractState, Submit, Submitted, IsIssuedIn, issues_it, moment_of, steps_of}
 
 -- the call is a submit that asked for the request, and was told its id
-abbrev pub AsksFor : {D : Type 0} → Accepted → Event D → Type 0
+abbrev pub AsksFor : {D : Type 0} → Accepted → CallRecord D → Type 0
 AsksFor r event = (event.ask ≡ Submit r.asked) × (event.said ≡ Submitted (Ok r.id))
 
 -- a call of the run is
-abbrev pub WasAsked : {D : Type 0} → Accepted → List (Event D) → Type 0
+abbrev pub WasAsked : {D : Type 0} → Accepted → List (CallRecord D) → Type 0
 WasAsked r [] = ⊥
 WasAsked r (event ∷ past) = AsksFor r event ⊎ WasAsked r past
 
@@ -33,7 +33,7 @@ pub record WasServed (start : Machine) (steps : List Step) (r : Accepted) : Type
 
 -- A call of a run answers the request Ok, which is as far as this then. Before that it was served; and a read has, at
 -- the call's end, what is left.
-pub record IsAnsweredOk {D : Type 0} (first : Moment) (past : List (Event D)) (event : Event D)
+pub record CallAnswersOk {D : Type 0} (first : AbstractState) (past : List (CallRecord D)) (event : CallRecord D)
     (e : Pending) : Type 0 where
   pub late : List Step
   pub early : List Step

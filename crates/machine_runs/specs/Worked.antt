@@ -5,30 +5,30 @@ use Rattle.ata_types.specs.declared.PortState.TheVariants.{Absent, Ready, Dead}
 use Rattle.ata_types.specs.declared.request.Frame.{Frame}
 use Rattle.ata_types.specs.declared.request.Op.TheVariants.{Read, Write, Flush}
 use Rattle.ata_types.specs.declared.request.Outcome.TheVariants.{Ok, DeviceError, Aborted, Unplugged, PortDead}
-use Rattle.block_machine.specs.declared.due.Mode.{Mode}
-use Rattle.block_machine.specs.State.{Disk, Memory, Accepted, Pending, Machine, block_of, sector_of, unanswered}
-use Rattle.block_machine.specs.Due.{IsDue, conflict}
+use Rattle.block_machine.specs.declared.due.QueueMode.{QueueMode}
+use Rattle.block_machine.specs.State.{DiskBytes, Memory, Accepted, Pending, Machine, block_of, sector_of, unanswered}
+use Rattle.block_machine.specs.Due.{IsDue, must_keep_order}
 use Rattle.block_machine.specs.Steps.{Step, Issue, Again, Answer, Unplug, Replace, May, AllTouched, SameBytes}
 use Rattle.block_machine.specs.Left.{after, IsStart, AllTold, HoldsLeft, IsTold}
 use Rattle.durability.specs.Durable.{IsFlushed}
-use Rattle.block_machine.specs.Events.{Moment, Event, Service, Tick, Reset, Device, Served, WasReset, IsRun, accepts_of, reply_of, steps_of, moment_of}
+use Rattle.block_machine.specs.Events.{AbstractState, CallRecord, Service, Tick, Reset, Device, Served, WasReset, IsRun, accepts_of, reply_of, steps_of, moment_of}
 
 -- the disk that was last in at the port is put in again after this run, with these bytes
-abbrev pub same_again : Moment → List (Event (Unit {0})) → Port → Disk → Step
+abbrev pub same_again : AbstractState → List (CallRecord (Unit {0})) → Port → DiskBytes → Step
 same_again first run port disk = Replace port ((moment_of first run).machine.disk_ids port)
     ((moment_of first run).machine.sizes port) disk
 
 -- with a volatile cache it may come back so
-abbrev pub MayComeBack : Moment → List (Event (Unit {0})) → Port → Disk → Type 0
+abbrev pub MayComeBack : AbstractState → List (CallRecord (Unit {0})) → Port → DiskBytes → Type 0
 MayComeBack first run port disk = IsTold (moment_of first run).machine (same_again first run port disk)
 
 -- The run goes on: the disk is put in again with these bytes, a service boots the port, and a read of the first sector
 -- of the two writes is answered Ok. Its frame then has the bytes of the one, or those of the other.
-pub record ReadsOneOf (first : Moment) (run : List (Event (Unit {0}))) (disk : Disk)
+pub record ReadsOneOf (first : AbstractState) (run : List (CallRecord (Unit {0}))) (disk : DiskBytes)
     (one other : Accepted) : Type 0 where
-  pub plug : Event (Unit {0})
-  pub service : Event (Unit {0})
-  pub late : List (Event (Unit {0}))
+  pub plug : CallRecord (Unit {0})
+  pub service : CallRecord (Unit {0})
+  pub late : List (CallRecord (Unit {0}))
   pub runs : IsRun first (late ++ service ∷ plug ∷ run)
   pub told : AllTold first.machine (steps_of (late ++ service ∷ plug ∷ run))
   pub comes : plug.steps ≡ same_again first run one.port disk ∷ []
@@ -50,10 +50,10 @@ pub record ReadsOneOf (first : Moment) (run : List (Event (Unit {0}))) (disk : D
 -- one with a volatile cache may, a read then finds the bytes of the one write or of the other; and it may come back
 -- with either.
 pub record FindsTheFlushed : Type 0 where
-  pub first : Moment
-  pub early : List (Event (Unit {0}))
-  pub unplug : Event (Unit {0})
-  pub service : Event (Unit {0})
+  pub first : AbstractState
+  pub early : List (CallRecord (Unit {0}))
+  pub unplug : CallRecord (Unit {0})
+  pub service : CallRecord (Unit {0})
   pub runs : IsRun first (service ∷ unplug ∷ early)
   pub write : Accepted
   pub flush : Accepted
@@ -70,37 +70,37 @@ pub record FindsTheFlushed : Type 0 where
   pub goes : unplug.steps ≡ Unplug write.port ∷ []
   pub serves : service.ask ≡ Service
   pub notices : (moment_of first (service ∷ unplug ∷ early)).ports.state write.port ≡ Absent
-  pub finds : (disk : Disk) → MayComeBack first (service ∷ unplug ∷ early) write.port disk
+  pub finds : (disk : DiskBytes) → MayComeBack first (service ∷ unplug ∷ early) write.port disk
       → ReadsOneOf first (service ∷ unplug ∷ early) disk write later
-  pub kept : (disk : Disk) × MayComeBack first (service ∷ unplug ∷ early) write.port disk
+  pub kept : (disk : DiskBytes) × MayComeBack first (service ∷ unplug ∷ early) write.port disk
       × SameBytes (disk (sector_of write 0)) (later.held 0)
-  pub lost : (disk : Disk) × MayComeBack first (service ∷ unplug ∷ early) write.port disk
+  pub lost : (disk : DiskBytes) × MayComeBack first (service ∷ unplug ∷ early) write.port disk
       × SameBytes (disk (sector_of write 0)) (write.held 0)
 
 -- In a run of calls two requests are unanswered at once: one is issued, and the other waits for it. One call then
 -- answers the one and issues the other. The device is told to end that, and a service then finds it ended and answers
 -- it too.
 pub record WaitsItsTurn : Type 0 where
-  pub first : Moment
-  pub run : List (Event (Unit {0}))
+  pub first : AbstractState
+  pub run : List (CallRecord (Unit {0}))
   pub runs : IsRun first run
   pub told : AllTold first.machine (steps_of run)
   -- the run's events: these before that call, and the two after it
-  pub early : List (Event (Unit {0}))
-  pub call : Event (Unit {0})
-  pub ending : Event (Unit {0})
-  pub service : Event (Unit {0})
+  pub early : List (CallRecord (Unit {0}))
+  pub call : CallRecord (Unit {0})
+  pub ending : CallRecord (Unit {0})
+  pub service : CallRecord (Unit {0})
   pub comes : run ≡ service ∷ ending ∷ call ∷ early
   pub issued : Pending
   pub waits : Pending
   pub both : (moment_of first early).machine.book ≡ issued ∷ waits ∷ []
   pub is_issued : issued.issued ≡ true
   pub is_waiting : waits.issued ≡ false
-  pub conflicts : conflict (unanswered issued) (unanswered waits) ≡ true
+  pub conflicts : must_keep_order (unanswered issued) (unanswered waits) ≡ true
   pub done : Pending
   pub answers : Contains call.steps (Answer done Ok)
   pub its : done.request ≡ issued.request
-  pub mode : Mode
+  pub mode : QueueMode
   pub issues : Contains call.steps (Issue mode waits)
   pub running : Pending
   pub issued_too : (moment_of first (call ∷ early)).machine.book ≡ running ∷ []
@@ -117,14 +117,14 @@ pub record WaitsItsTurn : Type 0 where
 -- and a service answers the request PortDead: it is kept, and its frame stays lent. A reset that ends gives the frame
 -- back.
 pub record EndsWithAReset : Type 0 where
-  pub first : Moment
-  pub asked : List (Event (Unit {0}))
-  pub one : Event (Unit {0})
-  pub two : Event (Unit {0})
-  pub three : Event (Unit {0})
-  pub stuck : Event (Unit {0})
-  pub service : Event (Unit {0})
-  pub reset : Event (Unit {0})
+  pub first : AbstractState
+  pub asked : List (CallRecord (Unit {0}))
+  pub one : CallRecord (Unit {0})
+  pub two : CallRecord (Unit {0})
+  pub three : CallRecord (Unit {0})
+  pub stuck : CallRecord (Unit {0})
+  pub service : CallRecord (Unit {0})
+  pub reset : CallRecord (Unit {0})
   pub runs : IsRun first (reset ∷ service ∷ stuck ∷ three ∷ two ∷ one ∷ asked)
   pub ticks : (one.ask ≡ Tick) × (two.ask ≡ Tick) × (three.ask ≡ Tick)
   pub aged : Pending
@@ -151,12 +151,12 @@ pub record EndsWithAReset : Type 0 where
 -- port failed too, answers what had ended there Ok, tells the fault of one request, and issues the last anew. That
 -- fails with its port each time, and is aborted after its fourth issue.
 pub record MeetsTrouble : Type 0 where
-  pub first : Moment
-  pub asked : List (Event (Unit {0}))
-  pub service : Event (Unit {0})
-  pub third : Event (Unit {0})
-  pub fourth : Event (Unit {0})
-  pub last : Event (Unit {0})
+  pub first : AbstractState
+  pub asked : List (CallRecord (Unit {0}))
+  pub service : CallRecord (Unit {0})
+  pub third : CallRecord (Unit {0})
+  pub fourth : CallRecord (Unit {0})
+  pub last : CallRecord (Unit {0})
   pub runs : IsRun first (last ∷ fourth ∷ third ∷ service ∷ asked)
   pub told : AllTold first.machine (steps_of (last ∷ fourth ∷ third ∷ service ∷ asked))
   pub lost : Pending
@@ -192,10 +192,10 @@ pub record MeetsTrouble : Type 0 where
 -- In a run of calls a request is two ticks old, and the device is told to end it. The third tick finds its port hung,
 -- and answers the request Ok.
 pub record EndsAtATick : Type 0 where
-  pub first : Moment
-  pub early : List (Event (Unit {0}))
-  pub ending : Event (Unit {0})
-  pub tick : Event (Unit {0})
+  pub first : AbstractState
+  pub early : List (CallRecord (Unit {0}))
+  pub ending : CallRecord (Unit {0})
+  pub tick : CallRecord (Unit {0})
   pub runs : IsRun first (tick ∷ ending ∷ early)
   pub aged : Pending
   pub old : (moment_of first early).machine.book ≡ aged ∷ []
@@ -213,10 +213,10 @@ pub record EndsAtATick : Type 0 where
 -- taken out. No service notices, but the third tick, which finds the port hung: it answers both Unplugged, and the port
 -- is absent then.
 pub record IsTakenOutBeforeATick : Type 0 where
-  pub first : Moment
-  pub early : List (Event (Unit {0}))
-  pub going : Event (Unit {0})
-  pub tick : Event (Unit {0})
+  pub first : AbstractState
+  pub early : List (CallRecord (Unit {0}))
+  pub going : CallRecord (Unit {0})
+  pub tick : CallRecord (Unit {0})
   pub runs : IsRun first (tick ∷ going ∷ early)
   pub issued : Pending
   pub waits : Pending
@@ -237,12 +237,12 @@ pub record IsTakenOutBeforeATick : Type 0 where
 -- In a run of calls two requests are unanswered, one issued and one that waits for it, and the server is reset four
 -- times, with success. Three resets issue the one anew. The fourth aborts it, and issues the other.
 pub record GoesAgainInResets : Type 0 where
-  pub first : Moment
-  pub asked : List (Event (Unit {0}))
-  pub one : Event (Unit {0})
-  pub two : Event (Unit {0})
-  pub three : Event (Unit {0})
-  pub four : Event (Unit {0})
+  pub first : AbstractState
+  pub asked : List (CallRecord (Unit {0}))
+  pub one : CallRecord (Unit {0})
+  pub two : CallRecord (Unit {0})
+  pub three : CallRecord (Unit {0})
+  pub four : CallRecord (Unit {0})
   pub runs : IsRun first (four ∷ three ∷ two ∷ one ∷ asked)
   pub resets : (one.ask ≡ Reset) × (two.ask ≡ Reset) × (three.ask ≡ Reset) × (four.ask ≡ Reset)
   pub issued : Pending
@@ -263,9 +263,9 @@ pub record GoesAgainInResets : Type 0 where
 -- In a run of calls two requests are issued on a port that meets a fatal error. A service stops it and boots it, and it
 -- gets stuck in that. So the requests are answered PortDead, and their frames stay lent.
 pub record DiesInAService : Type 0 where
-  pub first : Moment
-  pub asked : List (Event (Unit {0}))
-  pub service : Event (Unit {0})
+  pub first : AbstractState
+  pub asked : List (CallRecord (Unit {0}))
+  pub service : CallRecord (Unit {0})
   pub runs : IsRun first (service ∷ asked)
   pub one : Pending
   pub two : Pending

@@ -12,19 +12,19 @@ ghost use Rattle.ata_types.specs.declared.request.Outcome.{Outcome};
 ghost use Rattle.ata_types.specs.declared.request.Outcome.TheVariants.{Ok, Aborted};
 ghost use Rattle.ata_types.specs.declared.request.Reply.{Reply};
 ghost use Rattle.ata_types.specs.declared.grant.GrantRow.{GrantRow};
-ghost use Rattle.block_machine.specs.Due.{conflict};
+ghost use Rattle.block_machine.specs.Due.{must_keep_order};
 ghost use Rattle.block_machine.specs.State.{Block, Accepted, Pending, Machine, sector_of, waiting};
-ghost use Rattle.block_machine.specs.Steps.{Step, Answer, HasGrant, after_step, IsLiving, MayMove};
+ghost use Rattle.block_machine.specs.Steps.{Step, Answer, HasGrant, after_step, IsLiving, MayStillMove};
 ghost use Rattle.block_machine.specs.Left.{IsStart, IsLegal, HasTouched, HasTouchedSince, HasEndedSince, IsLeft, after, bytes_when_plugged, disk_read};
 ghost use Rattle.block_machine.specs.Confined.{GrantsNoWrites, WasAccepted, MayChangeByte, MayChangeSector};
-ghost use Rattle.block_machine.specs.Events.{Moment, Event, AllIssued, Happens, EveryReadHolds, IsLawful, IsRun, IsStillStuck, accepts_it, answers_it, issues_it, gives_id, replies_of, all_replies, WasGiven, moment_of, steps_of};
-ghost use Rattle.machine_runs.specs.Told.{AsksFor, CameFrom, IsAnsweredOk, WasAsked, waits_again};
+ghost use Rattle.block_machine.specs.Events.{AbstractState, CallRecord, AllIssued, Happens, EveryReadHolds, IsLawful, IsRun, IsStillStuck, accepts_it, answers_it, issues_it, gives_id, replies_of, all_replies, WasGiven, moment_of, steps_of};
+ghost use Rattle.machine_runs.specs.Told.{AsksFor, CameFrom, CallAnswersOk, WasAsked, waits_again};
 ghost use Rattle.machine_runs.specs.Revoked.{IsTakenBack};
 ghost use Rattle.machine_runs.specs.Worked.{FindsTheFlushed, WaitsItsTurn, EndsWithAReset, MeetsTrouble, EndsAtATick, IsTakenOutBeforeATick, GoesAgainInResets, DiesInAService, GoesWrong};
 
 /// Where no grant lets its client write or trim, what is left on a sector for a read is what the disk that it found
 /// there held when it was put in.
-pub fn unwritten_disks_are_left()
+pub fn law_unwritten_disks_are_left()
     ensures { (start : Machine) (history : List Step) (read : Accepted) (sector : ℕ) (block : Block)
         → IsStart start → IsLegal start history
         → ((row : GrantRow) → Contains start.rows row → GrantsNoWrites row)
@@ -33,7 +33,7 @@ pub fn unwritten_disks_are_left()
 {}
 
 /// What is left on a sector is one block.
-pub fn left_is_one()
+pub fn law_left_is_one()
     ensures { (start : Machine) (history : List Step) (read : Accepted) (sector : ℕ)
         (one other : Block)
         → IsStart start → IsLegal start history → IsLeft start history read sector one
@@ -42,7 +42,7 @@ pub fn left_is_one()
 
 /// What is left for a read that was answered stays what it is: no write or trim accepted before it touches the sector
 /// any more, however long the run goes on.
-pub fn left_stays()
+pub fn law_left_stays()
     ensures { (start : Machine) (history : List Step) (step : Step) (read : Accepted)
         (sector disk : ℕ) (block : Block)
         → IsStart start → IsLegal start (step ∷ history) → HasTouched read sector disk history
@@ -51,65 +51,65 @@ pub fn left_stays()
 {}
 
 /// A run exists in which ticks, a reset that is stuck, and one that ends do what they have to.
-pub fn a_reset_run_exists()
+pub fn law_a_reset_run_exists()
     ensures { EndsWithAReset }
 {}
 
 /// Where a run answers a request Ok, each of its sectors was touched, and since then the request wasn't issued again.
-pub fn ok_was_touched<D>()
-    ensures { (first : Moment) (run : List (Event D)) (late early : List Step) (e : Pending)
+pub fn law_ok_was_touched<D>()
+    ensures { (first : AbstractState) (run : List (CallRecord D)) (late early : List Step) (e : Pending)
         → IsRun first run → steps_of run ≡ late ++ Answer e Ok ∷ early
         → (i : ℕ) → i < e.request.asked.count
         → HasTouchedSince e.request (sector_of e.request i) early }
 {}
 
 /// Over every run an id is accepted once at most.
-pub fn accepted_once<D>()
-    ensures { (first : Moment) (run : List (Event D)) (id : RequestId) → IsRun first run
+pub fn law_accepted_once<D>()
+    ensures { (first : AbstractState) (run : List (CallRecord D)) (id : RequestId) → IsRun first run
         → count_by (accepts_it id) (steps_of run) ≤ 1 }
 {}
 
 /// Over every run a request is answered once at most.
-pub fn answered_once<D>()
-    ensures { (first : Moment) (run : List (Event D)) (id : RequestId) → IsRun first run
+pub fn law_answered_once<D>()
+    ensures { (first : AbstractState) (run : List (CallRecord D)) (id : RequestId) → IsRun first run
         → count_by (answers_it id) (steps_of run) ≤ 1 }
 {}
 
 /// Each request that a run answers was accepted before.
-pub fn answered_was_accepted<D>()
-    ensures { (first : Moment) (run : List (Event D)) (late early : List Step) (e : Pending)
+pub fn law_answered_was_accepted<D>()
+    ensures { (first : AbstractState) (run : List (CallRecord D)) (late early : List Step) (e : Pending)
         (outcome : Outcome) → IsRun first run → steps_of run ≡ late ++ Answer e outcome ∷ early
         → WasAccepted first.machine early e.request }
 {}
 
 /// Over every run one submit at most gives an id.
-pub fn given_once<D>()
-    ensures { (first : Moment) (run : List (Event D)) (id : RequestId) → IsRun first run
+pub fn law_given_once<D>()
+    ensures { (first : AbstractState) (run : List (CallRecord D)) (id : RequestId) → IsRun first run
         → count_by (λ event. gives_id id event.said) run ≤ 1 }
 {}
 
 /// Over every run an id stands in one reply at most.
-pub fn replied_once<D>()
-    ensures { (first : Moment) (run : List (Event D)) (id : RequestId) → IsRun first run
+pub fn law_replied_once<D>()
+    ensures { (first : AbstractState) (run : List (CallRecord D)) (id : RequestId) → IsRun first run
         → count_by (λ reply. reply.id.0 == id.0) (all_replies run) ≤ 1 }
 {}
 
 /// Each reply of a call tells a client of an id that an earlier submit of that client gave.
-pub fn replied_was_given<D>()
-    ensures { (first : Moment) (past : List (Event D)) (event : Event D) (reply : Reply)
+pub fn law_replied_was_given<D>()
+    ensures { (first : AbstractState) (past : List (CallRecord D)) (event : CallRecord D) (reply : Reply)
         → IsRun first (event ∷ past) → Contains (replies_of event.said) reply
         → WasGiven reply.id reply.client past }
 {}
 
 /// Each request that was accepted is one for which a submit of the run asked.
-pub fn accepted_was_asked<D>()
-    ensures { (first : Moment) (run : List (Event D)) (r : Accepted) → IsRun first run
+pub fn law_accepted_was_asked<D>()
+    ensures { (first : AbstractState) (run : List (CallRecord D)) (r : Accepted) → IsRun first run
         → WasAccepted first.machine (steps_of run) r → WasAsked r run }
 {}
 
 /// Each reply of a call is an answer of its steps, to a request for which an earlier submit of the run asked.
-pub fn replied_was_asked<D>()
-    ensures { (first : Moment) (past : List (Event D)) (event : Event D) (reply : Reply)
+pub fn law_replied_was_asked<D>()
+    ensures { (first : AbstractState) (past : List (CallRecord D)) (event : CallRecord D) (reply : Reply)
         → IsRun first (event ∷ past) → Contains (replies_of event.said) reply
         → (e : Pending) × Contains event.steps (Answer e reply.outcome) × (e.request.id ≡ reply.id)
         × (e.request.asked.client ≡ reply.client) × WasAsked e.request past }
@@ -117,8 +117,8 @@ pub fn replied_was_asked<D>()
 
 /// An unanswered request was there before the last call of a run, which issues it where it is issued, and wasn't
 /// before; or that call is the submit which asked for it.
-pub fn unanswered_came_from<D>()
-    ensures { (first : Moment) (past : List (Event D)) (event : Event D) (e : Pending)
+pub fn law_unanswered_came_from<D>()
+    ensures { (first : AbstractState) (past : List (CallRecord D)) (event : CallRecord D) (e : Pending)
         → IsRun first (event ∷ past) → Contains (moment_of first (event ∷ past)).machine.book e
         → CameFrom (moment_of first past).machine event.steps e
         ⊎ AsksFor e.request event }
@@ -126,15 +126,15 @@ pub fn unanswered_came_from<D>()
 
 /// What a call of a run answers Ok was served before: it was accepted and issued, its sectors were touched, and it was
 /// ended. And where each read of the run holds what is left, a read that is answered so has it at the call's end.
-pub fn ok_was_served<D>()
-    ensures { (first : Moment) (past : List (Event D)) (event : Event D) (e : Pending)
+pub fn law_ok_was_served<D>()
+    ensures { (first : AbstractState) (past : List (CallRecord D)) (event : CallRecord D) (e : Pending)
         → IsRun first (event ∷ past) → EveryReadHolds first (event ∷ past)
-        → Contains event.steps (Answer e Ok) → IsAnsweredOk first past event e }
+        → Contains event.steps (Answer e Ok) → CallAnswersOk first past event e }
 {}
 
 /// At each moment of a run the only unanswered request is issued, where its port is ready.
-pub fn a_lone_request_is_issued<D>()
-    ensures { (first : Moment) (run : List (Event D)) (e : Pending) → IsRun first run
+pub fn law_a_lone_request_is_issued<D>()
+    ensures { (first : AbstractState) (run : List (CallRecord D)) (e : Pending) → IsRun first run
         → Contains (moment_of first run).machine.book e
         → (moment_of first run).ports.state e.request.port ≡ Ready
         → ((other : Pending) → Contains (moment_of first run).machine.book other → other.request.id ≡ e.request.id)
@@ -142,38 +142,40 @@ pub fn a_lone_request_is_issued<D>()
 {}
 
 /// What has to stand behind an answer stands behind each that a call of a run gives.
-pub fn answers_are_lawful<D>()
-    ensures { (first : Moment) (past : List (Event D)) (event : Event D) (e : Pending) (outcome : Outcome)
+pub fn law_answers_are_lawful<D>()
+    ensures { (first : AbstractState) (past : List (CallRecord D)) (event : CallRecord D) (e : Pending)
+        (outcome : Outcome)
         → IsRun first (event ∷ past) → Contains event.steps (Answer e outcome)
         → IsLawful (moment_of first past) event.evidence event.ports e outcome }
 {}
 
 /// A port that is dead after a call was dead when it began, or its engine or the adapter got stuck in it. So this
 /// stands behind each request that is answered PortDead.
-pub fn dead_ports_were_stuck<D>()
-    ensures { (old : Moment) (event : Event D) (port : Port) → Happens old event → event.ports.state port ≡ Dead
+pub fn law_dead_ports_were_stuck<D>()
+    ensures { (old : AbstractState) (event : CallRecord D) (port : Port) → Happens old event
+        → event.ports.state port ≡ Dead
         → (old.ports.state port ≡ Dead) ⊎ Contains event.evidence.stuck port }
 {}
 
 /// Over every run a request is issued four times at most, and one that is answered Aborted was issued four times.
-pub fn issued_four_times<D>()
-    ensures most { (first : Moment) (run : List (Event D)) (id : RequestId) → IsRun first run
+pub fn law_issued_four_times<D>()
+    ensures most { (first : AbstractState) (run : List (CallRecord D)) (id : RequestId) → IsRun first run
         → count_by (issues_it id) (steps_of run) ≤ 4 }
-    ensures aborted { (first : Moment) (run : List (Event D)) (late early : List Step) (e : Pending)
+    ensures aborted { (first : AbstractState) (run : List (CallRecord D)) (late early : List Step) (e : Pending)
         → IsRun first run → steps_of run ≡ late ++ Answer e Aborted ∷ early
         → count_by (issues_it e.request.id) (steps_of run) ≡ 4 }
 {}
 
 /// Where a run answers a request Ok, the device ended it, and since then it wasn't issued again.
-pub fn ok_was_ended<D>()
-    ensures { (first : Moment) (run : List (Event D)) (late early : List Step) (e : Pending)
+pub fn law_ok_was_ended<D>()
+    ensures { (first : AbstractState) (run : List (CallRecord D)) (late early : List Step) (e : Pending)
         → IsRun first run → steps_of run ≡ late ++ Answer e Ok ∷ early
         → HasEndedSince e.request early }
 {}
 
 /// After every history an unanswered request was issued as often as it says: where it is issued, once more than it was
 /// made to wait again, and else as often.
-pub fn issues_are_counted()
+pub fn law_issues_are_counted()
     ensures { (start : Machine) (history : List Step) (e : Pending) → IsStart start → IsLegal start history
         → Contains (after start history).book e
         → (count_by (issues_it e.request.id) history ≡ e.issues)
@@ -182,50 +184,50 @@ pub fn issues_are_counted()
 {}
 
 /// A call issues a request once at most.
-pub fn issued_once_a_call<D>()
-    ensures { (old : Moment) (event : Event D) (id : RequestId) → Happens old event
+pub fn law_issued_once_a_call<D>()
+    ensures { (old : AbstractState) (event : CallRecord D) (id : RequestId) → Happens old event
         → count_by (issues_it id) event.steps ≤ 1 }
 {}
 
 /// At each moment of a run no request of a ready port is due: calls that issue leave none, and no other makes one due.
-pub fn none_due_between<D>()
-    ensures { (first : Moment) (run : List (Event D)) → IsRun first run
+pub fn law_none_due_between<D>()
+    ensures { (first : AbstractState) (run : List (CallRecord D)) → IsRun first run
         → AllIssued (moment_of first run) }
 {}
 
 /// At each moment of a run the age of an issued request is two at most: the tick that would bring it to three restarts
 /// its port.
-pub fn ages_are_bounded<D>()
-    ensures { (first : Moment) (run : List (Event D)) (e : Pending) → IsRun first run
+pub fn law_ages_are_bounded<D>()
+    ensures { (first : AbstractState) (run : List (CallRecord D)) (e : Pending) → IsRun first run
         → Contains (moment_of first run).machine.book e → e.issued ≡ true → e.age ≤ 2 }
 {}
 
 /// At each moment of a run an unanswered request is on a port that is ready, or on one that is dead since a reset that
 /// was stuck.
-pub fn unanswered_where_ready<D>()
-    ensures { (first : Moment) (run : List (Event D)) (e : Pending) → IsRun first run
+pub fn law_unanswered_where_ready<D>()
+    ensures { (first : AbstractState) (run : List (CallRecord D)) (e : Pending) → IsRun first run
         → Contains (moment_of first run).machine.book e
         → ((moment_of first run).ports.state e.request.port ≡ Ready)
         ⊎ (((moment_of first run).ports.state e.request.port ≡ Dead) × IsStillStuck run) }
 {}
 
 /// At each moment of a run the sectors of an unanswered request are sectors that its port's disk showed to have.
-pub fn unanswered_on_disk<D>()
-    ensures { (first : Moment) (run : List (Event D)) (e : Pending) → IsRun first run
+pub fn law_unanswered_on_disk<D>()
+    ensures { (first : AbstractState) (run : List (CallRecord D)) (e : Pending) → IsRun first run
         → Contains (moment_of first run).machine.book e → e.request.asked.op ≢ Flush
         → e.request.asked.first.0 + e.request.asked.count
         ≤ (moment_of first run).ports.sectors e.request.port }
 {}
 
 /// At each moment of a run a kept request is on a dead port: so nothing that is due waits for kept requests.
-pub fn kept_where_dead<D>()
-    ensures { (first : Moment) (run : List (Event D)) (e : Pending) → IsRun first run
+pub fn law_kept_where_dead<D>()
+    ensures { (first : AbstractState) (run : List (CallRecord D)) (e : Pending) → IsRun first run
         → Contains (moment_of first run).machine.kept e
         → (moment_of first run).ports.state e.request.port ≡ Dead }
 {}
 
 /// A byte of a client's frame changes by a touch of a read that the frame is lent to, or by its owner's store.
-pub fn bytes_change_by()
+pub fn law_bytes_change_by()
     ensures { (start : Machine) (history : List Step) (step : Step) (frame : Frame) (place : ℕ)
         → IsStart start → IsLegal start (step ∷ history)
         → (after start (step ∷ history)).memory frame place ≢ (after start history).memory frame place
@@ -233,7 +235,7 @@ pub fn bytes_change_by()
 {}
 
 /// A sector of a port's disk changes by a touch of it by a write or trim of the port, or by a disk that is put in.
-pub fn sectors_change_by()
+pub fn law_sectors_change_by()
     ensures { (m : Machine) (step : Step) (port : Port) (sector place : ℕ)
         → (after_step m step).disks port sector place ≢ m.disks port sector place
         → MayChangeSector step port sector }
@@ -242,71 +244,72 @@ pub fn sectors_change_by()
 /// Of two requests that conflict, the later one may be moved only once the earlier one is neither unanswered nor kept:
 /// so the device writes no sector for a request while an earlier trim of the sector may clear it, and clears none that
 /// a write accepted after the trim has written.
-pub fn conflicting_requests_take_turns()
+pub fn law_conflicting_requests_take_turns()
     ensures { (start : Machine) (history : List Step) (earlier later : Pending) → IsStart start → IsLegal start history
-        → IsLiving (after start history) earlier → MayMove (after start history) later
-        → earlier.request.id.0 < later.request.id.0 → conflict (waiting earlier.request) (waiting later.request) ≡ true
+        → IsLiving (after start history) earlier → MayStillMove (after start history) later
+        → earlier.request.id.0 < later.request.id.0
+        → must_keep_order (waiting earlier.request) (waiting later.request) ≡ true
         → ⊥ }
 {}
 
 /// A machine to begin with exists.
-pub fn a_start_exists()
+pub fn law_a_start_exists()
     ensures { (m : Machine) × IsStart m }
 {}
 
 /// A run exists in which a read finds a flushed write or a later one, whichever the disk kept while it was out: so the
 /// laws on reads and on flushed writes have something to say.
-pub fn a_worked_run_exists()
+pub fn law_a_worked_run_exists()
     ensures { FindsTheFlushed }
 {}
 
 /// A run exists in which a request waits for another, and is issued by the call that answers that one.
-pub fn a_waiting_run_exists()
+pub fn law_a_waiting_run_exists()
     ensures { WaitsItsTurn }
 {}
 
 /// Between any two calls of a run a request that waits has its grant: it is never due and yet not to be issued.
-pub fn what_waits_has_its_grant<D>()
-    ensures { (first : Moment) (run : List (Event D)) (e : Pending) → IsRun first run
+pub fn law_what_waits_has_its_grant<D>()
+    ensures { (first : AbstractState) (run : List (CallRecord D)) (e : Pending) → IsRun first run
         → Contains (moment_of first run).machine.book e → e.issued ≡ false
         → HasGrant (moment_of first run).machine e }
 {}
 
 /// A run exists in which a grant is revoked while a request of it is issued and another waits: this one is answered
 /// Revoked, and that one Ok; and one in which that one, whose port fails, is told Revoked in place of going again.
-pub fn a_revoking_run_exists()
+pub fn law_a_revoking_run_exists()
     ensures { IsTakenBack }
 {}
 
 /// A run exists in which two ports serve requests, the one fails and the other loses its disk, and a fault, an
 /// unplugged request, one that is issued anew and one that is aborted are told as they have to be.
-pub fn a_troubled_run_exists()
+pub fn law_a_troubled_run_exists()
     ensures { MeetsTrouble }
 {}
 
 /// A run exists in which a tick answers a request that had ended.
-pub fn a_ticked_run_exists()
+pub fn law_a_ticked_run_exists()
     ensures { EndsAtATick }
 {}
 
 /// A run exists in which a tick finds a port hung whose disk was taken out, and tells its requests Unplugged, issued or
 /// not.
-pub fn an_unplugged_run_exists()
+pub fn law_an_unplugged_run_exists()
     ensures { IsTakenOutBeforeATick }
 {}
 
 /// A run exists in which resets issue a request anew, abort it after its fourth issue, and issue one that waited for
 /// it.
-pub fn a_rebooted_run_exists()
+pub fn law_a_rebooted_run_exists()
     ensures { GoesAgainInResets }
 {}
 
 /// A run exists in which a port meets a fatal error, is stopped by a service, and gets stuck in its boot.
-pub fn a_dying_run_exists()
+pub fn law_a_dying_run_exists()
     ensures { DiesInAService }
 {}
 
 /// Without the rule on kept requests a read may go wrong.
-pub fn kept_requests_matter()
+pub fn law_kept_requests_matter()
     ensures { GoesWrong }
 {}

@@ -9,7 +9,7 @@ use adapter::{
 use ata_types::{DRIVER_BYTES, FEWEST_FRAMES, PORTS, Port, PortState, SCRATCH, Slot};
 use device_model::{Model, ModelConfig, Trim};
 use hba_regs::Reg;
-use host_boot::{Found, take_over};
+use host_boot::{ProbeResult, take_over};
 use identify::{DiskInfo, Wanted};
 use sector_store::MemStore;
 use std::alloc::Global;
@@ -27,7 +27,7 @@ const IMAGE_DISK: [Wanted; PORTS] = [
     Wanted::Nothing,
 ];
 
-const READY: Found = Found::Ready(DiskInfo {
+const READY: ProbeResult = ProbeResult::Ready(DiskInfo {
     serial: SERIAL,
     depth: 32,
     ncq: true,
@@ -51,7 +51,7 @@ struct Case {
     told: [DeviceStep; 3],
     /// Before the accesses with these numbers.
     queued: [(u64, DeviceStep); 2],
-    found: Found,
+    found: ProbeResult,
     /// What the register shows.
     shown: (Reg, u32),
     /// The places and bytes in which the page that came isn't that of the disk; `None` says that none came.
@@ -113,7 +113,7 @@ const CASES: [Case; 12] = [
             DeviceStep::Lie(Port(0), IDENTITY, 0, 0xff),
             DeviceStep::Truth(Port(1)),
         ],
-        found: Found::Unready(PortState::Unfit(1)),
+        found: ProbeResult::Unready(PortState::Unfit(1)),
         page: Some(&[(0, 0xff)]),
         ..PLAIN
     },
@@ -129,7 +129,7 @@ const CASES: [Case; 12] = [
     Case {
         what: "a disk that is taken out first",
         queued: [(1, DeviceStep::Unplug(Port(0))), (NEVER, NOTHING)],
-        found: Found::Unready(PortState::Absent),
+        found: ProbeResult::Unready(PortState::Absent),
         page: None,
         ..PLAIN
     },
@@ -140,14 +140,14 @@ const CASES: [Case; 12] = [
             (1, DeviceStep::Unplug(Port(0))),
             (1, DeviceStep::Plug(Port(0), DiskNumber(1))),
         ],
-        found: Found::Unready(PortState::Foreign),
+        found: ProbeResult::Unready(PortState::Foreign),
         page: Some(&[(20, b'L'), (21, b'B'), (22, b'N'), (25, b'K'), (511, 65)]),
         ..PLAIN
     },
     Case {
         what: "the link of a held port doesn't come up",
         told: [DeviceStep::Hold(Port(0)), NOTHING, NOTHING],
-        found: Found::Unready(PortState::Absent),
+        found: ProbeResult::Unready(PortState::Absent),
         page: None,
         ..PLAIN
     },
@@ -264,7 +264,7 @@ fn tell<A: Stepped>(adapter: &mut A, step: &DeviceStep)
 }
 
 /// Takes an adapter over: what port 0 is found to be, and what the register shows then, one of CAP, PI and VS.
-fn taken_over<A: Adapter>(adapter: &mut A, r: Reg) -> (Found, u32)
+fn taken_over<A: Adapter>(adapter: &mut A, r: Reg) -> (ProbeResult, u32)
     requires idle { IsIdle (A.device adapter.old) }
     requires room { DRIVER_BYTES ≤ (A.device adapter.old).size }
 {
@@ -358,7 +358,7 @@ fn models_are_found_as_they_are(rt: HostRuntime) -> Result<(), Fail> {
         ];
         let unfit = Case {
             queued,
-            found: Found::Unready(PortState::Unfit(9)),
+            found: ProbeResult::Unready(PortState::Unfit(9)),
             page: None,
             ..PLAIN
         };

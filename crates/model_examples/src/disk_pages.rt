@@ -1,5 +1,5 @@
 // Pages of IDENTIFY DEVICE and of log 10h, byte by byte, worked out by hand (ACS-3, 7.12.7 and A.14).
-use sector_store::pages::{Abilities, FailedCommand, Trim, identify_page, log_page};
+use sector_store::pages::{Abilities, LoggedError, Trim, identify_page, log_page};
 
 /// A disk, and what its page holds.
 struct Case {
@@ -103,7 +103,7 @@ const CASES: [Case; 4] = [
 /// The queued command that the log names, and what its page holds.
 struct LogCase {
     what: &'static str,
-    failed: Option<FailedCommand>,
+    failed: Option<LoggedError>,
     /// Bytes 0, 2, 3 and 511; elsewhere there are zeros.
     bytes: [u8; 4],
 }
@@ -118,7 +118,7 @@ const LOG_CASES: [LogCase; 5] = [
     // 1, 65 and 64 sum to 130; 256 - 130 is 126.
     LogCase {
         what: "slot 1, on which the store failed",
-        failed: Some(FailedCommand {
+        failed: Some(LoggedError {
             tag: 1,
             error: 0x40,
         }),
@@ -127,7 +127,7 @@ const LOG_CASES: [LogCase; 5] = [
     // 65 and 16 sum to 81; 256 - 81 is 175.
     LogCase {
         what: "slot 0, past the disk",
-        failed: Some(FailedCommand {
+        failed: Some(LoggedError {
             tag: 0,
             error: 0x10,
         }),
@@ -136,7 +136,7 @@ const LOG_CASES: [LogCase; 5] = [
     // 31, 65 and 255 sum to 351, or 95 modulo 256; 256 - 95 is 161.
     LogCase {
         what: "slot 31, and all bits of the error",
-        failed: Some(FailedCommand {
+        failed: Some(LoggedError {
             tag: 31,
             error: 0xff,
         }),
@@ -145,7 +145,7 @@ const LOG_CASES: [LogCase; 5] = [
     // 65 and 191 sum to 256, which is 0 already.
     LogCase {
         what: "a sum of 256",
-        failed: Some(FailedCommand {
+        failed: Some(LoggedError {
             tag: 0,
             error: 0xbf,
         }),

@@ -1,4 +1,4 @@
-pub mod Found
+pub mod ProbeResult
 pub mod Issued
 pub mod Performed
 pub mod Telling

@@ -13,17 +13,17 @@ use Rattle.adapter.specs.Access.Access.{Reading, Writing, Loading, Storing}
 use Rattle.adapter.specs.Device.{Device}
 use Rattle.adapter.specs.declared.command.Operation.{Operation}
 use Rattle.block_machine.specs.Events.{AllMay}
-use Rattle.block_machine.specs.Histories.{IsReached}
+use Rattle.block_machine.specs.Histories.{IsReachable}
 use Rattle.block_machine.specs.Left.{after}
 use Rattle.block_machine.specs.State.{Machine, Pending}
 use Rattle.block_machine.specs.Steps.{Step, Issue}
-use Rattle.block_machine.specs.declared.due.Mode.{Mode}
-use Rattle.agreement.specs.Acts.{Act, AreDone, Comes, InSlots, Performs, at, steps_of}
-use Rattle.agreement.specs.Driven.{AnyUse, IsAgreed, IsFollowed, IsOf, SendsNone}
-use Rattle.agreement.specs.Driver.{EndsWith, Goes, IsBacked, Known, Knows}
-use Rattle.agreement.specs.Slots.{Own, Use, op_of}
+use Rattle.block_machine.specs.declared.due.QueueMode.{QueueMode}
+use Rattle.refinement.specs.Acts.{Act, AreDone, Comes, InSlots, Performs, at_slots, act_steps}
+use Rattle.refinement.specs.Driven.{AnyUse, IsRelated, IsSimulated, IsOf, SendsNone}
+use Rattle.refinement.specs.Driver.{EndsWith, Goes, IsBacked, DriverState, DriverRelation}
+use Rattle.refinement.specs.Slots.{Own, SlotState, op_of}
 use Rattle.ncq.specs.Masks.{ReadsDone, IsFinding}
-use Rattle.ncq.specs.Tasks.{IsIssuing, IsOnItsWay, IssuesLast, IssuesTask, IsTaskOf, MayServe, with_serving}
+use Rattle.ncq.specs.Tasks.{IsIssuing, IsOnItsWay, IssuesAtEnd, IssuesTask, IsTaskOf, MayServe, with_serving}
 use Rattle.ncq.specs.declared.Task.{Task}
 use Rattle.ncq.proofs.Issued.{all_as}
 
@@ -51,51 +51,51 @@ finding_of port (Loading place bytes) here = absurd here
 
 -- what laws of acts say
 pub record Laws : Type 0 where
-  pub goes : (acts : List Act) (k later : Known) (m : Machine) → Knows m k → AreDone acts k m later → Goes k m (steps_of acts) later
-  pub reached : (k later : Known) (m : Machine) (steps : List Step) → IsReached m → Goes k m steps later → IsReached (after m steps)
-  pub silent : (acts : List Act) (k later : Known) (m : Machine) (port : ℕ) (o : Operation) → op_of o ≡ None → IsReached m → Knows m k → (k.uses port 0 ≡ Own o → ⊥)
+  pub goes : (acts : List Act) (k later : DriverState) (m : Machine) → DriverRelation m k → AreDone acts k m later → Goes k m (act_steps acts) later
+  pub reached : (k later : DriverState) (m : Machine) (steps : List Step) → IsReachable m → Goes k m steps later → IsReachable (after m steps)
+  pub silent : (acts : List Act) (k later : DriverState) (m : Machine) (port : ℕ) (o : Operation) → op_of o ≡ None → IsReachable m → DriverRelation m k → (k.uses port 0 ≡ Own o → ⊥)
       → All (λ act. act.later.uses port 0 ≡ Own o → ⊥) acts → AreDone acts k m later → SendsNone port o k.device later.device
 
-pub performs : (port : Port) (slot : ℕ) (r : Task) (frames : List Frame) (mode : Mode) (e : Pending) (old new : Device) → (i : IssuesTask port slot r frames old new)
+pub performs : (port : Port) (slot : ℕ) (r : Task) (frames : List Frame) (mode : QueueMode) (e : Pending) (old new : Device) → (i : IssuesTask port slot r frames old new)
     → IsTaskOf port slot r frames mode e
-    → Performs i.driven.accesses (MayServe port slot mode e) (with_serving port slot e.request.id) (λ s m. IssuesLast port slot mode e s.uses) old new
+    → Performs i.driven.accesses (MayServe port slot mode e) (with_serving port slot e.request.id) (λ s m. IssuesAtEnd port slot mode e s.uses) old new
 performs port slot r frames mode e old new i is = record { does = i.driven.all; comes = i.comes mode e is }
 
 -- a slot on its way has no command of the driver's own
-not_own : (id : RequestId) (o : Operation) (u : Use) → IsOnItsWay id u → u ≡ Own o → ⊥
+not_own : (id : RequestId) (o : Operation) (u : SlotState) → IsOnItsWay id u → u ≡ Own o → ⊥
 not_own id o u (inl e) own = absurd cc
 not_own id o u (inr (inl e)) own = absurd cc
 not_own id o u (inr (inr e)) own = absurd cc
 
-module _ (laws : Laws) (port : Port) (slot : ℕ) (r : Task) (frames : List Frame) (mode : Mode) (e : Pending) (old new : Device) (s : InSlots) (m : Machine)
-    (i : IssuesTask port slot r frames old new) (is : IsTaskOf port slot r frames mode e) (reached : IsReached m) (knows : Knows m (at s old)) (fits : MayServe port slot mode e s m) where
-  later : Known
-  later = at (with_serving port slot e.request.id s) new
+module _ (laws : Laws) (port : Port) (slot : ℕ) (r : Task) (frames : List Frame) (mode : QueueMode) (e : Pending) (old new : Device) (s : InSlots) (m : Machine)
+    (i : IssuesTask port slot r frames old new) (is : IsTaskOf port slot r frames mode e) (reached : IsReachable m) (knows : DriverRelation m (at_slots s old)) (fits : MayServe port slot mode e s m) where
+  later : DriverState
+  later = at_slots (with_serving port slot e.request.id s) new
 
-  x : Comes i.driven.accesses (at s old) m later (IssuesLast port slot mode e s.uses)
+  x : Comes i.driven.accesses (at_slots s old) m later (IssuesAtEnd port slot mode e s.uses)
   unfolding later
   x = i.comes mode e is s m reached knows fits
 
-  g : Goes (at s old) m (steps_of x.acts) later
-  g = laws.goes x.acts (at s old) later m knows x.done
+  g : Goes (at_slots s old) m (act_steps x.acts) later
+  g = laws.goes x.acts (at_slots s old) later m knows x.done
 
-  pub ends : EndsWith (at s old) m (Issue mode e) (at (with_serving port slot e.request.id s) new)
+  pub ends : EndsWith (at_slots s old) m (Issue mode e) (at_slots (with_serving port slot e.request.id s) new)
   unfolding later
   ends = record {
     steps = x.tells.before;
     only = x.tells.device;
     may = subst (λ (steps : List Step). AllMay m steps) x.tells.last g.may;
     backed = subst (λ (steps : List Step). IsBacked old new m steps) x.tells.last g.backed;
-    knows = subst (λ (steps : List Step). Knows (after m steps) later) x.tells.last g.knows;
+    knows = subst (λ (steps : List Step). DriverRelation (after m steps) later) x.tells.last g.knows;
   }
 
-  pub agrees : IsAgreed (with_serving port slot e.request.id s).uses new
+  pub agrees : IsRelated (with_serving port slot e.request.id s).uses new
   unfolding later
-  agrees = record { machine = after m (steps_of x.acts); parked = s.parked; reached = laws.reached (at s old) later m (steps_of x.acts) reached g; knows = g.knows }
+  agrees = record { machine = after m (act_steps x.acts); parked = s.parked; reached = laws.reached (at_slots s old) later m (act_steps x.acts) reached g; knows = g.knows }
 
   pub silent : (q : ℕ) (o : Operation) → op_of o ≡ None → (s.uses q 0 ≡ Own o → ⊥) → SendsNone q o old new
   unfolding later
-  silent q o own not = laws.silent x.acts (at s old) later m q o own reached knows not (never (cases_eq q port.0) (cases_eq 0 slot)) x.done
+  silent q o own not = laws.silent x.acts (at_slots s old) later m q o own reached knows not (never (cases_eq q port.0) (cases_eq 0 slot)) x.done
     where
       P : Act → Type 0
       P act = act.later.uses q 0 ≡ Own o → ⊥
@@ -112,7 +112,7 @@ module _ (laws : Laws) (port : Port) (slot : ℕ) (r : Task) (frames : List Fram
 
 -- ---- finding
 
-pub finding_followed : (port : Port) (mask done : ℕ) (old new : Device) → ReadsDone port mask done old new → IsFollowed (IsFinding port) AnyUse old new
+pub finding_followed : (port : Port) (mask done : ℕ) (old new : Device) → ReadsDone port mask done old new → IsSimulated (IsFinding port) AnyUse old new
 finding_followed port mask done old new f = record {
   driven = f.driven;
   comes = λ s m reached knows any.
@@ -123,7 +123,7 @@ finding_followed port mask done old new f = record {
         accesses_are = x.accesses_are;
         tells = record {
           only = x.tells.device;
-          kept = λ q issues arms. all_as (λ act. act.later.uses ≡ s.uses) (λ act. act.later.uses q.0 ≡ s.uses q.0) (λ act same. ap (λ (uses : ℕ → ℕ → Use). uses q.0) same) x.acts x.tells.used;
+          kept = λ q issues arms. all_as (λ act. act.later.uses ≡ s.uses) (λ act. act.later.uses q.0 ≡ s.uses q.0) (λ act same. ap (λ (uses : ℕ → ℕ → SlotState). uses q.0) same) x.acts x.tells.used;
         };
       };
 }

@@ -13,18 +13,18 @@ use Rattle.ata_types.specs.declared.limits.TheConstants.{MOST_REQUEST_SECTORS}
 use Rattle.adapter.specs.Device.{Device}
 use Rattle.adapter.specs.Trim.{consecutive}
 use Rattle.adapter.specs.Commands.{command_of, is_queued, is_ranged, pieces_moved}
-use Rattle.adapter.specs.Says.{pieces, IsWhole}
+use Rattle.adapter.specs.Decoding.{pieces, IsWholePieces}
 use Rattle.adapter.specs.declared.command.Command.{Command}
 use Rattle.adapter.specs.declared.command.Prd.{Prd}
 use Rattle.block_machine.specs.Due.{is_plain}
 use Rattle.block_machine.specs.State.{Accepted, Pending}
-use Rattle.block_machine.specs.declared.due.Mode.{Mode}
-use Rattle.agreement.specs.Driven.{IsFollowed}
-use Rattle.agreement.specs.Places.{place_in}
-use Rattle.agreement.specs.Slots.{ArePlaces, HasBlock, Means, op_of}
+use Rattle.block_machine.specs.declared.due.QueueMode.{QueueMode}
+use Rattle.refinement.specs.Driven.{IsSimulated}
+use Rattle.refinement.specs.Places.{place_in}
+use Rattle.refinement.specs.Slots.{ArePlaces, HasTrimBlock, Means, op_of}
 use Rattle.command_table.specs.Places.{place_of, places_of}
 use Rattle.command_table.specs.Written.{IsTableFor, IsTableStore, IsUnused}
-use Rattle.ncq.specs.Tasks.{HasBlockOf, IsStoreFor, IsTransfer, IsTaskOf, addresses_of, in_fis, meaning_of, operation_of}
+use Rattle.ncq.specs.Tasks.{HasBlockOf, IsStoreFor, IsTransfer, IsTaskOf, addresses_of, in_fis, meaning_of, task_operation}
 use Rattle.ncq.specs.declared.Task.{Task}
 
 -- what holds of a read and of a write holds of a transfer
@@ -37,14 +37,14 @@ of_command : (P : Bool → Op → Type 0) → P true Read → P true Write → P
 of_command P a b c d true = of_transfer (P true) a b
 of_command P a b c d false = of_transfer (P false) c d
 
-pub kind_of : (queued : Bool) (op : Op) → IsTransfer op → is_queued (operation_of queued op) ≡ queued
-kind_of = of_command (λ queued op. is_queued (operation_of queued op) ≡ queued) refl refl refl refl
+pub kind_of : (queued : Bool) (op : Op) → IsTransfer op → is_queued (task_operation queued op) ≡ queued
+kind_of = of_command (λ queued op. is_queued (task_operation queued op) ≡ queued) refl refl refl refl
 
-ranged : (queued : Bool) (op : Op) → IsTransfer op → is_ranged (operation_of queued op) ≡ true
-ranged = of_command (λ queued op. is_ranged (operation_of queued op) ≡ true) refl refl refl refl
+ranged : (queued : Bool) (op : Op) → IsTransfer op → is_ranged (task_operation queued op) ≡ true
+ranged = of_command (λ queued op. is_ranged (task_operation queued op) ≡ true) refl refl refl refl
 
-moves_all : (count : ℕ) (queued : Bool) (op : Op) → IsTransfer op → pieces_moved (operation_of queued op) count ≡ count
-moves_all count = of_command (λ queued op. pieces_moved (operation_of queued op) count ≡ count) refl refl refl refl
+moves_all : (count : ℕ) (queued : Bool) (op : Op) → IsTransfer op → pieces_moved (task_operation queued op) count ≡ count
+moves_all count = of_command (λ queued op. pieces_moved (task_operation queued op) count ≡ count) refl refl refl refl
 
 pub in_its_fis : (n : ℕ) (op : Op) → IsTransfer op → in_fis op n ≡ n
 in_its_fis n = of_transfer (λ op. in_fis op n ≡ n) refl refl
@@ -53,9 +53,9 @@ pub in_frames : (port count : ℕ) (frames : List Frame) (op : Op) → IsTransfe
 in_frames port count frames = of_transfer (λ op. addresses_of port op count frames ≡ places_of frames count) refl refl
 
 -- what is stored for a transfer is header and table
-pub stored_for : (port slot : ℕ) (old new : Device) (op : Op) → IsTransfer op → IsFollowed (IsTableStore port slot) (IsUnused port slot) old new →
-    IsFollowed (IsStoreFor op port slot) (IsUnused port slot) old new
-stored_for port slot old new op is followed = of_transfer (λ op. IsFollowed (IsStoreFor op port slot) (IsUnused port slot) old new) followed followed op is
+pub stored_for : (port slot : ℕ) (old new : Device) (op : Op) → IsTransfer op → IsSimulated (IsTableStore port slot) (IsUnused port slot) old new →
+    IsSimulated (IsStoreFor op port slot) (IsUnused port slot) old new
+stored_for port slot old new op is followed = of_transfer (λ op. IsSimulated (IsStoreFor op port slot) (IsUnused port slot) old new) followed followed op is
 
 pub never_trim : (slot : ℕ) (op : Op) → IsTransfer op → op ≡ Trim → slot ≡ 0
 never_trim slot = of_transfer (λ op. op ≡ Trim → slot ≡ 0) (λ (h : Read ≡ Trim). absurd cc) (λ (h : Write ≡ Trim). absurd cc)
@@ -70,12 +70,12 @@ as_many : (frames : List Frame) (count : ℕ) → length (places_of frames count
 as_many frames count = length-map-range_with_len (place_of frames) 0 count
 
 pub table_says : (r : Task) (frames : List Frame) (port slot : ℕ) → IsTransfer r.op → 1 ≤ r.range.count → r.range.count ≤ MOST_REQUEST_SECTORS → r.range.first.0 < 2 ^ 48 → (command : Command) (prds : List Prd) →
-    command ≡ command_of (operation_of r.queued r.op) slot r.range.first.0 r.range.count → All IsWhole prds → pieces prds ≡ places_of frames r.range.count →
+    command ≡ command_of (task_operation r.queued r.op) slot r.range.first.0 r.range.count → All IsWholePieces prds → pieces prds ≡ places_of frames r.range.count →
     IsTableFor slot command prds (meaning_of r) (addresses_of port r.op r.range.count frames)
 table_says r frames port slot transfers some few first command prds fields whole places =
-    subst (λ (first : ℕ). IsTableFor slot command prds (record { operation = operation_of r.queued r.op; first = first; count = in_fis r.op r.range.count }) (addresses_of port r.op r.range.count frames)) (sym (in_its_fis r.range.first.0 r.op transfers))
-    (subst (λ (count : ℕ). IsTableFor slot command prds (record { operation = operation_of r.queued r.op; first = r.range.first.0; count = count }) (addresses_of port r.op r.range.count frames)) (sym (in_its_fis r.range.count r.op transfers))
-    (subst (IsTableFor slot command prds (record { operation = operation_of r.queued r.op; first = r.range.first.0; count = r.range.count })) (sym (in_frames port r.range.count frames r.op transfers)) (record {
+    subst (λ (first : ℕ). IsTableFor slot command prds (record { operation = task_operation r.queued r.op; first = first; count = in_fis r.op r.range.count }) (addresses_of port r.op r.range.count frames)) (sym (in_its_fis r.range.first.0 r.op transfers))
+    (subst (λ (count : ℕ). IsTableFor slot command prds (record { operation = task_operation r.queued r.op; first = r.range.first.0; count = count }) (addresses_of port r.op r.range.count frames)) (sym (in_its_fis r.range.count r.op transfers))
+    (subst (IsTableFor slot command prds (record { operation = task_operation r.queued r.op; first = r.range.first.0; count = r.range.count })) (sym (in_frames port r.range.count frames r.op transfers)) (record {
       meaning = record {
         ranged = λ _. (some, omega (arith, few), first);
         not_ranged = λ h. absurd (true≢false (sym (ranged r.queued r.op transfers) ∙ h));
@@ -88,7 +88,7 @@ table_says r frames port slot transfers some few first command prds fields whole
 
 -- ---- the request of a task
 
-op_is : (queued : Bool) (op : Op) → op_of (operation_of queued op) ≡ Some op
+op_is : (queued : Bool) (op : Op) → op_of (task_operation queued op) ≡ Some op
 op_is true Read = refl
 op_is true Write = refl
 op_is false Read = refl
@@ -113,12 +113,12 @@ are_places Flush port count frames r counts same = refl
 are_places Read port count frames r counts same = in_order count frames r counts same
 are_places Write port count frames r counts same = in_order count frames r counts same
 
-module _ (port : Port) (slot : ℕ) (r : Task) (frames : List Frame) (mode : Mode) (e : Pending) (is : IsTaskOf port slot r frames mode e) where
+module _ (port : Port) (slot : ℕ) (r : Task) (frames : List Frame) (mode : QueueMode) (e : Pending) (is : IsTaskOf port slot r frames mode e) where
   -- a trim is plain, so it is in slot 0
   head : r.op ≡ Trim → slot ≡ 0
   head trim = is.head (is.kind ∙ ap (λ (op : Op). not (is_plain mode op)) trim)
 
-  names_first : (queued : Bool) (op : Op) → is_ranged (operation_of queued op) ≡ true → in_fis op r.range.first.0 ≡ e.request.asked.first.0
+  names_first : (queued : Bool) (op : Op) → is_ranged (task_operation queued op) ≡ true → in_fis op r.range.first.0 ≡ e.request.asked.first.0
   names_first true Read named = sym (ap (λ (s : Sector). s.0) is.first)
   names_first false Read named = sym (ap (λ (s : Sector). s.0) is.first)
   names_first true Write named = sym (ap (λ (s : Sector). s.0) is.first)
@@ -137,12 +137,12 @@ module _ (port : Port) (slot : ℕ) (r : Task) (frames : List Frame) (mode : Mod
   }
 
   -- its block is the request's
-  block_of : (op : Op) (memory : ℕ → ℕ) → HasBlockOf op r.range port.0 memory → HasBlock op memory port.0 e.request
+  block_of : (op : Op) (memory : ℕ → ℕ) → HasBlockOf op r.range port.0 memory → HasTrimBlock op memory port.0 e.request
   block_of Trim memory block =
       block ∙ (ap (λ (s : Sector). consecutive s.0 r.range.count) (sym is.first) ∙ ap (consecutive e.request.asked.first.0) (sym is.count))
   block_of Read memory block = tt
   block_of Write memory block = tt
   block_of Flush memory block = tt
 
-  pub task_block : (memory : ℕ → ℕ) → HasBlockOf r.op r.range port.0 memory → HasBlock e.request.asked.op memory port.0 e.request
-  task_block memory block = subst (λ (o : Op). HasBlock o memory port.0 e.request) (sym is.operation) (block_of r.op memory block)
+  pub task_block : (memory : ℕ → ℕ) → HasBlockOf r.op r.range port.0 memory → HasTrimBlock e.request.asked.op memory port.0 e.request
+  task_block memory block = subst (λ (o : Op). HasTrimBlock o memory port.0 e.request) (sym is.operation) (block_of r.op memory block)

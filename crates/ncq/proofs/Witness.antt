@@ -9,18 +9,18 @@ use Rattle.adapter.specs.Commands.{Meaning, is_queued, is_ranged}
 use Rattle.adapter.specs.FirstRead.{first_read}
 use Rattle.adapter.specs.Memory.{changed}
 use Rattle.adapter.specs.ReadDone.{read_of}
-use Rattle.adapter.specs.Says.{Says, cut}
+use Rattle.adapter.specs.Decoding.{DecodesTo, piece_addresses}
 use Rattle.block_machine.specs.Confined.{WasAccepted}
 use Rattle.block_machine.specs.Due.{is_plain}
 use Rattle.block_machine.specs.Left.{IsLegal, IsStart, after}
 use Rattle.block_machine.specs.Rules.{frames_for}
 use Rattle.block_machine.specs.State.{Accepted, Machine, Pending}
 use Rattle.block_machine.specs.Steps.{Issue, May, Step}
-use Rattle.block_machine.specs.declared.due.Mode.{Mode}
-use Rattle.agreement.specs.Driver.{IsPrepared, idle}
-use Rattle.agreement.specs.Slots.{ArePlaces, op_of}
-use Rattle.agreement.specs.Witness.{PreparedIsKnown, prepared_read}
-use Rattle.ncq.specs.Tasks.{IsFit}
+use Rattle.block_machine.specs.declared.due.QueueMode.{QueueMode}
+use Rattle.refinement.specs.Driver.{IsPrepared, idle}
+use Rattle.refinement.specs.Slots.{ArePlaces, op_of}
+use Rattle.refinement.specs.Witness.{PreparedIsKnown, prepared_read}
+use Rattle.ncq.specs.Tasks.{IsFitTransfer}
 use Rattle.ncq.specs.Witness.{FirstMayBeIssued}
 use Rattle.ncq.specs.declared.Task.{Task}
 
@@ -33,9 +33,9 @@ frames_fit start (step ∷ past) r was = ⊎_elim
     was
 
 -- given what the laws say of the first read, and of requests that are issued
-module _ (known : PreparedIsKnown) (one : (memory : ℕ → ℕ) (list slot : ℕ) (m n : Meaning) (xs ys : List ℕ) → Says memory list slot m xs → Says memory list slot n ys → (m ≡ n) × (xs ≡ ys))
-    (says : Says first_read.memory 0 0 (read_of 100 8) (cut 0x64000 8))
-    (issued : (start : Machine) (history : List Step) (mode : Mode) (e : Pending) → IsStart start → IsLegal start history → May (after start history) (Issue mode e) → WasAccepted start history e.request) where
+module _ (known : PreparedIsKnown) (one : (memory : ℕ → ℕ) (list slot : ℕ) (m n : Meaning) (xs ys : List ℕ) → DecodesTo memory list slot m xs → DecodesTo memory list slot n ys → (m ≡ n) × (xs ≡ ys))
+    (says : DecodesTo first_read.memory 0 0 (read_of 100 8) (piece_addresses 0x64000 8))
+    (issued : (start : Machine) (history : List Step) (mode : QueueMode) (e : Pending) → IsStart start → IsLegal start history → May (after start history) (Issue mode e) → WasAccepted start history e.request) where
   prepared : IsPrepared (idle prepared_read).uses known.machine prepared_read 0 0 known.mode known.request 1
   prepared = known.prepared
 
@@ -43,9 +43,9 @@ module _ (known : PreparedIsKnown) (one : (memory : ℕ → ℕ) (list slot : �
   request = known.request.request
 
   -- memory says the first read, so the request is that read
-  same : (prepared.command ≡ read_of 100 8) × (prepared.places ≡ cut 0x64000 8)
+  same : (prepared.command ≡ read_of 100 8) × (prepared.places ≡ piece_addresses 0x64000 8)
   unfolding changed
-  same = one first_read.memory 0 0 prepared.command (read_of 100 8) prepared.places (cut 0x64000 8) prepared.told.says says
+  same = one first_read.memory 0 0 prepared.command (read_of 100 8) prepared.places (piece_addresses 0x64000 8) prepared.told.says says
 
   read_is : request.asked.op ≡ Read
   read_is = some_read (sym prepared.means.op ∙ ap (λ (m : Meaning). op_of m.operation) same.0)
@@ -75,7 +75,7 @@ module _ (known : PreparedIsKnown) (one : (memory : ℕ → ℕ) (list slot : �
   abbrev transfer : Task
   transfer = record { op = request.asked.op; range = record { first = request.asked.first; count = request.asked.count }; queued = false }
 
-  fits : IsFit transfer request.asked.frames.items
+  fits : IsFitTransfer transfer request.asked.frames.items
   fits = record {
     transfers = inl read_is;
     some = let count = count_is in omega (arith, count);

@@ -8,21 +8,21 @@ use Rattle.ata_types.specs.declared.request.Op.TheVariants.{Trim}
 use Rattle.adapter.specs.Commands.{is_queued}
 use Rattle.adapter.specs.Device.{Device}
 use Rattle.adapter.specs.Rules.{IsOn, HasPort}
-use Rattle.agreement.specs.Driven.{AgreesWith, IsBitOf, IsFollowed}
-use Rattle.agreement.specs.Places.{list_of}
-use Rattle.agreement.specs.Readying.{IsStored}
-use Rattle.agreement.specs.Slots.{Told}
+use Rattle.refinement.specs.Driven.{RelatesWith, IsBitOf, IsSimulated}
+use Rattle.refinement.specs.Places.{list_of}
+use Rattle.refinement.specs.Readying.{IsStored}
+use Rattle.refinement.specs.Slots.{SlotDecodesTo}
 use Rattle.command_table.specs.Written.{IsUnused}
 use Rattle.ncq.specs.Tasks.{Arms, HasBlockOf, IsStoreFor, IssuesTask, RunsItsList, addresses_of, meaning_of}
 use Rattle.ncq.specs.declared.Task.{Task}
 
 -- A command may be issued in the port's slot: the slot is unused, memory has the driver's areas, and the port runs,
 -- with its command list in its place (AHCI 1.3.1, 5.5.1).
-pub record MayIssue (port : Port) (slot : ℕ) (d : Device) : Type 0 where
+pub record MayIssueTask (port : Port) (slot : ℕ) (d : Device) : Type 0 where
   pub on : IsOn d
   pub there : HasPort d port.0
   pub room : DRIVER_BYTES ≤ d.size
-  pub agreed : AgreesWith (IsUnused port.0 slot) d
+  pub agreed : RelatesWith (IsUnused port.0 slot) d
   pub may : RunsItsList port.0 d
 
 -- A task's command might be issued in the slot, queued if the task is, and a trim's in slot 0; what it needs was
@@ -34,14 +34,15 @@ pub record IsArmedFor (port : Port) (slot : ℕ) (r : Task) (frames : List Frame
   pub there : HasPort old port.0
   pub small : slot < 32
   pub usable : slot ≤ old.cap / 256 % 32
-  pub agreed : AgreesWith (IsUnused port.0 slot) old
+  pub agreed : RelatesWith (IsUnused port.0 slot) old
   pub may : RunsItsList port.0 old
   pub kind : is_queued (meaning_of r).operation ≡ r.queued
   pub head : r.op ≡ Trim → slot ≡ 0
   pub mid : Device
   pub mid_on : IsOn mid
-  pub stores : IsFollowed (IsStoreFor r.op port.0 slot) (IsUnused port.0 slot) old mid
-  pub told : Told mid.memory (list_of port.0) port.0 slot (meaning_of r) (addresses_of port.0 r.op r.range.count frames)
+  pub stores : IsSimulated (IsStoreFor r.op port.0 slot) (IsUnused port.0 slot) old mid
+  pub told : SlotDecodesTo mid.memory (list_of port.0) port.0 slot (meaning_of r)
+      (addresses_of port.0 r.op r.range.count frames)
   pub block : HasBlockOf r.op r.range port.0 mid.memory
   pub alone : IsBitOf slot own
   pub arms : Arms r.queued port own mid armed

@@ -12,10 +12,10 @@ use Rattle.block_machine.specs.Events.{AllDevices}
 use Rattle.block_machine.specs.Left.{after}
 use Rattle.block_machine.specs.State.{Machine}
 use Rattle.block_machine.specs.Steps.{NoneKept}
-use Rattle.agreement.specs.Acts.{Act, InSlots, ComesWith, steps_of}
-use Rattle.agreement.specs.Driven.{IsDrivenBy}
-use Rattle.agreement.specs.Facts.{EndedIn}
-use Rattle.agreement.specs.Slots.{Serves, IsOver}
+use Rattle.refinement.specs.Acts.{Act, InSlots, ComesWith, act_steps}
+use Rattle.refinement.specs.Driven.{IsDrivenBy}
+use Rattle.refinement.specs.Facts.{EndedIn}
+use Rattle.refinement.specs.Slots.{Serves, IsOver}
 
 -- it reads PxCI or PxSACT
 abbrev pub IsFinding : Port → Access → Type 0
@@ -26,11 +26,11 @@ IsFinding port access = ⊥
 -- done and serves a request is over, and the request has ended. And no request of the port was kept meanwhile.
 pub record FindsEnds (port : Port) (done : ℕ) (old new : Device) (s : InSlots) (m : Machine)
     (acts : List Act) : Type 0 where
-  pub device : AllDevices (steps_of acts)
+  pub device : AllDevices (act_steps acts)
   pub used : All (λ act. act.later.uses ≡ s.uses) acts
   pub ended : (old.port port.0).st ≡ true → (slot : ℕ) (id : RequestId) → slot < 32 → bit done slot ≡ true
-      → s.uses port.0 slot ≡ Serves id → IsOver (new.port port.0) slot × EndedIn (after m (steps_of acts)) port id
-  pub kept : NoneKept m port → NoneKept (after m (steps_of acts)) port
+      → s.uses port.0 slot ≡ Serves id → IsOver (new.port port.0) slot × EndedIn (after m (act_steps acts)) port id
+  pub kept : NoneKept m port → NoneKept (after m (act_steps acts)) port
 
 -- the bits of the mask that are clear in what was read of PxCI and of PxSACT
 abbrev pub AreClear : ℕ → ℕ → ℕ → ℕ → Type 0

@@ -22,11 +22,11 @@ use Rattle.block_machine.specs.Due.{is_plain}
 use Rattle.block_machine.specs.Events.{AllDevices}
 use Rattle.block_machine.specs.State.{Pending, Machine}
 use Rattle.block_machine.specs.Steps.{Step, Issue, May}
-use Rattle.block_machine.specs.declared.due.Mode.{Mode}
-use Rattle.agreement.specs.Acts.{Act, InSlots, ComesWith, steps_of}
-use Rattle.agreement.specs.Driven.{IsBitOf, IsDrivenBy}
-use Rattle.agreement.specs.Places.{list_of, scratch_of}
-use Rattle.agreement.specs.Slots.{Use, Free, Armed, Serves, Uses, put}
+use Rattle.block_machine.specs.declared.due.QueueMode.{QueueMode}
+use Rattle.refinement.specs.Acts.{Act, InSlots, ComesWith, act_steps}
+use Rattle.refinement.specs.Driven.{IsBitOf, IsDrivenBy}
+use Rattle.refinement.specs.Places.{list_of, scratch_of}
+use Rattle.refinement.specs.Slots.{SlotState, Free, Armed, Serves, SlotStates, put}
 use Rattle.command_table.specs.Written.{IsStoreWithBlock, IsTableStore}
 use Rattle.command_table.specs.Places.{places_of}
 use Rattle.ncq.specs.declared.Task.{Task}
@@ -39,7 +39,7 @@ IsTransfer op = (op ≡ Read) ⊎ (op ≡ Write)
 
 -- A read or a write of 1 to 1024 sectors, the first of them below 2^48, and the frames that they need, eight sectors to
 -- a frame.
-pub record IsFit (r : Task) (frames : List Frame) : Type 0 where
+pub record IsFitTransfer (r : Task) (frames : List Frame) : Type 0 where
   pub transfers : IsTransfer r.op
   pub some : 1 ≤ r.range.count
   pub few : r.range.count ≤ MOST_REQUEST_SECTORS
@@ -47,13 +47,13 @@ pub record IsFit (r : Task) (frames : List Frame) : Type 0 where
   pub number : length frames ≡ (r.range.count + 7) / 8
 
 -- the command that does what a request asks, queued if it is to be
-abbrev pub operation_of : Bool → Op → Operation
-operation_of true Read = operation.ReadQueued
-operation_of false Read = operation.Read
-operation_of true Write = operation.WriteQueued
-operation_of false Write = operation.Write
-operation_of queued Trim = operation.Trim
-operation_of queued Flush = operation.Flush
+abbrev pub task_operation : Bool → Op → Operation
+task_operation true Read = operation.ReadQueued
+task_operation false Read = operation.Read
+task_operation true Write = operation.WriteQueued
+task_operation false Write = operation.Write
+task_operation queued Trim = operation.Trim
+task_operation queued Flush = operation.Flush
 
 -- of a range, what the command's FIS says: a trim's sectors stand in its block, and a flush has none
 abbrev pub in_fis : Op → ℕ → ℕ
@@ -65,7 +65,7 @@ in_fis Flush n = 0
 -- what the task's command says
 abbrev pub meaning_of : Task → Meaning
 meaning_of r = record {
-  operation = operation_of r.queued r.op;
+  operation = task_operation r.queued r.op;
   first = in_fis r.op r.range.first.0;
   count = in_fis r.op
       r.range.count;
@@ -87,7 +87,8 @@ HasBlockOf _ range port memory = Unit {0}
 
 -- The request is this task, on this port, and its mode asks for this kind of command. The slot is usable, and a plain
 -- one's is slot 0.
-pub record IsTaskOf (port : Port) (slot : ℕ) (r : Task) (frames : List Frame) (mode : Mode) (e : Pending) : Type 0 where
+pub record IsTaskOf (port : Port) (slot : ℕ) (r : Task) (frames : List Frame) (mode : QueueMode)
+    (e : Pending) : Type 0 where
   pub port_is : e.request.port ≡ port
   pub operation : e.request.asked.op ≡ r.op
   pub first : e.request.asked.first ≡ r.range.first
@@ -126,7 +127,7 @@ Arms true port v old new = Writes (Px port Sact) v old new
 Arms false port v old new = new ≡ old
 
 -- Stores of what the slot's command needs come first, and then the writes of the slot's bit.
-pub record IsInOrder (port : Port) (slot : ℕ) (r : Task) (accesses : List Access) : Type 0 where
+pub record StoresThenWrites (port : Port) (slot : ℕ) (r : Task) (accesses : List Access) : Type 0 where
   pub stores : List Access
   pub only : All (IsStoreFor r.op port.0 slot) stores
   pub own : ℕ
@@ -134,7 +135,7 @@ pub record IsInOrder (port : Port) (slot : ℕ) (r : Task) (accesses : List Acce
   pub order : accesses ≡ stores ++ writes_of port r.queued own
 
 -- the slot is free, and the request is due
-abbrev pub MayServe : Port → ℕ → Mode → Pending → InSlots → Machine → Type 0
+abbrev pub MayServe : Port → ℕ → QueueMode → Pending → InSlots → Machine → Type 0
 MayServe port slot mode e s m = (s.uses port.0 slot ≡ Free) × May m (Issue mode e)
 
 -- the slot serves the request
@@ -142,16 +143,16 @@ abbrev pub with_serving : Port → ℕ → RequestId → InSlots → InSlots
 with_serving port slot id s = record s { uses = put s.uses port.0 slot (Serves id) }
 
 -- on its way from being free to serving this request
-abbrev pub IsOnItsWay : RequestId → Use → Type 0
+abbrev pub IsOnItsWay : RequestId → SlotState → Type 0
 IsOnItsWay id u = (u ≡ Free) ⊎ ((u ≡ Armed) ⊎ (u ≡ Serves id))
 
 -- The device makes steps, and last of all the request is issued. The slot is put to no other use meanwhile, and each
 -- other one is used after each act as before the first.
-pub record IssuesLast (port : Port) (slot : ℕ) (mode : Mode) (e : Pending) (uses : Uses)
+pub record IssuesAtEnd (port : Port) (slot : ℕ) (mode : QueueMode) (e : Pending) (uses : SlotStates)
     (acts : List Act) : Type 0 where
   pub before : List Step
   pub device : AllDevices before
-  pub last : steps_of acts ≡ Issue mode e ∷ before
+  pub last : act_steps acts ≡ Issue mode e ∷ before
   pub own : All (λ act. IsOnItsWay e.request.id (act.later.uses port.0 slot)) acts
   pub others : (q k : ℕ) → (q ≡ port.0 → k ≡ slot → ⊥) → All (λ act. act.later.uses q k ≡ uses q k) acts
 
@@ -159,7 +160,7 @@ pub record IssuesLast (port : Port) (slot : ℕ) (mode : Mode) (e : Pending) (us
 -- that is this task is due, acts with these accesses lead to one that agrees with a driver whose slot serves it.
 pub record IssuesTask (port : Port) (slot : ℕ) (r : Task) (frames : List Frame) (old new : Device) : Type 0 where
   pub driven : IsDrivenBy (IsIssuing port slot) old new
-  pub order : IsInOrder port slot r driven.accesses
-  pub comes : (mode : Mode) (e : Pending) → IsTaskOf port slot r frames mode e
+  pub order : StoresThenWrites port slot r driven.accesses
+  pub comes : (mode : QueueMode) (e : Pending) → IsTaskOf port slot r frames mode e
       → ComesWith driven.accesses (MayServe port slot mode e) (with_serving port slot e.request.id)
-      (λ s m. IssuesLast port slot mode e s.uses) old new
+      (λ s m. IssuesAtEnd port slot mode e s.uses) old new

@@ -5,12 +5,12 @@ use Rattle.ata_types.specs.declared.request.Frame.{Frame}
 use Rattle.adapter.specs.Rules.{IsOn, HasPort}
 use Rattle.block_machine.specs.State.{Pending}
 use Rattle.block_machine.specs.Steps.{Issue, May}
-use Rattle.block_machine.specs.declared.due.Mode.{Mode}
-use Rattle.agreement.specs.Agrees.{port_at}
-use Rattle.agreement.specs.Driven.{IsAgreed}
-use Rattle.agreement.specs.Slots.{Free}
-use Rattle.agreement.specs.Witness.{prepared_read}
-use Rattle.ncq.specs.Tasks.{IsFit, IsTaskOf, RunsItsList}
+use Rattle.block_machine.specs.declared.due.QueueMode.{QueueMode}
+use Rattle.refinement.specs.Relation.{port_at}
+use Rattle.refinement.specs.Driven.{IsRelated}
+use Rattle.refinement.specs.Slots.{Free}
+use Rattle.refinement.specs.Witness.{prepared_read}
+use Rattle.ncq.specs.Tasks.{IsFitTransfer, IsTaskOf, RunsItsList}
 use Rattle.ncq.specs.declared.Task.{Task}
 
 -- What is asked of the adapter before a transfer is issued holds of port 0 of the first read's, before its bit of PxCI
@@ -21,12 +21,12 @@ pub record FirstMayBeIssued : Type 0 where
   pub there : HasPort prepared_read 0
   pub room : DRIVER_BYTES ≤ prepared_read.size
   pub may : RunsItsList 0 prepared_read
-  pub agreed : IsAgreed (λ port slot. Free) prepared_read
-  pub mode : Mode
+  pub agreed : IsRelated (λ port slot. Free) prepared_read
+  pub mode : QueueMode
   pub request : Pending
   pub due : May agreed.machine (Issue mode request)
   pub transfer : Task
   pub frames : List Frame
-  pub fits : IsFit transfer frames
+  pub fits : IsFitTransfer transfer frames
   pub plain : transfer.queued ≡ false
   pub is : IsTaskOf (port_at 0) 0 transfer frames mode request

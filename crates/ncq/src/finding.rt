@@ -9,24 +9,26 @@ ghost use Rattle.adapter.specs.Device.{Device};
 ghost use Rattle.adapter.specs.Rules.{IsOn};
 ghost use Rattle.ncq.specs.Masks.{AreClear, ReadsDone, SeesClear};
 
-use adapter::laws::steps_keep;
-use agreement::acts::acts_are_done;
-use agreement::facts::{adapter_stays, controls_stay, ended_is_clear};
-use agreement::laws::{going_composes, histories_go_on, reading_is_followed, steps_spare_the_book};
+use adapter::laws::law_steps_keep;
+use refinement::acts::law_acts_are_done;
+use refinement::facts::{law_adapter_stays, law_controls_stay, law_ended_is_clear};
+use refinement::laws::{
+    law_going_composes, law_histories_go_on, law_reading_is_followed, law_steps_spare_the_book,
+};
 
 /// PxCI and then PxSACT are read: they tell what is done.
-pub fn reading_finds_done()
+pub fn law_reading_finds_done()
     ensures { (port : Port) (mask done issued active : ℕ) (old mid new : Device) → IsOn old
         → Reads (Px port Ci) issued old mid → Reads (Px port Sact) active mid new → AreClear mask issued active done
         → ReadsDone port mask done old new × SeesClear port mask done old }
 {
-    acts_are_done();
-    adapter_stays();
-    controls_stay();
-    ended_is_clear();
-    going_composes();
-    histories_go_on();
-    reading_is_followed();
-    steps_keep();
-    steps_spare_the_book();
+    law_acts_are_done();
+    law_adapter_stays();
+    law_controls_stay();
+    law_ended_is_clear();
+    law_going_composes();
+    law_histories_go_on();
+    law_reading_is_followed();
+    law_steps_keep();
+    law_steps_spare_the_book();
 }

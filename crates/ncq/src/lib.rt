@@ -4,18 +4,18 @@
 //! whatever the others do. The contract on issuing is of a `Task`, which may be a trim or a flush
 //! as well. Clear bits tell that a request has ended only while ST is one, since clearing ST clears
 //! them, too. What issuing leaves of the port beside its slot follows from the kinds of its
-//! accesses, by laws of `agreement`. It knows no client and no book.
+//! accesses, by laws of `refinement`. It knows no client and no book.
 #![tactic(auto)]
 
 ghost use Rattle.std.specs.Prelude.{◌≡◌, ◌≤◌, ◌<◌, ◌*◌, ◌/◌, ◌%◌, true, false};
 ghost use Rattle.adapter.specs.Commands.{command_of};
 ghost use Rattle.adapter.specs.Rules.{IsOn, HasPort};
-ghost use Rattle.agreement.specs.Driven.{IsBitOf};
+ghost use Rattle.refinement.specs.Driven.{IsBitOf};
 ghost use Rattle.hba_regs.specs.declared.reg.PortReg.TheVariants.{Ci, Sact};
 ghost use Rattle.hba_regs.specs.declared.reg.Reg.TheVariants.{Px};
-ghost use Rattle.ncq.specs.Issuing.{IsArmedFor, IsIssued, MayIssue};
+ghost use Rattle.ncq.specs.Issuing.{IsArmedFor, IsIssued, MayIssueTask};
 ghost use Rattle.ncq.specs.Masks.{AreClear, ReadsDone, SeesClear};
-ghost use Rattle.ncq.specs.Tasks.{Arms, IsFit, IsTransfer, operation_of};
+ghost use Rattle.ncq.specs.Tasks.{Arms, IsFitTransfer, IsTransfer, task_operation};
 ghost use Rattle.adapter.specs.Counted.{MakesAtMost};
 ghost use Rattle.ncq.specs.Costs.{ARM_ACCESSES, DONE_ACCESSES, ISSUE_ACCESSES};
 
@@ -24,17 +24,17 @@ mod issuing;
 pub mod laws;
 
 use adapter::{Adapter, Command};
-use agreement::facts::adapter_stays;
-use agreement::laws::writing_is_permitted;
 use ata_types::{
     DRIVER_BYTES, Frame, MOST_REQUEST_SECTORS, Op, Port, READ_DMA_EXT, READ_FPDMA_QUEUED, Range,
     Slot, WRITE_DMA_EXT, WRITE_FPDMA_QUEUED,
 };
 use command_table::{prds, write_table};
-use finding::reading_finds_done;
+use finding::law_reading_finds_done;
 use hba_regs::{PortReg, Reg, with_bit};
-use issuing::stores_leave_the_port;
-use laws::writing_issues;
+use issuing::law_stores_leave_the_port;
+use laws::law_writing_issues;
+use refinement::facts::law_adapter_stays;
+use refinement::laws::law_writing_is_permitted;
 
 /// Where a queued command has its tag, which is its slot: bits 7:3 of the count field (ACS-3).
 const TAG_FACTOR: u16 = 8;
@@ -60,7 +60,7 @@ fn command(transfer: &Task, slot: Slot) -> Command
     requires transfers { IsTransfer transfer.now.op }
     requires few { transfer.now.range.count ≤ MOST_REQUEST_SECTORS }
     requires slot { slot.0 < 32 }
-    ensures { result ≡ command_of (operation_of transfer.now.queued transfer.now.op) slot.0 transfer.now.range.first.0
+    ensures { result ≡ command_of (task_operation transfer.now.queued transfer.now.op) slot.0 transfer.now.range.first.0
         transfer.now.range.count }
 {
     let sectors = transfer.range.count as u16;
@@ -101,7 +101,7 @@ fn arm<A: Adapter>(adapter: &mut A, port: Port, own: u32, queued: bool)
     ensures arms { Arms queued port own (A.device adapter.old) (A.device adapter.new) }
     ensures cost { MakesAtMost 1 (A.access_count adapter.old) (A.access_count adapter.new) }
 {
-    writing_is_permitted();
+    law_writing_is_permitted();
     if queued {
         adapter.write(Reg::Px(port, PortReg::Sact), own);
     }
@@ -116,10 +116,10 @@ fn prepare<A: Adapter>(
     transfer: &Task,
     frames: &[Frame],
 ) -> u32
-    requires may { MayIssue port slot.0 (A.device adapter.old) }
+    requires may { MayIssueTask port slot.0 (A.device adapter.old) }
     requires slot { slot.0 < 32 }
     requires usable { slot.0 ≤ (A.device adapter.old).cap / 256 % 32 }
-    requires fits { IsFit transfer.now frames.now }
+    requires fits { IsFitTransfer transfer.now frames.now }
     ensures armed { IsArmedFor port slot.0 transfer.now frames.now result (A.device adapter.old)
         (A.device adapter.new) }
     ensures cost { MakesAtMost ARM_ACCESSES (A.access_count adapter.old) (A.access_count adapter.new) }
@@ -133,7 +133,7 @@ fn prepare<A: Adapter>(
         prds.as_slice(),
     );
     let own = bit_of(slot);
-    stores_leave_the_port();
+    law_stores_leave_the_port();
     arm(adapter, port, own, transfer.queued);
     own
 }
@@ -141,15 +141,15 @@ fn prepare<A: Adapter>(
 /// Issues a transfer, eight sectors to a frame, in an unused slot of a port that runs: a queued one as READ or WRITE
 /// FPDMA QUEUED, for which the slot's bit of PxSACT is set first, and a plain one as READ or WRITE DMA EXT.
 pub fn issue<A: Adapter>(adapter: &mut A, port: Port, slot: Slot, transfer: &Task, frames: &[Frame])
-    requires may { MayIssue port slot.0 (A.device adapter.old) }
+    requires may { MayIssueTask port slot.0 (A.device adapter.old) }
     requires slot { slot.0 < 32 }
     requires usable { slot.0 ≤ (A.device adapter.old).cap / 256 % 32 }
-    requires fits { IsFit transfer.now frames.now }
+    requires fits { IsFitTransfer transfer.now frames.now }
     ensures issued { IsIssued port slot.0 transfer.now frames.now (A.device adapter.old) (A.device adapter.new) }
     ensures cost { MakesAtMost ISSUE_ACCESSES (A.access_count adapter.old) (A.access_count adapter.new) }
 {
     let own = prepare(adapter, port, slot, transfer, frames);
-    writing_issues();
+    law_writing_issues();
     adapter.write(Reg::Px(port, PortReg::Ci), own);
 }
 
@@ -171,8 +171,8 @@ pub fn done<A: Adapter>(adapter: &mut A, port: Port, mask: u32) -> u32
     ensures seen { SeesClear port mask result (A.device adapter.old) }
     ensures cost { MakesAtMost DONE_ACCESSES (A.access_count adapter.old) (A.access_count adapter.new) }
 {
-    adapter_stays();
-    reading_finds_done();
+    law_adapter_stays();
+    law_reading_finds_done();
     let issued = adapter.read(Reg::Px(port, PortReg::Ci));
     let active = adapter.read(Reg::Px(port, PortReg::Sact));
     clear_in_both(mask, issued, active)

@@ -10,15 +10,15 @@ use Rattle.std.proofs.lemmas.List.Kept.{AllPairs-cons}
 use Rattle.std.proofs.lemmas.Map.Made.{IsDistinct-from_AllPairs}
 use Rattle.std.proofs.lemmas.Map.Steps.{length-le_from_distinct_below}
 use Rattle.block_machine.specs.Rules.{DifferInName}
-use Rattle.configuration.specs.Ranges.{IsClient as IsClientWithin}
-use Rattle.configuration.specs.Rules.{HasPort, IsInRange, IsSound}
+use Rattle.configuration.specs.Ranges.{IsClientConfig}
+use Rattle.configuration.specs.Rules.{ConfiguresPort, IsInRange, MeetsAll}
 use Rattle.configuration.specs.declared.ClientConfig.{ClientConfig}
 use Rattle.configuration.specs.declared.Config.{Config}
 use Rattle.configuration.specs.declared.Kind.TheVariants.{OutOfRange, Duplicate, SharedFrames, UnknownPort}
-use Rattle.dma_frames.specs.Table.{Run, AreApart}
+use Rattle.dma_frames.specs.Table.{FrameExtent, ExtentsApart}
 use Rattle.identify.specs.declared.wanted.Wanted.{Wanted}
 use Rattle.identify.specs.declared.wanted.Wanted.TheVariants.{Nothing}
-use Rattle.plan.specs.Parts.{AreWantedOf, disk_of, row_of, run_of}
+use Rattle.plan.specs.Parts.{AreWantedOf, wanted_disk, row_of, owner_extent}
 use Rattle.plan.specs.Plan.{AreRuns, HasClientFrames, IsClient, IsPlan, IsPlanOf, IsServedGrant, PlanView}
 
 -- what each two elements have in common, each two of their images have
@@ -47,15 +47,15 @@ eight ids range once =
     omega (arith, length-le_from_distinct_below all 9 (IsDistinct-from_AllPairs Decides-eqb all apart) below)
 
 -- what a port asks for is a disk
-some_disk : (serial : Option (List ℕ)) → disk_of serial ≢ Nothing
+some_disk : (serial : Option (List ℕ)) → wanted_disk serial ≢ Nothing
 some_disk None = λ is. cc
 some_disk (Some serial) = λ is. cc
 
-module _ (c : Config) (sound : IsSound c) where
+module _ (c : Config) (sound : MeetsAll c) where
   pub in_range : IsInRange c
   in_range = sound OutOfRange
 
-  pub clients_within : All (IsClientWithin MOST_FRAMES) c.client.items
+  pub clients_within : All (IsClientConfig MOST_FRAMES) c.client.items
   clients_within = λ k d low.
       let is = in_range.parts.clients k d low in
       record {
@@ -75,18 +75,18 @@ module _ (c : Config) (sound : IsSound c) where
       let once = AllPairs-map (λ a b. a ≢ b) id clients (sound Duplicate).clients in
       omega (arith, eight (map id clients) range once, length-map clients id)
 
-  runs : AreRuns c.frames (map run_of c.client.items)
+  runs : AreRuns c.frames (map owner_extent c.client.items)
   runs = record {
-    owners = All-map (λ (run : Run). IsClient run.0) run_of c.client.items
+    owners = All-map (λ (run : FrameExtent). IsClient run.0) owner_extent c.client.items
         (λ k d low. ((in_range.parts.clients k d low).least, (in_range.parts.clients k d low).most));
-    within = All-map (HasClientFrames c.frames) run_of c.client.items
+    within = All-map (HasClientFrames c.frames) owner_extent c.client.items
         (λ k d low. let is = in_range.parts.clients k d low in (is.first_frame, is.some, is.within));
-    apart = AllPairs-map AreApart run_of c.client.items
+    apart = AllPairs-map ExtentsApart owner_extent c.client.items
         (λ i j d before high f a b. (sound SharedFrames i j d before high).none f.0 a b);
   }
 
   served : (wanted : List Wanted) → AreWantedOf c.port.items wanted → All (λ g. IsServedGrant wanted (row_of g)) c.grant.items
-  unfolding HasPort
+  unfolding ConfiguresPort
   served wanted are k d low =
       let g = get_or c.grant.items k d in
       let is = in_range.parts.grants k d low in

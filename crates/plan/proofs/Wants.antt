@@ -3,10 +3,10 @@ use Rattle.std.proofs.Common.{ℕ, ◌≡◌, ◌<◌, ◌∙◌, zero, suc, Lis
 use Rattle.std.proofs.lemmas.Bool.{cases_lt}
 use Rattle.std.proofs.lemmas.List.{get_or_default}
 use Rattle.std.specs.List.{slice_get}
-use Rattle.configuration.specs.Rules.{DifferInNumber, HasPort}
+use Rattle.configuration.specs.Rules.{DifferInNumber, ConfiguresPort}
 use Rattle.configuration.specs.declared.PortConfig.{PortConfig}
 use Rattle.identify.specs.declared.wanted.Wanted.{Wanted}
-use Rattle.plan.specs.Parts.{IsWantedIn, disk_of}
+use Rattle.plan.specs.Parts.{IsWantedIn, wanted_disk}
 
 -- ports of one number stand at one place
 one_place : (ports : List PortConfig) (i j : ℕ) (d : PortConfig) → AllPairs DifferInNumber ports → i < length ports
@@ -18,15 +18,15 @@ one_place ports i j d once low high same = ⊎_elim
 
 -- the first port of a number is the only one
 pub wanted_at : (ports : List PortConfig) (number i : ℕ) (p : PortConfig) → AllPairs DifferInNumber ports → i < length ports
-    → get_or ports i p ≡ p → p.number ≡ number → IsWantedIn ports number (disk_of (option_map string_bytes p.serial))
-unfolding HasPort
+    → get_or ports i p ≡ p → p.number ≡ number → IsWantedIn ports number (wanted_disk (option_map string_bytes p.serial))
+unfolding ConfiguresPort
 wanted_at ports number i p once within there is = record {
   named = λ k d low same.
       let here : get_or ports k d ≡ get_or ports k p = get_or_default ports k d p low in
       let numbers = ap (λ (q : PortConfig). q.number) there ∙ is ∙ sym same ∙ ap (λ (q : PortConfig). q.number) here in
       let place : i ≡ k = one_place ports i k p once within low numbers in
       let one : p ≡ get_or ports k d = sym there ∙ ap (λ n. get_or ports n p) place ∙ sym here in
-      ap (λ (q : PortConfig). disk_of (option_map string_bytes q.serial)) one;
+      ap (λ (q : PortConfig). wanted_disk (option_map string_bytes q.serial)) one;
   other = λ none. absurd (none (i, p, within, there, is));
 }
 

@@ -6,14 +6,14 @@ use Rattle.ata_types.specs.declared.grant.Rights.{Rights}
 use Rattle.configuration.specs.declared.ClientConfig.{ClientConfig}
 use Rattle.configuration.specs.declared.GrantConfig.{GrantConfig}
 use Rattle.configuration.specs.declared.PortConfig.{PortConfig}
-use Rattle.configuration.specs.Rules.{HasPort}
-use Rattle.dma_frames.specs.Table.{Run}
+use Rattle.configuration.specs.Rules.{ConfiguresPort}
+use Rattle.dma_frames.specs.Table.{FrameExtent}
 use Rattle.identify.specs.declared.wanted.Wanted.{Wanted}
 use Rattle.identify.specs.declared.wanted.Wanted.TheVariants.{Nothing, Any, Serial}
 
 -- the run of frames that a client owns
-abbrev pub run_of : ClientConfig → Run
-run_of c = (record { 0 = c.id }, record { 0 = c.first_frame }, c.frames)
+abbrev pub owner_extent : ClientConfig → FrameExtent
+owner_extent c = (record { 0 = c.id }, record { 0 = c.first_frame }, c.frames)
 
 -- the letter with this code is one of the text's
 abbrev pub has_letter : ℕ → List ℕ → Bool
@@ -40,18 +40,18 @@ row_of g = record {
 }
 
 -- a serial number, filled with spaces to 20 bytes
-abbrev pub filled : List ℕ → List ℕ
-filled serial = serial ++ replicate (20 - length serial) 32
+abbrev pub filled_serial : List ℕ → List ℕ
+filled_serial serial = serial ++ replicate (20 - length serial) 32
 
 -- the disk that is asked for by a serial number, or without one
-abbrev pub disk_of : Option (List ℕ) → Wanted
-disk_of None = Any
-disk_of (Some serial) = Serial (filled serial)
+abbrev pub wanted_disk : Option (List ℕ) → Wanted
+wanted_disk None = Any
+wanted_disk (Some serial) = Serial (filled_serial serial)
 
 -- in the port with this number the disk is wanted that the port asks for; nothing, if there is no such port
 pub record IsWantedIn (ports : List PortConfig) (number : ℕ) (wanted : Wanted) : Type 0 where
-  pub named : All (λ p. p.number ≡ number → wanted ≡ disk_of (option_map string_bytes p.serial)) ports
-  pub other : (HasPort ports number → ⊥) → wanted ≡ Nothing
+  pub named : All (λ p. p.number ≡ number → wanted ≡ wanted_disk (option_map string_bytes p.serial)) ports
+  pub other : (ConfiguresPort ports number → ⊥) → wanted ≡ Nothing
 
 -- what is wanted in each of the ports 0 to 3
 abbrev pub AreWantedOf : List PortConfig → List Wanted → Type 0

@@ -6,21 +6,21 @@ use Rattle.ata_types.specs.declared.memory.TheConstants.{DRIVER_FRAMES, FEWEST_F
 use Rattle.ata_types.specs.declared.request.ClientId.{ClientId}
 use Rattle.block_machine.specs.Rules.{DifferInName}
 use Rattle.configuration.specs.declared.Config.{Config}
-use Rattle.dma_frames.specs.Table.{Run, AreApart}
+use Rattle.dma_frames.specs.Table.{FrameExtent, ExtentsApart}
 use Rattle.identify.specs.declared.wanted.Wanted.{Wanted}
 use Rattle.identify.specs.declared.wanted.Wanted.TheVariants.{Nothing}
-use Rattle.plan.specs.Parts.{run_of, row_of, AreWantedOf}
+use Rattle.plan.specs.Parts.{owner_extent, row_of, AreWantedOf}
 
 -- What a plan says: how many frames of memory there are, who owns which of them, the grants, and the disk that is
 -- wanted in each port.
 pub record PlanView : Type 0 where
   pub frames : ℕ
-  pub owners : List Run
+  pub owners : List FrameExtent
   pub grants : List GrantRow
   pub wanted : List Wanted
 
 -- a plan that says this
-abbrev pub planned : ℕ → List Run → List GrantRow → List Wanted → PlanView
+abbrev pub planned : ℕ → List FrameExtent → List GrantRow → List Wanted → PlanView
 planned frames owners grants wanted =
     record { frames = frames; owners = owners; grants = grants; wanted = wanted }
 
@@ -35,14 +35,14 @@ abbrev pub IsClient : ClientId → Type 0
 IsClient client = (1 ≤ client.0) × (client.0 ≤ CLIENTS)
 
 -- the run has a frame, and all its frames are clients' frames of the memory
-abbrev pub HasClientFrames : ℕ → Run → Type 0
+abbrev pub HasClientFrames : ℕ → FrameExtent → Type 0
 HasClientFrames frames run = (DRIVER_FRAMES ≤ run.1.0) × (1 ≤ run.2) × (run.1.0 + run.2 ≤ frames)
 
 -- Runs of client frames, each of a client, and no frame in two of them.
-pub record AreRuns (frames : ℕ) (runs : List Run) : Type 0 where
+pub record AreRuns (frames : ℕ) (runs : List FrameExtent) : Type 0 where
   pub owners : All (λ run. IsClient run.0) runs
   pub within : All (HasClientFrames frames) runs
-  pub apart : AllPairs AreApart runs
+  pub apart : AllPairs ExtentsApart runs
 
 -- A grant that a server can serve where these disks are wanted: of a client 1 to 8, under a number of 63 or less, on
 -- one of the ports 0 to 3 in which a disk is wanted, of one sector at least, all of them below 2^48.
@@ -68,6 +68,6 @@ pub record IsPlan (p : PlanView) : Type 0 where
 -- order, and the disks that its ports ask for.
 pub record IsPlanOf (c : Config) (p : PlanView) : Type 0 where
   pub frames : p.frames ≡ c.frames
-  pub owners : p.owners ≡ map run_of c.client.items
+  pub owners : p.owners ≡ map owner_extent c.client.items
   pub grants : p.grants ≡ map row_of c.grant.items
   pub wanted : AreWantedOf c.port.items p.wanted

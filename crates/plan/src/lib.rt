@@ -6,9 +6,9 @@
 
 ghost use Rattle.std.specs.Prelude.{◌≡◌, ◌≤◌, OnOk, IfOk, IfErr, All, AllPairs, length, map, option_map, string_bytes};
 ghost use Rattle.ata_types.specs.declared.limits.TheConstants.{CLIENTS, MOST_GRANTS};
-ghost use Rattle.configuration.specs.Ranges.{IsClient, IsGrant, IsPort, IsSerial};
+ghost use Rattle.configuration.specs.Ranges.{IsClientConfig, IsGrant, IsPort, IsSerialText};
 ghost use Rattle.configuration.specs.Rules.{DifferInNumber};
-ghost use Rattle.plan.specs.Parts.{run_of, rights_of, row_of, filled, disk_of, AreWantedOf, IsWantedIn};
+ghost use Rattle.plan.specs.Parts.{owner_extent, rights_of, row_of, filled_serial, wanted_disk, AreWantedOf, IsWantedIn};
 
 use arrayvec::ArrayVec;
 use ata_types::{
@@ -42,7 +42,7 @@ impl Model for Plan {
 }
 
 impl Plan {
-    ghost use Rattle.configuration.specs.Rules.{IsSound, IsFirstBroken};
+    ghost use Rattle.configuration.specs.Rules.{MeetsAll, IsFirstUnmet};
     ghost use Rattle.plan.specs.Plan.{IsPlan, IsPlanOf};
 
     /// The plan of a configuration: a run of frames for each client and a row for each grant, in their order, and of
@@ -50,10 +50,10 @@ impl Plan {
     /// breaks a rule has no plan: the least of its kinds of fault is told. No memory is taken.
     #[inline(never)]
     pub fn of(config: &Config) -> Result<Plan, Kind>
-        ensures sound { OnOk result (IsSound config.now) }
+        ensures sound { OnOk result (MeetsAll config.now) }
         ensures made { IfOk result (IsPlanOf config.now) }
         ensures fits { IfOk result IsPlan }
-        ensures refused { IfErr result (IsFirstBroken config.now) }
+        ensures refused { IfErr result (IsFirstUnmet config.now) }
     {
         config.check()?;
         Ok(Plan {
@@ -99,19 +99,19 @@ impl Plan {
 /// The frames that each client owns.
 fn runs_of(clients: &[ClientConfig]) -> ArrayVec<(ClientId, Frame, u16), CLIENTS>
     requires few { length clients.now ≤ CLIENTS }
-    requires clients { All (IsClient MOST_FRAMES) clients.now }
-    ensures { result.items ≡ map run_of clients.now }
+    requires clients { All (IsClientConfig MOST_FRAMES) clients.now }
+    ensures { result.items ≡ map owner_extent clients.now }
 {
     let mut runs = ArrayVec::new();
     for client in clients {
-        runs.push(run_of(client));
+        runs.push(owner_extent(client));
     }
     runs
 }
 
-fn run_of(client: &ClientConfig) -> (ClientId, Frame, u16)
-    requires { IsClient MOST_FRAMES client.now }
-    ensures { result ≡ run_of client.now }
+fn owner_extent(client: &ClientConfig) -> (ClientId, Frame, u16)
+    requires { IsClientConfig MOST_FRAMES client.now }
+    ensures { result ≡ owner_extent client.now }
 {
     (
         ClientId(client.id as u8),
@@ -181,26 +181,26 @@ fn wanted_in(ports: &[PortConfig], number: u64) -> Wanted
     ensures { IsWantedIn ports.now number result }
 {
     match ports.iter().find(|port| port.number == number) {
-        Some(port) => disk_of(port),
+        Some(port) => wanted_disk(port),
         None => Wanted::Nothing,
     }
 }
 
 /// The disk that a port asks for.
-fn disk_of(port: &PortConfig) -> Wanted
+fn wanted_disk(port: &PortConfig) -> Wanted
     requires { IsPort port.now }
-    ensures { result ≡ disk_of (option_map string_bytes port.now.serial) }
+    ensures { result ≡ wanted_disk (option_map string_bytes port.now.serial) }
 {
     match &port.serial {
-        Some(serial) => Wanted::Serial(filled(serial.as_str())),
+        Some(serial) => Wanted::Serial(filled_serial(serial.as_str())),
         None => Wanted::Any,
     }
 }
 
 /// A serial number, filled with spaces.
-fn filled(serial: &str) -> [u8; SERIAL_LENGTH]
-    requires { IsSerial serial.now }
-    ensures { result ≡ filled serial.now }
+fn filled_serial(serial: &str) -> [u8; SERIAL_LENGTH]
+    requires { IsSerialText serial.now }
+    ensures { result ≡ filled_serial serial.now }
 {
     let mut bytes = [b' '; SERIAL_LENGTH];
     bytes[..serial.len()].copy_from_slice(serial.as_bytes());

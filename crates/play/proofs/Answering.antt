@@ -10,8 +10,8 @@ use Rattle.block_server.specs.Promise.{Simulates}
 use Rattle.block_server.specs.View.{ServerView}
 use Rattle.block_server.specs.declared.types.Event.{Event}
 use Rattle.block_server.specs.declared.types.Said.{Said}
-use Rattle.play.specs.Events.{events_of}
-use Rattle.play.specs.Played.{Prints, none, call, IsStarted, Played, Ran}
+use Rattle.play.specs.Events.{line_events}
+use Rattle.play.specs.Played.{Prints, none, call, IsServerOfModel, Played, Ran}
 
 -- no call keeps the promise, nor do calls after others that keep it break it
 pub record GoOn {A : Type 0} (device : A → Device) : Type 0 where
@@ -34,7 +34,7 @@ both_tell (Some x) (Some y) a b = refl
 -- What a new server ran of a script was played.
 abbrev pub played_of : {S : Type 0} (size : S → ℕ) (told : S → Option (ℕ → List ℕ)) (config script : List ℕ) (image blank : S) (trace : Bool)
     (old new : Option (List ℕ)) (values : Config) → IsReadFrom config values → (server last : ServerView (Model S))
-    → IsStarted size told values image blank server → Ran (device_at size told) is_starved trace script server last old new
+    → IsServerOfModel size told values image blank server → Ran (device_at size told) is_starved trace script server last old new
     → GoOn (device_at size told) → (model : Model S) → model ≡ last.adapter → Played size told config script image blank trace old new model
 played_of size told config script image blank trace old new values read server last started ran laws model left =
     let begun = started.made.begun in
@@ -50,7 +50,7 @@ played_of size told config script image blank trace old new values read server l
         begun = begun.1;
         telling = λ image_tells blank_tells.
             ap (λ (d : Device). d.telling) begun.1.stands.device_is ∙ started.made.taken.same.telling ∙ started.modelled.made.telling ∙ ap (λ (b : Bool). b && true) (both_tell _ _ image_tells blank_tells);
-        promise = all_keep (device_at size told) is_starved trace laws server last ran.shown (events_of ran.played) ran.said ran.text ran.last ran.prints begun.0 [] begun.1;
+        promise = all_keep (device_at size told) is_starved trace laws server last ran.shown (line_events ran.played) ran.said ran.text ran.last ran.prints begun.0 [] begun.1;
       };
       left = left;
     }

@@ -18,7 +18,7 @@ use Rattle.block_server.specs.declared.types.Said.{Said}
 use Rattle.script.specs.Script.{Asks, AskInTurn, done, IsBad, IsFirstLine, IsScript, lines_of, lines_after}
 use Rattle.script.specs.declared.line.Line.{Line}
 use Rattle.script.proofs.ScriptLemmas.{AskFrom, ask_more, ask_one, ask_from, asked_lines, not_bad}
-use Rattle.play.specs.Events.{event_of, events_of}
+use Rattle.play.specs.Events.{event_of, line_events}
 use Rattle.play.specs.Lines.{call_text}
 use Rattle.play.specs.Played.{Prints, none, call, PrintsPart, Ran, IsWhole}
 
@@ -67,7 +67,7 @@ module _ {A : Type 0} (device : A → Device) (starved : A → Bool) (trace : Bo
     pub said : List Said
     pub text : List ℕ
     pub last : List ℕ
-    pub prints : Prints device starved trace first now shown (events_of played) said text last
+    pub prints : Prints device starved trace first now shown (line_events played) said text last
     pub printed : Appends before after (text ++ last)
 
   pub played_none : (left : Option (Bor (List ℕ))) (before : Option (List ℕ)) → all ≡ lines_after left → PlayedSoFar first 0 left before before
@@ -110,8 +110,8 @@ module _ {A : Type 0} (device : A → Device) (starved : A → Bool) (trace : Bo
 
   -- one more call
   prints_more : (now next : ServerView A) (shown : ℕ) (lines : List Line) (line : Line) (said : List Said) (text last : List ℕ) (one : Said)
-      → Prints device starved trace first now shown (events_of lines) said text last → starved now.adapter ≡ false → Simulates device now next (event_of line ∷ []) (one ∷ [])
-      → Prints device starved trace first next (length (device next.adapter).tape) (events_of (lines ++ line ∷ [])) (said ++ one ∷ []) (text ++ last)
+      → Prints device starved trace first now shown (line_events lines) said text last → starved now.adapter ≡ false → Simulates device now next (event_of line ∷ []) (one ∷ [])
+      → Prints device starved trace first next (length (device next.adapter).tape) (line_events (lines ++ line ∷ [])) (said ++ one ∷ []) (text ++ last)
       (call_text trace shown (device next.adapter).tape one)
   prints_more now next shown lines line said text last one prints fed keeps =
       subst (λ (events : List Event). Prints device starved trace first next (length (device next.adapter).tape) events (said ++ one ∷ []) (text ++ last)

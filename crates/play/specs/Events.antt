@@ -18,5 +18,5 @@ event_of (State port) = calls.State port
 event_of (Device step) = calls.Device step
 
 -- those of lines, in their order
-abbrev pub events_of : List Line → List Event
-events_of lines = map event_of lines
+abbrev pub line_events : List Line → List Event
+line_events lines = map event_of lines

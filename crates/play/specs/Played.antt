@@ -2,8 +2,8 @@
 use Rattle.std.specs.Prelude.{ℕ, Bool, true, false, ◌≡◌, ◌≤◌, List, [], ◌∷◌, ◌++◌, Option, None, Some, IsSome, codes, length, string_bytes, take}
 use Rattle.std.specs.Io.KnownBytes.{Appends}
 use Rattle.adapter.specs.Device.{Device}
-use Rattle.block_machine.specs.Histories.{Instant}
-use Rattle.block_server.specs.Made.{IsNew}
+use Rattle.block_machine.specs.Histories.{JointState}
+use Rattle.block_server.specs.Made.{IsInitialServer}
 use Rattle.block_server.specs.Promise.{KeepsPromise, Simulates}
 use Rattle.block_server.specs.View.{ServerView, server_of}
 use Rattle.block_server.specs.declared.types.Event.{Event}
@@ -22,8 +22,8 @@ use Rattle.script.specs.declared.line.Line.{Line}
 use Rattle.script.specs.declared.script.BadLine.{BadLine as FirstBad}
 use Rattle.sector_store.specs.declared.pages.Trim.{Trim}
 use Rattle.sector_store.specs.declared.pages.Trim.TheVariants.{Full, Weak, Without}
-use Rattle.server_history.specs.Histories.{Leads}
-use Rattle.play.specs.Events.{events_of}
+use Rattle.server_history.specs.Histories.{LeadsToServer}
+use Rattle.play.specs.Events.{line_events}
 use Rattle.play.specs.Lines.{call_text}
 use Rattle.play.specs.declared.session.Ended.{Ended}
 use Rattle.play.specs.declared.session.Stop.{Stop}
@@ -63,20 +63,21 @@ IsModelOf size told config image blank m = IsModelWith size told config (port_0_
 -- ---- the calls
 
 -- a new server, of this configuration, and of such a model
-pub record IsStarted {S : Type 0} (size : S → ℕ) (told : S → Option (ℕ → List ℕ)) (config : Config) (image blank : S)
+pub record IsServerOfModel {S : Type 0} (size : S → ℕ) (told : S → Option (ℕ → List ℕ)) (config : Config)
+    (image blank : S)
     (server : ServerView (Model S)) : Type 0 where
   pub model : Model S
   pub modelled : IsModelOf size told config image blank model
-  pub made : IsNew (device_at size told) config model server
+  pub made : IsInitialServer (device_at size told) config model server
 
 -- What these calls answered, from this server to that one, keeps the server's promise. The history begins where a new
 -- server stands, of this configuration and of a model of image and blank disk; and where both disks tell their sectors,
 -- the adapter's disks do.
 pub record AreAnswers {S : Type 0} (size : S → ℕ) (told : S → Option (ℕ → List ℕ)) (config : Config) (image blank : S)
     (server last : ServerView (Model S)) (events : List Event) (said : List Said) : Type 0 where
-  pub started : IsStarted size told config image blank server
-  pub first : Instant Device
-  pub begun : Leads first [] (server_of (device_at size told) server)
+  pub started : IsServerOfModel size told config image blank server
+  pub first : JointState Device
+  pub begun : LeadsToServer first [] (server_of (device_at size told) server)
   pub telling : IsSome (told image) → IsSome (told blank) → first.device.telling ≡ true
   pub promise : KeepsPromise (device_at size told) first [] server last events said
 
@@ -122,7 +123,7 @@ pub record Ran {A : Type 0} (device : A → Device) (starved : A → Bool) (trac
   pub said : List Said
   pub text : List ℕ
   pub last : List ℕ
-  pub prints : Prints device starved trace old new shown (events_of played) said text last
+  pub prints : Prints device starved trace old new shown (line_events played) said text last
   pub part : ℕ
   pub printed : Appends before after (text ++ take part last)
   pub silent : starved new.adapter ≡ true → part ≡ 0
@@ -147,7 +148,7 @@ pub record Played {S : Type 0} (size : S → ℕ) (told : S → Option (ℕ → 
   pub server : ServerView (Model S)
   pub last : ServerView (Model S)
   pub ran : Ran (device_at size told) is_starved trace script server last old new
-  pub answers : AreAnswers size told values image blank server last (events_of ran.played) ran.said
+  pub answers : AreAnswers size told values image blank server last (line_events ran.played) ran.said
   pub left : model ≡ last.adapter
 
 -- what a fault of a configuration's text ends a run as

@@ -3,22 +3,22 @@ ghost use Rattle.std.specs.Prelude.{◌≡◌, ◌≤◌, ◌∷◌, ◌⊎◌, 
 ghost use Rattle.std.specs.Vec.{vec_capacity};
 ghost use Rattle.block_server.specs.Sayings.{with_replies};
 ghost use Rattle.block_server.specs.declared.types.Told.{Told};
-ghost use Rattle.block_server.specs.Made.{IsNew, IsReadyFor};
+ghost use Rattle.block_server.specs.Made.{IsInitialServer, IsReadyFor};
 ghost use Rattle.block_server.specs.Promise.{Simulates};
 ghost use Rattle.block_server.specs.View.{ServerView};
 ghost use Rattle.configuration.specs.Document.{IsReadFrom};
-ghost use Rattle.configuration.specs.Rules.{IsSound};
+ghost use Rattle.configuration.specs.Rules.{MeetsAll};
 ghost use Rattle.script.specs.Script.{IsScript};
 ghost use Rattle.script.specs.declared.line.Line.{Line};
 ghost use Rattle.device_model.specs.Modelled.{device_at, is_starved};
 ghost use Rattle.play.specs.Events.{event_of};
-ghost use Rattle.play.specs.Played.{Ends, IsRefused, IsStarted, IsWhole, IsWhy, PrintsPart, Ran};
+ghost use Rattle.play.specs.Played.{Ends, IsRefused, IsServerOfModel, IsWhole, IsWhy, PrintsPart, Ran};
 
 use crate::calls::put_event;
 use crate::printed::{print_call, write_out};
 use crate::setting::new_model;
 use adapter::{Adapter, Stepped};
-use block_server::laws::runs_keep_their_promise;
+use block_server::laws::law_runs_keep_their_promise;
 use block_server::{Event, Sayings, Server};
 use configuration::{Config, ConfigFault, Kind};
 use device_model::{Model, NoMemory, Watched};
@@ -154,8 +154,8 @@ fn start<S: SectorStore>(
     image: S,
     blank: S,
 ) -> Result<Box<Server<Model<S>>>, NoMemory>
-    requires { IsSound config.now }
-    ensures { IfOk result (λ server. IsStarted S.size S.told config.now image blank server.value) }
+    requires { MeetsAll config.now }
+    ensures { IfOk result (λ server. IsServerOfModel S.size S.told config.now image blank server.value) }
 {
     let model = new_model(alloc, config, image, blank)?;
     // The configuration is sound, so memory is all that can be wanting.
@@ -286,12 +286,12 @@ pub fn play_over<A: Watched + Drop, W: io::Write>(
     trace: bool,
     out: &mut W,
 ) -> (Result<(), Stop>, Option<A>)
-    requires sound { IsSound config.now }
+    requires sound { MeetsAll config.now }
     requires good { (lines : List Line) × IsScript script.now lines }
     requires ready { IsReadyFor config.now (A.device adapter) }
     ensures left { IfSome result.1 (λ left. ((left ≡ adapter) × (result.0 ≡ Err Stop.NoMemory)
         × (W.contents out.new ≡ W.contents out.old))
-        ⊎ ((server last : ServerView A) × IsNew A.device config.now adapter server
+        ⊎ ((server last : ServerView A) × IsInitialServer A.device config.now adapter server
         × (left ≡ last.adapter)
         × (ran : Ran A.device A.ended trace script.now server last (W.contents out.old) (W.contents out.new))
         × OnOk result.0 (IsWhole ran) × IfErr result.0 (IsWhy (A.ended last.adapter) ran.part))) }
@@ -338,7 +338,7 @@ pub fn play<S: SectorStore, W: io::Write>(
     let Ok(mut server) = start(alloc, &values, image, blank) else {
         return unbegun(Ended::NoMemory);
     };
-    runs_keep_their_promise::<Model<S>>();
+    law_runs_keep_their_promise::<Model<S>>();
     let performed = perform(alloc, &mut server, script, trace, out);
     let model = Some(closed(server));
     match performed {

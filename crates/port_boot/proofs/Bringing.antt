@@ -8,21 +8,21 @@ use Rattle.hba_regs.specs.declared.reg.PortReg.{PortReg}
 use Rattle.adapter.specs.Access.{Access}
 use Rattle.adapter.specs.Device.{Notes, Device}
 use Rattle.adapter.specs.declared.tape.Entry.{Entry}
-use Rattle.agreement.specs.Driven.{AnyUse, IsControl, IsFollowed, IsTold}
-use Rattle.agreement.specs.Driver.{AllFree}
-use Rattle.agreement.specs.Slots.{Uses}
-use Rattle.agreement.specs.Driven.{Grows}
-use Rattle.port_control.specs.Calls.{FindsDisk, FindsFault, ResetsLink, Starts}
+use Rattle.refinement.specs.Driven.{AnyUse, IsControl, IsSimulated, IsSimulatedAlong}
+use Rattle.refinement.specs.Driver.{AllFree}
+use Rattle.refinement.specs.Slots.{SlotStates}
+use Rattle.refinement.specs.Driven.{Grows}
+use Rattle.port_control.specs.Calls.{FindsDisk, FindsFault, StaysReceiving, Starts}
 use Rattle.port_control.specs.Engines.{StopsReceiving}
-use Rattle.port_control.specs.Ports.{WritesCommand, IsPlacing, IsResetting, ReceivesFises, Shows, WasReset, IsFound}
+use Rattle.port_control.specs.Ports.{WritesCommand, IsPlacing, IsResetting, ReceivesFises, BacksFault, WasReset, IsFound}
 use Rattle.port_control.specs.declared.PortFault.{PortFault}
 use Rattle.port_control.specs.declared.PortFault.TheVariants.{NoDevice, Busy, EngineStuck, NotAta}
-use Rattle.port_boot.specs.States.{EndsAs, IsBooting, IsBootable, IsBroughtUp, EndsEarly, TellsFault}
+use Rattle.port_boot.specs.States.{EndsAs, IsBooting, IsBootable, IsBroughtUp, EndsEarly, IsStateOfFault}
 use Rattle.port_boot.specs.Laws.Fitting.{AnyUses, PortUnused}
 use Rattle.port_boot.specs.Laws.RegisterSet.{BootRegisters, Commanding, Placing, Resetting}
-use Rattle.port_boot.specs.Laws.Stretch.{Controlling}
+use Rattle.port_boot.specs.Laws.Fragment.{Controlling}
 use Rattle.port_boot.specs.Laws.{Laws, Fitting, RegisterSet, registers_of, uses_of}
-use Rattle.agreement.specs.Tape.{Tells}
+use Rattle.refinement.specs.Tape.{TapeTells}
 use Rattle.port_boot.proofs.Stretching.{driven_grows, stays_on, there_after, told_then, comes_in_parts, plugs_in_parts, same_over, told_wider}
 
 -- where neither is set, the second isn't
@@ -31,11 +31,11 @@ neither_second false b e = e
 neither_second true b e = absurd (true≢false e)
 
 -- what stands behind the state of a port whose device showed a fault
-pub fault_ends : (port : ℕ) (new : Device) (state : PortState) (fault : PortFault) → TellsFault state fault → fault ≢ EngineStuck → ReceivesFises port (new.port port) → Shows fault (new.port port).notes →
+pub fault_ends : (port : ℕ) (new : Device) (state : PortState) (fault : PortFault) → IsStateOfFault state fault → fault ≢ EngineStuck → ReceivesFises port (new.port port) → BacksFault fault (new.port port).notes →
     (wanted : Option (List ℕ)) → EndsAs wanted state port new
 fault_ends port new state fault told other receives shown wanted = by fault told other shown
   where
-    by : (f : PortFault) → TellsFault state f → f ≢ EngineStuck → Shows f (new.port port).notes → EndsAs wanted state port new
+    by : (f : PortFault) → IsStateOfFault state f → f ≢ EngineStuck → BacksFault f (new.port port).notes → EndsAs wanted state port new
     by NoDevice is not shown = subst (λ (s : PortState). EndsAs wanted s port new) (sym is) (receives.stopped, shown)
     by Busy is not shown = subst (λ (s : PortState). EndsAs wanted s port new) (sym is) (receives.stopped, inl (refl, shown))
     by EngineStuck is not shown = absurd (not refl)
@@ -54,43 +54,43 @@ starting r is = inl (inl is)
 module _ (laws : Laws) where
   -- ---- stretches of accesses
 
-  module _ (set : RegisterSet) (fitting : Fitting) (port : Port) (old new : Device) (f : IsFollowed (IsControl (registers_of set) port) (uses_of fitting port) old new) where
+  module _ (set : RegisterSet) (fitting : Fitting) (port : Port) (old new : Device) (f : IsSimulated (IsControl (registers_of set) port) (uses_of fitting port) old new) where
     pub later : length old.tape ≤ length new.tape
     later =
         let g = driven_grows laws (IsControl (registers_of set) port) old new f.driven in
         let n : length new.tape ≡ length old.tape + length g.0 = ap (λ (es : List Entry). length es) g.1 ∙ length-append old.tape g.0 in
         omega (arith, n)
 
-    pub bootable_after : ((uses : Uses) → AllFree uses port.0 → uses_of fitting port uses) → IsBootable port old → IsBootable port new
+    pub bootable_after : ((uses : SlotStates) → AllFree uses port.0 → uses_of fitting port uses) → IsBootable port old → IsBootable port new
     bootable_after fits b =
         let s = same_over laws (IsControl (registers_of set) port) old new f.driven in
         record {
           on = stays_on laws set port old new f.driven b.on;
           there = there_after s b.there;
           room = let same = s.size in let room = b.room in omega (arith, same, room);
-          agreed = (b.agreed.0, b.agreed.1, laws.stretches.agreed (Controlling set fitting port) (λ uses. uses) b.agreed.0 old new (fits b.agreed.0 b.agreed.1) f b.agreed.2);
+          agreed = (b.agreed.0, b.agreed.1, laws.fragments.agreed (Controlling set fitting port) (λ uses. uses) b.agreed.0 old new (fits b.agreed.0 b.agreed.1) f b.agreed.2);
         }
 
   -- it is a part of the boot, and as much is told of it
-  pub told_boots : (Tells : List Access → Type 0) (set : RegisterSet) (fitting : Fitting) (port : Port) (old new : Device) → ((r : PortReg) → registers_of set r → IsBooting r) →
-      ((uses : Uses) → AllFree uses port.0 → uses_of fitting port uses) → IsTold Tells (IsControl (registers_of set) port) (uses_of fitting port) old new →
-      IsTold Tells (IsControl IsBooting port) (λ uses. AllFree uses port.0) old new
-  told_boots Tells set fitting port old new wider fits f =
-      told_wider laws Tells (Controlling set fitting port) (Controlling BootRegisters PortUnused port) (λ uses. uses) old new (laws.control_wider set BootRegisters port wider) fits f
+  pub told_boots : (TapeTells : List Access → Type 0) (set : RegisterSet) (fitting : Fitting) (port : Port) (old new : Device) → ((r : PortReg) → registers_of set r → IsBooting r) →
+      ((uses : SlotStates) → AllFree uses port.0 → uses_of fitting port uses) → IsSimulatedAlong TapeTells (IsControl (registers_of set) port) (uses_of fitting port) old new →
+      IsSimulatedAlong TapeTells (IsControl IsBooting port) (λ uses. AllFree uses port.0) old new
+  told_boots TapeTells set fitting port old new wider fits f =
+      told_wider laws TapeTells (Controlling set fitting port) (Controlling BootRegisters PortUnused port) (λ uses. uses) old new (laws.control_wider set BootRegisters port wider) fits f
 
-  pub boots : (set : RegisterSet) (fitting : Fitting) (port : Port) (old new : Device) → IsFollowed (IsControl (registers_of set) port) (uses_of fitting port) old new →
-      ((r : PortReg) → registers_of set r → IsBooting r) → ((uses : Uses) → AllFree uses port.0 → uses_of fitting port uses) → IsFollowed (IsControl IsBooting port) (λ uses. AllFree uses port.0) old new
+  pub boots : (set : RegisterSet) (fitting : Fitting) (port : Port) (old new : Device) → IsSimulated (IsControl (registers_of set) port) (uses_of fitting port) old new →
+      ((r : PortReg) → registers_of set r → IsBooting r) → ((uses : SlotStates) → AllFree uses port.0 → uses_of fitting port uses) → IsSimulated (IsControl IsBooting port) (λ uses. AllFree uses port.0) old new
   boots set fitting port old new f wider fits = (told_boots (λ made. Unit {0}) set fitting port old new wider fits (record { followed = f; tells = tt })).followed
 
-  pub placed_bootable : (port : Port) (old mid : Device) → IsBootable port old → IsFollowed (IsControl IsPlacing port) AnyUse old mid → IsBootable port mid
+  pub placed_bootable : (port : Port) (old mid : Device) → IsBootable port old → IsSimulated (IsControl IsPlacing port) AnyUse old mid → IsBootable port mid
   placed_bootable port old mid b first = bootable_after Placing AnyUses port old mid first (λ uses free. tt) b
 
-  module _ (port : Port) (old mid reset : Device) (b : IsBootable port old) (first : IsTold (StopsReceiving port) (IsControl IsPlacing port) AnyUse old mid)
-      (second : IsFollowed (IsControl IsResetting port) AnyUse mid reset) where
+  module _ (port : Port) (old mid reset : Device) (b : IsBootable port old) (first : IsSimulatedAlong (StopsReceiving port) (IsControl IsPlacing port) AnyUse old mid)
+      (second : IsSimulated (IsControl IsResetting port) AnyUse mid reset) where
     pub reset_bootable : IsBootable port reset
     reset_bootable = bootable_after Resetting AnyUses port mid reset second (λ uses free. tt) (placed_bootable port old mid b first.followed)
 
-    pub reset_boots : IsTold (StopsReceiving port) (IsControl IsBooting port) (λ uses. AllFree uses port.0) old reset
+    pub reset_boots : IsSimulatedAlong (StopsReceiving port) (IsControl IsBooting port) (λ uses. AllFree uses port.0) old reset
     reset_boots = told_then laws (StopsReceiving port) (Controlling BootRegisters PortUnused port) (λ early late. laws.falls_then early late 4 14 port) old mid reset
         (told_boots (StopsReceiving port) Placing AnyUses port old mid placing (λ uses free. tt) first) (boots Resetting AnyUses port mid reset second resetting (λ uses free. tt))
 
@@ -116,7 +116,7 @@ module _ (laws : Laws) where
       quiet = found.quiet;
     }
 
-    pub ends_early : (state : PortState) (fault : PortFault) → TellsFault state fault → ResetsLink port mid reset → FindsFault port fault mid reset → EndsEarly port state old reset
+    pub ends_early : (state : PortState) (fault : PortFault) → IsStateOfFault state fault → StaysReceiving port mid reset → FindsFault port fault mid reset → EndsEarly port state old reset
     ends_early state fault told r f = record {
       fault = fault;
       told = told;
@@ -127,8 +127,8 @@ module _ (laws : Laws) where
       found = λ other. found_before (f.found other);
     }
 
-    module _ (new : Device) (third : IsFollowed (IsControl WritesCommand port) (λ uses. AllFree uses port.0) reset new) where
-      pub up_boots : IsTold (StopsReceiving port) (IsControl IsBooting port) (λ uses. AllFree uses port.0) old new
+    module _ (new : Device) (third : IsSimulated (IsControl WritesCommand port) (λ uses. AllFree uses port.0) reset new) where
+      pub up_boots : IsSimulatedAlong (StopsReceiving port) (IsControl IsBooting port) (λ uses. AllFree uses port.0) old new
       up_boots = told_then laws (StopsReceiving port) (Controlling BootRegisters PortUnused port) (λ early late. laws.falls_then early late 4 14 port) old reset new reset_boots
           (boots Commanding PortUnused port reset new third starting (λ uses free. free))
 

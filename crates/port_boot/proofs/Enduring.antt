@@ -6,11 +6,11 @@ use Rattle.hba_regs.specs.declared.reg.PortReg.TheVariants.{Cmd, Sctl}
 use Rattle.adapter.specs.Access.{Access, Does, DoesAll}
 use Rattle.adapter.specs.Device.{Device}
 use Rattle.adapter.specs.Rules.{IsOn}
-use Rattle.agreement.specs.Errors.{ChangesByErrors}
-use Rattle.agreement.specs.Facts.{Undisturbed, RunsWell}
-use Rattle.agreement.specs.Links.{SparesRegister}
-use Rattle.agreement.specs.Started.{IsUp}
-use Rattle.agreement.specs.Driven.{Grows}
+use Rattle.refinement.specs.Errors.{ChangesByErrors}
+use Rattle.refinement.specs.Facts.{Undisturbed, RunsWell}
+use Rattle.refinement.specs.Links.{SparesRegister}
+use Rattle.refinement.specs.Started.{IsUp}
+use Rattle.refinement.specs.Driven.{Grows}
 use Rattle.port_boot.specs.States.{HasCauses, RunsOn}
 use Rattle.port_boot.specs.Laws.{Laws}
 use Rattle.std.specs.List.{All}

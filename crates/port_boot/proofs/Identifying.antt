@@ -13,30 +13,30 @@ use Rattle.adapter.specs.Access.Access.{Writing}
 use Rattle.adapter.specs.Device.{Notes, Device}
 use Rattle.adapter.specs.Device as device
 use Rattle.adapter.specs.Device.Halt.{NotHalted}
-use Rattle.adapter.specs.Rules.{IsOn, HasPort, MayWrite, Stays}
+use Rattle.adapter.specs.Rules.{IsOn, HasPort, MayWrite, IsStable}
 use Rattle.adapter.specs.declared.command.Operation.TheVariants.{Identify}
 use Rattle.adapter.specs.declared.tape.Entry.{Entry}
 use Rattle.adapter.specs.declared.tape.Entry.TheVariants as entry
 use Rattle.adapter.specs.Seen.{PutAt}
-use Rattle.agreement.specs.Driven.{AgreesWith, AnyUse, IsAgreed, IsControl, IsDrivenBy, IsFollowed, IsTold, IsToldTo, SendsNone}
-use Rattle.agreement.specs.Halting.{HaltsAsTaken}
-use Rattle.agreement.specs.Links.{SameAdapter}
-use Rattle.agreement.specs.Driver.{AllFree}
-use Rattle.agreement.specs.Slots.{Own, Uses, put as used, IsMove, IsOver}
+use Rattle.refinement.specs.Driven.{RelatesWith, AnyUse, IsRelated, IsControl, IsDrivenBy, IsSimulated, IsSimulatedAlong, IsSimulatedAlongTo, SendsNone}
+use Rattle.refinement.specs.Halting.{HaltsAsTaken}
+use Rattle.refinement.specs.Links.{SameAdapter}
+use Rattle.refinement.specs.Driver.{AllFree}
+use Rattle.refinement.specs.Slots.{Own, SlotStates, put as used, IsMove, IsOver}
 use Rattle.command_table.specs.Written.{IsUnused}
-use Rattle.disk_page.specs.Asking.{IsAsking, LeavesRunning, Brings, Reads}
+use Rattle.disk_page.specs.Asking.{IsAsking, LeavesRunning, BringsLastPage, ReadsPage}
 use Rattle.identify.specs.declared.DiskInfo.{DiskInfo}
 use Rattle.port_control.specs.Engines.{FailsToStop, FailsToStopReceiving, Stops, StopsReceiving, Sticks}
 use Rattle.port_control.specs.Ports.{WritesCommand, IsPlacing, IsRunning, HasStopped, SawDevice}
-use Rattle.port_boot.specs.States.{HasPage, IsFit, Judges, EndsAs, IsReady, IsBooting, IsOfBoot, IsBoot, IsBootTo, IsBootable, IsBroughtUp, IsHaltedAs, IsLate, StopsOnWay, TellsFault}
+use Rattle.port_boot.specs.States.{HasPage, IsFit, Judges, EndsAs, IsReady, IsBooting, IsOfBoot, IsBoot, IsBootTo, IsBootable, IsBroughtUp, IsHaltedAs, IsLate, StopsOnWay, IsStateOfFault}
 use Rattle.port_control.specs.declared.PortFault.{PortFault}
 use Rattle.port_control.specs.declared.PortFault.TheVariants.{NoDevice, Busy, EngineStuck, NotAta}
 use Rattle.port_boot.proofs.Bringing.{placing, starting, told_boots}
 use Rattle.port_boot.specs.Laws.Fitting.{AnyUses, HeadUnused, PortUnused}
-use Rattle.port_boot.specs.Laws.Stretch.{Asking, Booting, Controlling}
+use Rattle.port_boot.specs.Laws.Fragment.{Asking, Booting, Controlling}
 use Rattle.port_boot.specs.Laws.RegisterSet.{BootRegisters, Commanding, Placing, ButIssued}
 use Rattle.port_boot.specs.Laws.{Laws}
-use Rattle.agreement.specs.Tape.{Tells}
+use Rattle.refinement.specs.Tape.{TapeTells}
 use Rattle.port_boot.proofs.Stretching.{followed_then, followed_wider, same_over, there_after, told_both, told_more, told_since, told_then, told_wider, driven_as}
 
 -- the port runs, and has this page
@@ -81,7 +81,7 @@ module _ (port : Port) (start old mid : Device) (up : IsBroughtUp port start old
         taken = λ slot. (none slot).free;
       }
 
-  pub asked_page : (page : List ℕ) → Brings port.0 Identify (length old.tape) page mid → HasPage port.0 mid page
+  pub asked_page : (page : List ℕ) → BringsLastPage port.0 Identify (length old.tape) page mid → HasPage port.0 mid page
   asked_page page b =
       let brought = b.brought in
       record {
@@ -104,7 +104,7 @@ asking port access is = inr is
 controlling : (port : Port) (access : Access) → IsControl IsBooting port access → IsOfBoot port access
 controlling port access is = inl is
 
-unused : (port : Port) (uses : Uses) → AllFree uses port.0 → IsUnused port.0 0 uses
+unused : (port : Port) (uses : SlotStates) → AllFree uses port.0 → IsUnused port.0 0 uses
 unused port uses free = free 0
 
 -- a port that was to stop was driven so, however it ended
@@ -113,12 +113,12 @@ halt_driven port wanted state old new (inl x) = x.1.told.followed.driven
 halt_driven port wanted state old new (inr x) = x.2.told.followed.driven
 
 -- a boot to any state but Dead
-pub boots_to : (Tells : List Access → Type 0) (port : Port) (old new : Device) (state : PortState) → state ≢ Dead → IsBoot Tells port old new → IsBootTo Tells port state old new
-boots_to Tells port old new Dead alive b = absurd (alive refl)
-boots_to Tells port old new Absent alive b = b
-boots_to Tells port old new Ready alive b = b
-boots_to Tells port old new Foreign alive b = b
-boots_to Tells port old new (Unfit n) alive b = b
+pub boots_to : (TapeTells : List Access → Type 0) (port : Port) (old new : Device) (state : PortState) → state ≢ Dead → IsBoot TapeTells port old new → IsBootTo TapeTells port state old new
+boots_to TapeTells port old new Dead alive b = absurd (alive refl)
+boots_to TapeTells port old new Absent alive b = b
+boots_to TapeTells port old new Ready alive b = b
+boots_to TapeTells port old new Foreign alive b = b
+boots_to TapeTells port old new (Unfit n) alive b = b
 
 module _ (laws : Laws) where
   -- ---- kinds of accesses
@@ -128,12 +128,12 @@ module _ (laws : Laws) where
   asking_adapter port = same_over laws (IsAsking port)
 
   -- PxIE may be written
-  pub enabling : (port : Port) (v : ℕ) (d : Device) → IsBootable port d → Stays (MayWrite (Px port Ie) v) d
+  pub enabling : (port : Port) (v : ℕ) (d : Device) → IsBootable port d → IsStable (MayWrite (Px port Ie) v) d
   enabling port v d b = laws.write_stays (Px port Ie) v d (λ p e. absurd cc) (b.on, b.there, tt)
 
   -- a stop is a part of the boot
-  stop_boots : (Tells : List Access → Type 0) (port : Port) (mid new : Device) → IsTold Tells (IsControl WritesCommand port) AnyUse mid new → IsTold Tells (IsOfBoot port) AnyUse mid new
-  stop_boots Tells port mid new f = told_wider laws Tells (Controlling Commanding AnyUses port) (Booting AnyUses port) (λ uses. uses) mid new
+  stop_boots : (TapeTells : List Access → Type 0) (port : Port) (mid new : Device) → IsSimulatedAlong TapeTells (IsControl WritesCommand port) AnyUse mid new → IsSimulatedAlong TapeTells (IsOfBoot port) AnyUse mid new
+  stop_boots TapeTells port mid new f = told_wider laws TapeTells (Controlling Commanding AnyUses port) (Booting AnyUses port) (λ uses. uses) mid new
       (λ access may. inl (laws.control_wider Commanding BootRegisters port starting access may)) (λ uses is. is) f
 
   module _ (port : Port) (start old mid : Device) (up : IsBroughtUp port start old) (on : IsOn mid) (l : LeavesRunning port.0 old mid) where
@@ -145,36 +145,36 @@ module _ (laws : Laws) where
       asked_room = let same = (asking_adapter port old mid driven).size in let room = up.bootable.room in omega (arith, same, room)
 
   -- where it didn't stop, its engine is stuck
-  halting_sticks : (port : Port) (old new : Device) → IsTold (FailsToStop port) (IsControl WritesCommand port) AnyUse old new → IsTold (Sticks port) (IsControl WritesCommand port) AnyUse old new
+  halting_sticks : (port : Port) (old new : Device) → IsSimulatedAlong (FailsToStop port) (IsControl WritesCommand port) AnyUse old new → IsSimulatedAlong (Sticks port) (IsControl WritesCommand port) AnyUse old new
   halting_sticks port old new f = told_more (FailsToStop port) (Sticks port) (IsControl WritesCommand port) AnyUse (λ uses. uses) old new (laws.failing_sticks port) f
 
   -- ---- no page came
 
   module _ (port : Port) (start old mid : Device) (up : IsBroughtUp port start old) (on : IsOn mid) (l : LeavesRunning port.0 old mid)
-      (reads : Reads port Identify None old mid) (agrees : (uses : Uses) → IsUnused port.0 0 uses → IsAgreed uses old → IsAgreed (used uses port.0 0 (Own Identify)) mid) where
+      (reads : ReadsPage port Identify None old mid) (agrees : (uses : SlotStates) → IsUnused port.0 0 uses → IsRelated uses old → IsRelated (used uses port.0 0 (Own Identify)) mid) where
     pub unasked_there : HasPort mid port.0
     unasked_there = asked_there port start old mid up on l reads.1.followed.driven
 
-    pub unasked_agreed : AgreesWith AnyUse mid
+    pub unasked_agreed : RelatesWith AnyUse mid
     unasked_agreed = let a = up.bootable.agreed in (used a.0 port.0 0 (Own Identify), tt, agrees a.0 (a.1 0) a.2)
 
     module _ (new : Device) (has : HasStopped (mid.port port.0) (new.port port.0)) where
       -- asked, and then stopped, of which so much is told
-      module _ (Tells : List Access → Type 0) (since : (early late : List Access) → Tells late → Tells (early ++ late)) (stops : IsTold Tells (IsControl WritesCommand port) AnyUse mid new) where
-        given : IsToldTo Tells (IsOfBoot port) (IsUnused port.0 0) (λ uses. used uses port.0 0 (Own Identify)) old new
-        given = told_both laws (λ early. Unit {0}) Tells Tells (λ early late any is. since early late is) (Booting HeadUnused port) (Booting AnyUses port) (λ uses. used uses port.0 0 (Own Identify)) (λ uses. uses)
+      module _ (TapeTells : List Access → Type 0) (since : (early late : List Access) → TapeTells late → TapeTells (early ++ late)) (stops : IsSimulatedAlong TapeTells (IsControl WritesCommand port) AnyUse mid new) where
+        given : IsSimulatedAlongTo TapeTells (IsOfBoot port) (IsUnused port.0 0) (λ uses. used uses port.0 0 (Own Identify)) old new
+        given = told_both laws (λ early. Unit {0}) TapeTells TapeTells (λ early late any is. since early late is) (Booting HeadUnused port) (Booting AnyUses port) (λ uses. used uses port.0 0 (Own Identify)) (λ uses. uses)
             (λ access may. may)
             (λ uses free. tt) old mid new
             (record { followed = followed_wider laws (Asking port) (Booting HeadUnused port) (λ uses. used uses port.0 0 (Own Identify)) old mid (asking port) (λ uses free. free) reads.1.followed; tells = tt })
-            (stop_boots Tells port mid new stops)
+            (stop_boots TapeTells port mid new stops)
 
-        given_boots : IsToldTo Tells (IsOfBoot port) (λ uses. AllFree uses port.0) (λ uses. used uses port.0 0 (Own Identify)) old new
-        given_boots = told_wider laws Tells (Booting HeadUnused port) (Booting PortUnused port) (λ uses. used uses port.0 0 (Own Identify)) old new (λ access may. may) (unused port) given
+        given_boots : IsSimulatedAlongTo TapeTells (IsOfBoot port) (λ uses. AllFree uses port.0) (λ uses. used uses port.0 0 (Own Identify)) old new
+        given_boots = told_wider laws TapeTells (Booting HeadUnused port) (Booting PortUnused port) (λ uses. used uses port.0 0 (Own Identify)) old new (λ access may. may) (unused port) given
 
-        stopped_boots : IsOver (new.port port.0) 0 → IsBoot Tells port old new
-        stopped_boots over = told_wider laws Tells (Booting HeadUnused port) (Booting PortUnused port) (λ uses. uses) old new (λ access may. may) (unused port)
-            (let f = laws.stretches.over (Booting HeadUnused port) port Identify 1 old new (inr (refl, refl)) (λ uses free. free) over given.followed in
-            record { followed = f.followed; tells = subst Tells (sym f.tells) given.tells })
+        stopped_boots : IsOver (new.port port.0) 0 → IsBoot TapeTells port old new
+        stopped_boots over = told_wider laws TapeTells (Booting HeadUnused port) (Booting PortUnused port) (λ uses. uses) old new (λ access may. may) (unused port)
+            (let f = laws.fragments.over (Booting HeadUnused port) port Identify 1 old new (inr (refl, refl)) (λ uses free. free) over given.followed in
+            record { followed = f.followed; tells = subst TapeTells (sym f.tells) given.tells })
 
       pub unasked_ends : (wanted : Option (List ℕ)) (result : PortState) → IsHaltedAs port (Unfit 9) result mid new → EndsAs wanted result port.0 new
       unasked_ends wanted result (inl x) = let P : PortState → Type 0 = λ s. EndsAs wanted s port.0 new in
@@ -199,7 +199,7 @@ module _ (laws : Laws) where
   -- ---- a page came
 
   module _ (port : Port) (start old mid : Device) (page : List ℕ) (up : IsBroughtUp port start old) (on : IsOn mid) (l : LeavesRunning port.0 old mid)
-      (reads : Reads port Identify (Some page) old mid) (agrees : (uses : Uses) → IsUnused port.0 0 uses → IsAgreed uses old → IsAgreed uses mid) where
+      (reads : ReadsPage port Identify (Some page) old mid) (agrees : (uses : SlotStates) → IsUnused port.0 0 uses → IsRelated uses old → IsRelated uses mid) where
     pub identified : IsIdentified port mid page
     identified =
         let a = up.bootable.agreed in
@@ -216,7 +216,7 @@ module _ (laws : Laws) where
           has = asked_page port start old mid up l page reads.0;
         }
 
-    asked_boots : IsFollowed (IsOfBoot port) (λ uses. AllFree uses port.0) old mid
+    asked_boots : IsSimulated (IsOfBoot port) (λ uses. AllFree uses port.0) old mid
     asked_boots = followed_wider laws (Asking port) (Booting PortUnused port) (λ uses. uses) old mid (asking port) (unused port) reads.1
 
     -- and then PxIE is written
@@ -228,7 +228,7 @@ module _ (laws : Laws) where
       enabled_on = laws.access_on (Writing (Px port Ie) v) mid new on (λ k e. absurd cc) call
 
       pub enabled_written : (new.port port.0).notes.sctl_written_at ≡ (mid.port port.0).notes.sctl_written_at
-      enabled_written = ap (λ (p : device.PortState). p.notes.sctl_written_at) w.here ∙ ap (λ (n : Notes). n.sctl_written_at) (w.notes port.0)
+      enabled_written = ap (λ (p : device.DevicePort). p.notes.sctl_written_at) w.here ∙ ap (λ (n : Notes). n.sctl_written_at) (w.notes port.0)
 
       pub enabled_since : (new.port port.0).notes.sctl_written_at ≡ (old.port port.0).notes.sctl_written_at
       enabled_since = enabled_written ∙ ap (λ (n : Notes). n.sctl_written_at) l.notes
@@ -239,7 +239,7 @@ module _ (laws : Laws) where
           let r = h.runs in
           let k = w.keeps.port port.0 in
           let c = w.keeps.on.controls port.0 in
-          let P : device.PortState → Type 0 = λ p. IsRunning port.0 p in
+          let P : device.DevicePort → Type 0 = λ p. IsRunning port.0 p in
           let runs : IsRunning port.0 (port_written Ie v (length w.mid.tape) (w.mid.port port.0)) = record {
             st = c.st ∙ r.st;
             cr = c.runs r.st r.cr;
@@ -249,13 +249,13 @@ module _ (laws : Laws) where
             sact = λ slot. k.sact slot (r.sact slot);
             taken = λ slot. k.free slot (r.ci slot) (r.taken slot);
           } in
-          let noted : (new.port port.0).notes ≡ (mid.port port.0).notes = ap (λ (p : device.PortState). p.notes) w.here ∙ w.notes port.0 in
+          let noted : (new.port port.0).notes ≡ (mid.port port.0).notes = ap (λ (p : device.DevicePort). p.notes) w.here ∙ w.notes port.0 in
           record {
             runs = subst P (sym w.here) runs;
             saw = (ap (λ (n : Notes). n.last_ssts % 16) noted ∙ h.saw.0, ap (λ (n : Notes). n.link_count) noted ∙ h.saw.1);
             disk = record {
-              det = ap (λ (p : device.PortState). p.sctl_det) w.here ∙ c.sctl_det ∙ h.det;
-              tells = ap (λ (p : device.PortState). p.ie) w.here ∙ told;
+              det = ap (λ (p : device.DevicePort). p.sctl_det) w.here ∙ c.sctl_det ∙ h.det;
+              tells = ap (λ (p : device.DevicePort). p.ie) w.here ∙ told;
               page = page;
               has = page_on port.0 mid new page (laws.access_unmoving port.0 Identify (Writing (Px port Ie) v) mid new (λ slot. record { issued = r.ci slot; free = r.taken slot }) call) enabled_written h.has;
               fit = fit;
@@ -263,20 +263,20 @@ module _ (laws : Laws) where
           }
 
       -- what halts the port then is of a command that is taken
-      pub enabled_halts : (AgreesWith (λ uses. AllFree uses port.0) old → (mid.port port.0).halt ≡ NotHalted) → (wanted : Option (List ℕ)) (info : DiskInfo) → v ≡ named_causes → IsFit wanted page info → HaltsAsTaken (new.port port.0)
+      pub enabled_halts : (RelatesWith (λ uses. AllFree uses port.0) old → (mid.port port.0).halt ≡ NotHalted) → (wanted : Option (List ℕ)) (info : DiskInfo) → v ≡ named_causes → IsFit wanted page info → HaltsAsTaken (new.port port.0)
       enabled_halts calm wanted info told fit =
           let a = identified.bootable.agreed in
           laws.halts_access a.0 a.2.machine port (Writing (Px port Ie) v) mid new a.2.reached a.2.knows.agrees (λ (e : Px port Ie ≡ Px port Cmd). absurd cc) call
           (λ _. laws.halts_calm (mid.port port.0) (calm up.bootable.agreed)) (enabled_ready wanted info told fit).runs.st
 
-      pub enabled_boots : IsFollowed (IsOfBoot port) (λ uses. AllFree uses port.0) old new
+      pub enabled_boots : IsSimulated (IsOfBoot port) (λ uses. AllFree uses port.0) old new
       enabled_boots = followed_then laws (Booting PortUnused port) old mid new asked_boots
-          (laws.stretches.writes (Booting PortUnused port) (Px port Ie) v mid new (inl (refl, inr (inr refl))) (enabling port v mid identified.bootable) (λ uses free. tt) call).followed
+          (laws.fragments.writes (Booting PortUnused port) (Px port Ie) v mid new (inl (refl, inr (inr refl))) (enabling port v mid identified.bootable) (λ uses free. tt) call).followed
 
     -- or the port is stopped, of which so much is told
-    halted_as : (Tells : List Access → Type 0) → ((early late : List Access) → Tells late → Tells (early ++ late)) → (new : Device) → IsTold Tells (IsControl WritesCommand port) AnyUse mid new → IsBoot Tells port old new
-    halted_as Tells since new stops = told_since laws Tells (Booting PortUnused port) since (λ uses. uses) old mid new asked_boots
-        (told_wider laws Tells (Booting AnyUses port) (Booting PortUnused port) (λ uses. uses) mid new (λ access may. may) (λ uses free. tt) (stop_boots Tells port mid new stops))
+    halted_as : (TapeTells : List Access → Type 0) → ((early late : List Access) → TapeTells late → TapeTells (early ++ late)) → (new : Device) → IsSimulatedAlong TapeTells (IsControl WritesCommand port) AnyUse mid new → IsBoot TapeTells port old new
+    halted_as TapeTells since new stops = told_since laws TapeTells (Booting PortUnused port) since (λ uses. uses) old mid new asked_boots
+        (told_wider laws TapeTells (Booting AnyUses port) (Booting PortUnused port) (λ uses. uses) mid new (λ access may. may) (λ uses free. tt) (stop_boots TapeTells port mid new stops))
 
     pub halted_boots : (wanted : Option (List ℕ)) (state result : PortState) (new : Device) → Judges wanted state page → IsHaltedAs port state result mid new → IsBootTo (Stops port) port result old new
     halted_boots wanted state result new judged (inl x) =
@@ -305,17 +305,17 @@ module _ (laws : Laws) where
 
   -- ---- the whole boot
 
-  pub up_boots : (Tells : List Access → Type 0) (port : Port) (old mid : Device) → IsTold Tells (IsControl IsBooting port) (λ uses. AllFree uses port.0) old mid → IsBoot Tells port old mid
-  up_boots Tells port old mid f = told_wider laws Tells (Controlling BootRegisters PortUnused port) (Booting PortUnused port) (λ uses. uses) old mid (controlling port) (λ uses free. free) f
+  pub up_boots : (TapeTells : List Access → Type 0) (port : Port) (old mid : Device) → IsSimulatedAlong TapeTells (IsControl IsBooting port) (λ uses. AllFree uses port.0) old mid → IsBoot TapeTells port old mid
+  up_boots TapeTells port old mid f = told_wider laws TapeTells (Controlling BootRegisters PortUnused port) (Booting PortUnused port) (λ uses. uses) old mid (controlling port) (λ uses free. free) f
 
   -- no part came after it, since FR didn't fall
-  pub stuck_boots : (port : Port) (old mid : Device) → IsTold (FailsToStopReceiving port) (IsControl IsPlacing port) AnyUse old mid → IsBoot (Sticks port) port old mid
+  pub stuck_boots : (port : Port) (old mid : Device) → IsSimulatedAlong (FailsToStopReceiving port) (IsControl IsPlacing port) AnyUse old mid → IsBoot (Sticks port) port old mid
   stuck_boots port old mid f = told_more (FailsToStopReceiving port) (Sticks port) (IsOfBoot port) (λ uses. AllFree uses port.0) (λ uses. uses) old mid (laws.failing_receiving_sticks port)
       (up_boots (FailsToStopReceiving port) port old mid (told_boots laws (FailsToStopReceiving port) Placing AnyUses port old mid placing (λ uses free. tt) f))
 
   -- no part came after it, since there was a fault
-  pub faulty_boots : (port : Port) (old mid : Device) (fault : PortFault) → fault ≢ EngineStuck → (state : PortState) → TellsFault state fault →
-      IsTold (StopsReceiving port) (IsControl IsBooting port) (λ uses. AllFree uses port.0) old mid → IsBootTo (StopsOnWay port state) port state old mid
+  pub faulty_boots : (port : Port) (old mid : Device) (fault : PortFault) → fault ≢ EngineStuck → (state : PortState) → IsStateOfFault state fault →
+      IsSimulatedAlong (StopsReceiving port) (IsControl IsBooting port) (λ uses. AllFree uses port.0) old mid → IsBootTo (StopsOnWay port state) port state old mid
   faulty_boots port old mid fault other state told first = by fault other told
     where
       early : (s : PortState) → state ≡ s → s ≢ Dead → (IsLate s → ⊥) → IsBootTo (StopsOnWay port state) port state old mid
@@ -324,15 +324,15 @@ module _ (laws : Laws) where
           subst P (sym is) (boots_to (StopsOnWay port s) port old mid s alive
           (told_more (StopsReceiving port) (StopsOnWay port s) (IsOfBoot port) (λ uses. AllFree uses port.0) (λ uses. uses) old mid (λ accesses here. (here, λ is. absurd (late is))) (up_boots (StopsReceiving port) port old mid first)))
 
-      by : (fault : PortFault) → fault ≢ EngineStuck → TellsFault state fault → IsBootTo (StopsOnWay port state) port state old mid
+      by : (fault : PortFault) → fault ≢ EngineStuck → IsStateOfFault state fault → IsBootTo (StopsOnWay port state) port state old mid
       by NoDevice other told = early Absent told (λ e. absurd cc) (λ late. late)
       by Busy other told = early (Unfit 7) told (λ e. absurd cc) (λ late. absurd (late.0 refl))
       by EngineStuck other told = absurd (other refl)
       by (NotAta signature) other told = early (Unfit 8) told (λ e. absurd cc) (λ late. absurd (late.1 refl))
 
   -- what was proved of one part is so of the whole
-  module _ (port : Port) (old mid new : Device) (first : IsTold (StopsReceiving port) (IsControl IsBooting port) (λ uses. AllFree uses port.0) old mid) where
-    pub whole_ready : (result : Result DiskInfo PortState) → OnOk result (IsFollowed (IsOfBoot port) (λ uses. AllFree uses port.0) mid new) → OnOk result (IsBoot (StopsReceiving port) port old new)
+  module _ (port : Port) (old mid new : Device) (first : IsSimulatedAlong (StopsReceiving port) (IsControl IsBooting port) (λ uses. AllFree uses port.0) old mid) where
+    pub whole_ready : (result : Result DiskInfo PortState) → OnOk result (IsSimulated (IsOfBoot port) (λ uses. AllFree uses port.0) mid new) → OnOk result (IsBoot (StopsReceiving port) port old new)
     whole_ready (Ok info) then = told_then laws (StopsReceiving port) (Booting PortUnused port) (λ early late. laws.falls_then early late 4 14 port) old mid new (up_boots (StopsReceiving port) port old mid first) then
     whole_ready (Err state) then = then
 
@@ -342,7 +342,7 @@ module _ (laws : Laws) where
         (λ uses. uses) (λ uses. uses) (λ access may. may) (λ uses free. free) old mid new (up_boots (StopsReceiving port) port old mid first) then
 
     -- or one is stuck
-    dies : (next : Uses → Uses) → IsToldTo (Sticks port) (IsOfBoot port) (λ uses. AllFree uses port.0) next mid new → IsToldTo (Sticks port) (IsOfBoot port) (λ uses. AllFree uses port.0) next old new
+    dies : (next : SlotStates → SlotStates) → IsSimulatedAlongTo (Sticks port) (IsOfBoot port) (λ uses. AllFree uses port.0) next mid new → IsSimulatedAlongTo (Sticks port) (IsOfBoot port) (λ uses. AllFree uses port.0) next old new
     dies next then = told_since laws (Sticks port) (Booting PortUnused port) (λ early late. laws.sticks_since early late port) next old mid new (up_boots (StopsReceiving port) port old mid first).followed then
 
     pub whole_ended : (result : Result DiskInfo PortState) → IfErr result (λ state. IsBootTo (Stops port) port state mid new) → IfErr result (λ state. IsBootTo (StopsOnWay port state) port state old new)

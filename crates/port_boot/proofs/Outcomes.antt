@@ -13,23 +13,23 @@ use Rattle.adapter.specs.Access.{Access, Writes}
 use Rattle.adapter.specs.Access.Access.{Reading, Writing, Loading, Storing}
 use Rattle.adapter.specs.Device.{Device}
 use Rattle.adapter.specs.Rules.{IsOn}
-use Rattle.agreement.specs.Driven.{IsControl, IsDrivenBy}
-use Rattle.agreement.specs.Errors.{NoneFatal, NoneFails}
-use Rattle.agreement.specs.Facts.{Undisturbed, ShowsNoTrouble}
-use Rattle.agreement.specs.Links.{PlugsNone, SparesRegister}
-use Rattle.agreement.specs.Started.{IsStarted}
-use Rattle.agreement.specs.Driven.{Grows}
+use Rattle.refinement.specs.Driven.{IsControl, IsDrivenBy}
+use Rattle.refinement.specs.Errors.{NoneFatal, NoneFails}
+use Rattle.refinement.specs.Facts.{Undisturbed, ShowsNoTrouble}
+use Rattle.refinement.specs.Links.{PlugsNone, SparesRegister}
+use Rattle.refinement.specs.Started.{IsStarted}
+use Rattle.refinement.specs.Driven.{Grows}
 use Rattle.disk_page.specs.Asking.{IsAsking, LeavesRunning}
 use Rattle.port_control.specs.Engines.{Stops}
 use Rattle.port_control.specs.Ports.{WritesCommand, HasClearErrors}
 use Rattle.port_control.specs.declared.PortFault.{PortFault}
 use Rattle.port_control.specs.declared.PortFault.TheVariants.{NoDevice, Busy, EngineStuck, NotAta}
-use Rattle.identify.specs.Page.{number_of}
+use Rattle.identify.specs.Page.{unfit_number}
 use Rattle.identify.specs.declared.DiskInfo.{DiskInfo}
 use Rattle.identify.specs.declared.Unfit.{Unfit as Fault}
 use Rattle.identify.specs.declared.Unfit.TheVariants.{BadChecksum, Word83, No48Bit, SectorSize, NoFlush, NoSectors}
 use Rattle.port_boot.specs.Outcomes.{EndsReady, EndsUnready, FailsToIdentify, Identifies, Rises}
-use Rattle.port_boot.specs.States.{TellsFault, Judges, IsBooting, IsEarly, IsHaltedAs, IsOfBoot, IsBroughtUp, GetsAsked, GetsReady, EndsEarly, EndsLate, IsLate, ShowsNews, HasCauses, RunsOn, StopsThen}
+use Rattle.port_boot.specs.States.{IsStateOfFault, Judges, IsBooting, IsEarly, IsHaltedAs, IsOfBoot, IsBroughtUp, GetsAsked, GetsReady, EndsEarly, EndsLate, IsLate, ShowsNews, HasCauses, RunsOn, StopsThen}
 use Rattle.port_boot.proofs.Identifying.{whole_ended, whole_ready}
 use Rattle.port_boot.proofs.Staying.{boot_driven}
 use Rattle.port_boot.proofs.Enduring.{Endures, Lasts, endures, lasts, lasts_access, lasts_more, goes_more}
@@ -52,7 +52,7 @@ pub early_is_not_late : (port : Port) (state : PortState) (old new : Device) →
 early_is_not_late port state old new (inl dead) late = absurd (subst IsLate dead late)
 early_is_not_late port state old new (inr e) late = absurd (by e.fault e.told)
   where
-    by : (fault : PortFault) → TellsFault state fault → ⊥
+    by : (fault : PortFault) → IsStateOfFault state fault → ⊥
     by NoDevice told = subst IsLate told late
     by Busy told = let l : IsLate (Unfit 7) = subst IsLate told late in l.0 refl
     by EngineStuck told = subst IsLate told late
@@ -76,7 +76,7 @@ no_fault : (n small : ℕ) → n ≡ small → small < 7 → IsEarly (Unfit n) �
 no_fault n small is low (inl e) = absurd (omega (arith, is, low, e))
 no_fault n small is low (inr e) = absurd (omega (arith, is, low, e))
 
-fault_late : (n : ℕ) (fault : Fault) → n ≡ number_of fault → IsEarly (Unfit n) → ⊥
+fault_late : (n : ℕ) (fault : Fault) → n ≡ unfit_number fault → IsEarly (Unfit n) → ⊥
 fault_late n BadChecksum is early = no_fault n 1 is (omega arith) early
 fault_late n Word83 is early = no_fault n 2 is (omega arith) early
 fault_late n No48Bit is early = no_fault n 3 is (omega arith) early

@@ -12,12 +12,12 @@ use Rattle.hba_regs.specs.declared.reg.Reg.TheVariants as adapter
 use Rattle.adapter.specs.Steps.{restarted}
 use Rattle.adapter.specs.Access.{Access, Does, DoesAll, noted, port_written, unacknowledged, with_fre, with_st, written, named_causes}
 use Rattle.adapter.specs.Access.Access.{Reading, Writing, Loading, Storing}
-use Rattle.adapter.specs.Device.{Device, PortState}
+use Rattle.adapter.specs.Device.{Device, DevicePort}
 use Rattle.adapter.specs.Memory.{changed}
-use Rattle.adapter.specs.Steps.{Step, Can, Leads, Steps, after}
-use Rattle.adapter.specs.Steps.Step.{Fetch, FetchFault, Move, Clear, Done, Fault, Fatal, Fall, FrFall, LinkUp, Unplug, Plug, ResetEnds, Scribble}
+use Rattle.adapter.specs.Steps.{DeviceTransition, Can, StepLeads, Steps, device_after}
+use Rattle.adapter.specs.Steps.DeviceTransition.{Fetch, FetchFault, Move, Clear, Done, Fault, Fatal, Fall, FrFall, LinkUp, Unplug, Plug, ResetEnds, Scribble}
 use Rattle.adapter.proofs.Changed.{changed_other, changed_same}
-use Rattle.agreement.specs.Driven.{IsDrivenBy}
+use Rattle.refinement.specs.Driven.{IsDrivenBy}
 use Rattle.port_control.specs.Ports.{FindsSignature, ReadsUntil}
 use Rattle.port_boot.specs.States.{GetsReady, ShowsOwnDisk}
 
@@ -25,7 +25,7 @@ not_three : ◌≡◌ {A = ℕ} 0 3 → ⊥
 not_three none = absurd cc
 
 -- one port changed
-at : (f : ℕ → PortState) (p port : ℕ) (new : PortState) → ShowsOwnDisk (f port) → (ShowsOwnDisk (f p) → ShowsOwnDisk new) → ShowsOwnDisk (changed f p new port)
+at : (f : ℕ → DevicePort) (p port : ℕ) (new : DevicePort) → ShowsOwnDisk (f port) → (ShowsOwnDisk (f p) → ShowsOwnDisk new) → ShowsOwnDisk (changed f p new port)
 at f p port new h here = elim (cases_eq port p) [
   | inl same ↦ subst (λ (q : ℕ). ShowsOwnDisk (changed f p new q)) (sym same) (subst ShowsOwnDisk (sym (changed_same f p new)) (here (subst (λ (q : ℕ). ShowsOwnDisk (f q)) same h)))
   | inr other ↦ subst ShowsOwnDisk (sym (changed_other f p new port other)) h
@@ -33,7 +33,7 @@ at f p port new h here = elim (cases_eq port p) [
 
 -- ---- the device's steps
 
-own_step : (port : ℕ) (d : Device) (step : Step) → Can step d → ShowsOwnDisk (d.port port) → ShowsOwnDisk ((after step d).port port)
+own_step : (port : ℕ) (d : Device) (step : DeviceTransition) → Can step d → ShowsOwnDisk (d.port port) → ShowsOwnDisk ((device_after step d).port port)
 own_step port d (Fetch p slot c places) can h = at d.port p port _ h (λ x. x)
 own_step port d (FetchFault p slot queued kept_bits) can h = at d.port p port _ h (λ x. x)
 own_step port d (Move p slot t bytes) can h = at d.port p port _ h (λ x. x)
@@ -49,9 +49,9 @@ own_step port d (Plug p disk) can h = at d.port p port _ h (λ x up. refl)
 own_step port d ResetEnds can h = λ none. absurd (not_three none)
 own_step port d (Scribble p slot at_byte bytes) can h = h
 
-leads_own : (port : ℕ) (steps : List Step) (old new : Device) → Leads steps old new → ShowsOwnDisk (old.port port) → ShowsOwnDisk (new.port port)
+leads_own : (port : ℕ) (steps : List DeviceTransition) (old new : Device) → StepLeads steps old new → ShowsOwnDisk (old.port port) → ShowsOwnDisk (new.port port)
 leads_own port [] old new e h = subst (λ (d : Device). ShowsOwnDisk (d.port port)) (sym e) h
-leads_own port (step ∷ steps) old new (can, lead) h = leads_own port steps (after step old) new lead (own_step port old step can h)
+leads_own port (step ∷ steps) old new (can, lead) h = leads_own port steps (device_after step old) new lead (own_step port old step can h)
 
 pub steps_own : (port : ℕ) (old new : Device) → Steps old new → ShowsOwnDisk (old.port port) → ShowsOwnDisk (new.port port)
 steps_own port old new s h = leads_own port s.steps old new s.lead h
@@ -69,26 +69,26 @@ noted_own port Cap2 v d h = h
 noted_own port Bohc v d h = h
 
 -- ST, where it is set already or isn't
-started_own : (already fre : Bool) (tape : ℕ) (p : PortState) → ShowsOwnDisk p
+started_own : (already fre : Bool) (tape : ℕ) (p : DevicePort) → ShowsOwnDisk p
     → ShowsOwnDisk (with_fre fre (if already then p else record p { st = true; cr = true; broken = false; halt = restarted p.halt; notes = record p.notes { st_set_at = tape } }))
 started_own true fre tape p h = h
 started_own false fre tape p h = h
 
-command_own : (st fre : Bool) (tape : ℕ) (p : PortState) → ShowsOwnDisk p → ShowsOwnDisk (with_fre fre (with_st st tape p))
+command_own : (st fre : Bool) (tape : ℕ) (p : DevicePort) → ShowsOwnDisk p → ShowsOwnDisk (with_fre fre (with_st st tape p))
 command_own true fre tape p h = started_own p.st fre tape p h
 command_own false fre tape p h = h
 
 -- COMRESET has the port show no device
-control_own : (sends : Bool) (p : PortState) → ShowsOwnDisk p → (if sends then 0 else p.ssts_det) ≡ 3 → p.present ≡ true
+control_own : (sends : Bool) (p : DevicePort) → ShowsOwnDisk p → (if sends then 0 else p.ssts_det) ≡ 3 → p.present ≡ true
 control_own true p h none = absurd (not_three none)
 control_own false p h up = h up
 
-written_own : (r : PortReg) (v tape : ℕ) (p : PortState) → ShowsOwnDisk p → ShowsOwnDisk (port_written r v tape p)
+written_own : (r : PortReg) (v tape : ℕ) (p : DevicePort) → ShowsOwnDisk p → ShowsOwnDisk (port_written r v tape p)
 written_own Cmd v tape p h = command_own (bit v 0) (bit v 4) tape p h
 written_own Sctl v tape p h = control_own (nat_eq (v % 16) 1) p h
 written_own _ v tape p h = h
 
-acknowledged_own : (is : Bool) (p : PortState) → ShowsOwnDisk p → ShowsOwnDisk (if is then unacknowledged p else p)
+acknowledged_own : (is : Bool) (p : DevicePort) → ShowsOwnDisk p → ShowsOwnDisk (if is then unacknowledged p else p)
 acknowledged_own true p h = h
 acknowledged_own false p h = h
 

@@ -8,21 +8,21 @@ use Rattle.adapter.specs.Access.{Access}
 use Rattle.adapter.specs.Device.{Notes, Device}
 use Rattle.adapter.specs.Device as device
 use Rattle.adapter.specs.declared.command.Operation.TheVariants.{Identify}
-use Rattle.agreement.specs.Driven.{IsDrivenBy, IsOf, LeavesPort, SendsNone}
+use Rattle.refinement.specs.Driven.{IsDrivenBy, IsOf, LeavesPort, SendsNone}
 use Rattle.identify.specs.declared.DiskInfo.{DiskInfo}
-use Rattle.port_control.specs.Ports.{IsStopped, IsRunning, SawDevice, Shows}
+use Rattle.port_control.specs.Ports.{IsStopped, IsRunning, SawDevice, BacksFault}
 use Rattle.port_control.specs.declared.PortFault.{PortFault}
 use Rattle.port_boot.specs.States.{EndsAs, HasFitDisk, HasPage, IsBootTo, IsOfBoot, IsReady, IsUnfit}
 use Rattle.port_boot.proofs.Identifying.{page_on}
 use Rattle.port_boot.specs.Laws.{Laws}
-use Rattle.agreement.specs.Tape.{Tells}
+use Rattle.refinement.specs.Tape.{TapeTells}
 use Rattle.port_boot.specs.Laws.RegisterSet.{BootRegisters}
 
 pub disk_on : (wanted : Option (List ℕ)) (port : ℕ) (old new : Device) (info : DiskInfo) → SendsNone port Identify old new → (new.port port).sctl_det ≡ (old.port port).sctl_det → (new.port port).ie ≡ (old.port port).ie →
     (new.port port).notes.sctl_written_at ≡ (old.port port).notes.sctl_written_at → HasFitDisk wanted port old info → HasFitDisk wanted port new info
 disk_on wanted port old new info silent det ie same h = record { det = det ∙ h.det; tells = ie ∙ h.tells; page = h.page; has = page_on port old new h.page silent same h.has; fit = h.fit }
 
-module _ (old new : device.PortState) (l : LeavesPort old new) where
+module _ (old new : device.DevicePort) (l : LeavesPort old new) where
   stopped_on : IsStopped old → IsStopped new
   stopped_on s = record {
     halted = record {
@@ -56,18 +56,18 @@ module _ (port : ℕ) (old new : Device) (l : LeavesPort (old.port port) (new.po
   page_stays silent page h = page_on port old new page silent written_on h
 
   unfit_on : SendsNone port Identify old new → (n : ℕ) → IsUnfit n port old → IsUnfit n port new
-  unfit_on silent n (inl (is, shown)) = inl (is, noted_on (old.port port) (new.port port) l (λ k. Shows PortFault.Busy k) shown)
-  unfit_on silent n (inr (inl (is, shown))) = inr (inl (is, noted_on (old.port port) (new.port port) l (λ k. (signature : ℕ) × Shows (PortFault.NotAta signature) k) shown))
+  unfit_on silent n (inl (is, shown)) = inl (is, noted_on (old.port port) (new.port port) l (λ k. BacksFault PortFault.Busy k) shown)
+  unfit_on silent n (inr (inl (is, shown))) = inr (inl (is, noted_on (old.port port) (new.port port) l (λ k. (signature : ℕ) × BacksFault (PortFault.NotAta signature) k) shown))
   unfit_on silent n (inr (inr (inl (is, saw, count)))) =
       inr (inr (inl (is, noted_on (old.port port) (new.port port) l SawDevice saw, noted_on (old.port port) (new.port port) l (λ k. k.command_count ≡ READINGS) count)))
   unfit_on silent n (inr (inr (inr (page, has, fault)))) = inr (inr (inr (page, page_stays silent page has, fault)))
 
   -- the page is not asked about where the port is dead
   pub ends_on : (wanted : Option (List ℕ)) (state : PortState) → (state ≢ Dead → SendsNone port Identify old new) → EndsAs wanted state port old → EndsAs wanted state port new
-  ends_on wanted Absent silent (stopped, shown) = (stopped_on (old.port port) (new.port port) l stopped, noted_on (old.port port) (new.port port) l (λ k. Shows PortFault.NoDevice k) shown)
+  ends_on wanted Absent silent (stopped, shown) = (stopped_on (old.port port) (new.port port) l stopped, noted_on (old.port port) (new.port port) l (λ k. BacksFault PortFault.NoDevice k) shown)
   ends_on wanted (Unfit n) silent (stopped, unfit) = (stopped_on (old.port port) (new.port port) l stopped, unfit_on (silent (λ e. absurd cc)) n unfit)
   ends_on wanted Foreign silent (stopped, (page, has, other)) = (stopped_on (old.port port) (new.port port) l stopped, (page, page_stays (silent (λ e. absurd cc)) page has, other))
-  ends_on wanted Dead silent (st, shown) = (l.keeps.st st, noted_on (old.port port) (new.port port) l (λ k. Shows PortFault.EngineStuck k) shown)
+  ends_on wanted Dead silent (st, shown) = (l.keeps.st st, noted_on (old.port port) (new.port port) l (λ k. BacksFault PortFault.EngineStuck k) shown)
   ends_on wanted Ready silent none = absurd none
 
   pub ready_on : (wanted : Option (List ℕ)) (info : DiskInfo) → SendsNone port Identify old new → IsReady wanted port old info → IsReady wanted port new info
@@ -77,13 +77,13 @@ module _ (port : ℕ) (old new : Device) (l : LeavesPort (old.port port) (new.po
     disk = disk_on wanted port old new info silent l.controls.sctl_det l.controls.ie written_on r.disk;
   }
 
-pub boot_driven : (Tells : List Access → Type 0) (port : Port) (old new : Device) (state : PortState) → IsBootTo Tells port state old new → IsDrivenBy (IsOfBoot port) old new
-boot_driven Tells port old new Dead (inl b) = b.followed.driven
-boot_driven Tells port old new Dead (inr b) = b.followed.driven
-boot_driven Tells port old new Absent b = b.followed.driven
-boot_driven Tells port old new Ready b = b.followed.driven
-boot_driven Tells port old new Foreign b = b.followed.driven
-boot_driven Tells port old new (Unfit n) b = b.followed.driven
+pub boot_driven : (TapeTells : List Access → Type 0) (port : Port) (old new : Device) (state : PortState) → IsBootTo TapeTells port state old new → IsDrivenBy (IsOfBoot port) old new
+boot_driven TapeTells port old new Dead (inl b) = b.followed.driven
+boot_driven TapeTells port old new Dead (inr b) = b.followed.driven
+boot_driven TapeTells port old new Absent b = b.followed.driven
+boot_driven TapeTells port old new Ready b = b.followed.driven
+boot_driven TapeTells port old new Foreign b = b.followed.driven
+boot_driven TapeTells port old new (Unfit n) b = b.followed.driven
 
 module _ (laws : Laws) where
   -- ---- what the accesses of a boot are

@@ -2,30 +2,30 @@
 use Rattle.std.specs.Prelude.{ℕ, true, false, ◌≡◌, ◌≢◌, ◌++◌, List}
 use Rattle.ata_types.specs.declared.Port.{Port}
 use Rattle.adapter.specs.Access.{Access, Does, Writes}
-use Rattle.agreement.specs.Laws.{StretchLaws, TapeLaws}
-use Rattle.agreement.specs.Driver.{AllFree}
-use Rattle.agreement.specs.Driven.{AnyAccess, AnyUse, HasNoCommand, IsControl, IsDrivenBy, IsOf, SendsNone}
-use Rattle.agreement.specs.Errors.{ChangesByErrors, NoneFails, NoneFatal}
+use Rattle.refinement.specs.Laws.{FragmentLaws, TapeLaws}
+use Rattle.refinement.specs.Driver.{AllFree}
+use Rattle.refinement.specs.Driven.{AnyAccess, AnyUse, HasNoCommand, IsControl, IsDrivenBy, IsOf, SendsNone}
+use Rattle.refinement.specs.Errors.{ChangesByErrors, NoneFails, NoneFatal}
 use Rattle.hba_regs.specs.declared.reg.PortReg.TheVariants.{Ci, Cmd, Sctl}
-use Rattle.agreement.specs.Started.{ClearsNoStart, IsStarted, IsUp}
-use Rattle.adapter.specs.Device.{Device, PortState}
+use Rattle.refinement.specs.Started.{ClearsNoStart, IsStarted, IsUp}
+use Rattle.adapter.specs.Device.{Device, DevicePort}
 use Rattle.adapter.specs.Device.Halt.{NotHalted}
-use Rattle.agreement.specs.Agrees.{Agrees}
-use Rattle.agreement.specs.Halting.{HaltsAsTaken, IsHaltedAsTaken}
-use Rattle.block_machine.specs.Histories.{IsReached}
+use Rattle.refinement.specs.Relation.{StateRelation}
+use Rattle.refinement.specs.Halting.{HaltsAsTaken, IsHaltedAsTaken}
+use Rattle.block_machine.specs.Histories.{IsReachable}
 use Rattle.block_machine.specs.State.{Machine}
 use Rattle.adapter.specs.declared.tape.Entry.{Entry}
 use Rattle.port_control.specs.Engines.{FailsToStop, FailsToStopReceiving, Falls, Sticks}
-use Rattle.agreement.specs.Slots.{IsOver, Uses}
+use Rattle.refinement.specs.Slots.{IsOver, SlotStates}
 use Rattle.hba_regs.specs.declared.reg.Reg.TheVariants.{Ghc, Px}
 use Rattle.disk_page.specs.Asking.{IsAsking, LeavesRunning}
 use Rattle.port_boot.specs.States.{IsBooting, IsOfBoot}
-use Rattle.adapter.specs.Rules.{IsOn, MayWrite, Stays}
+use Rattle.adapter.specs.Rules.{IsOn, MayWrite, IsStable}
 use Rattle.port_control.specs.Ports.{IsPlacing, IsResetting, WritesCommand}
-use Rattle.agreement.specs.Facts.{IsRecorded, RunsWell, ShowsNoTrouble, Undisturbed}
+use Rattle.refinement.specs.Facts.{IsRecorded, RunsWell, ShowsNoTrouble, Undisturbed}
 use Rattle.command_table.specs.Written.{IsUnused}
 use Rattle.adapter.specs.declared.command.Operation.{Operation}
-use Rattle.agreement.specs.Links.{PlugsNone, SameAdapter, SparesRegister}
+use Rattle.refinement.specs.Links.{PlugsNone, SameAdapter, SparesRegister}
 use Rattle.hba_regs.specs.declared.reg.PortReg.{PortReg}
 use Rattle.adapter.specs.Seen.{PutAt}
 use Rattle.hba_regs.specs.declared.reg.Reg.{Reg}
@@ -55,23 +55,23 @@ pub data Fitting : Type 0 where
   HeadUnused : Fitting
   PortUnused : Fitting
 
-abbrev pub uses_of : Fitting → Port → Uses → Type 0
+abbrev pub uses_of : Fitting → Port → SlotStates → Type 0
 uses_of AnyUses port = AnyUse
 uses_of HeadUnused port = IsUnused port.0 0
 uses_of PortUnused port = λ uses. AllFree uses port.0
 
 -- a port's registers are read, and those of a set written; a port is booted; or its disk is asked for its page
-pub data Stretch : Type 0 where
-  Controlling : RegisterSet → Fitting → Port → Stretch
-  Booting : Fitting → Port → Stretch
-  Asking : Port → Stretch
+pub data Fragment : Type 0 where
+  Controlling : RegisterSet → Fitting → Port → Fragment
+  Booting : Fitting → Port → Fragment
+  Asking : Port → Fragment
 
-abbrev pub may_of : Stretch → Access → Type 0
+abbrev pub may_of : Fragment → Access → Type 0
 may_of (Controlling set fitting port) = IsControl (registers_of set) port
 may_of (Booting fitting port) = IsOfBoot port
 may_of (Asking port) = IsAsking port
 
-abbrev pub fits_of : Stretch → Uses → Type 0
+abbrev pub fits_of : Fragment → SlotStates → Type 0
 fits_of (Controlling set fitting port) = uses_of fitting port
 fits_of (Booting fitting port) = uses_of fitting port
 fits_of (Asking port) = IsUnused port.0 0
@@ -85,7 +85,7 @@ pub record Laws : Type 0 where
   pub access_on : (access : Access) (old new : Device) → IsOn old
       → ((v : ℕ) → access ≡ Writing Ghc v → (bit v 31 ≡ true) × (bit v 0 ≡ false)) → Does access old new → IsOn new
   pub write_stays : (r : Reg) (v : ℕ) (d : Device) → ((port : Port) → r ≢ Px port Ci) → MayWrite r v d
-      → Stays (MayWrite r v) d
+      → IsStable (MayWrite r v) d
   pub tape : TapeLaws
   pub access_unmoving : (port : ℕ) (o : Operation) (access : Access) (old new : Device) → HasNoCommand (old.port port)
       → Does access old new → SendsNone port o old new
@@ -104,18 +104,19 @@ pub record Laws : Type 0 where
   pub access_recorded : (port : Port) (access : Access) (old new : Device) → SparesRegister (Px port Cmd) access
       → SparesRegister (Px port Sctl) access → Does access old new → IsRecorded old.tape (old.port port.0) port.0
       → IsRecorded new.tape (new.port port.0) port.0
-  pub halts_access : (uses : Uses) (m : Machine) (port : Port) (access : Access) (old new : Device) → IsReached m
-      → Agrees uses m old → SparesRegister (Px port Cmd) access → Does access old new
+  pub halts_access : (uses : SlotStates) (m : Machine) (port : Port) (access : Access) (old new : Device)
+      → IsReachable m
+      → StateRelation uses m old → SparesRegister (Px port Cmd) access → Does access old new
       → IsHaltedAsTaken (old.port port.0) → IsHaltedAsTaken (new.port port.0)
-  pub halts_calm : (p : PortState) → p.halt ≡ NotHalted → HaltsAsTaken p
-  pub started_up : (p : PortState) → IsStarted p → p.sctl_det ≢ 1 → IsUp p
-  pub well_of : (p : PortState) → IsStarted p → ShowsNoTrouble p → RunsWell p
-  pub started_well : (p : PortState) → RunsWell p → IsStarted p
+  pub halts_calm : (p : DevicePort) → p.halt ≡ NotHalted → HaltsAsTaken p
+  pub started_up : (p : DevicePort) → IsStarted p → p.sctl_det ≢ 1 → IsUp p
+  pub well_of : (p : DevicePort) → IsStarted p → ShowsNoTrouble p → RunsWell p
+  pub started_well : (p : DevicePort) → RunsWell p → IsStarted p
   -- what the tape tells
   pub undisturbed_plugs : (port : ℕ) (old new : Device) → Undisturbed port old new → PlugsNone port old new
   pub undisturbed_fatal : (port : ℕ) (old new : Device) → Undisturbed port old new → NoneFatal port old new
   pub undisturbed_fails : (port : ℕ) (old new : Device) → Undisturbed port old new → NoneFails port old new
-  -- stretches
+  -- fragments
   pub of_on : (port : Port) (old new : Device) → IsOn old → IsDrivenBy (IsOf port) old new → IsOn new
   pub same_any : (old new : Device) → IsDrivenBy AnyAccess old new → SameAdapter old new
   pub tape_any : (old new : Device) → IsDrivenBy AnyAccess old new → (gained : List Entry)
@@ -141,4 +142,4 @@ pub record Laws : Type 0 where
   pub control_wider : (set more : RegisterSet) (port : Port)
       → ((r : PortReg) → registers_of set r → registers_of more r) → (access : Access)
       → IsControl (registers_of set) port access → IsControl (registers_of more) port access
-  pub stretches : StretchLaws Stretch may_of fits_of
+  pub fragments : FragmentLaws Fragment may_of fits_of

@@ -5,9 +5,9 @@ use Rattle.ata_types.specs.declared.Port.{Port}
 use Rattle.ata_types.specs.declared.PortState.{PortState}
 use Rattle.ata_types.specs.declared.PortState.TheVariants.{Dead}
 use Rattle.adapter.specs.Device.{Device}
-use Rattle.agreement.specs.Driven.{IsControl, IsFollowed, IsTold}
-use Rattle.agreement.specs.Driver.{AllFree}
-use Rattle.agreement.specs.Halting.{HaltsAsTaken}
+use Rattle.refinement.specs.Driven.{IsControl, IsSimulated, IsSimulatedAlong}
+use Rattle.refinement.specs.Driver.{AllFree}
+use Rattle.refinement.specs.Halting.{HaltsAsTaken}
 use Rattle.identify.specs.declared.DiskInfo.{DiskInfo}
 use Rattle.port_control.specs.Engines.{Stops, StopsReceiving}
 use Rattle.port_boot.specs.States.{EndsAs, EndsEarly, EndsLate, GetsAsked, GetsReady, IsBoot, IsBootTo, IsBooting, IsBroughtUp, IsEarly, IsLate, IsOfBoot, IsReady, RunsOn, ShowsNews, StopsOnWay, StopsThen}
@@ -34,7 +34,7 @@ pub record EndsUnready (wanted : Option (List ℕ)) (port : Port) (state : PortS
 
 -- It brought the port up.
 pub record Rises (port : Port) (old new : Device) : Type 0 where
-  pub boots : IsTold (StopsReceiving port) (IsControl IsBooting port) (λ uses. AllFree uses port.0) old new
+  pub boots : IsSimulatedAlong (StopsReceiving port) (IsControl IsBooting port) (λ uses. AllFree uses port.0) old new
   pub up : IsBroughtUp port old new
 
 -- Or the port wasn't started, whatever disk is wanted.
@@ -49,7 +49,7 @@ pub record FailsToRise (port : Port) (state : PortState) (old new : Device) : Ty
 -- It fits, and the port is ready.
 pub record Identifies (wanted : Option (List ℕ)) (port : Port) (info : DiskInfo) (old new : Device) : Type 0 where
   pub ready : IsReady wanted port.0 new info
-  pub boots : IsFollowed (IsOfBoot port) (λ uses. AllFree uses port.0) old new
+  pub boots : IsSimulated (IsOfBoot port) (λ uses. AllFree uses port.0) old new
   pub asked : GetsAsked port old new
   pub halts : HaltsAsTaken (new.port port.0)
   pub runs_on : RunsOn port.0 old new

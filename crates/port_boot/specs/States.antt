@@ -10,25 +10,25 @@ use Rattle.hba_regs.specs.declared.reg.PortReg.{PortReg}
 use Rattle.hba_regs.specs.declared.reg.PortReg.TheVariants.{Ie}
 use Rattle.hba_regs.specs.declared.reg.Reg.TheVariants.{Px}
 use Rattle.adapter.specs.Access.{Access, Writes, named_causes}
-use Rattle.adapter.specs.Device.{Device, PortState as DevicePort}
+use Rattle.adapter.specs.Device.{Device, DevicePort}
 use Rattle.adapter.specs.declared.command.Operation.TheVariants.{Identify}
 use Rattle.adapter.specs.declared.tape.Entry.{Entry}
 use Rattle.adapter.specs.declared.tape.Entry.TheVariants as entry
 use Rattle.adapter.specs.declared.tape.Move as tape_move
 use Rattle.adapter.specs.Rules.{IsOn, HasPort}
-use Rattle.agreement.specs.Driven.{AgreesWith, IsControl, IsDrivenBy, IsTold, IsToldTo}
-use Rattle.agreement.specs.Driver.{AllFree}
-use Rattle.agreement.specs.Errors.{NoneComes, ChangesByDisks, ChangesByErrors, NoneFatal, NoneFails}
-use Rattle.agreement.specs.Facts.{IsRecorded, RunsWell, Undisturbed}
-use Rattle.agreement.specs.Links.{PlugsNone}
-use Rattle.agreement.specs.Slots.{Own, put, IsMove}
-use Rattle.agreement.specs.Started.{IsUp, IsComingUp, IsStarted}
+use Rattle.refinement.specs.Driven.{RelatesWith, IsControl, IsDrivenBy, IsSimulatedAlong, IsSimulatedAlongTo}
+use Rattle.refinement.specs.Driver.{AllFree}
+use Rattle.refinement.specs.Errors.{NoneComes, ChangesByDisks, ChangesByErrors, NoneFatal, NoneFails}
+use Rattle.refinement.specs.Facts.{IsRecorded, RunsWell, Undisturbed}
+use Rattle.refinement.specs.Links.{PlugsNone}
+use Rattle.refinement.specs.Slots.{Own, put, IsMove}
+use Rattle.refinement.specs.Started.{IsUp, IsComingUp, IsStarted}
 use Rattle.disk_page.specs.Asking.{IsAsking}
-use Rattle.identify.specs.Page.{Describes, HasNoFault, IsFirstFault, IsSerial, number_of}
+use Rattle.identify.specs.Page.{Describes, HasNoUnfit, IsFirstUnfit, IsSerial, unfit_number}
 use Rattle.identify.specs.declared.DiskInfo.{DiskInfo}
 use Rattle.identify.specs.declared.Unfit.{Unfit as Fault}
 use Rattle.port_control.specs.Engines.{Stops, StopsReceiving, Sticks}
-use Rattle.port_control.specs.Ports.{FailsToHalt, Halts, WritesCommand, IsStopped, IsRunning, IsPlacing, IsResetting, SawDevice, Shows, FindsSignature, Looks, WasReset, HasClearErrors, IsFound}
+use Rattle.port_control.specs.Ports.{FailsToStopPort, PortStops, WritesCommand, IsStopped, IsRunning, IsPlacing, IsResetting, SawDevice, BacksFault, FindsSignature, Looks, WasReset, HasClearErrors, IsFound}
 use Rattle.port_control.specs.declared.PortFault.{PortFault}
 use Rattle.port_control.specs.declared.PortFault.TheVariants.{NoDevice, Busy, EngineStuck, NotAta}
 
@@ -52,24 +52,24 @@ Fits (Some wanted) serial = serial ≡ wanted
 
 -- the page has no fault, tells this, and its serial number is the one that is named
 pub record IsFit (wanted : Option (List ℕ)) (page : List ℕ) (info : DiskInfo) : Type 0 where
-  pub no_fault : HasNoFault page
+  pub no_fault : HasNoUnfit page
   pub tells : Describes page info
   pub fits : Fits wanted info.serial
 
 -- the page has no fault, and another serial number than the one that is named
 pub record IsOther (wanted : Option (List ℕ)) (page : List ℕ) : Type 0 where
-  pub no_fault : HasNoFault page
+  pub no_fault : HasNoUnfit page
   pub serial : List ℕ
   pub tells : IsSerial page serial
   pub other : Fits wanted serial → ⊥
 
 -- the page's first fault has this number
-abbrev pub HasFault : ℕ → List ℕ → Type 0
-HasFault n page = (fault : Fault) × IsFirstFault page fault × (n ≡ number_of fault)
+abbrev pub HasUnfitNumber : ℕ → List ℕ → Type 0
+HasUnfitNumber n page = (fault : Fault) × IsFirstUnfit page fault × (n ≡ unfit_number fault)
 
 -- what a page makes of a port that isn't ready
 abbrev pub Judges : Option (List ℕ) → PortState → List ℕ → Type 0
-Judges wanted (Unfit n) page = HasFault n page
+Judges wanted (Unfit n) page = HasUnfitNumber n page
 Judges wanted Foreign page = IsOther wanted page
 Judges wanted _ page = ⊥
 
@@ -78,25 +78,25 @@ Judges wanted _ page = ⊥
 -- Why a disk is unfit: 7, it stayed busy; 8, its signature is no ATA disk's; 9, the command for its page didn't end;
 -- else its page's first fault.
 abbrev pub IsUnfit : ℕ → ℕ → Device → Type 0
-IsUnfit n port d = ((n ≡ 7) × Shows Busy (d.port port).notes)
-    ⊎ ((n ≡ 8) × ((signature : ℕ) × Shows (NotAta signature) (d.port port).notes))
+IsUnfit n port d = ((n ≡ 7) × BacksFault Busy (d.port port).notes)
+    ⊎ ((n ≡ 8) × ((signature : ℕ) × BacksFault (NotAta signature) (d.port port).notes))
     ⊎ ((n ≡ 9) × SawDevice (d.port port).notes × ((d.port port).notes.command_count ≡ READINGS))
-    ⊎ ((page : List ℕ) × HasPage port d page × HasFault n page)
+    ⊎ ((page : List ℕ) × HasPage port d page × HasUnfitNumber n page)
 
 -- the state that tells of a fault
-abbrev pub TellsFault : PortState → PortFault → Type 0
-TellsFault state NoDevice = state ≡ Absent
-TellsFault state Busy = state ≡ Unfit 7
-TellsFault state EngineStuck = state ≡ Dead
-TellsFault state (NotAta signature) = state ≡ Unfit 8
+abbrev pub IsStateOfFault : PortState → PortFault → Type 0
+IsStateOfFault state NoDevice = state ≡ Absent
+IsStateOfFault state Busy = state ≡ Unfit 7
+IsStateOfFault state EngineStuck = state ≡ Dead
+IsStateOfFault state (NotAta signature) = state ≡ Unfit 8
 
 -- What stands behind each state of a port that a boot leaves, but Ready: Absent, Unfit and Foreign ports are stopped,
 -- with no command issued, active or taken; a Dead one was to stop.
 abbrev pub EndsAs : Option (List ℕ) → PortState → ℕ → Device → Type 0
-EndsAs wanted Absent port d = IsStopped (d.port port) × Shows NoDevice (d.port port).notes
+EndsAs wanted Absent port d = IsStopped (d.port port) × BacksFault NoDevice (d.port port).notes
 EndsAs wanted (Unfit n) port d = IsStopped (d.port port) × IsUnfit n port d
 EndsAs wanted Foreign port d = IsStopped (d.port port) × ((page : List ℕ) × HasPage port d page × IsOther wanted page)
-EndsAs wanted Dead port d = ((d.port port).st ≡ false) × Shows EngineStuck (d.port port).notes
+EndsAs wanted Dead port d = ((d.port port).st ≡ false) × BacksFault EngineStuck (d.port port).notes
 EndsAs wanted Ready port d = ⊥
 
 -- What stands behind a ready port as long as it isn't booted anew: no COMRESET is being sent, it tells by interrupts of
@@ -128,13 +128,14 @@ IsOfBoot port access = IsControl IsBooting port access ⊎ IsAsking port access
 -- What a boot is to each machine that agrees with a driver that uses no slot of the port: steps of the device alone,
 -- after which none is used; and so much is told of its accesses.
 abbrev pub IsBoot : (List Access → Type 0) → Port → Device → Device → Type 0
-IsBoot Tells port old new = IsTold Tells (IsOfBoot port) (λ uses. AllFree uses port.0) old new
+IsBoot Tells port old new = IsSimulatedAlong Tells (IsOfBoot port) (λ uses. AllFree uses port.0) old new
 
 -- So it is of a boot to this state. Where the port is dead, 64 readings are told in place of that, which showed an
 -- engine that is stuck; and its slot 0 may have IDENTIFY DEVICE.
 abbrev pub IsBootTo : (List Access → Type 0) → Port → PortState → Device → Device → Type 0
 IsBootTo Tells port Dead old new = IsBoot (Sticks port) port old new
-    ⊎ IsToldTo (Sticks port) (IsOfBoot port) (λ uses. AllFree uses port.0) (λ uses. put uses port.0 0 (Own Identify))
+    ⊎ IsSimulatedAlongTo (Sticks port) (IsOfBoot port) (λ uses. AllFree uses port.0)
+    (λ uses. put uses port.0 0 (Own Identify))
     old new
 IsBootTo Tells port _ old new = IsBoot Tells port old new
 
@@ -168,7 +169,7 @@ pub record GetsReady (port : Port) (old new : Device) : Type 0 where
 -- PxSSTS shows one. But for a missing device, PxSERR and PxIS were cleared.
 pub record EndsEarly (port : Port) (state : PortState) (old new : Device) : Type 0 where
   pub fault : PortFault
-  pub told : TellsFault state fault
+  pub told : IsStateOfFault state fault
   pub placed : Device
   pub places : IsDrivenBy (IsControl IsPlacing port) old placed
   pub resets : WasReset port (Looks port fault) placed new
@@ -228,7 +229,7 @@ pub record IsBootable (port : Port) (d : Device) : Type 0 where
   pub on : IsOn d
   pub there : HasPort d port.0
   pub room : DRIVER_BYTES ≤ d.size
-  pub agreed : AgreesWith (λ uses. AllFree uses port.0) d
+  pub agreed : RelatesWith (λ uses. AllFree uses port.0) d
 
 -- The port was brought up: it runs, with no command in a slot; COMRESET was sent since, and a device seen. PxIS is
 -- clear, PxSERR tells no disk of before, the record of faults begins, and where no disk went or came, the port is
@@ -269,8 +270,8 @@ pub record StopsThen (port : Port) (old new : Device) : Type 0 where
 
 -- The port was stopped, and is in this state; or its engine is stuck, and it is dead.
 abbrev pub IsHaltedAs : Port → PortState → PortState → Device → Device → Type 0
-IsHaltedAs port wanted state old new = ((state ≡ wanted) × Halts port old new)
-    ⊎ ((state ≡ Dead) × ((new.port port.0).st ≡ false) × FailsToHalt port old new)
+IsHaltedAs port wanted state old new = ((state ≡ wanted) × PortStops port old new)
+    ⊎ ((state ≡ Dead) × ((new.port port.0).st ≡ false) × FailsToStopPort port old new)
 
 -- ---- what a port shows
 

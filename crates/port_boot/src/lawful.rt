@@ -1,17 +1,17 @@
 // What laws of the crates below say of this crate's accesses, for its proofs. Nothing comes of calling it.
-ghost use Rattle.port_boot.specs.Laws.{Laws, RegisterSet, Stretch, fits_of, may_of, registers_of};
+ghost use Rattle.port_boot.specs.Laws.{Laws, RegisterSet, Fragment, fits_of, may_of, registers_of};
 
-use adapter::laws::port_registers_are_accessed;
-use agreement::facts::{
-    adapter_stays, cleared_stays, fatal_errors_compose, faults_are_recorded, faults_compose,
-    link_comes_up, plugging_composes, running_well_is_found,
+use adapter::laws::law_port_registers_are_accessed;
+use disk_page::laws::law_asking_is_of_one_port;
+use port_control::laws::law_what_is_told_of_engines_stays;
+use refinement::facts::{
+    law_adapter_stays, law_cleared_stays, law_fatal_errors_compose, law_faults_are_recorded,
+    law_faults_compose, law_link_comes_up, law_plugging_composes, law_running_well_is_found,
 };
-use agreement::kinds::{Kinds, Registers, controls_are_of_a_port, stretch_laws_hold};
-use agreement::laws::writing_is_permitted;
-use agreement::recovering::halts_are_of_taken_commands;
-use agreement::stretches::{other_ports_are_left, tape_laws_hold, unused_slots_are_silent};
-use disk_page::laws::asking_is_of_one_port;
-use port_control::laws::what_is_told_of_engines_stays;
+use refinement::fragments::{law_other_ports_are_left, law_tapes, law_unused_slots_are_silent};
+use refinement::kinds::{Kinds, Registers, law_controls_are_of_a_port, law_fragments};
+use refinement::laws::law_writing_is_permitted;
+use refinement::recovering::law_halts_are_of_taken_commands;
 
 /// This crate's kinds of accesses.
 enum Boots {}
@@ -23,7 +23,7 @@ impl Registers for Boots {
 }
 
 impl Kinds for Boots {
-    ghost Kind = { Stretch };
+    ghost Kind = { Fragment };
 
     ghost may = { may_of };
 
@@ -31,25 +31,25 @@ impl Kinds for Boots {
 }
 
 /// The laws that the proofs of this crate rest on.
-pub fn laws_hold()
+pub fn law_base()
     ensures { Laws }
 {
-    port_registers_are_accessed();
-    adapter_stays();
-    cleared_stays();
-    fatal_errors_compose();
-    faults_are_recorded();
-    faults_compose();
-    link_comes_up();
-    plugging_composes();
-    running_well_is_found();
-    stretch_laws_hold::<Boots>();
-    controls_are_of_a_port::<Boots>();
-    writing_is_permitted();
-    halts_are_of_taken_commands();
-    other_ports_are_left();
-    tape_laws_hold();
-    unused_slots_are_silent();
-    asking_is_of_one_port();
-    what_is_told_of_engines_stays();
+    law_port_registers_are_accessed();
+    law_adapter_stays();
+    law_cleared_stays();
+    law_fatal_errors_compose();
+    law_faults_are_recorded();
+    law_faults_compose();
+    law_link_comes_up();
+    law_plugging_composes();
+    law_running_well_is_found();
+    law_fragments::<Boots>();
+    law_controls_are_of_a_port::<Boots>();
+    law_writing_is_permitted();
+    law_halts_are_of_taken_commands();
+    law_other_ports_are_left();
+    law_tapes();
+    law_unused_slots_are_silent();
+    law_asking_is_of_one_port();
+    law_what_is_told_of_engines_stays();
 }

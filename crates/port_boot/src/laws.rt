@@ -7,27 +7,27 @@ ghost use Rattle.hba_regs.specs.declared.reg.PortReg.TheVariants.{Cmd, Sctl};
 ghost use Rattle.hba_regs.specs.declared.reg.Reg.TheVariants.{Ghc, Px};
 ghost use Rattle.adapter.specs.Access.{Access, Does, DoesAll, is_cause, is_pending, shown_interrupt};
 ghost use Rattle.adapter.specs.Device.{Device};
-ghost use Rattle.adapter.specs.Pending.{LeavesEnabled, LeavesPending, SetsCause, interrupts};
+ghost use Rattle.adapter.specs.Pending.{LeavesIe, KeepsIsBit, SetsCause, interrupts};
 ghost use Rattle.adapter.specs.Rules.{IsOn};
-ghost use Rattle.adapter.specs.Steps.{Can, Step, Steps, after};
+ghost use Rattle.adapter.specs.Steps.{Can, DeviceTransition, Steps, device_after};
 ghost use Rattle.adapter.specs.declared.tape.Entry.{Entry};
 ghost use Rattle.adapter.specs.declared.command.Operation.TheVariants.{Identify};
-ghost use Rattle.agreement.specs.Driven.{IsControl, IsDrivenBy, IsOf, LeavesPort, SendsNone};
-ghost use Rattle.agreement.specs.Facts.{RunsWell, Undisturbed};
-ghost use Rattle.agreement.specs.Links.{SparesRegister};
+ghost use Rattle.refinement.specs.Driven.{IsControl, IsDrivenBy, IsOf, LeavesPort, SendsNone};
+ghost use Rattle.refinement.specs.Facts.{RunsWell, Undisturbed};
+ghost use Rattle.refinement.specs.Links.{SparesRegister};
 ghost use Rattle.identify.specs.declared.DiskInfo.{DiskInfo};
 ghost use Rattle.port_boot.specs.States.{EndsAs, GetsReady, HasFitDisk, HasPage, IsBootTo, IsOfBoot, IsReady, RunsOn, ShowsOwnDisk, StopsOnWay};
 ghost use Rattle.port_control.specs.Engines.{StopsBoth};
 ghost use Rattle.port_control.specs.Ports.{WritesCommand};
 
-use super::lawful::laws_hold;
-use adapter::laws::{an_enabled_cause_is_pending, what_the_tape_tells_is_pending};
+use super::lawful::law_base;
+use adapter::laws::{law_an_enabled_cause_is_pending, law_what_the_tape_tells_is_pending};
 
 /// What a boot found of a port goes on as long as the port isn't booted anew. The last page is the last one still where
 /// the disk has sent none since, and PxSCTL wasn't written; so the disk that fits is still there where DET of PxSCTL
 /// and PxIE are as they were, too. A port that is left to the device stays ready, or goes on to end as it did; where it
 /// is dead, its disk may send a page.
-pub fn what_was_found_goes_on()
+pub fn law_what_was_found_goes_on()
     ensures page { (port : ℕ) (old new : Device) (page : List ℕ) → SendsNone port Identify old new
         → (new.port port).notes.sctl_written_at ≡ (old.port port).notes.sctl_written_at → HasPage port old page
         → HasPage port new page }
@@ -49,44 +49,45 @@ pub fn what_was_found_goes_on()
 /// nor its bit of IS, and reset nothing, it is pending at the end where the tape has told since of a command that ended
 /// or failed, a fatal error, or a disk that went or came: where GHC.IE is one, this is what a handler of interrupts
 /// waits for.
-pub fn a_ready_port_interrupts()
+pub fn law_a_ready_port_interrupts()
     ensures shown { (wanted : Option (List ℕ)) (port place : ℕ) (d : Device) (info : DiskInfo)
         → HasFitDisk wanted port d info → is_cause place ≡ true → shown_interrupt (d.port port) place ≡ true
         → is_pending (d.port port) ≡ true }
-    ensures raised { (wanted : Option (List ℕ)) (port place : ℕ) (step : Step) (d : Device) (info : DiskInfo)
+    ensures raised { (wanted : Option (List ℕ)) (port place : ℕ) (step : DeviceTransition) (d : Device)
+        (info : DiskInfo)
         → HasFitDisk wanted port d info → Can step d → SetsCause step port place
-        → is_pending ((after step d).port port) ≡ true }
+        → is_pending ((device_after step d).port port) ≡ true }
     ensures told { (wanted : Option (List ℕ)) (port : ℕ) (entry : Entry) (accesses : List Access)
         (gained : List Entry) (old new : Device) (info : DiskInfo) → HasFitDisk wanted port old info
-        → interrupts entry ≡ Some port → DoesAll accesses old new → All (LeavesPending port) accesses
-        → All (LeavesEnabled port) accesses → old.hr ≡ false → new.tape ≡ old.tape ++ gained
+        → interrupts entry ≡ Some port → DoesAll accesses old new → All (KeepsIsBit port) accesses
+        → All (LeavesIe port) accesses → old.hr ≡ false → new.tape ≡ old.tape ++ gained
         → Contains gained entry → is_pending (new.port port) ≡ true }
 {
-    an_enabled_cause_is_pending();
-    what_the_tape_tells_is_pending();
+    law_an_enabled_cause_is_pending();
+    law_what_the_tape_tells_is_pending();
 }
 
 /// A boot touches no register of another port: its accesses are of its port.
-pub fn a_boot_is_of_its_port()
+pub fn law_a_boot_is_of_its_port()
     ensures { (port : Port) (access : Access) → IsOfBoot port access → IsOf port access }
 {
-    laws_hold();
+    law_base();
 }
 
 /// A boot, to whatever state, was made by its accesses; and those of a stop are among them.
-pub fn boots_are_driven()
+pub fn law_boots_are_driven()
     ensures boots { (port : Port) (state : PortState) (old new : Device)
         → IsBootTo (StopsOnWay port state) port state old new → IsDrivenBy (IsOfBoot port) old new }
     ensures stops { (port : Port) (state : PortState) (old new : Device) → IsBootTo (StopsBoth port) port state old new
         → IsDrivenBy (IsOfBoot port) old new }
     ensures commanding { (port : Port) (access : Access) → IsControl WritesCommand port access → IsOfBoot port access }
 {
-    laws_hold();
+    law_base();
 }
 
 /// A port that runs does so still after an access that writes neither its PxCMD nor its PxSCTL, and after several that
 /// don't write GHC either. Where it ran well, and nothing went wrong on it, it runs well.
-pub fn a_port_runs_on()
+pub fn law_a_port_runs_on()
     ensures over { (port : Port) (access : Access) (old new : Device) → IsOn old → SparesRegister (Px port Sctl) access
         → SparesRegister (Px port Cmd) access → Does access old new → RunsOn port.0 old new }
     ensures runs { (port : Port) (accesses : List Access) (old new : Device) → IsOn old → DoesAll accesses old new
@@ -95,13 +96,13 @@ pub fn a_port_runs_on()
     ensures well { (port : ℕ) (old new : Device) → RunsOn port old new → Undisturbed port old new
         → RunsWell (old.port port) → RunsWell (new.port port) }
 {
-    laws_hold();
+    law_base();
 }
 
 /// Where a port shows a device, a disk is in: this goes on, whatever the device does, and over each access, also one
 /// that resets the adapter. And a boot that leaves its port ready begins it, since COMRESET has a port show no device
 /// until its link comes up.
-pub fn a_disk_is_in_where_one_shows()
+pub fn law_a_disk_is_in_where_one_shows()
     ensures steps { (port : ℕ) (old new : Device) → Steps old new → ShowsOwnDisk (old.port port)
         → ShowsOwnDisk (new.port port) }
     ensures access { (port : ℕ) (access : Access) (old new : Device) → Does access old new

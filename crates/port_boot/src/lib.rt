@@ -2,17 +2,17 @@
 //!
 //! (AHCI 1.3.1, 10.1.2 and 10.4.2; ACS-3, 7.12; which states there are, and the steps' order, are
 //! this project's own.) A caller stops the port, and gives up its slots, before. What stands behind
-//! the state that is told goes on until the port is booted anew (law `what_was_found_goes_on`).
+//! the state that is told goes on until the port is booted anew (`law_what_was_found_goes_on`).
 #![tactic(auto)]
 
 ghost use Rattle.std.specs.Prelude.{Option, ◌≡◌, ◌↔◌, IsTrue, IfOk, IfErr, OnOk};
 ghost use Rattle.adapter.specs.Access.{named_causes};
 ghost use Rattle.adapter.specs.Device.{Device};
 ghost use Rattle.adapter.specs.Rules.{IsOn, HasPort};
-ghost use Rattle.agreement.specs.Driven.{AgreesWith, AnyUse};
+ghost use Rattle.refinement.specs.Driven.{RelatesWith, AnyUse};
 ghost use Rattle.port_control.specs.Ports.{IsStopped, HasStopped};
 ghost use Rattle.port_boot.specs.Outcomes.{EndsReady, EndsUnready, FailsToIdentify, FailsToRise, Identifies, Rises};
-ghost use Rattle.port_boot.specs.States.{TellsFault, Fits, IsFit, Judges, IsBootable, IsBroughtUp, IsHaltedAs};
+ghost use Rattle.port_boot.specs.States.{IsStateOfFault, Fits, IsFit, Judges, IsBootable, IsBroughtUp, IsHaltedAs};
 ghost use Rattle.adapter.specs.Counted.{MakesAtMost};
 ghost use Rattle.port_control.specs.Costs.{STOP_ACCESSES};
 ghost use Rattle.port_boot.specs.Costs.{BOOT_ACCESSES, IDENTIFY_ACCESSES, RISE_ACCESSES};
@@ -22,7 +22,7 @@ use ata_types::{Port, PortState};
 use disk_page::{Page, read_page};
 use hba_regs::{PortReg, Reg};
 use identify::{DiskInfo, parse};
-use lawful::laws_hold;
+use lawful::law_base;
 use port_control::{PortFault, Running, Stopped, comreset, receive, start, stop};
 
 mod lawful;
@@ -39,7 +39,7 @@ const NOT_IDENTIFIED: u8 = 9;
 
 /// The state of a port that a fault left.
 fn state_of(fault: PortFault) -> PortState
-    ensures { TellsFault result fault }
+    ensures { IsStateOfFault result fault }
 {
     match fault {
         PortFault::NoDevice => PortState::Absent,
@@ -87,7 +87,7 @@ fn bring_up<A: Adapter>(adapter: &mut A, stopped: Stopped) -> Result<Running, Po
         (A.device adapter.new)) }
     ensures cost { MakesAtMost RISE_ACCESSES (A.access_count adapter.old) (A.access_count adapter.new) }
 {
-    laws_hold();
+    law_base();
     let Ok(receiving) = receive(adapter, stopped) else {
         return Err(PortState::Dead);
     };
@@ -102,7 +102,7 @@ fn bring_up<A: Adapter>(adapter: &mut A, stopped: Stopped) -> Result<Running, Po
 fn halt<A: Adapter>(adapter: &mut A, port: Port, state: PortState) -> PortState
     requires on { IsOn (A.device adapter.old) }
     requires there { HasPort (A.device adapter.old) port.0 }
-    requires agreed { AgreesWith AnyUse (A.device adapter.old) }
+    requires agreed { RelatesWith AnyUse (A.device adapter.old) }
     ensures on { IsOn (A.device adapter.new) }
     ensures has { HasStopped ((A.device adapter.old).port port.0) ((A.device adapter.new).port port.0) }
     ensures halted { IsHaltedAs port state result (A.device adapter.old) (A.device adapter.new) }
@@ -138,7 +138,7 @@ fn identify_disk<A: Adapter>(
         (A.device adapter.new)) }
     ensures cost { MakesAtMost IDENTIFY_ACCESSES (A.access_count adapter.old) (A.access_count adapter.new) }
 {
-    laws_hold();
+    law_base();
     let Some(page) = read_page(adapter, port, Page::Identity) else {
         return Err(halt(adapter, port, PortState::Unfit(NOT_IDENTIFIED)));
     };
@@ -172,7 +172,7 @@ pub fn boot<A: Adapter>(
         (A.device adapter.new)) }
     ensures cost { MakesAtMost BOOT_ACCESSES (A.access_count adapter.old) (A.access_count adapter.new) }
 {
-    laws_hold();
+    law_base();
     let running = bring_up(adapter, stopped)?;
     identify_disk(adapter, running.port(), wanted)
 }

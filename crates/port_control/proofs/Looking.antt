@@ -12,23 +12,23 @@ use Rattle.hba_regs.specs.declared.reg.PortReg.TheVariants.{Tfd, Sig, Ssts}
 use Rattle.hba_regs.specs.declared.reg.Reg.TheVariants.{Px}
 use Rattle.adapter.specs.Access.{Reads, counted, link_counted}
 use Rattle.adapter.specs.Access.Access.{Reading}
-use Rattle.adapter.specs.Device.{Notes, PortState, Device}
-use Rattle.agreement.specs.Driven.{AnyUse, IsControl, IsFollowed}
-use Rattle.agreement.specs.Errors.{NoneComes}
-use Rattle.agreement.specs.Facts.{IsAwaited, IsQuiet, IsUnflagged}
-use Rattle.agreement.specs.Started.{IsUp, IsComingUp}
+use Rattle.adapter.specs.Device.{Notes, DevicePort, Device}
+use Rattle.refinement.specs.Driven.{AnyUse, IsControl, IsSimulated}
+use Rattle.refinement.specs.Errors.{NoneComes}
+use Rattle.refinement.specs.Facts.{IsAwaited, IsQuiet, IsUnflagged}
+use Rattle.refinement.specs.Started.{IsUp, IsComingUp}
 use Rattle.port_control.specs.Ports.{IsClearing, IsUsable, HasLink, ShowsIdle, SawDevice, SawIdle, ReadsNot, ReadsWithout, ReadsUntil, ShowsSignature}
 use Rattle.port_control.proofs.Using.{usable_read}
 use Rattle.port_control.proofs.Ceasing.{counted_again}
 use Rattle.port_control.proofs.Settling.{comes_in_parts, Settles, settles}
 use Rattle.port_control.specs.Laws.RegisterSet.{Clearing}
-use Rattle.port_control.specs.Laws.Stretch.{Controlling}
+use Rattle.port_control.specs.Laws.Fragment.{Controlling}
 use Rattle.port_control.specs.Laws.{Laws}
 use Rattle.port_control.proofs.Stretching.{followed_read, followed_then}
 
 -- so many readings of PxSSTS showed no device with a link
 pub record IsMissing (port : Port) (start : Device) (n : ℕ) (d : Device) : Type 0 where
-  pub followed : IsFollowed (IsControl IsClearing port) AnyUse start d
+  pub followed : IsSimulated (IsControl IsClearing port) AnyUse start d
   pub usable : IsUsable AnyUse port d
   pub on : IsUsable AnyUse port start
   pub det : (d.port port.0).sctl_det ≡ 0
@@ -38,12 +38,12 @@ pub record IsMissing (port : Port) (start : Device) (n : ℕ) (d : Device) : Typ
   pub misses : ReadsWithout port Ssts HasLink n start d
 
 -- a link is awaited on a port whose TFES is clear
-abbrev Awaits : PortState → Type 0
+abbrev Awaits : DevicePort → Type 0
 Awaits p = IsAwaited p × IsUnflagged p
 
 -- so many readings of PxTFD showed BSY or DRQ
 pub record IsBusyStill (port : Port) (start : Device) (n : ℕ) (d : Device) : Type 0 where
-  pub followed : IsFollowed (IsControl IsClearing port) AnyUse start d
+  pub followed : IsSimulated (IsControl IsClearing port) AnyUse start d
   pub usable : IsUsable AnyUse port d
   pub det : (d.port port.0).sctl_det ≡ 0
   pub saw : SawDevice (d.port port.0).notes
@@ -61,10 +61,10 @@ counted_far det n count far low small =
     ]
 
 module _ (laws : Laws) where
-  pub looks : (port : Port) (r : PortReg) (v : ℕ) (old new : Device) → Reads (Px port r) v old new → IsFollowed (IsControl IsClearing port) AnyUse old new
+  pub looks : (port : Port) (r : PortReg) (v : ℕ) (old new : Device) → Reads (Px port r) v old new → IsSimulated (IsControl IsClearing port) AnyUse old new
   looks port r v old new call = followed_read laws (Controlling Clearing port) (Px port r) v old new refl call
 
-  looks_more : (port : Port) (r : PortReg) (v : ℕ) (start d e : Device) → IsFollowed (IsControl IsClearing port) AnyUse start d → Reads (Px port r) v d e → IsFollowed (IsControl IsClearing port) AnyUse start e
+  looks_more : (port : Port) (r : PortReg) (v : ℕ) (start d e : Device) → IsSimulated (IsControl IsClearing port) AnyUse start d → Reads (Px port r) v d e → IsSimulated (IsControl IsClearing port) AnyUse start e
   looks_more port r v start d e f call = followed_then laws (Controlling Clearing port) start d e f (looks port r v d e call)
 
   -- ---- readings until something shows
@@ -92,7 +92,7 @@ module _ (laws : Laws) where
     off : d.hr ≡ false
     off = w.usable.on.no_reset
 
-    pub missing_followed : IsFollowed (IsControl IsClearing port) AnyUse start e
+    pub missing_followed : IsSimulated (IsControl IsClearing port) AnyUse start e
     missing_followed = looks_more port Ssts v start d e w.followed call
 
     missing_count : (e.port port.0).notes.link_count ≡ link_counted (v % 16) (d.port port.0).notes.link_count
@@ -135,7 +135,7 @@ module _ (laws : Laws) where
     quiet : d.hr ≡ false
     quiet = w.usable.on.no_reset
 
-    pub busy_followed : IsFollowed (IsControl IsClearing port) AnyUse start e
+    pub busy_followed : IsSimulated (IsControl IsClearing port) AnyUse start e
     busy_followed = looks_more port Tfd v start d e w.followed call
 
     pub busy_saw : SawDevice (e.port port.0).notes
@@ -152,7 +152,7 @@ module _ (laws : Laws) where
     busy_quiet awaits clear =
         let h = w.awaits awaits in
         let last : (e.port port.0).notes.last_tfd ≡ v = ap (λ (k : Notes). k.last_tfd) (laws.notes_read port Tfd v d e quiet call) in
-        laws.quiet_is_found port v d e h.0 h.1 call (ap (λ (k : ℕ). bit k 3) (sym last) ∙ clear)
+        laws.law_quiet_is_found port v d e h.0 h.1 call (ap (λ (k : ℕ). bit k 3) (sym last) ∙ clear)
 
     pub busy_still : n < READINGS → bit v 7 || bit v 3 ≡ true → IsBusyStill port start (n + 1) e
     busy_still small busy =

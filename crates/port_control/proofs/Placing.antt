@@ -6,24 +6,24 @@ use Rattle.hba_regs.specs.declared.reg.PortReg.{PortReg}
 use Rattle.hba_regs.specs.declared.reg.PortReg.TheVariants.{Clb, Clbu, Fb, Fbu, Is, Cmd, Sctl}
 use Rattle.hba_regs.specs.declared.reg.Reg.TheVariants.{Px}
 use Rattle.adapter.specs.Access.{Writes, port_written}
-use Rattle.adapter.specs.Device.{Bases, PortState, Device}
-use Rattle.adapter.specs.Rules.{MayWrite, Stays}
+use Rattle.adapter.specs.Device.{Bases, DevicePort, Device}
+use Rattle.adapter.specs.Rules.{MayWrite, IsStable}
 use Rattle.adapter.specs.Seen.{PutAt}
-use Rattle.agreement.specs.Driven.{AnyUse, IsControl, IsFollowed}
-use Rattle.agreement.specs.Driver.{LeavesUses}
-use Rattle.agreement.specs.Facts.{IsAfterReset}
-use Rattle.agreement.specs.Places.{list_of, received_of}
-use Rattle.agreement.specs.Slots.{Uses}
+use Rattle.refinement.specs.Driven.{AnyUse, IsControl, IsSimulated}
+use Rattle.refinement.specs.Driver.{LeavesUses}
+use Rattle.refinement.specs.Facts.{IsAfterReset}
+use Rattle.refinement.specs.Places.{list_of, received_of}
+use Rattle.refinement.specs.Slots.{SlotStates}
 use Rattle.port_control.specs.Ports.{IsPlacing, IsUsable, SameButCommand, SameBeside, programmed}
 use Rattle.port_control.proofs.Using.{usable_after, beside_none, beside_then, same_adapter}
-use Rattle.port_control.specs.Laws.Stretch.{Controlling}
+use Rattle.port_control.specs.Laws.Fragment.{Controlling}
 use Rattle.port_control.specs.Laws.{Laws}
 use Rattle.port_control.specs.Laws.RegisterSet.{Placing}
 use Rattle.port_control.proofs.Stretching.{followed_then, followed_write}
 
 -- some of the four were written, and the addresses are these
 pub record IsPlacedBy (port : Port) (start d : Device) (b : Bases) : Type 0 where
-  pub followed : IsFollowed (IsControl IsPlacing port) AnyUse start d
+  pub followed : IsSimulated (IsControl IsPlacing port) AnyUse start d
   pub usable : IsUsable AnyUse port d
   pub quiet : IsAfterReset (d.port port.0)
   pub room : DRIVER_BYTES ≤ d.size
@@ -36,15 +36,15 @@ programmed_by port list b is = ap (λ (n : ℕ). record b { clb = n; fb = n + RE
 
 module _ (laws : Laws) where
   pub placed_first : (port : Port) (d : Device) → IsUsable AnyUse port d → IsAfterReset (d.port port.0) → DRIVER_BYTES ≤ d.size → IsPlacedBy port d d (d.port port.0).bases
-  placed_first port d u quiet room = record { followed = (laws.stretches.none (Controlling Placing port) d).followed; usable = u; quiet = quiet; room = room; bases = refl; same = beside_none (d.port port.0) }
+  placed_first port d u quiet room = record { followed = (laws.fragments.none (Controlling Placing port) d).followed; usable = u; quiet = quiet; room = room; bases = refl; same = beside_none (d.port port.0) }
 
   module _ (port : Port) (start d e : Device) (b : Bases) (w : IsPlacedBy port start d b) where
     -- one more
-    more : (r : PortReg) (v : ℕ) (change : Bases → Bases) → IsPlacing r → r ≢ Sctl → r ≢ Is → r ≢ Cmd → Stays (MayWrite (Px port r) v) d →
-        ((uses : Uses) → LeavesUses uses (Px port r) v d) → ((tape : ℕ) (p : PortState) → ((port_written r v tape p).bases ≡ change p.bases) × ((port_written r v tape p).sctl_det ≡ p.sctl_det)) →
+    more : (r : PortReg) (v : ℕ) (change : Bases → Bases) → IsPlacing r → r ≢ Sctl → r ≢ Is → r ≢ Cmd → IsStable (MayWrite (Px port r) v) d →
+        ((uses : SlotStates) → LeavesUses uses (Px port r) v d) → ((tape : ℕ) (p : DevicePort) → ((port_written r v tape p).bases ≡ change p.bases) × ((port_written r v tape p).sctl_det ≡ p.sctl_det)) →
         Writes (Px port r) v d e → IsPlacedBy port start e (change b)
     more r v change kind control causes command may leaves effect call =
-        let one : IsFollowed (IsControl IsPlacing port) AnyUse d e = followed_write laws (Controlling Placing port) (Px port r) v d e (refl, kind) may (λ uses is. leaves uses) call in
+        let one : IsSimulated (IsControl IsPlacing port) AnyUse d e = followed_write laws (Controlling Placing port) (Px port r) v d e (refl, kind) may (λ uses is. leaves uses) call in
         let x : PutAt port.0 r v d e = laws.put port r v d e call w.usable.on.no_reset in
         let notes = laws.written_notes port r v d e control causes (λ is. absurd (command is)) call in
         record {
@@ -52,23 +52,23 @@ module _ (laws : Laws) where
           usable = usable_after laws Placing port d e w.usable one;
           quiet = laws.reset_writes port (Px port r) v d e may (λ (is : Px port r ≡ Px port Cmd). let same : r ≡ Cmd = cc in absurd (command same)) call w.quiet;
           room = rw (same_adapter laws Placing port d e one.driven).size w.room;
-          bases = ap (λ (p : PortState). p.bases) x.here ∙ (effect _ (x.mid.port port.0)).0 ∙ ap change ((x.keeps.port port.0).bases ∙ w.bases);
+          bases = ap (λ (p : DevicePort). p.bases) x.here ∙ (effect _ (x.mid.port port.0)).0 ∙ ap change ((x.keeps.port port.0).bases ∙ w.bases);
           same = beside_then (start.port port.0) (d.port port.0) (e.port port.0) w.same (
-            ap (λ (p : PortState). p.sctl_det) x.here ∙ (effect _ (x.mid.port port.0)).1 ∙ (x.keeps.on.controls port.0).sctl_det,
+            ap (λ (p : DevicePort). p.sctl_det) x.here ∙ (effect _ (x.mid.port port.0)).1 ∙ (x.keeps.on.controls port.0).sctl_det,
             subst (SameButCommand (d.port port.0).notes) (sym notes) refl,
           );
         }
 
     module _ (v : ℕ) (is : v ≡ list_of port.0) where
-      pub clb_may : Stays (MayWrite (Px port Clb) v) d
-      clb_may = subst (λ (n : ℕ). Stays (MayWrite (Px port Clb) n) d) (sym is)
+      pub clb_may : IsStable (MayWrite (Px port Clb) v) d
+      clb_may = subst (λ (n : ℕ). IsStable (MayWrite (Px port Clb) n) d) (sym is)
           (laws.list_may d port w.usable.on w.usable.there w.quiet.halted.st w.quiet.halted.cr (let below = w.usable.there.0 in let room = w.room in omega (arith, below, room)))
 
       pub clb_placed : Writes (Px port Clb) v d e → IsPlacedBy port start e (record b { clb = v; clb_set = true })
       clb_placed call = more Clb v (λ (x : Bases). record x { clb = v; clb_set = true }) (inr (inl refl)) (λ (k : Clb ≡ Sctl). absurd (cc)) (λ (k : Clb ≡ Is). absurd (cc)) (λ (k : Clb ≡ Cmd). absurd (cc))
           clb_may (λ uses. inl is) (λ tape p. (refl, refl)) call
 
-    pub clbu_may : Stays (MayWrite (Px port Clbu) 0) d
+    pub clbu_may : IsStable (MayWrite (Px port Clbu) 0) d
     clbu_may = laws.list_upper_may d port w.usable.on w.usable.there w.quiet.halted.st w.quiet.halted.cr
 
     pub clbu_placed : Writes (Px port Clbu) 0 d e → IsPlacedBy port start e (record b { clbu_set = true })
@@ -76,15 +76,15 @@ module _ (laws : Laws) where
         clbu_may (λ uses. tt) (λ tape p. (refl, refl)) call
 
     module _ (v : ℕ) (is : v ≡ received_of port.0) where
-      pub fb_may : Stays (MayWrite (Px port Fb) v) d
-      fb_may = subst (λ (n : ℕ). Stays (MayWrite (Px port Fb) n) d) (sym is)
+      pub fb_may : IsStable (MayWrite (Px port Fb) v) d
+      fb_may = subst (λ (n : ℕ). IsStable (MayWrite (Px port Fb) n) d) (sym is)
           (laws.received_may d port w.usable.on w.usable.there w.quiet.fre w.quiet.fr (let below = w.usable.there.0 in let room = w.room in omega (arith, below, room)))
 
       pub fb_placed : Writes (Px port Fb) v d e → IsPlacedBy port start e (record b { fb = v; fb_set = true })
       fb_placed call = more Fb v (λ (x : Bases). record x { fb = v; fb_set = true }) (inr (inr (inr (inl refl)))) (λ (k : Fb ≡ Sctl). absurd (cc)) (λ (k : Fb ≡ Is). absurd (cc)) (λ (k : Fb ≡ Cmd). absurd (cc))
           fb_may (λ uses. tt) (λ tape p. (refl, refl)) call
 
-    pub fbu_may : Stays (MayWrite (Px port Fbu) 0) d
+    pub fbu_may : IsStable (MayWrite (Px port Fbu) 0) d
     fbu_may = laws.received_upper_may d port w.usable.on w.usable.there w.quiet.fre w.quiet.fr
 
     pub fbu_placed : Writes (Px port Fbu) 0 d e → IsPlacedBy port start e (record b { fbu_set = true })

@@ -9,17 +9,17 @@ use Rattle.hba_regs.specs.declared.reg.Reg.TheVariants.{Px}
 use Rattle.adapter.specs.Access.{Reads, Writes}
 use Rattle.adapter.specs.Access.Access.{Writing}
 use Rattle.adapter.specs.Device.{Device}
-use Rattle.adapter.specs.Rules.{IsOn, MayWrite, Stays}
-use Rattle.agreement.specs.Driven.{AnyUse, IsControl, IsFollowed}
-use Rattle.agreement.specs.Errors.{NoneComes}
-use Rattle.agreement.specs.Facts.{IsAwaited, IsQuiet, IsUnflagged}
-use Rattle.agreement.specs.Started.{IsUp, IsComingUp}
-use Rattle.agreement.specs.Driven.{Grows}
+use Rattle.adapter.specs.Rules.{IsOn, MayWrite, IsStable}
+use Rattle.refinement.specs.Driven.{AnyUse, IsControl, IsSimulated}
+use Rattle.refinement.specs.Errors.{NoneComes}
+use Rattle.refinement.specs.Facts.{IsAwaited, IsQuiet, IsUnflagged}
+use Rattle.refinement.specs.Started.{IsUp, IsComingUp}
+use Rattle.refinement.specs.Driven.{Grows}
 use Rattle.port_control.specs.Ports.{IsClearing, IsResetting, IsUsable, ReceivesFises, HasLink, ShowsIdle, ReadsWithout, ReadsUntil, ClearsErrors, FindsLink, FindsSignature, FindsBusy, WasReset, HasClearErrors, FindsAwaited, IsFound}
 use Rattle.port_control.proofs.Using.{usable_after, receiving_write, stays_on, tape_gains}
 use Rattle.port_control.proofs.Settling.{comes_in_parts, plugs_in_parts, no_start, Settles, settles}
 use Rattle.port_control.specs.Laws.RegisterSet.{Clearing, Resetting}
-use Rattle.port_control.specs.Laws.Stretch.{Controlling}
+use Rattle.port_control.specs.Laws.Fragment.{Controlling}
 use Rattle.port_control.specs.Laws.{Laws}
 use Rattle.port_control.proofs.Stretching.{followed_then, followed_wider, followed_write}
 
@@ -58,11 +58,11 @@ pub finds_signature : (port : Port) (signature : ℕ) {old linked idle new : Dev
 finds_signature port signature {old} {linked} {idle} {new} links waits reads = record { linked = linked; links = links; idle = idle; waits = waits; reads = reads }
 
 module _ (laws : Laws) where
-  pub sctl_may : (port : Port) (v : ℕ) (d : Device) → IsUsable AnyUse port d → ReceivesFises port.0 (d.port port.0) → (v % 16 ≡ 0) ⊎ (v % 16 ≡ 1) → Stays (MayWrite (Px port Sctl) v) d
+  pub sctl_may : (port : Port) (v : ℕ) (d : Device) → IsUsable AnyUse port d → ReceivesFises port.0 (d.port port.0) → (v % 16 ≡ 0) ⊎ (v % 16 ≡ 1) → IsStable (MayWrite (Px port Sctl) v) d
   sctl_may port v d u r det = laws.write_stays (Px port Sctl) v d (λ p e. cc) (u.on, u.there, (r.stopped.halted.st, det))
 
   module _ (port : Port) (old sent : Device) (u : IsUsable AnyUse port old) (receives : ReceivesFises port.0 (old.port port.0)) (one : Writes (Px port Sctl) 1 old sent) where
-    first : IsFollowed (IsControl IsResetting port) AnyUse old sent
+    first : IsSimulated (IsControl IsResetting port) AnyUse old sent
     first = followed_write laws (Controlling Resetting port) (Px port Sctl) 1 old sent (refl, inl refl) (sctl_may port 1 old u receives (inr refl)) (λ uses is. tt) one
 
     sending : IsUsable AnyUse port sent
@@ -71,11 +71,11 @@ module _ (laws : Laws) where
     receives_still : ReceivesFises port.0 (sent.port port.0)
     receives_still = receiving_write laws port Sctl 1 old sent u.on.no_reset (inl refl) one receives
 
-    pub ending_may : Stays (MayWrite (Px port Sctl) 0) sent
+    pub ending_may : IsStable (MayWrite (Px port Sctl) 0) sent
     ending_may = sctl_may port 0 sent sending receives_still (inl refl)
 
     module _ (new : Device) (zero : Writes (Px port Sctl) 0 sent new) where
-      pub reset_followed : IsFollowed (IsControl IsResetting port) AnyUse old new
+      pub reset_followed : IsSimulated (IsControl IsResetting port) AnyUse old new
       reset_followed = followed_then laws (Controlling Resetting port) old sent new first
           (followed_write laws (Controlling Resetting port) (Px port Sctl) 0 sent new (refl, inl refl) ending_may (λ uses is. tt) zero)
 
@@ -106,7 +106,7 @@ module _ (laws : Laws) where
 
       pub reset_awaited : IsAwaited (new.port port.0)
       reset_awaited = laws.writes_awaited port.0 (Px port Sctl) 0 sent new ending_may
-          (λ d steps. ((laws.steps_keep _ _ steps).port port.0).cr receives_still.stopped.halted.cr) zero
+          (λ d steps. ((laws.law_steps_keep _ _ steps).port port.0).cr receives_still.stopped.halted.cr) zero
           (laws.comreset_begins port 1 old sent receives.stopped.halted.cr refl one)
 
       pub reset_coming : NoneComes port.0 old new → IsComingUp (new.port port.0)
@@ -130,14 +130,14 @@ module _ (laws : Laws) where
   }
 
   -- the two together
-  module _ (port : Port) (old mid new : Device) (u : IsUsable AnyUse port old) (sends : IsFollowed (IsControl IsResetting port) AnyUse old mid) (looks : IsFollowed (IsControl IsClearing port) AnyUse mid new) where
+  module _ (port : Port) (old mid new : Device) (u : IsUsable AnyUse port old) (sends : IsSimulated (IsControl IsResetting port) AnyUse old mid) (looks : IsSimulated (IsControl IsClearing port) AnyUse mid new) where
     pub looking : IsUsable AnyUse port mid
     looking = usable_after laws Resetting port old mid u sends
 
     pub looked : Settles port mid new
     looked = settles laws port mid new looking.on looks.driven
 
-    pub both_followed : IsFollowed (IsControl IsResetting port) AnyUse old new
+    pub both_followed : IsSimulated (IsControl IsResetting port) AnyUse old new
     both_followed = followed_then laws (Controlling Resetting port) old mid new sends (followed_wider laws Clearing Resetting port mid new (λ r is. inr is) looks)
 
     pub both_on : IsOn new
@@ -185,8 +185,8 @@ module _ (laws : Laws) where
           serr_x = λ none. let parts = comes_in_parts laws port.0 seen cleared new b.grows c.grows none in change.serr_x parts.1 ((clear undue).serr_x parts.0);
         }
 
-    pub finds_device : FindsAwaited port.0 old new
-    finds_device = record {
+    pub has_device : FindsAwaited port.0 old new
+    has_device = record {
       calm = λ place small. c.calm receives_cleared place (calm place small);
       clear = λ coming. record {
         serr_n = λ none.

@@ -9,12 +9,12 @@ use Rattle.adapter.specs.Access.{Reads, Writes, link_counted}
 use Rattle.adapter.specs.Access.Access.{Writing}
 use Rattle.adapter.specs.Device.{Notes, Device}
 use Rattle.adapter.specs.Rules.{IsOn}
-use Rattle.agreement.specs.Driven.{AnyUse, IsControl, IsFollowed}
-use Rattle.port_control.specs.Ports.{IsClearing, IsStopped, IsUsable, HasClearErrors, Shows}
+use Rattle.refinement.specs.Driven.{AnyUse, IsControl, IsSimulated}
+use Rattle.port_control.specs.Ports.{IsClearing, IsStopped, IsUsable, HasClearErrors, BacksFault}
 use Rattle.port_control.specs.declared.PortFault.TheVariants.{NoDevice}
 use Rattle.port_control.specs.Laws.{Laws}
 use Rattle.port_control.specs.Laws.RegisterSet.{Clearing}
-use Rattle.port_control.specs.Laws.Stretch.{Controlling}
+use Rattle.port_control.specs.Laws.Fragment.{Controlling}
 use Rattle.port_control.proofs.Clearing.{clearing, first, serr_may, since_clear}
 use Rattle.port_control.proofs.Looking.{looks}
 use Rattle.port_control.proofs.Stretching.{followed_then}
@@ -39,7 +39,7 @@ module _ (laws : Laws) (port : Port) (v : ℕ) (old mid new : Device) (u : IsUsa
   usable : IsUsable AnyUse port mid
   usable = clearing laws port old mid new u serr
 
-  pub seen_followed : IsFollowed (IsControl IsClearing port) AnyUse old new
+  pub seen_followed : IsSimulated (IsControl IsClearing port) AnyUse old new
   seen_followed = followed_then laws (Controlling Clearing port) old mid new (first laws port old mid new u serr) (looks laws port Ssts v mid new read)
 
   pub seen_on : IsOn new
@@ -55,7 +55,7 @@ module _ (laws : Laws) (port : Port) (v : ℕ) (old mid new : Device) (u : IsUsa
   pub seen_there : v % 16 ≡ 3 → (new.port port.0).ssts_det ≡ 3
   seen_there three = sym (laws.shown_after port Ssts v mid new usable.on.no_reset read) ∙ three
 
-  pub seen_none : v % 16 ≢ 3 → (old.port port.0).notes.link_count ≡ READINGS → Shows NoDevice (new.port port.0).notes
+  pub seen_none : v % 16 ≢ 3 → (old.port port.0).notes.link_count ≡ READINGS → BacksFault NoDevice (new.port port.0).notes
   seen_none far full =
       let noted = laws.notes_read port Ssts v mid new usable.on.no_reset read in
       let still = ((laws.access_notes port (Writing (Px port Serr) 0xffffffff) old mid serr).link tt).1 (λ (e : Px port Serr ≡ Px port Sctl). absurd (cc)) ∙ full in

@@ -6,12 +6,12 @@ use Rattle.hba_regs.specs.declared.reg.Reg.TheVariants.{Px, Ghc}
 use Rattle.adapter.specs.Access.{Access, Does, DoesAll}
 use Rattle.adapter.specs.Device.{Device}
 use Rattle.adapter.specs.Rules.{IsOn}
-use Rattle.agreement.specs.Driven.{IsControl, IsDrivenBy}
-use Rattle.agreement.specs.Errors.{NoneComes, ChangesByDisks}
-use Rattle.agreement.specs.Facts.{IsAwaited, IsQuiet}
-use Rattle.agreement.specs.Links.{SparesRegister, PlugsNone}
-use Rattle.agreement.specs.Started.{IsUp, IsComingUp, SetsNoStart}
-use Rattle.agreement.specs.Driven.{Grows}
+use Rattle.refinement.specs.Driven.{IsControl, IsDrivenBy}
+use Rattle.refinement.specs.Errors.{NoneComes, ChangesByDisks}
+use Rattle.refinement.specs.Facts.{IsAwaited, IsQuiet}
+use Rattle.refinement.specs.Links.{SparesRegister, PlugsNone}
+use Rattle.refinement.specs.Started.{IsUp, IsComingUp, SetsNoStart}
+use Rattle.refinement.specs.Driven.{Grows}
 use Rattle.port_control.specs.Ports.{IsClearing, ReceivesFises}
 use Rattle.port_control.proofs.Using.{receiving_read, receiving_write}
 use Rattle.std.specs.Prelude.{All, List}

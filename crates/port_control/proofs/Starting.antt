@@ -7,18 +7,18 @@ use Rattle.hba_regs.specs.declared.reg.PortReg.TheVariants.{Cmd, Sctl}
 use Rattle.hba_regs.specs.declared.reg.Reg.TheVariants.{Px}
 use Rattle.adapter.specs.Access.{Reads, Writes, port_written, with_st, with_fre}
 use Rattle.adapter.specs.Access.Access.{Reading, Writing}
-use Rattle.adapter.specs.Device.{Bases, Notes, PortState, Device}
-use Rattle.adapter.specs.Rules.{MayWrite, Stays}
+use Rattle.adapter.specs.Device.{Bases, Notes, DevicePort, Device}
+use Rattle.adapter.specs.Rules.{MayWrite, IsStable}
 use Rattle.adapter.specs.Seen.{SeenAt, PutAt}
-use Rattle.agreement.specs.Driven.{IsControl, IsFollowed}
-use Rattle.agreement.specs.Driver.{AllFree, LeavesUses}
-use Rattle.agreement.specs.Errors.{ChangesByDisks}
-use Rattle.agreement.specs.Facts.{IsQuiet, IsRecorded}
-use Rattle.agreement.specs.Links.{PlugsNone}
-use Rattle.agreement.specs.Recovering.{IsLinked, RunsLinked}
-use Rattle.agreement.specs.Slots.{Use, Free, Uses, IsOver, IsServed, IsFree}
-use Rattle.agreement.specs.Started.{IsUp, IsStarted}
-use Rattle.agreement.specs.Driven.{Grows}
+use Rattle.refinement.specs.Driven.{IsControl, IsSimulated}
+use Rattle.refinement.specs.Driver.{AllFree, LeavesUses}
+use Rattle.refinement.specs.Errors.{ChangesByDisks}
+use Rattle.refinement.specs.Facts.{IsQuiet, IsRecorded}
+use Rattle.refinement.specs.Links.{PlugsNone}
+use Rattle.refinement.specs.Recovering.{IsLinked, RunsLinked}
+use Rattle.refinement.specs.Slots.{SlotState, Free, SlotStates, IsOver, RelatesSlot, IsEmptySlot}
+use Rattle.refinement.specs.Started.{IsUp, IsStarted}
+use Rattle.refinement.specs.Driven.{Grows}
 use Rattle.port_control.specs.Ports.{WritesCommand, IsUsable, ReceivesFises, IsRunning, SawIdle, SameButStart}
 use Rattle.port_control.proofs.Using.{usable_read, receiving_read, usable_by}
 use Rattle.port_control.proofs.Ceasing.{IsButAt, bit_four}
@@ -26,23 +26,23 @@ use Rattle.port_control.proofs.Resetting.{grows_longer}
 use Rattle.port_control.proofs.Settling.{plugs_in_parts}
 use Rattle.port_control.specs.Laws.RegisterSet.{Commanding}
 use Rattle.port_control.specs.Laws.{Laws}
-use Rattle.port_control.specs.Laws.Stretch.{Starting}
+use Rattle.port_control.specs.Laws.Fragment.{Starting}
 use Rattle.port_control.proofs.Stretching.{followed_read, followed_then, followed_write}
 
 -- a write of PxCMD leaves the addresses and PxSCTL.DET
-abbrev SameBases : PortState → PortState → Type 0
+abbrev SameBases : DevicePort → DevicePort → Type 0
 SameBases p q = (q.bases ≡ p.bases) × (q.sctl_det ≡ p.sctl_det)
 
-abbrev NoneUsed : Port → Uses → Type 0
+abbrev NoneUsed : Port → SlotStates → Type 0
 NoneUsed port uses = AllFree uses port.0
 
-command_bases : (v tape : ℕ) (p : PortState) → SameBases p (port_written Cmd v tape p)
+command_bases : (v tape : ℕ) (p : DevicePort) → SameBases p (port_written Cmd v tape p)
 command_bases v tape p = by (bit v 0) p.st refl
   where
     by : (b s : Bool) → p.st ≡ s → SameBases p (with_fre (bit v 4) (with_st b tape p))
     by false s is = (refl, refl)
-    by true true is = subst (λ (x : PortState). SameBases p (with_fre (bit v 4) x)) (sym (cond-true p.st p _ is)) (refl, refl)
-    by true false is = subst (λ (x : PortState). SameBases p (with_fre (bit v 4) x)) (sym (cond-false p.st p _ is)) (refl, refl)
+    by true true is = subst (λ (x : DevicePort). SameBases p (with_fre (bit v 4) x)) (sym (cond-true p.st p _ is)) (refl, refl)
+    by true false is = subst (λ (x : DevicePort). SameBases p (with_fre (bit v 4) x)) (sym (cond-false p.st p _ is)) (refl, refl)
 
 -- what PxCMD was read as, and then when ST was set
 start_notes : (old mid new : Notes) (last count at : ℕ) → mid ≡ record old { last_cmd = last; engine_count = count } → new ≡ record mid { st_set_at = at } →
@@ -52,7 +52,7 @@ start_notes old mid new last count at read set =
     subst (λ (n : Notes). n ≡ record old { last_cmd = n.last_cmd; engine_count = n.engine_count; st_set_at = n.st_set_at }) (sym both) refl
 
 -- a free slot has no command
-over_free : (P : Use → Type 0) (u : Use) → u ≡ Free → P u → P Free
+over_free : (P : SlotState → Type 0) (u : SlotState) → u ≡ Free → P u → P Free
 over_free P u is h = subst P is h
 
 module _ (laws : Laws) where
@@ -71,7 +71,7 @@ module _ (laws : Laws) where
     same = let n = laws.notes_read port Cmd was old mid u.on.no_reset read in
         subst (λ (k : Notes). k ≡ record (old.port port.0).notes { last_cmd = was; engine_count = k.engine_count }) (sym n) refl
 
-    pub start_may : Stays (MayWrite (Px port Cmd) v) mid
+    pub start_may : IsStable (MayWrite (Px port Cmd) v) mid
     start_may = laws.starting_may port was v mid here.on here.there (laws.command_noted port was old mid read)
         (record {
           fallen = still.stopped.halted.cr;
@@ -87,16 +87,16 @@ module _ (laws : Laws) where
         })
         (record { start = one; receive = fre; others = λ k small st fre. others k small st })
 
-    start_leaves : (uses : Uses) → NoneUsed port uses → LeavesUses uses (Px port Cmd) v mid
+    start_leaves : (uses : SlotStates) → NoneUsed port uses → LeavesUses uses (Px port Cmd) v mid
     start_leaves uses free = record { start = λ on. inr free; receive = λ on. (here.there.0, ap (λ (b : Bases). b.fb) still.bases) }
 
     module _ (new : Device) (write : Writes (Px port Cmd) v mid new) where
-      pub start_followed : IsFollowed (IsControl WritesCommand port) (NoneUsed port) old new
+      pub start_followed : IsSimulated (IsControl WritesCommand port) (NoneUsed port) old new
       start_followed = followed_then laws (Starting port) old mid new (followed_read laws (Starting port) (Px port Cmd) was old mid refl read)
           (followed_write laws (Starting port) (Px port Cmd) v mid new (refl, refl) start_may start_leaves write)
 
       pub start_usable : IsUsable (NoneUsed port) port new
-      start_usable = usable_by laws Commanding port old new (NoneUsed port) start_followed.driven (λ uses free. laws.stretches.agreed (Starting port) (λ uses. uses) uses old new free start_followed) u
+      start_usable = usable_by laws Commanding port old new (NoneUsed port) start_followed.driven (λ uses free. laws.fragments.agreed (Starting port) (λ uses. uses) uses old new free start_followed) u
 
       started : ((new.port port.0).cr ≡ true) × ((new.port port.0).notes.st_set_at ≡ length new.tape)
       started = laws.start_set port v mid new still.stopped.halted.st one write
@@ -109,14 +109,14 @@ module _ (laws : Laws) where
           let a = start_usable.agreed in
           let over : (slot : ℕ) → IsOver (new.port port.0) slot =
           λ slot.
-          let h : IsFree (new.port port.0) slot = over_free (IsServed a.2.machine new.memory new.tape (new.port port.0) port.0 slot) (a.0 port.0 slot) (a.1 slot) (a.2.knows.agrees.slot port.0 slot) in
+          let h : IsEmptySlot (new.port port.0) slot = over_free (RelatesSlot a.2.machine new.memory new.tape (new.port port.0) port.0 slot) (a.0 port.0 slot) (a.1 slot) (a.2.knows.agrees.slot port.0 slot) in
           record { issued = h.issued; free = h.free } in
           let set = laws.command_set port v mid new write in
           record {
             st = set.0 ∙ one;
             cr = started.0;
             fre = set.1 ∙ fre;
-            bases = ap (λ (p : PortState). p.bases) w.here ∙ (command_bases v _ (w.mid.port port.0)).0 ∙ (w.keeps.port port.0).bases ∙ still.bases;
+            bases = ap (λ (p : DevicePort). p.bases) w.here ∙ (command_bases v _ (w.mid.port port.0)).0 ∙ (w.keeps.port port.0).bases ∙ still.bases;
             ci = λ slot. (over slot).issued;
             sact = λ slot. laws.free_unarmed a.0 a.2.machine new a.2.knows.agrees port.0 slot (a.1 slot);
             taken = λ slot. (over slot).free;
@@ -125,7 +125,7 @@ module _ (laws : Laws) where
       pub start_same : SameButStart (old.port port.0) (new.port port.0)
       start_same =
           let s : SeenAt port.0 Cmd was old mid = laws.seen port Cmd was old mid read u.on.no_reset in (
-            ap (λ (p : PortState). p.sctl_det) w.here ∙ (command_bases v _ (w.mid.port port.0)).1 ∙ (w.keeps.on.controls port.0).sctl_det ∙ (s.keeps.on.controls port.0).sctl_det,
+            ap (λ (p : DevicePort). p.sctl_det) w.here ∙ (command_bases v _ (w.mid.port port.0)).1 ∙ (w.keeps.on.controls port.0).sctl_det ∙ (s.keeps.on.controls port.0).sctl_det,
             start_notes (old.port port.0).notes (mid.port port.0).notes (new.port port.0).notes _ _ _ same (laws.command_written_notes port v mid new write),
           )
 

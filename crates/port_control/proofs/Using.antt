@@ -9,48 +9,48 @@ use Rattle.hba_regs.specs.declared.reg.PortReg.TheVariants.{Is, Cmd, Sctl, Sact}
 use Rattle.hba_regs.specs.declared.reg.Reg.TheVariants.{Px}
 use Rattle.adapter.specs.Access.{Access, Reads, Writes, port_written, with_st, with_fre}
 use Rattle.adapter.specs.Access.Access.{Reading, Writing, Loading, Storing}
-use Rattle.adapter.specs.Device.{Notes, PortState, Device}
+use Rattle.adapter.specs.Device.{Notes, DevicePort, Device}
 use Rattle.adapter.specs.Kept.{KeepsPort, KeepsControls}
-use Rattle.adapter.specs.Rules.{HasPort, MayWrite, Stays, IsOn}
+use Rattle.adapter.specs.Rules.{HasPort, MayWrite, IsStable, IsOn}
 use Rattle.adapter.specs.Seen.{SeenAt, PutAt}
-use Rattle.agreement.specs.Driven.{AnyUse, IsAgreed, IsControl, IsFollowed, AnyAccess, Grows, IsDrivenBy, IsOf}
-use Rattle.agreement.specs.Links.{SameAdapter}
-use Rattle.agreement.specs.Slots.{Uses}
+use Rattle.refinement.specs.Driven.{AnyUse, IsRelated, IsControl, IsSimulated, AnyAccess, Grows, IsDrivenBy, IsOf}
+use Rattle.refinement.specs.Links.{SameAdapter}
+use Rattle.refinement.specs.Slots.{SlotStates}
 use Rattle.port_control.specs.Engines.{Awaits, FailsToStop, FailsToStopReceiving, Falls, Hangs, ReadsCommand, ShowsStuck, Sticks}
 use Rattle.port_control.specs.Ports.{IsResetting, IsUsable, IsStopped, ReceivesFises, SameButCommand, SameBeside}
 use Rattle.port_control.specs.Laws.RegisterSet.{Commanding}
-use Rattle.port_control.specs.Laws.Stretch.{Controlling}
+use Rattle.port_control.specs.Laws.Fragment.{Controlling}
 use Rattle.port_control.specs.Laws.{Laws, RegisterSet, registers_of}
 use Rattle.port_control.proofs.Stretching.{followed_read}
 
 pub there_after : {old new : Device} {port : ℕ} → SameAdapter old new → HasPort old port → HasPort new port
 there_after {old} {new} {port} s h = (h.0, ap (λ (pi : ℕ). bit pi port) s.pi ∙ h.1)
 
-pub beside_none : (p : PortState) → SameBeside p p
+pub beside_none : (p : DevicePort) → SameBeside p p
 beside_none p = (refl, refl)
 
-pub beside_then : (a b c : PortState) → SameBeside a b → SameBeside b c → SameBeside a c
+pub beside_then : (a b c : DevicePort) → SameBeside a b → SameBeside b c → SameBeside a c
 beside_then a b c x y =
     (y.0 ∙ x.0, subst (λ (n : Notes). c.notes ≡ record n { last_cmd = c.notes.last_cmd; engine_count = c.notes.engine_count }) x.1 y.1)
 
 -- ---- a stopped port stays stopped
 
-pub stopped_on : {p q : PortState} → KeepsPort p q → IsStopped p → IsStopped q
+pub stopped_on : {p q : DevicePort} → KeepsPort p q → IsStopped p → IsStopped q
 stopped_on k h = record {
   halted = record { st = k.st h.halted.st; cr = k.cr h.halted.cr; ci = λ slot. k.ci slot (h.halted.ci slot); taken = k.idle h.halted.cr h.halted.taken };
   sact = λ slot. k.sact slot (h.sact slot);
 }
 
-pub receiving_on : {port : ℕ} {p q : PortState} → KeepsPort p q → KeepsControls p q → ReceivesFises port p → ReceivesFises port q
+pub receiving_on : {port : ℕ} {p q : DevicePort} → KeepsPort p q → KeepsControls p q → ReceivesFises port p → ReceivesFises port q
 receiving_on k c h = record { stopped = stopped_on k h.stopped; fre = c.fre ∙ h.fre; bases = k.bases ∙ h.bases }
 
 -- a write with ST 0 leaves PxSCTL.DET and the addresses
-pub command_off : (v tape : ℕ) (p : PortState) → bit v 0 ≡ false → ((port_written Cmd v tape p).sctl_det ≡ p.sctl_det) × ((port_written Cmd v tape p).bases ≡ p.bases)
+pub command_off : (v tape : ℕ) (p : DevicePort) → bit v 0 ≡ false → ((port_written Cmd v tape p).sctl_det ≡ p.sctl_det) × ((port_written Cmd v tape p).bases ≡ p.bases)
 command_off v tape p off = (ap (λ (b : Bool). (with_fre (bit v 4) (with_st b tape p)).sctl_det) off, ap (λ (b : Bool). (with_fre (bit v 4) (with_st b tape p)).bases) off)
 
 -- PxSCTL, PxSERR or PxIS is written
-module _ (port : ℕ) (v tape : ℕ) (p : PortState) (h : ReceivesFises port p) where
-  same_receiving : (q : PortState) → q.st ≡ p.st → q.cr ≡ p.cr → q.ci ≡ p.ci → q.taken ≡ p.taken → q.sact ≡ p.sact → q.fre ≡ p.fre → q.bases ≡ p.bases → ReceivesFises port q
+module _ (port : ℕ) (v tape : ℕ) (p : DevicePort) (h : ReceivesFises port p) where
+  same_receiving : (q : DevicePort) → q.st ≡ p.st → q.cr ≡ p.cr → q.ci ≡ p.ci → q.taken ≡ p.taken → q.sact ≡ p.sact → q.fre ≡ p.fre → q.bases ≡ p.bases → ReceivesFises port q
   same_receiving q st cr ci taken sact fre bases = record {
     stopped = record {
       halted = record {
@@ -164,21 +164,21 @@ module _ (laws : Laws) where
     pub tape_gains : IsDrivenBy (IsControl (registers_of set) port) old new → Grows old new
     tape_gains driven = laws.tape_over old new (any driven)
 
-    pub usable_by : (Fits : Uses → Type 0) → IsDrivenBy (IsControl (registers_of set) port) old new → ((uses : Uses) → Fits uses → IsAgreed uses old → IsAgreed uses new) → IsUsable Fits port old → IsUsable Fits port new
+    pub usable_by : (Fits : SlotStates → Type 0) → IsDrivenBy (IsControl (registers_of set) port) old new → ((uses : SlotStates) → Fits uses → IsRelated uses old → IsRelated uses new) → IsUsable Fits port old → IsUsable Fits port new
     usable_by Fits driven agrees u = record {
       on = stays_on driven u.on;
       there = there_after (same_adapter driven) u.there;
       agreed = (u.agreed.0, u.agreed.1, agrees u.agreed.0 u.agreed.1 u.agreed.2);
     }
 
-    pub usable_after : IsUsable AnyUse port old → IsFollowed (IsControl (registers_of set) port) AnyUse old new → IsUsable AnyUse port new
-    usable_after u f = usable_by AnyUse f.driven (λ uses fits. laws.stretches.agreed (Controlling set port) (λ uses. uses) uses old new fits f) u
+    pub usable_after : IsUsable AnyUse port old → IsSimulated (IsControl (registers_of set) port) AnyUse old new → IsUsable AnyUse port new
+    usable_after u f = usable_by AnyUse f.driven (λ uses fits. laws.fragments.agreed (Controlling set port) (λ uses. uses) uses old new fits f) u
 
   -- over a reading, whatever uses fit
-  pub usable_read : (Fits : Uses → Type 0) (port : Port) (r : PortReg) (v : ℕ) (old new : Device) → IsUsable Fits port old → Reads (Px port r) v old new → IsUsable Fits port new
+  pub usable_read : (Fits : SlotStates → Type 0) (port : Port) (r : PortReg) (v : ℕ) (old new : Device) → IsUsable Fits port old → Reads (Px port r) v old new → IsUsable Fits port new
   usable_read Fits port r v old new u call =
       let f = followed_read laws (Controlling Commanding port) (Px port r) v old new refl call in
-      usable_by Commanding port old new Fits f.driven (λ uses fits. laws.stretches.agreed (Controlling Commanding port) (λ uses. uses) uses old new tt f) u
+      usable_by Commanding port old new Fits f.driven (λ uses fits. laws.fragments.agreed (Controlling Commanding port) (λ uses. uses) uses old new tt f) u
 
   -- PxCMD is read
   pub beside_read : (port : Port) (v : ℕ) (old new : Device) → old.hr ≡ false → Reads (Px port Cmd) v old new → SameBeside (old.port port.0) (new.port port.0)
@@ -191,14 +191,14 @@ module _ (laws : Laws) where
     beside_command =
         let w : PutAt port.0 Cmd v old new = laws.put port Cmd v old new call off in
         let same = laws.written_notes port Cmd v old new (λ (e : Cmd ≡ Sctl). absurd (cc)) (λ (e : Cmd ≡ Is). absurd (cc)) (λ _. zero) call in (
-          ap (λ (p : PortState). p.sctl_det) w.here ∙ (command_off v _ (w.mid.port port.0) zero).0 ∙ (w.keeps.on.controls port.0).sctl_det,
+          ap (λ (p : DevicePort). p.sctl_det) w.here ∙ (command_off v _ (w.mid.port port.0) zero).0 ∙ (w.keeps.on.controls port.0).sctl_det,
           subst (SameButCommand (old.port port.0).notes) (sym same) refl,
         )
 
     pub bases_command : (new.port port.0).bases ≡ (old.port port.0).bases
     bases_command =
         let w : PutAt port.0 Cmd v old new = laws.put port Cmd v old new call off in
-        ap (λ (p : PortState). p.bases) w.here ∙ (command_off v _ (w.mid.port port.0) zero).1 ∙ (w.keeps.port port.0).bases
+        ap (λ (p : DevicePort). p.bases) w.here ∙ (command_off v _ (w.mid.port port.0) zero).1 ∙ (w.keeps.port port.0).bases
 
   pub stopped_read : (port : Port) (r : PortReg) (v : ℕ) (old new : Device) → old.hr ≡ false → Reads (Px port r) v old new → IsStopped (old.port port.0) → IsStopped (new.port port.0)
   stopped_read port r v old new off call h = stopped_on ((laws.seen port r v old new call off).keeps.port port.0) h
@@ -207,7 +207,7 @@ module _ (laws : Laws) where
   receiving_read port r v old new off call h = let s = laws.seen port r v old new call off in receiving_on (s.keeps.port port.0) (s.keeps.on.controls port.0) h
 
   -- any register but PxSACT is written, PxCMD with ST 0
-  pub stopped_write : (port : Port) (r : PortReg) (v : ℕ) (old new : Device) → Stays (MayWrite (Px port r) v) old → (r ≡ Cmd → bit v 0 ≡ false) → r ≢ Sact → Writes (Px port r) v old new →
+  pub stopped_write : (port : Port) (r : PortReg) (v : ℕ) (old new : Device) → IsStable (MayWrite (Px port r) v) old → (r ≡ Cmd → bit v 0 ≡ false) → r ≢ Sact → Writes (Px port r) v old new →
       IsStopped (old.port port.0) → IsStopped (new.port port.0)
   stopped_write port r v old new may zero other call h = record {
     halted = laws.halted_writes port (Px port r) v old new may (λ (e : Px port r ≡ Px port Cmd). zero (let same : r ≡ Cmd = cc in same)) call h.halted;

@@ -5,14 +5,14 @@ use Rattle.ata_types.specs.declared.limits.TheConstants.{READINGS}
 use Rattle.ata_types.specs.declared.memory.TheConstants.{DRIVER_BYTES}
 use Rattle.adapter.specs.Device.{Device}
 use Rattle.adapter.specs.Rules.{IsOn, HasPort}
-use Rattle.agreement.specs.Driven.{AgreesWith, AnyUse}
-use Rattle.agreement.specs.Driver.{AllFree}
-use Rattle.agreement.specs.Errors.{NoneComes, ChangesByDisks}
-use Rattle.agreement.specs.Facts.{IsQuiet, IsRecorded}
-use Rattle.agreement.specs.Links.{PlugsNone}
-use Rattle.agreement.specs.Recovering.{IsLinked, RunsLinked}
-use Rattle.agreement.specs.Started.{IsUp, IsComingUp, IsStarted}
-use Rattle.port_control.specs.Ports.{FindsSignature, HasClearErrors, IsFound, IsRunning, IsStopped, Looks, ReceivesFises, SameBeside, SameButStart, SawDevice, SawIdle, Shows, ShowsSignature, WasReset}
+use Rattle.refinement.specs.Driven.{RelatesWith, AnyUse}
+use Rattle.refinement.specs.Driver.{AllFree}
+use Rattle.refinement.specs.Errors.{NoneComes, ChangesByDisks}
+use Rattle.refinement.specs.Facts.{IsQuiet, IsRecorded}
+use Rattle.refinement.specs.Links.{PlugsNone}
+use Rattle.refinement.specs.Recovering.{IsLinked, RunsLinked}
+use Rattle.refinement.specs.Started.{IsUp, IsComingUp, IsStarted}
+use Rattle.port_control.specs.Ports.{FindsSignature, HasClearErrors, IsFound, IsRunning, IsStopped, Looks, ReceivesFises, SameBeside, SameButStart, SawDevice, SawIdle, BacksFault, ShowsSignature, WasReset}
 use Rattle.port_control.specs.declared.PortFault.{PortFault}
 use Rattle.port_control.specs.declared.PortFault.TheVariants.{NoDevice, EngineStuck, NotAta}
 
@@ -23,11 +23,12 @@ use Rattle.port_control.specs.declared.PortFault.TheVariants.{NoDevice, EngineSt
 pub record MayBeginReceiving (port : Port) (d : Device) : Type 0 where
   pub on : IsOn d
   pub there : HasPort d port.0
-  pub agreed : AgreesWith AnyUse d
+  pub agreed : RelatesWith AnyUse d
   pub stopped : IsStopped (d.port port.0)
   pub room : DRIVER_BYTES ≤ d.size
 
--- Whether it receives FISes then or not: it is stopped still, and what else the driver knows of it is as it was.
+-- Whether it receives FISes then or not: it is stopped still, and PxSCTL.DET and what readings noted, but of PxCMD, are
+-- as they were.
 pub record StaysStopped (port : Port) (old new : Device) : Type 0 where
   pub stopped : IsStopped (new.port port.0)
   pub same : SameBeside (old.port port.0) (new.port port.0)
@@ -38,7 +39,7 @@ pub record StaysStopped (port : Port) (old new : Device) : Type 0 where
 pub record MayForget (port : Port) (d : Device) : Type 0 where
   pub on : IsOn d
   pub there : HasPort d port.0
-  pub agreed : AgreesWith AnyUse d
+  pub agreed : RelatesWith AnyUse d
   pub receives : ReceivesFises port.0 (d.port port.0)
   pub undue : (d.port port.0).link_due ≡ false
   pub det : (d.port port.0).sctl_det ≡ 0
@@ -49,7 +50,7 @@ pub record AsksForDevice (port : Port) (found : Bool) (old new : Device) : Type 
   pub stopped : IsStopped (old.port port.0) → IsStopped (new.port port.0)
   pub clear : (old.port port.0).link_due ≡ false → HasClearErrors port.0 old new
   pub there : found ≡ true → (new.port port.0).ssts_det ≡ 3
-  pub none : found ≡ false → (old.port port.0).notes.link_count ≡ READINGS → Shows NoDevice (new.port port.0).notes
+  pub none : found ≡ false → (old.port port.0).notes.link_count ≡ READINGS → BacksFault NoDevice (new.port port.0).notes
 
 -- ---- COMRESET
 
@@ -57,11 +58,11 @@ pub record AsksForDevice (port : Port) (found : Bool) (old new : Device) : Type 
 pub record MayResetLink (port : Port) (d : Device) : Type 0 where
   pub on : IsOn d
   pub there : HasPort d port.0
-  pub agreed : AgreesWith AnyUse d
+  pub agreed : RelatesWith AnyUse d
   pub receives : ReceivesFises port.0 (d.port port.0)
 
 -- Whatever was found then: it receives FISes still; and where no disk came meanwhile, its link is coming up, or is up.
-pub record ResetsLink (port : Port) (old new : Device) : Type 0 where
+pub record StaysReceiving (port : Port) (old new : Device) : Type 0 where
   pub receives : ReceivesFises port.0 (new.port port.0)
   pub coming : NoneComes port.0 old new → IsComingUp (new.port port.0)
 
@@ -76,7 +77,7 @@ pub record FindsDisk (port : Port) (old new : Device) : Type 0 where
 -- COMRESET was sent, and the readings since showed this fault in place of such a disk.
 pub record FindsFault (port : Port) (told : PortFault) (old new : Device) : Type 0 where
   pub reset : WasReset port (Looks port told) old new
-  pub fault : Shows told (new.port port.0).notes × (told ≢ EngineStuck)
+  pub fault : BacksFault told (new.port port.0).notes × (told ≢ EngineStuck)
   pub found : told ≢ NoDevice → IsFound port.0 old new
   pub signature : (signature : ℕ) → told ≡ NotAta signature → ShowsSignature (new.port port.0)
 
@@ -87,7 +88,7 @@ pub record FindsFault (port : Port) (told : PortFault) (old new : Device) : Type
 pub record MayBeStarted (port : Port) (d : Device) : Type 0 where
   pub on : IsOn d
   pub there : HasPort d port.0
-  pub agreed : AgreesWith (λ uses. AllFree uses port.0) d
+  pub agreed : RelatesWith (λ uses. AllFree uses port.0) d
   pub receives : ReceivesFises port.0 (d.port port.0)
   pub linked : (d.port port.0).notes.last_ssts % 16 ≡ 3
   pub idle : SawIdle (d.port port.0).notes

@@ -8,7 +8,7 @@ use Rattle.hba_regs.specs.declared.reg.PortReg.TheVariants.{Cmd}
 use Rattle.hba_regs.specs.declared.reg.Reg.TheVariants.{Px}
 use Rattle.adapter.specs.Access.{Access}
 use Rattle.adapter.specs.Access.Access.{Reading, Writing}
-use Rattle.agreement.specs.Links.{SparesRegister}
+use Rattle.refinement.specs.Links.{SparesRegister}
 
 -- An engine fell: the bit that starts it was written 0, and the bit that shows it running was read 0 after that, with
 -- PxCMD not written between.

@@ -2,26 +2,26 @@
 use Rattle.std.specs.Prelude.{ℕ, true, false, ◌≡◌, ◌≢◌, ◌⊎◌, ◌+◌, ◌%◌, ◌≤◌, ◌++◌, List, length}
 use Rattle.ata_types.specs.declared.Port.{Port}
 use Rattle.adapter.specs.Access.{Access, Does, DoesAll, PortShows, Reads, Writes, note}
-use Rattle.agreement.specs.Laws.{StretchLaws, TapeLaws}
-use Rattle.agreement.specs.Agrees.{Agrees}
-use Rattle.agreement.specs.Driver.{AllFree, IsWrittenBack}
-use Rattle.agreement.specs.Driven.{AnyAccess, AnyUse, IsControl, IsDrivenBy, IsOf}
-use Rattle.agreement.specs.Errors.{NoneComes}
+use Rattle.refinement.specs.Laws.{FragmentLaws, TapeLaws}
+use Rattle.refinement.specs.Relation.{StateRelation}
+use Rattle.refinement.specs.Driver.{AllFree, IsWrittenBack}
+use Rattle.refinement.specs.Driven.{AnyAccess, AnyUse, IsControl, IsDrivenBy, IsOf}
+use Rattle.refinement.specs.Errors.{NoneComes}
 use Rattle.hba_regs.specs.declared.reg.PortReg.TheVariants.{Ci, Clb, Clbu, Cmd, Fb, Fbu, Is, Sact, Sctl, Serr, Ssts, Tfd}
-use Rattle.adapter.specs.Device.{Device, PortState}
+use Rattle.adapter.specs.Device.{Device, DevicePort}
 use Rattle.adapter.specs.declared.tape.Entry.{Entry}
-use Rattle.agreement.specs.Slots.{Free, Uses}
+use Rattle.refinement.specs.Slots.{Free, SlotStates}
 use Rattle.hba_regs.specs.declared.reg.Reg.TheVariants.{Ghc, Px}
-use Rattle.adapter.specs.Rules.{HasPort, IsOn, MayReceive, MayStart, MayStopReceiving, MayWrite, Stays}
-use Rattle.agreement.specs.Facts.{IsAfterReset, IsAwaited, IsHalted, IsQuiet, IsRecorded, IsUnflagged, KeepsRecord}
+use Rattle.adapter.specs.Rules.{HasPort, IsOn, MayReceive, MayStart, MayStopReceiving, MayWrite, IsStable}
+use Rattle.refinement.specs.Facts.{IsAfterReset, IsAwaited, IsHalted, IsQuiet, IsRecorded, IsUnflagged, KeepsRecord}
 use Rattle.port_control.specs.Ports.{IsClearing, IsPlacing, IsResetting, WritesCommand}
-use Rattle.agreement.specs.Recovering.{IsLinked, RunsLinked}
-use Rattle.agreement.specs.Started.{IsComingUp, IsStarted, IsUp, SetsNoStart}
-use Rattle.block_machine.specs.Histories.{IsReached}
+use Rattle.refinement.specs.Recovering.{IsLinked, RunsLinked}
+use Rattle.refinement.specs.Started.{IsComingUp, IsStarted, IsUp, SetsNoStart}
+use Rattle.block_machine.specs.Histories.{IsReachable}
 use Rattle.adapter.specs.Kept.{Keeps}
 use Rattle.ata_types.specs.declared.memory.TheConstants.{LIST_BYTES, RECEIVED_BYTES}
-use Rattle.agreement.specs.Links.{LeavesControls, PlugsNone, SameAdapter, SparesRegister}
-use Rattle.agreement.specs.Noted.{LeavesNotes}
+use Rattle.refinement.specs.Links.{LeavesControls, PlugsNone, SameAdapter, SparesRegister}
+use Rattle.refinement.specs.Noted.{LeavesNotes}
 use Rattle.block_machine.specs.State.{Machine}
 use Rattle.hba_regs.specs.declared.reg.PortReg.{PortReg}
 use Rattle.adapter.specs.Seen.{PutAt, SeenAt}
@@ -29,7 +29,7 @@ use Rattle.adapter.specs.Access.Access.{Reading, Writing}
 use Rattle.hba_regs.specs.declared.reg.Reg.{Reg}
 use Rattle.adapter.specs.Steps.{Steps}
 use Rattle.hba_regs.specs.Bits.{bit}
-use Rattle.agreement.specs.Places.{list_of, received_of}
+use Rattle.refinement.specs.Places.{list_of, received_of}
 
 -- ---- kinds of accesses
 
@@ -47,15 +47,15 @@ registers_of Clearing = IsClearing
 registers_of Resetting = IsResetting
 
 -- a port's registers are read, and those of a set written; or a port is started, none of whose slots is used
-pub data Stretch : Type 0 where
-  Controlling : RegisterSet → Port → Stretch
-  Starting : Port → Stretch
+pub data Fragment : Type 0 where
+  Controlling : RegisterSet → Port → Fragment
+  Starting : Port → Fragment
 
-abbrev pub may_of : Stretch → Access → Type 0
+abbrev pub may_of : Fragment → Access → Type 0
 may_of (Controlling set port) = IsControl (registers_of set) port
 may_of (Starting port) = IsControl WritesCommand port
 
-abbrev pub fits_of : Stretch → Uses → Type 0
+abbrev pub fits_of : Fragment → SlotStates → Type 0
 fits_of (Controlling set port) = AnyUse
 fits_of (Starting port) = λ uses. AllFree uses port.0
 
@@ -69,31 +69,31 @@ pub record Laws : Type 0 where
       → PutAt port.0 r v old new
   pub does_append : (early late : List Access) (old mid new : Device) → DoesAll early old mid → DoesAll late mid new
       → DoesAll (early ++ late) old new
-  pub steps_keep : (old new : Device) → Steps old new → Keeps old new
+  pub law_steps_keep : (old new : Device) → Steps old new → Keeps old new
   pub access_on : (access : Access) (old new : Device) → IsOn old
       → ((v : ℕ) → access ≡ Writing Ghc v → (bit v 31 ≡ true) × (bit v 0 ≡ false)) → Does access old new → IsOn new
   pub write_stays : (r : Reg) (v : ℕ) (d : Device) → ((port : Port) → r ≢ Px port Ci) → MayWrite r v d
-      → Stays (MayWrite r v) d
+      → IsStable (MayWrite r v) d
   pub list_may : (d : Device) (port : Port) → IsOn d → HasPort d port.0 → (d.port port.0).st ≡ false
       → (d.port port.0).cr ≡ false → list_of port.0 + LIST_BYTES ≤ d.size
-      → Stays (MayWrite (Px port Clb) (list_of port.0)) d
+      → IsStable (MayWrite (Px port Clb) (list_of port.0)) d
   pub list_upper_may : (d : Device) (port : Port) → IsOn d → HasPort d port.0 → (d.port port.0).st ≡ false
-      → (d.port port.0).cr ≡ false → Stays (MayWrite (Px port Clbu) 0) d
+      → (d.port port.0).cr ≡ false → IsStable (MayWrite (Px port Clbu) 0) d
   pub received_may : (d : Device) (port : Port) → IsOn d → HasPort d port.0 → (d.port port.0).fre ≡ false
       → (d.port port.0).fr ≡ false → received_of port.0 + RECEIVED_BYTES ≤ d.size
-      → Stays (MayWrite (Px port Fb) (received_of port.0)) d
+      → IsStable (MayWrite (Px port Fb) (received_of port.0)) d
   pub received_upper_may : (d : Device) (port : Port) → IsOn d → HasPort d port.0 → (d.port port.0).fre ≡ false
-      → (d.port port.0).fr ≡ false → Stays (MayWrite (Px port Fbu) 0) d
+      → (d.port port.0).fr ≡ false → IsStable (MayWrite (Px port Fbu) 0) d
   pub starting_may : (port : Port) (was v : ℕ) (d : Device) → IsOn d → HasPort d port.0 → (d.port port.0).notes.last_cmd
-      ≡ was → MayStart (d.port port.0) → IsWrittenBack true true was v → Stays (MayWrite (Px port Cmd) v) d
+      ≡ was → MayStart (d.port port.0) → IsWrittenBack true true was v → IsStable (MayWrite (Px port Cmd) v) d
   pub stopping_may : (port : Port) (was v : ℕ) (d : Device) → IsOn d → HasPort d port.0 → (d.port port.0).notes.last_cmd
-      ≡ was → IsWrittenBack false (d.port port.0).fre was v → Stays (MayWrite (Px port Cmd) v) d
+      ≡ was → IsWrittenBack false (d.port port.0).fre was v → IsStable (MayWrite (Px port Cmd) v) d
   pub receiving_may : (port : Port) (was v : ℕ) (d : Device) → IsOn d → HasPort d port.0
       → (d.port port.0).notes.last_cmd ≡ was → MayReceive (d.port port.0) → IsWrittenBack (d.port port.0).st true was v
-      → Stays (MayWrite (Px port Cmd) v) d
+      → IsStable (MayWrite (Px port Cmd) v) d
   pub no_receiving_may : (port : Port) (was v : ℕ) (d : Device) → IsOn d → HasPort d port.0
       → (d.port port.0).notes.last_cmd ≡ was → MayStopReceiving (d.port port.0) → IsWrittenBack false false was v
-      → Stays (MayWrite (Px port Cmd) v) d
+      → IsStable (MayWrite (Px port Cmd) v) d
   -- what it notes and sets
   pub command_noted : (port : Port) (v : ℕ) (old new : Device) → Reads (Px port Cmd) v old new
       → (new.port port.0).notes.last_cmd ≡ v
@@ -122,27 +122,28 @@ pub record Laws : Type 0 where
       → bit v place ≡ true → (new.port port.0).is place ≡ false
   pub access_clear : (port : Port) (place : ℕ) (access : Access) (old new : Device) → (old.port port.0).cr ≡ false
       → Does access old new → (old.port port.0).is place ≡ false → (new.port port.0).is place ≡ false
-  pub halted_writes : (port : Port) (r : Reg) (v : ℕ) (old new : Device) → Stays (MayWrite r v) old
+  pub halted_writes : (port : Port) (r : Reg) (v : ℕ) (old new : Device) → IsStable (MayWrite r v) old
       → (r ≡ Px port Cmd → bit v 0 ≡ false) → Writes r v old new → IsHalted (old.port port.0)
       → IsHalted (new.port port.0)
-  pub stop_is_found : (uses : Uses) (m : Machine) (port : Port) (v : ℕ) (old new : Device) → IsReached m
-      → Agrees uses m old → (old.port port.0).st ≡ false → Reads (Px port Cmd) v old new → bit v 15 ≡ false
+  pub law_stop_is_found : (uses : SlotStates) (m : Machine) (port : Port) (v : ℕ) (old new : Device) → IsReachable m
+      → StateRelation uses m old → (old.port port.0).st ≡ false → Reads (Px port Cmd) v old new → bit v 15 ≡ false
       → IsHalted (new.port port.0)
-  pub reset_writes : (port : Port) (r : Reg) (v : ℕ) (old new : Device) → Stays (MayWrite r v) old
+  pub reset_writes : (port : Port) (r : Reg) (v : ℕ) (old new : Device) → IsStable (MayWrite r v) old
       → (r ≡ Px port Cmd → (bit v 0 ≡ false) × (bit v 4 ≡ false)) → Writes r v old new → IsAfterReset (old.port port.0)
       → IsAfterReset (new.port port.0)
-  pub bits_clear : (uses : Uses) (m : Machine) (d : Device) (port slot : ℕ) → Agrees uses m d → (d.port port).st ≡ false
+  pub bits_clear : (uses : SlotStates) (m : Machine) (d : Device) (port slot : ℕ) → StateRelation uses m d
+      → (d.port port).st ≡ false
       → ((d.port port).ci slot ≡ false) × ((d.port port).sact slot ≡ false)
   pub writes_clear : (port : Port) (slot : ℕ) (r : Reg) (v : ℕ) (old new : Device)
       → (r ≡ Px port Sact → bit v slot ≡ false) → Writes r v old new → (old.port port.0).sact slot ≡ false
       → (new.port port.0).sact slot ≡ false
-  pub free_unarmed : (uses : Uses) (m : Machine) (d : Device) → Agrees uses m d → (port slot : ℕ)
+  pub free_unarmed : (uses : SlotStates) (m : Machine) (d : Device) → StateRelation uses m d → (port slot : ℕ)
       → uses port slot ≡ Free → (d.port port).sact slot ≡ false
   -- the link
   pub comreset_begins : (port : Port) (v : ℕ) (old new : Device) → (old.port port.0).cr ≡ false → v % 16 ≡ 1
       → Writes (Px port Sctl) v old new → IsAwaited (new.port port.0)
-  pub writes_awaited : (port : ℕ) (r : Reg) (v : ℕ) (old new : Device) → Stays (MayWrite r v) old
-      → Stays (KeepsRecord r v) old → Writes r v old new → IsAwaited (old.port port) → IsAwaited (new.port port)
+  pub writes_awaited : (port : ℕ) (r : Reg) (v : ℕ) (old new : Device) → IsStable (MayWrite r v) old
+      → IsStable (KeepsRecord r v) old → Writes r v old new → IsAwaited (old.port port) → IsAwaited (new.port port)
   pub reads_awaited : (port : ℕ) (r : Reg) (v : ℕ) (old new : Device) → Reads r v old new → IsAwaited (old.port port)
       → IsAwaited (new.port port)
   pub access_awaited : (port : Port) (access : Access) (old new : Device) → SparesRegister (Px port Cmd) access
@@ -168,7 +169,7 @@ pub record Laws : Type 0 where
       → IsLinked (old.port port.0) → RunsLinked (new.port port.0)
   pub file_noted : (port : Port) (v : ℕ) (old new : Device) → Reads (Px port Tfd) v old new
       → (new.port port.0).notes.last_tfd ≡ v
-  pub quiet_is_found : (port : Port) (v : ℕ) (old new : Device) → IsAwaited (old.port port.0)
+  pub law_quiet_is_found : (port : Port) (v : ℕ) (old new : Device) → IsAwaited (old.port port.0)
       → IsUnflagged (old.port port.0) → Reads (Px port Tfd) v old new → bit v 3 ≡ false → IsQuiet (new.port port.0)
   pub steps_quiet : (port : ℕ) (old new : Device) → Steps old new → IsQuiet (old.port port) → IsQuiet (new.port port)
   pub reads_quiet : (port : ℕ) (r : Reg) (v : ℕ) (old new : Device) → Reads r v old new → IsQuiet (old.port port)
@@ -179,11 +180,11 @@ pub record Laws : Type 0 where
       → IsUnflagged (old.port port) → IsUnflagged (new.port port)
   -- what the tape tells
   pub tape : TapeLaws
-  pub stopped_recorded : (tape : List Entry) (p : PortState) (port : ℕ) → p.st ≡ false → IsRecorded tape p port
-  pub writes_recorded : (port : ℕ) (r : Reg) (v : ℕ) (old new : Device) → Stays (MayWrite r v) old
-      → Stays (KeepsRecord r v) old → Writes r v old new → IsRecorded old.tape (old.port port) port
+  pub stopped_recorded : (tape : List Entry) (p : DevicePort) (port : ℕ) → p.st ≡ false → IsRecorded tape p port
+  pub writes_recorded : (port : ℕ) (r : Reg) (v : ℕ) (old new : Device) → IsStable (MayWrite r v) old
+      → IsStable (KeepsRecord r v) old → Writes r v old new → IsRecorded old.tape (old.port port) port
       → IsRecorded new.tape (new.port port) port
-  -- stretches
+  -- fragments
   pub of_on : (port : Port) (old new : Device) → IsOn old → IsDrivenBy (IsOf port) old new → IsOn new
   pub same_over : (old new : Device) → IsDrivenBy AnyAccess old new → SameAdapter old new
   pub tape_over : (old new : Device) → IsDrivenBy AnyAccess old new → (gained : List Entry)
@@ -200,4 +201,4 @@ pub record Laws : Type 0 where
   pub control_wider : (set more : RegisterSet) (port : Port)
       → ((r : PortReg) → registers_of set r → registers_of more r) → (access : Access)
       → IsControl (registers_of set) port access → IsControl (registers_of more) port access
-  pub stretches : StretchLaws Stretch may_of fits_of
+  pub fragments : FragmentLaws Fragment may_of fits_of

@@ -9,15 +9,15 @@ use Rattle.hba_regs.specs.declared.reg.PortReg.TheVariants.{Clb, Clbu, Fb, Fbu, 
 use Rattle.hba_regs.specs.declared.reg.Reg.TheVariants.{Px}
 use Rattle.adapter.specs.Access.{Access, Reads, Writes}
 use Rattle.adapter.specs.Access.Access.{Reading}
-use Rattle.adapter.specs.Device.{Bases, Notes, PortState, Device}
+use Rattle.adapter.specs.Device.{Bases, Notes, DevicePort, Device}
 use Rattle.adapter.specs.Rules.{IsOn, HasPort}
-use Rattle.agreement.specs.Driven.{AgreesWith, AnyUse, IsControl, IsDrivenBy, IsTold}
-use Rattle.agreement.specs.Errors.{NoneComes}
-use Rattle.agreement.specs.Facts.{IsAwaited, IsHalted, IsQuiet}
-use Rattle.agreement.specs.Links.{PlugsNone}
-use Rattle.agreement.specs.Places.{list_of, received_of}
-use Rattle.agreement.specs.Slots.{Uses}
-use Rattle.agreement.specs.Started.{IsUp, IsComingUp}
+use Rattle.refinement.specs.Driven.{RelatesWith, AnyUse, IsControl, IsDrivenBy, IsSimulatedAlong}
+use Rattle.refinement.specs.Errors.{NoneComes}
+use Rattle.refinement.specs.Facts.{IsAwaited, IsHalted, IsQuiet}
+use Rattle.refinement.specs.Links.{PlugsNone}
+use Rattle.refinement.specs.Places.{list_of, received_of}
+use Rattle.refinement.specs.Slots.{SlotStates}
+use Rattle.refinement.specs.Started.{IsUp, IsComingUp}
 use Rattle.port_control.specs.Engines.{FailsToStop, FailsToStopReceiving, Stops, StopsReceiving}
 use Rattle.port_control.specs.declared.PortFault.{PortFault}
 use Rattle.port_control.specs.declared.PortFault.TheVariants.{NoDevice, Busy, EngineStuck, NotAta}
@@ -43,10 +43,10 @@ IsResetting r = (r ≡ Sctl) ⊎ IsClearing r
 -- ---- the states of a port
 
 -- The adapter is on and has the port; and some machine agrees with its device, with uses of the slots that fit.
-pub record IsUsable (Fits : Uses → Type 0) (port : Port) (d : Device) : Type 0 where
+pub record IsUsable (Fits : SlotStates → Type 0) (port : Port) (d : Device) : Type 0 where
   pub on : IsOn d
   pub there : HasPort d port.0
-  pub agreed : AgreesWith Fits d
+  pub agreed : RelatesWith Fits d
 
 -- where the port has its command list and its received FIS area
 abbrev pub programmed : ℕ → Bases
@@ -54,18 +54,18 @@ programmed port =
     record { clb = list_of port; fb = received_of port; clb_set = true; clbu_set = true; fb_set = true; fbu_set = true }
 
 -- ST and CR are 0, and no command is issued, active or taken.
-pub record IsStopped (p : PortState) : Type 0 where
+pub record IsStopped (p : DevicePort) : Type 0 where
   pub halted : IsHalted p
   pub sact : (slot : ℕ) → p.sact slot ≡ false
 
 -- Stopped, and FISes are received, with command list and received FIS area in their places.
-pub record ReceivesFises (port : ℕ) (p : PortState) : Type 0 where
+pub record ReceivesFises (port : ℕ) (p : DevicePort) : Type 0 where
   pub stopped : IsStopped p
   pub fre : p.fre ≡ true
   pub bases : p.bases ≡ programmed port
 
 -- It runs and receives FISes, with list and area in their places, and no command is issued, active or taken.
-pub record IsRunning (port : ℕ) (p : PortState) : Type 0 where
+pub record IsRunning (port : ℕ) (p : DevicePort) : Type 0 where
   pub st : p.st ≡ true
   pub cr : p.cr ≡ true
   pub fre : p.fre ≡ true
@@ -94,11 +94,11 @@ SawIdle n = ShowsIdle n.last_tfd
 
 -- What stands behind a fault: the count of the awaited readings is 64; or the signature was another than an ATA
 -- disk's.
-abbrev pub Shows : PortFault → Notes → Type 0
-Shows NoDevice n = (n.last_ssts % 16 ≢ 3) × (n.link_count ≡ READINGS)
-Shows Busy n = SawDevice n × (n.busy_count ≡ READINGS)
-Shows EngineStuck n = n.engine_count ≡ READINGS
-Shows (NotAta signature) n = SawDevice n × SawIdle n × (n.last_sig ≡ signature) × (signature ≢ 0x101)
+abbrev pub BacksFault : PortFault → Notes → Type 0
+BacksFault NoDevice n = (n.last_ssts % 16 ≢ 3) × (n.link_count ≡ READINGS)
+BacksFault Busy n = SawDevice n × (n.busy_count ≡ READINGS)
+BacksFault EngineStuck n = n.engine_count ≡ READINGS
+BacksFault (NotAta signature) n = SawDevice n × SawIdle n × (n.last_sig ≡ signature) × (signature ≢ 0x101)
 
 -- ---- what the calls leave
 
@@ -107,11 +107,11 @@ abbrev pub SameButCommand : Notes → Notes → Type 0
 SameButCommand old new = new ≡ record old { last_cmd = new.last_cmd; engine_count = new.engine_count }
 
 -- so are PxSCTL.DET and all that readings noted
-abbrev pub SameBeside : PortState → PortState → Type 0
+abbrev pub SameBeside : DevicePort → DevicePort → Type 0
 SameBeside old new = (new.sctl_det ≡ old.sctl_det) × SameButCommand old.notes new.notes
 
 -- the same where ST is set, but for when that was
-abbrev pub SameButStart : PortState → PortState → Type 0
+abbrev pub SameButStart : DevicePort → DevicePort → Type 0
 SameButStart old new =
     (new.sctl_det ≡ old.sctl_det)
     × (new.notes ≡ record old.notes {
@@ -121,7 +121,7 @@ SameButStart old new =
     })
 
 -- ST is 0 with no command issued or active; all else of the driver's is as it was.
-pub record HasStopped (old new : PortState) : Type 0 where
+pub record HasStopped (old new : DevicePort) : Type 0 where
   pub st : new.st ≡ false
   pub ci : (slot : ℕ) → new.ci slot ≡ false
   pub sact : (slot : ℕ) → new.sact slot ≡ false
@@ -236,30 +236,30 @@ pub record Forgets (port : Port) (shown : ℕ) (old new : Device) : Type 0 where
   pub quiet : IsQuiet (new.port port.0)
 
 -- the signature that was read last is the one that the port shows
-abbrev pub ShowsSignature : PortState → Type 0
+abbrev pub ShowsSignature : DevicePort → Type 0
 ShowsSignature p = p.notes.last_sig ≡ p.sig
 
 -- ---- what the calls do that await an engine
 
 -- The port was stopped: CR fell, as was read after ST was cleared.
-pub record Halts (port : Port) (old new : Device) : Type 0 where
-  pub told : IsTold (Stops port) (IsControl WritesCommand port) AnyUse old new
+pub record PortStops (port : Port) (old new : Device) : Type 0 where
+  pub told : IsSimulatedAlong (Stops port) (IsControl WritesCommand port) AnyUse old new
   pub stopped : IsStopped (new.port port.0)
 
 -- The port was to stop, and CR didn't fall in 64 readings, the last of the accesses.
-pub record FailsToHalt (port : Port) (old new : Device) : Type 0 where
-  pub told : IsTold (FailsToStop port) (IsControl WritesCommand port) AnyUse old new
-  pub stuck : Shows EngineStuck (new.port port.0).notes
+pub record FailsToStopPort (port : Port) (old new : Device) : Type 0 where
+  pub told : IsSimulatedAlong (FailsToStop port) (IsControl WritesCommand port) AnyUse old new
+  pub stuck : BacksFault EngineStuck (new.port port.0).notes
 
 -- A stopped port receives FISes, with its areas in their places: FR fell, as was read after FRE was cleared.
 pub record Receives (port : Port) (old new : Device) : Type 0 where
-  pub told : IsTold (StopsReceiving port) (IsControl IsPlacing port) AnyUse old new
+  pub told : IsSimulatedAlong (StopsReceiving port) (IsControl IsPlacing port) AnyUse old new
   pub receives : ReceivesFises port.0 (new.port port.0)
 
 -- A stopped port was to receive FISes, and FR didn't fall in 64 readings, the last of the accesses. FRE is 0, and the
 -- addresses are as they were.
 pub record FailsToReceive (port : Port) (old new : Device) : Type 0 where
-  pub told : IsTold (FailsToStopReceiving port) (IsControl IsPlacing port) AnyUse old new
-  pub stuck : Shows EngineStuck (new.port port.0).notes
+  pub told : IsSimulatedAlong (FailsToStopReceiving port) (IsControl IsPlacing port) AnyUse old new
+  pub stuck : BacksFault EngineStuck (new.port port.0).notes
   pub fre : (new.port port.0).fre ≡ false
   pub bases : (new.port port.0).bases ≡ (old.port port.0).bases

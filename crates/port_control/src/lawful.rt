@@ -1,22 +1,23 @@
 // What laws of the crates below say of this crate's accesses, for its proofs. Nothing comes of calling it.
-ghost use Rattle.port_control.specs.Laws.{Laws, RegisterSet, Stretch, fits_of, may_of, registers_of};
+ghost use Rattle.port_control.specs.Laws.{Laws, RegisterSet, Fragment, fits_of, may_of, registers_of};
 
-use adapter::laws::{accesses_compose, port_registers_are_accessed, steps_keep};
-use agreement::facts::{
-    adapter_stays, controls_are_set, controls_stay, errors_are_cleared, faults_are_recorded,
-    halted_stays, link_comes_up, link_is_awaited, notes_are_set, notes_stay, quiet_is_found,
-    reset_is_found, running_well_is_found, stop_is_found,
+use adapter::laws::{law_accesses_compose, law_port_registers_are_accessed, law_steps_keep};
+use refinement::facts::{
+    law_adapter_stays, law_controls_are_set, law_controls_stay, law_errors_are_cleared,
+    law_faults_are_recorded, law_halted_stays, law_link_comes_up, law_link_is_awaited,
+    law_notes_are_set, law_notes_stay, law_quiet_is_found, law_reset_is_found,
+    law_running_well_is_found, law_stop_is_found,
 };
-use agreement::giving_up::stopped_slots_tell;
-use agreement::kinds::{Kinds, Registers, controls_are_of_a_port, stretch_laws_hold};
-use agreement::laws::{
-    arming_is_followed, clear_bits_stay, commanding_is_permitted, placing_is_permitted,
-    writing_is_permitted,
+use refinement::fragments::{
+    law_causes_stay_clear, law_other_ports_are_left, law_tapes, law_written_notes_stay,
 };
-use agreement::recovering::{link_is_kept, running_goes_on};
-use agreement::stretches::{
-    causes_stay_clear, other_ports_are_left, tape_laws_hold, written_notes_stay,
+use refinement::giving_up::law_stopped_slots_tell;
+use refinement::kinds::{Kinds, Registers, law_controls_are_of_a_port, law_fragments};
+use refinement::laws::{
+    law_arming_is_followed, law_clear_bits_stay, law_commanding_is_permitted,
+    law_placing_is_permitted, law_writing_is_permitted,
 };
+use refinement::recovering::{law_link_is_kept, law_running_goes_on};
 
 /// This crate's kinds of accesses.
 enum Controls {}
@@ -28,7 +29,7 @@ impl Registers for Controls {
 }
 
 impl Kinds for Controls {
-    ghost Kind = { Stretch };
+    ghost Kind = { Fragment };
 
     ghost may = { may_of };
 
@@ -36,38 +37,38 @@ impl Kinds for Controls {
 }
 
 /// The laws that the proofs of this crate rest on.
-pub fn laws_hold()
+pub fn law_base()
     ensures { Laws }
 {
-    accesses_compose();
-    port_registers_are_accessed();
-    steps_keep();
-    adapter_stays();
-    controls_are_set();
-    controls_stay();
-    errors_are_cleared();
-    faults_are_recorded();
-    halted_stays();
-    link_comes_up();
-    link_is_awaited();
-    notes_are_set();
-    notes_stay();
-    quiet_is_found();
-    reset_is_found();
-    running_well_is_found();
-    stop_is_found();
-    stopped_slots_tell();
-    stretch_laws_hold::<Controls>();
-    controls_are_of_a_port::<Controls>();
-    arming_is_followed();
-    clear_bits_stay();
-    commanding_is_permitted();
-    placing_is_permitted();
-    writing_is_permitted();
-    link_is_kept();
-    running_goes_on();
-    causes_stay_clear();
-    other_ports_are_left();
-    tape_laws_hold();
-    written_notes_stay();
+    law_accesses_compose();
+    law_port_registers_are_accessed();
+    law_steps_keep();
+    law_adapter_stays();
+    law_controls_are_set();
+    law_controls_stay();
+    law_errors_are_cleared();
+    law_faults_are_recorded();
+    law_halted_stays();
+    law_link_comes_up();
+    law_link_is_awaited();
+    law_notes_are_set();
+    law_notes_stay();
+    law_quiet_is_found();
+    law_reset_is_found();
+    law_running_well_is_found();
+    law_stop_is_found();
+    law_stopped_slots_tell();
+    law_fragments::<Controls>();
+    law_controls_are_of_a_port::<Controls>();
+    law_arming_is_followed();
+    law_clear_bits_stay();
+    law_commanding_is_permitted();
+    law_placing_is_permitted();
+    law_writing_is_permitted();
+    law_link_is_kept();
+    law_running_goes_on();
+    law_causes_stay_clear();
+    law_other_ports_are_left();
+    law_tapes();
+    law_written_notes_stay();
 }

@@ -2,18 +2,18 @@
 ghost use Rattle.std.specs.Prelude.{ℕ, ◌++◌, List};
 ghost use Rattle.ata_types.specs.declared.Port.{Port};
 ghost use Rattle.adapter.specs.Access.{Access};
-ghost use Rattle.agreement.specs.Driven.{IsControl, IsOf};
-ghost use Rattle.agreement.specs.Links.{SparesRegister};
+ghost use Rattle.refinement.specs.Driven.{IsControl, IsOf};
+ghost use Rattle.refinement.specs.Links.{SparesRegister};
 ghost use Rattle.hba_regs.specs.declared.reg.PortReg.TheVariants.{Sctl};
 ghost use Rattle.hba_regs.specs.declared.reg.Reg.TheVariants.{Px};
 ghost use Rattle.port_control.specs.Engines.{FailsToStop, FailsToStopReceiving, Falls, Sticks};
 ghost use Rattle.port_control.specs.Ports.{IsPlacing, IsResetting, WritesCommand};
 
-use super::lawful::laws_hold;
+use super::lawful::law_base;
 
 /// What accesses tell of a port's engines, they tell with others after them, and with others before them. Those of a
 /// call that failed to stop one show that it is stuck.
-pub fn what_is_told_of_engines_stays()
+pub fn law_what_is_told_of_engines_stays()
     ensures fails { (port : Port) (accesses : List Access) → FailsToStop port accesses → Sticks port accesses }
     ensures fails_receiving { (port : Port) (accesses : List Access) → FailsToStopReceiving port accesses
         → Sticks port accesses }
@@ -27,12 +27,12 @@ pub fn what_is_told_of_engines_stays()
 
 /// No call touches a register of another port, nor another port's bit of IS: so what is said of such accesses (`IsOf`)
 /// is so of each. Those that stop and start, and those that receive FISes, don't write PxSCTL.
-pub fn calls_are_of_one_port()
+pub fn law_calls_are_of_one_port()
     ensures commanding { (port : Port) (access : Access) → IsControl WritesCommand port access
         → IsOf port access × SparesRegister (Px port Sctl) access }
     ensures placing { (port : Port) (access : Access) → IsControl IsPlacing port access
         → IsOf port access × SparesRegister (Px port Sctl) access }
     ensures resetting { (port : Port) (access : Access) → IsControl IsResetting port access → IsOf port access }
 {
-    laws_hold();
+    law_base();
 }

@@ -1,7 +1,7 @@
 //! Stops a port's engine, has it receive FISes, sends COMRESET, and starts it.
 //!
 //! (AHCI 1.3.1, 10.1.2, 10.3 and 10.4.2.) Each call is of one port, and leaves the others to the
-//! device (law `other_ports_are_left` of `agreement`). `Stopped`, `Receiving` and `Running` are
+//! device (`law_other_ports_are_left` of `refinement`). `Stopped`, `Receiving` and `Running` are
 //! tokens of a port's state. Each call tells what its very accesses showed: so a wait that is given
 //! up had 64 readings. `start` doesn't fail. It knows no client and no command.
 #![tactic(auto)]
@@ -10,21 +10,21 @@ ghost use Rattle.std.specs.Prelude.{ℕ, ◌≡◌, ◌≢◌, ◌<◌, ◌≤�
 ghost use Rattle.hba_regs.specs.Bits.{bit};
 ghost use Rattle.hba_regs.specs.declared.reg.PortReg.TheVariants.{Ssts, Tfd};
 ghost use Rattle.adapter.specs.Rules.{IsOn};
-ghost use Rattle.agreement.specs.Driven.{AnyUse, IsControl, IsFollowed, IsTold};
-ghost use Rattle.agreement.specs.Driver.{AllFree};
-ghost use Rattle.agreement.specs.Errors.{NoneComes};
-ghost use Rattle.agreement.specs.Facts.{IsAfterReset, IsAwaited, IsQuiet, IsUnflagged};
-ghost use Rattle.agreement.specs.Started.{IsUp, IsComingUp};
-ghost use Rattle.port_control.specs.Calls.{AsksForDevice, FindsDisk, FindsFault, MayBeginReceiving, MayBeStarted, MayForget, MayResetLink, ResetsLink, Starts, StaysStopped};
+ghost use Rattle.refinement.specs.Driven.{AnyUse, IsControl, IsSimulated, IsSimulatedAlong};
+ghost use Rattle.refinement.specs.Driver.{AllFree};
+ghost use Rattle.refinement.specs.Errors.{NoneComes};
+ghost use Rattle.refinement.specs.Facts.{IsAfterReset, IsAwaited, IsQuiet, IsUnflagged};
+ghost use Rattle.refinement.specs.Started.{IsUp, IsComingUp};
+ghost use Rattle.port_control.specs.Calls.{AsksForDevice, FindsDisk, FindsFault, MayBeginReceiving, MayBeStarted, MayForget, MayResetLink, StaysReceiving, Starts, StaysStopped};
 ghost use Rattle.port_control.specs.Engines.{FailsToStopReceiving, StopsReceiving};
-ghost use Rattle.port_control.specs.Ports.{FailsToHalt, FailsToReceive, Halts, Receives, WritesCommand, IsPlacing, IsClearing, IsResetting, IsUsable, IsStopped, ReceivesFises, SawDevice, SawIdle, Shows, SameBeside, HasStopped, HasLink, ShowsIdle, ReadsWithout, ReadsUntil, ClearsErrors, FindsSignature, Looks, WasReset, HasClearErrors, FindsAwaited, Forgets, ShowsSignature, programmed};
+ghost use Rattle.port_control.specs.Ports.{FailsToStopPort, FailsToReceive, PortStops, Receives, WritesCommand, IsPlacing, IsClearing, IsResetting, IsUsable, IsStopped, ReceivesFises, SawDevice, SawIdle, BacksFault, SameBeside, HasStopped, HasLink, ShowsIdle, ReadsWithout, ReadsUntil, ClearsErrors, FindsSignature, Looks, WasReset, HasClearErrors, FindsAwaited, Forgets, ShowsSignature, programmed};
 ghost use Rattle.adapter.specs.Counted.{MakesAtMost};
 ghost use Rattle.port_control.specs.Costs.{AWAIT_DEVICE_ACCESSES, CLEAR_ACCESSES, COMRESET_ACCESSES, FORGET_ACCESSES, RECEIVE_ACCESSES, SHOW_ACCESSES, START_ACCESSES, STOP_ACCESSES};
 
 use adapter::Adapter;
 use ata_types::{DRIVER_BYTES, PORT_BYTES, Port, READINGS, RECEIVED};
 use hba_regs::{ATA_SIGNATURE, PortCommand, PortReg, Reg, SataControl, SataStatus, TaskFile};
-use lawful::laws_hold;
+use lawful::law_base;
 
 mod lawful;
 pub mod laws;
@@ -91,13 +91,13 @@ pub enum PortFault {
 
 /// Whether the device is busy or asks for a transfer, BSY or DRQ, so that ST may not be set (AHCI 1.3.1, 3.3.8 and
 /// 10.3.1).
-pub fn is_occupied(task_file: TaskFile) -> bool
+pub fn is_bsy_or_drq(task_file: TaskFile) -> bool
     ensures { result ≡ (bit task_file.0 7 || bit task_file.0 3) }
 {
     task_file.is_busy() || task_file.has_data_request()
 }
 
-/// Has a port's command engine stand: clears ST, and waits until CR is 0 (AHCI 1.3.1, 10.3.2). The other bits of PxCMD
+/// Has a port's command engine stand: clears ST, and waits until CR is 0 (AHCI 1.3.1, 10.3.1). The other bits of PxCMD
 /// are written as they were read.
 ///
 /// `EngineStuck` where 64 readings find CR set: ST is 0 then, too.
@@ -106,12 +106,12 @@ pub fn stop<A: Adapter>(adapter: &mut A, port: Port) -> Result<Stopped, PortFaul
     ensures on { IsOn (A.device adapter.new) }
     ensures has { HasStopped ((A.device adapter.old).port port.0) ((A.device adapter.new).port port.0) }
     ensures names { IfOk result (λ token. token.port ≡ port) }
-    ensures halts { OnOk result (Halts port (A.device adapter.old) (A.device adapter.new)) }
-    ensures fails { IfErr result (λ fault. (fault ≡ PortFault.EngineStuck) × FailsToHalt port (A.device adapter.old)
+    ensures halts { OnOk result (PortStops port (A.device adapter.old) (A.device adapter.new)) }
+    ensures fails { IfErr result (λ fault. (fault ≡ PortFault.EngineStuck) × FailsToStopPort port (A.device adapter.old)
         (A.device adapter.new)) }
     ensures cost { MakesAtMost STOP_ACCESSES (A.access_count adapter.old) (A.access_count adapter.new) }
 {
-    laws_hold();
+    law_base();
     let command = PortCommand(adapter.read(Reg::Px(port, PortReg::Cmd)));
     adapter.write(Reg::Px(port, PortReg::Cmd), command.without_start().0);
     for _reading in 0..READINGS {
@@ -127,19 +127,19 @@ pub fn stop<A: Adapter>(adapter: &mut A, port: Port) -> Result<Stopped, PortFaul
 fn stop_receiving<A: Adapter>(adapter: &mut A, port: Port) -> bool
     requires usable { IsUsable AnyUse port (A.device adapter.old) }
     requires stopped { IsStopped ((A.device adapter.old).port port.0) }
-    ensures stops { result ≡ true → IsTold (StopsReceiving port) (IsControl WritesCommand port) AnyUse
+    ensures stops { result ≡ true → IsSimulatedAlong (StopsReceiving port) (IsControl WritesCommand port) AnyUse
         (A.device adapter.old) (A.device adapter.new) }
-    ensures sticks { result ≡ false → IsTold (FailsToStopReceiving port) (IsControl WritesCommand port) AnyUse
+    ensures sticks { result ≡ false → IsSimulatedAlong (FailsToStopReceiving port) (IsControl WritesCommand port) AnyUse
         (A.device adapter.old) (A.device adapter.new) }
     ensures stopped { IsStopped ((A.device adapter.new).port port.0) }
     ensures fre { ((A.device adapter.new).port port.0).fre ≡ false }
     ensures bases { ((A.device adapter.new).port port.0).bases ≡ ((A.device adapter.old).port port.0).bases }
     ensures same { SameBeside ((A.device adapter.old).port port.0) ((A.device adapter.new).port port.0) }
     ensures fallen { result ≡ true → ((A.device adapter.new).port port.0).fr ≡ false }
-    ensures stuck { result ≡ false → Shows PortFault.EngineStuck ((A.device adapter.new).port port.0).notes }
+    ensures stuck { result ≡ false → BacksFault PortFault.EngineStuck ((A.device adapter.new).port port.0).notes }
     ensures cost { MakesAtMost STOP_ACCESSES (A.access_count adapter.old) (A.access_count adapter.new) }
 {
-    laws_hold();
+    law_base();
     let command = PortCommand(adapter.read(Reg::Px(port, PortReg::Cmd)));
     adapter.write(Reg::Px(port, PortReg::Cmd), command.without_receive().0);
     for _reading in 0..READINGS {
@@ -156,13 +156,13 @@ fn place<A: Adapter>(adapter: &mut A, port: Port)
     requires usable { IsUsable AnyUse port (A.device adapter.old) }
     requires quiet { IsAfterReset ((A.device adapter.old).port port.0) }
     requires room { DRIVER_BYTES ≤ (A.device adapter.old).size }
-    ensures followed { IsFollowed (IsControl IsPlacing port) AnyUse (A.device adapter.old) (A.device adapter.new) }
+    ensures followed { IsSimulated (IsControl IsPlacing port) AnyUse (A.device adapter.old) (A.device adapter.new) }
     ensures quiet { IsAfterReset ((A.device adapter.new).port port.0) }
     ensures bases { ((A.device adapter.new).port port.0).bases ≡ programmed port.0 }
     ensures same { SameBeside ((A.device adapter.old).port port.0) ((A.device adapter.new).port port.0) }
     ensures cost { MakesAtMost 4 (A.access_count adapter.old) (A.access_count adapter.new) }
 {
-    laws_hold();
+    law_base();
     let list = PORT_BYTES * u32::from(port.0);
     adapter.write(Reg::Px(port, PortReg::Clb), list);
     adapter.write(Reg::Px(port, PortReg::Clbu), 0);
@@ -175,12 +175,12 @@ fn start_receiving<A: Adapter>(adapter: &mut A, port: Port)
     requires usable { IsUsable AnyUse port (A.device adapter.old) }
     requires quiet { IsAfterReset ((A.device adapter.old).port port.0) }
     requires bases { ((A.device adapter.old).port port.0).bases ≡ programmed port.0 }
-    ensures followed { IsFollowed (IsControl WritesCommand port) AnyUse (A.device adapter.old) (A.device adapter.new) }
+    ensures followed { IsSimulated (IsControl WritesCommand port) AnyUse (A.device adapter.old) (A.device adapter.new) }
     ensures receives { ReceivesFises port.0 ((A.device adapter.new).port port.0) }
     ensures same { SameBeside ((A.device adapter.old).port port.0) ((A.device adapter.new).port port.0) }
     ensures cost { MakesAtMost START_ACCESSES (A.access_count adapter.old) (A.access_count adapter.new) }
 {
-    laws_hold();
+    law_base();
     let command = PortCommand(adapter.read(Reg::Px(port, PortReg::Cmd)));
     adapter.write(Reg::Px(port, PortReg::Cmd), command.with_receive().0);
 }
@@ -203,7 +203,7 @@ pub fn receive<A: Adapter>(
         × FailsToReceive stopped.port (A.device adapter.old) (A.device adapter.new)) }
     ensures cost { MakesAtMost RECEIVE_ACCESSES (A.access_count adapter.old) (A.access_count adapter.new) }
 {
-    laws_hold();
+    law_base();
     let port = stopped.port;
     if !stop_receiving(adapter, port) {
         return Err((PortFault::EngineStuck, stopped));
@@ -217,7 +217,7 @@ pub fn receive<A: Adapter>(
 fn send_comreset<A: Adapter>(adapter: &mut A, port: Port)
     requires usable { IsUsable AnyUse port (A.device adapter.old) }
     requires receives { ReceivesFises port.0 ((A.device adapter.old).port port.0) }
-    ensures followed { IsFollowed (IsControl IsResetting port) AnyUse (A.device adapter.old) (A.device adapter.new) }
+    ensures followed { IsSimulated (IsControl IsResetting port) AnyUse (A.device adapter.old) (A.device adapter.new) }
     ensures receives { ReceivesFises port.0 ((A.device adapter.new).port port.0) }
     ensures reset { WasReset port (λ ended new. new ≡ ended) (A.device adapter.old) (A.device adapter.new) }
     ensures awaited { IsAwaited ((A.device adapter.new).port port.0) }
@@ -225,7 +225,7 @@ fn send_comreset<A: Adapter>(adapter: &mut A, port: Port)
         ((A.device adapter.new).port port.0) }
     ensures cost { MakesAtMost 2 (A.access_count adapter.old) (A.access_count adapter.new) }
 {
-    laws_hold();
+    law_base();
     adapter.write(Reg::Px(port, PortReg::Sctl), SataControl::SEND_COMRESET);
     adapter.write(Reg::Px(port, PortReg::Sctl), SataControl::NO_ACTION);
 }
@@ -234,9 +234,9 @@ fn send_comreset<A: Adapter>(adapter: &mut A, port: Port)
 fn wait_for_device<A: Adapter>(adapter: &mut A, port: Port) -> bool
     requires usable { IsUsable AnyUse port (A.device adapter.old) }
     requires det { ((A.device adapter.old).port port.0).sctl_det ≡ 0 }
-    ensures followed { IsFollowed (IsControl IsClearing port) AnyUse (A.device adapter.old) (A.device adapter.new) }
+    ensures followed { IsSimulated (IsControl IsClearing port) AnyUse (A.device adapter.old) (A.device adapter.new) }
     ensures saw { result ≡ true → SawDevice ((A.device adapter.new).port port.0).notes }
-    ensures missing { result ≡ false → Shows PortFault.NoDevice ((A.device adapter.new).port port.0).notes }
+    ensures missing { result ≡ false → BacksFault PortFault.NoDevice ((A.device adapter.new).port port.0).notes }
     ensures sees { result ≡ true → ReadsUntil port Ssts HasLink (A.device adapter.old) (A.device adapter.new) }
     ensures misses { result ≡ false → ReadsWithout port Ssts HasLink READINGS (A.device adapter.old)
         (A.device adapter.new) }
@@ -244,7 +244,7 @@ fn wait_for_device<A: Adapter>(adapter: &mut A, port: Port) -> bool
         → IsComingUp ((A.device adapter.old).port port.0) → IsUp ((A.device adapter.new).port port.0) }
     ensures cost { MakesAtMost READINGS (A.access_count adapter.old) (A.access_count adapter.new) }
 {
-    laws_hold();
+    law_base();
     for _reading in 0..READINGS {
         let status = SataStatus(adapter.read(Reg::Px(port, PortReg::Ssts)));
         if status.detection() == SataStatus::DEVICE_WITH_LINK {
@@ -258,7 +258,7 @@ fn wait_for_device<A: Adapter>(adapter: &mut A, port: Port) -> bool
 fn clear_errors<A: Adapter>(adapter: &mut A, port: Port)
     requires usable { IsUsable AnyUse port (A.device adapter.old) }
     requires receives { ReceivesFises port.0 ((A.device adapter.old).port port.0) }
-    ensures followed { IsFollowed (IsControl IsClearing port) AnyUse (A.device adapter.old) (A.device adapter.new) }
+    ensures followed { IsSimulated (IsControl IsClearing port) AnyUse (A.device adapter.old) (A.device adapter.new) }
     ensures saw { SawDevice ((A.device adapter.old).port port.0).notes → SawDevice
         ((A.device adapter.new).port port.0).notes }
     ensures calm { (place : ℕ) → place < 32 → ((A.device adapter.new).port port.0).is place ≡ false }
@@ -267,7 +267,7 @@ fn clear_errors<A: Adapter>(adapter: &mut A, port: Port)
         (A.device adapter.old) (A.device adapter.new) }
     ensures cost { MakesAtMost CLEAR_ACCESSES (A.access_count adapter.old) (A.access_count adapter.new) }
 {
-    laws_hold();
+    law_base();
     adapter.write(Reg::Px(port, PortReg::Serr), ALL_ONES);
     adapter.write(Reg::Px(port, PortReg::Is), ALL_ONES);
 }
@@ -275,14 +275,14 @@ fn clear_errors<A: Adapter>(adapter: &mut A, port: Port)
 /// Has a stopped port that receives FISes forget what it told of errors: clears each bit of PxSERR, and then of PxIS;
 /// and reads what its device shows then, PxTFD (AHCI 1.3.1, 6.2.2). No COMRESET may be under way, so that no link is
 /// due.
-pub fn forget_errors<A: Adapter>(adapter: &mut A, port: Port) -> TaskFile
+pub fn clear_error_state<A: Adapter>(adapter: &mut A, port: Port) -> TaskFile
     requires may { MayForget port (A.device adapter.old) }
-    ensures followed { IsFollowed (IsControl IsClearing port) AnyUse (A.device adapter.old) (A.device adapter.new) }
+    ensures followed { IsSimulated (IsControl IsClearing port) AnyUse (A.device adapter.old) (A.device adapter.new) }
     ensures on { IsOn (A.device adapter.new) }
     ensures forgets { Forgets port result.0 (A.device adapter.old) (A.device adapter.new) }
     ensures cost { MakesAtMost FORGET_ACCESSES (A.access_count adapter.old) (A.access_count adapter.new) }
 {
-    laws_hold();
+    law_base();
     clear_errors(adapter, port);
     TaskFile(adapter.read(Reg::Px(port, PortReg::Tfd)))
 }
@@ -292,11 +292,11 @@ pub fn forget_errors<A: Adapter>(adapter: &mut A, port: Port) -> TaskFile
 pub fn shows_device<A: Adapter>(adapter: &mut A, port: Port) -> bool
     requires usable { IsUsable AnyUse port (A.device adapter.old) }
     ensures on { IsOn (A.device adapter.new) }
-    ensures followed { IsFollowed (IsControl IsClearing port) AnyUse (A.device adapter.old) (A.device adapter.new) }
+    ensures followed { IsSimulated (IsControl IsClearing port) AnyUse (A.device adapter.old) (A.device adapter.new) }
     ensures asks { AsksForDevice port result (A.device adapter.old) (A.device adapter.new) }
     ensures cost { MakesAtMost SHOW_ACCESSES (A.access_count adapter.old) (A.access_count adapter.new) }
 {
-    laws_hold();
+    law_base();
     adapter.write(Reg::Px(port, PortReg::Serr), ALL_ONES);
     let shown = SataStatus(adapter.read(Reg::Px(port, PortReg::Ssts)));
     shown.detection() == SataStatus::DEVICE_WITH_LINK
@@ -307,10 +307,10 @@ fn wait_until_idle<A: Adapter>(adapter: &mut A, port: Port) -> bool
     requires usable { IsUsable AnyUse port (A.device adapter.old) }
     requires det { ((A.device adapter.old).port port.0).sctl_det ≡ 0 }
     requires saw { SawDevice ((A.device adapter.old).port port.0).notes }
-    ensures followed { IsFollowed (IsControl IsClearing port) AnyUse (A.device adapter.old) (A.device adapter.new) }
+    ensures followed { IsSimulated (IsControl IsClearing port) AnyUse (A.device adapter.old) (A.device adapter.new) }
     ensures saw { SawDevice ((A.device adapter.new).port port.0).notes }
     ensures idle { result ≡ true → SawIdle ((A.device adapter.new).port port.0).notes }
-    ensures busy { result ≡ false → Shows PortFault.Busy ((A.device adapter.new).port port.0).notes }
+    ensures busy { result ≡ false → BacksFault PortFault.Busy ((A.device adapter.new).port port.0).notes }
     ensures waits { result ≡ true → ReadsUntil port Tfd ShowsIdle (A.device adapter.old) (A.device adapter.new) }
     ensures stays { result ≡ false → ReadsWithout port Tfd ShowsIdle READINGS (A.device adapter.old)
         (A.device adapter.new) }
@@ -319,10 +319,10 @@ fn wait_until_idle<A: Adapter>(adapter: &mut A, port: Port) -> bool
         → IsQuiet ((A.device adapter.new).port port.0) }
     ensures cost { MakesAtMost READINGS (A.access_count adapter.old) (A.access_count adapter.new) }
 {
-    laws_hold();
+    law_base();
     for _reading in 0..READINGS {
         let task_file = TaskFile(adapter.read(Reg::Px(port, PortReg::Tfd)));
-        if !is_occupied(task_file) {
+        if !is_bsy_or_drq(task_file) {
             return true;
         }
     }
@@ -334,10 +334,10 @@ fn look<A: Adapter>(adapter: &mut A, port: Port) -> Result<(), PortFault>
     requires usable { IsUsable AnyUse port (A.device adapter.old) }
     requires receives { ReceivesFises port.0 ((A.device adapter.old).port port.0) }
     requires det { ((A.device adapter.old).port port.0).sctl_det ≡ 0 }
-    ensures followed { IsFollowed (IsControl IsClearing port) AnyUse (A.device adapter.old) (A.device adapter.new) }
+    ensures followed { IsSimulated (IsControl IsClearing port) AnyUse (A.device adapter.old) (A.device adapter.new) }
     ensures ready { OnOk result (let notes = ((A.device adapter.new).port port.0).notes in SawDevice notes
         × SawIdle notes × (notes.last_sig ≡ 0x101)) }
-    ensures fault { IfErr result (λ fault. Shows fault ((A.device adapter.new).port port.0).notes
+    ensures fault { IfErr result (λ fault. BacksFault fault ((A.device adapter.new).port port.0).notes
         × (fault ≢ PortFault.EngineStuck)) }
     ensures looks { OnOk result (FindsSignature port 0x101 (A.device adapter.old) (A.device adapter.new)) }
     ensures looks_at_fault { IfErr result (λ fault. Looks port fault (A.device adapter.old) (A.device adapter.new)) }
@@ -349,7 +349,7 @@ fn look<A: Adapter>(adapter: &mut A, port: Port) -> Result<(), PortFault>
         → ShowsSignature ((A.device adapter.new).port port.0)) }
     ensures cost { MakesAtMost AWAIT_DEVICE_ACCESSES (A.access_count adapter.old) (A.access_count adapter.new) }
 {
-    laws_hold();
+    law_base();
     if !wait_for_device(adapter, port) {
         return Err(PortFault::NoDevice);
     }
@@ -385,17 +385,17 @@ pub fn comreset<A: Adapter>(
     receiving: Receiving,
 ) -> Result<Receiving, (PortFault, Receiving)>
     requires may { MayResetLink receiving.port (A.device adapter.old) }
-    ensures followed { IsFollowed (IsControl IsResetting receiving.port) AnyUse (A.device adapter.old)
+    ensures followed { IsSimulated (IsControl IsResetting receiving.port) AnyUse (A.device adapter.old)
         (A.device adapter.new) }
     ensures on { IsOn (A.device adapter.new) }
-    ensures resets { ResetsLink receiving.port (A.device adapter.old) (A.device adapter.new) }
+    ensures resets { StaysReceiving receiving.port (A.device adapter.old) (A.device adapter.new) }
     ensures finds { IfOk result (λ token. (token.port ≡ receiving.port)
         × FindsDisk receiving.port (A.device adapter.old) (A.device adapter.new)) }
     ensures fault { IfErr result (λ fault. (fault.1 ≡ receiving)
         × FindsFault receiving.port fault.0 (A.device adapter.old) (A.device adapter.new)) }
     ensures cost { MakesAtMost COMRESET_ACCESSES (A.access_count adapter.old) (A.access_count adapter.new) }
 {
-    laws_hold();
+    law_base();
     let port = receiving.port;
     send_comreset(adapter, port);
     match look(adapter, port) {
@@ -412,14 +412,14 @@ pub fn comreset<A: Adapter>(
 /// set ST again after an error needs no COMRESET.
 pub fn start<A: Adapter>(adapter: &mut A, receiving: Receiving) -> Running
     requires may { MayBeStarted receiving.port (A.device adapter.old) }
-    ensures followed { IsFollowed (IsControl WritesCommand receiving.port) (λ uses. AllFree uses receiving.port.0)
+    ensures followed { IsSimulated (IsControl WritesCommand receiving.port) (λ uses. AllFree uses receiving.port.0)
         (A.device adapter.old) (A.device adapter.new) }
     ensures on { IsOn (A.device adapter.new) }
     ensures names { result.port ≡ receiving.port }
     ensures starts { Starts receiving.port (A.device adapter.old) (A.device adapter.new) }
     ensures cost { MakesAtMost START_ACCESSES (A.access_count adapter.old) (A.access_count adapter.new) }
 {
-    laws_hold();
+    law_base();
     let port = receiving.port;
     let command = PortCommand(adapter.read(Reg::Px(port, PortReg::Cmd)));
     adapter.write(Reg::Px(port, PortReg::Cmd), command.with_start().0);

@@ -5,17 +5,17 @@ use Rattle.std.proofs.lemmas.Bool.{cases_eq, cases_lt}
 use Rattle.std.proofs.lemmas.List.{get_or-map, length-map}
 use Rattle.std.proofs.lemmas.List.Edits.{length-insert, get_or-insert_below, get_or-insert_at, get_or-insert_above}
 use Rattle.range_index.specs.declared.Item.{Item}
-use Rattle.range_index.specs.declared.Entry.{Entry}
-use Rattle.range_index.specs.Items.{AreSorted, StandsBefore, first_of}
+use Rattle.range_index.specs.declared.IndexEntry.{IndexEntry}
+use Rattle.range_index.specs.Items.{AreSorted, StandsBefore, item_first}
 use Rattle.range_index.specs.Index.{items_of}
 
-pub item_at : (es : List Entry) (k : ℕ) (d : Entry) (e : Item) → k < length es → get_or (items_of es) k e ≡ (get_or es k d).item
-item_at es k d e lt = get_or-map (λ (x : Entry). x.item) es k d e lt
+pub item_at : (es : List IndexEntry) (k : ℕ) (d : IndexEntry) (e : Item) → k < length es → get_or (items_of es) k e ≡ (get_or es k d).item
+item_at es k d e lt = get_or-map (λ (x : IndexEntry). x.item) es k d e lt
 
-pub as_many : (es : List Entry) → length (items_of es) ≡ length es
-as_many es = length-map es (λ (x : Entry). x.item)
+pub as_many : (es : List IndexEntry) → length (items_of es) ≡ length es
+as_many es = length-map es (λ (x : IndexEntry). x.item)
 
-before_both : (a b : Item) (first id : ℕ) → StandsBefore a (first_of b) b.id.0 → StandsBefore b first id → StandsBefore a first id
+before_both : (a b : Item) (first id : ℕ) → StandsBefore a (item_first b) b.id.0 → StandsBefore b first id → StandsBefore a first id
 before_both a b first id (inl p) (inl q) = inl (omega (arith, p, q))
 before_both a b first id (inl p) (inr q) = inl (let e = q.0 in omega (arith, p, e))
 before_both a b first id (inr p) (inl q) = inl (let e = p.0 in omega (arith, e, q))
@@ -36,10 +36,10 @@ module _ (items : List Item) (sorted : AreSorted items) (m first id : ℕ) (with
 
 -- ---- one more in its place
 
-later : (x y : Item) → (x.id ≡ y.id → ⊥) → (StandsBefore x (first_of y) y.id.0 → ⊥) → StandsBefore y (first_of x) x.id.0
-later x y other not = elim (cases_lt (first_of x) (first_of y)) [
+later : (x y : Item) → (x.id ≡ y.id → ⊥) → (StandsBefore x (item_first y) y.id.0 → ⊥) → StandsBefore y (item_first x) x.id.0
+later x y other not = elim (cases_lt (item_first x) (item_first y)) [
   | inl less ↦ absurd (not (inl less))
-  | inr more ↦ elim (cases_eq (first_of x) (first_of y)) [
+  | inr more ↦ elim (cases_eq (item_first x) (item_first y)) [
     | inl same ↦ elim (cases_lt x.id.0 y.id.0) [
       | inl less ↦ absurd (not (inr (same, less)))
       | inr ge ↦ elim (cases_eq x.id.0 y.id.0) [
@@ -52,8 +52,8 @@ later x y other not = elim (cases_lt (first_of x) (first_of y)) [
 ]
 
 pub sorted_insert : (items : List Item) (place : ℕ) (x : Item) → AreSorted items → place ≤ length items
-    → ((k : ℕ) (d : Item) → k < place → StandsBefore (get_or items k d) (first_of x) x.id.0)
-    → ((k : ℕ) (d : Item) → place ≤ k → k < length items → StandsBefore (get_or items k d) (first_of x) x.id.0 → ⊥)
+    → ((k : ℕ) (d : Item) → k < place → StandsBefore (get_or items k d) (item_first x) x.id.0)
+    → ((k : ℕ) (d : Item) → place ≤ k → k < length items → StandsBefore (get_or items k d) (item_first x) x.id.0 → ⊥)
     → All (λ (y : Item). y.id ≢ x.id) items → AreSorted (insert items place x)
 sorted_insert items place x sorted within before behind fresh i j d less lt = elim (cases_lt i place) [
   | inl i_low ↦ elim (cases_lt j place) [
@@ -84,14 +84,14 @@ sorted_insert items place x sorted within before behind fresh i j d less lt = el
         let e : k ≡ k - 1 + 1 = omega arith in
         ap (λ (n : ℕ). get_or (insert items place x) n d) e ∙ get_or-insert_above items place x d (k - 1) (omega arith) within
 
-    put : {a b : Item} (p q : ℕ) → get_or (insert items place x) p d ≡ a → get_or (insert items place x) q d ≡ b → StandsBefore a (first_of b) b.id.0
-        → StandsBefore (get_or (insert items place x) p d) (first_of (get_or (insert items place x) q d)) (get_or (insert items place x) q d).id.0
+    put : {a b : Item} (p q : ℕ) → get_or (insert items place x) p d ≡ a → get_or (insert items place x) q d ≡ b → StandsBefore a (item_first b) b.id.0
+        → StandsBefore (get_or (insert items place x) p d) (item_first (get_or (insert items place x) q d)) (get_or (insert items place x) q d).id.0
     put p q ea eb h = rw (ea, eb) h
 
-pub itself : (x : Item) → StandsBefore x (first_of x) x.id.0 → ⊥
+pub itself : (x : Item) → StandsBefore x (item_first x) x.id.0 → ⊥
 itself x (inl less) = omega (arith, less)
 itself x (inr less) = let h = less.1 in omega (arith, h)
 
 -- an entry of no request, for places that there are not
-abbrev pub blank : Entry
+abbrev pub blank : IndexEntry
 blank = record { item = record { id = record { 0 = 0 }; port = record { 0 = 0 }; range = record { first = record { 0 = 0 }; count = 0 }; writes = false }; greatest_end = 0 }

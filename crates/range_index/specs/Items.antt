@@ -5,12 +5,12 @@ use Rattle.block_machine.specs.Due.{overlap}
 use Rattle.range_index.specs.declared.Item.{Item}
 
 -- the item's first sector
-abbrev pub first_of : Item → ℕ
-first_of x = x.range.first.0
+abbrev pub item_first : Item → ℕ
+item_first x = x.range.first.0
 
 -- the number after its last sector
-abbrev pub end_of : Item → ℕ
-end_of x = range_end x.range
+abbrev pub item_end : Item → ℕ
+item_end x = range_end x.range
 
 -- The other item is of the same port, was accepted before this one, and conflicts with it: they have a sector in
 -- common, and one of the two writes.
@@ -20,15 +20,15 @@ is_earlier_conflict x other = other.port.0 == x.port.0
 
 -- the item stands before this first sector and id
 abbrev pub StandsBefore : Item → ℕ → ℕ → Type 0
-StandsBefore x first id = (first_of x < first) ⊎ ((first_of x ≡ first) × (x.id.0 < id))
+StandsBefore x first id = (item_first x < first) ⊎ ((item_first x ≡ first) × (x.id.0 < id))
 
 -- the items rise by first sector, and by id where these are the same
 abbrev pub AreSorted : List Item → Type 0
-AreSorted items = AllPairs (λ a b. StandsBefore a (first_of b) b.id.0) items
+AreSorted items = AllPairs (λ a b. StandsBefore a (item_first b) b.id.0) items
 
 -- It is the greatest end of the items up to a place: at least each of their ends, and one of them.
 pub record IsGreatestEnd (items : List Item) (place greatest : ℕ) : Type 0 where
-  pub covers : (j : ℕ) (d : Item) → j ≤ place → end_of (slice_index_or items j d) ≤ greatest
+  pub covers : (j : ℕ) (d : Item) → j ≤ place → item_end (slice_index_or items j d) ≤ greatest
   pub at : ℕ
   pub before : at ≤ place
-  pub met : (d : Item) → end_of (slice_index_or items at d) ≡ greatest
+  pub met : (d : Item) → item_end (slice_index_or items at d) ≡ greatest

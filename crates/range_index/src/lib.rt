@@ -10,7 +10,7 @@ ghost use Rattle.std.specs.List.{list_any};
 ghost use Rattle.ata_types.specs.Range.{range_end};
 ghost use Rattle.block_machine.specs.Due as machine;
 ghost use Rattle.range_index.specs.Items.{AreSorted, StandsBefore, IsGreatestEnd, is_earlier_conflict};
-ghost use Rattle.range_index.specs.declared.Entry.{Entry};
+ghost use Rattle.range_index.specs.declared.IndexEntry.{IndexEntry};
 ghost use Rattle.range_index.specs.declared.Item.{Item};
 ghost use Rattle.range_index.specs.Index.{EndFollows, IsIndex, items_of};
 
@@ -29,7 +29,7 @@ pub struct Item {
 
 /// An item, and the greatest end of it and of all before it.
 #[derive(Clone, Copy, Debug)]
-struct Entry {
+struct IndexEntry {
     item: Item,
     /// Ends don't fit `u64`, since a range may reach past 2^64.
     greatest_end: u128,
@@ -38,7 +38,7 @@ struct Entry {
 /// Items, sorted by first sector, then by id.
 #[derive(Drop)]
 pub struct Ranges {
-    entries: Vec<Entry>,
+    entries: Vec<IndexEntry>,
 }
 
 impl Model for Ranges {
@@ -71,7 +71,7 @@ impl Ranges {
     {
         let first = u128::from(item.range.first.0);
         let place = count_before(self.entries.as_slice(), first, item.id.0);
-        let entry = Entry {
+        let entry = IndexEntry {
             item,
             greatest_end: 0,
         };
@@ -138,7 +138,7 @@ fn is_before(item: &Item, first: u128, id: u64) -> bool
 }
 
 /// How many items stand before this first sector and id: half of those that are left fall away at a time.
-fn count_before(entries: &[Entry], first: u128, id: u64) -> usize
+fn count_before(entries: &[IndexEntry], first: u128, id: u64) -> usize
     requires { AreSorted (items_of entries.now) }
     ensures within { result ≤ length entries.now }
     ensures before { (k : ℕ) (d : Item) → k < result → StandsBefore (slice_index_or (items_of entries.now) k d) first
@@ -161,7 +161,7 @@ fn count_before(entries: &[Entry], first: u128, id: u64) -> usize
 
 /// Searches down from the last item that begins before this one ends. It stops at an entry whose greatest end is at or
 /// below this one's first sector: no range up to that entry reaches it.
-fn earlier_conflict(entries: &[Entry], item: &Item) -> Option<Item>
+fn earlier_conflict(entries: &[IndexEntry], item: &Item) -> Option<Item>
     requires { IsIndex entries.now }
     ensures none { IfNone result (list_any (is_earlier_conflict item.now) (items_of entries.now) ≡ false) }
     ensures found { IfSome result (λ x. Contains (items_of entries.now) x
@@ -185,13 +185,13 @@ fn earlier_conflict(entries: &[Entry], item: &Item) -> Option<Item>
 
 /// Notes the greatest ends from a place on, where those before it are noted. It stops behind that place at the first
 /// that is noted: each end there follows from the one before it, as it did before the change at that place.
-fn note_ends(entries: &mut Vec<Entry>, from: usize)
-    requires before { (k : ℕ) (d : Entry) → k < from
+fn note_ends(entries: &mut Vec<IndexEntry>, from: usize)
+    requires before { (k : ℕ) (d : IndexEntry) → k < from
         → IsGreatestEnd (items_of entries.old.items) k (slice_index_or entries.old.items k d).greatest_end }
     requires within { from ≤ length entries.old.items }
-    requires follow { (k : ℕ) (d : Entry) → from < k → EndFollows entries.old.items k d }
+    requires follow { (k : ℕ) (d : IndexEntry) → from < k → EndFollows entries.old.items k d }
     ensures items { items_of entries.new.items ≡ items_of entries.old.items }
-    ensures ends { (k : ℕ) (d : Entry) → k < length entries.old.items
+    ensures ends { (k : ℕ) (d : IndexEntry) → k < length entries.old.items
         → IsGreatestEnd (items_of entries.old.items) k (slice_index_or entries.new.items k d).greatest_end }
     ensures room { vec_capacity entries.new ≡ vec_capacity entries.old }
 {
@@ -205,9 +205,9 @@ fn note_ends(entries: &mut Vec<Entry>, from: usize)
 }
 
 /// The greatest end of the item at a place and of all before it, where it is noted at those.
-fn greatest_end_at(entries: &[Entry], place: usize) -> u128
+fn greatest_end_at(entries: &[IndexEntry], place: usize) -> u128
     requires within { place < length entries.now }
-    requires before { (k : ℕ) (d : Entry) → k < place
+    requires before { (k : ℕ) (d : IndexEntry) → k < place
         → IsGreatestEnd (items_of entries.now) k (slice_index_or entries.now k d).greatest_end }
     ensures { IsGreatestEnd (items_of entries.now) place result }
 {

@@ -10,10 +10,10 @@ use Rattle.ata_types.specs.declared.request.Outcome.{Outcome}
 use Rattle.ata_types.specs.declared.request.Reply.{Reply}
 use Rattle.ata_types.specs.declared.request.RequestId.{RequestId}
 use Rattle.dma_frames.specs.Table.{LendsOnly, Table, lent_to}
-use Rattle.request_queue.specs.Entries.{GivesBack, Held, IsAccepted, IsEarlier, IsInOrder, Stands, has_id, without}
-use Rattle.request_queue.specs.Fates.{AnswersAll, EndsLoan, Holdings, MeetFates, keeps_loan, reply_to}
-use Rattle.request_queue.specs.declared.Entry.{Entry}
-use Rattle.request_queue.specs.declared.fate.Fate.TheVariants.{Ends}
+use Rattle.request_queue.specs.Entries.{GivesBack, Held, IsAccepted, IsEarlier, BookIsInOrder, HasItsFrames, has_id, without_entry}
+use Rattle.request_queue.specs.Dispositions.{AnswersAlike, EndsLoan, Holdings, AreResolved, quarantines_loan, reply_to}
+use Rattle.request_queue.specs.declared.PendingRequest.{PendingRequest}
+use Rattle.request_queue.specs.declared.disposition.Disposition.TheVariants.{Complete}
 use Rattle.request_queue.proofs.Ending.{more_given, none_given, ordered_rest, stand_still}
 use Rattle.request_queue.proofs.Members.{contains_cases, contains_here, contains_none, contains_there}
 
@@ -22,28 +22,28 @@ use Rattle.request_queue.proofs.Members.{contains_cases, contains_here, contains
 -- the requests but for these
 abbrev withouts : List Held → List Held → List Held
 withouts [] book = book
-withouts (e ∷ es) book = withouts es (without e.entry.id book)
+withouts (e ∷ es) book = withouts es (without_entry e.entry.id book)
 
 -- one that is none of these stays first
 stays_first : (es : List Held) (x : Held) (xs : List Held) → ((e : Held) → Contains es e → x.entry.id.0 ≢ e.entry.id.0) → withouts es (x ∷ xs) ≡ x ∷ withouts es xs
 stays_first [] x xs other = refl
 stays_first (e ∷ es) x xs other =
-    ap (withouts es) (cond-true (not (has_id e.entry.id x)) (x ∷ without e.entry.id xs) (without e.entry.id xs) (ap not (ne_eqb x.entry.id.0 e.entry.id.0 (other e (contains_here e es e refl)))))
-    ∙ stays_first es x (without e.entry.id xs) (λ y there. other y (contains_there e es y there))
+    ap (withouts es) (cond-true (not (has_id e.entry.id x)) (x ∷ without_entry e.entry.id xs) (without_entry e.entry.id xs) (ap not (ne_eqb x.entry.id.0 e.entry.id.0 (other e (contains_here e es e refl)))))
+    ∙ stays_first es x (without_entry e.entry.id xs) (λ y there. other y (contains_there e es y there))
 
 -- none has the id
-none_without : (id : RequestId) (xs : List Held) → ((x : Held) → Contains xs x → x.entry.id.0 ≢ id.0) → without id xs ≡ xs
+none_without : (id : RequestId) (xs : List Held) → ((x : Held) → Contains xs x → x.entry.id.0 ≢ id.0) → without_entry id xs ≡ xs
 none_without id [] other = refl
 none_without id (x ∷ xs) other =
-    cond-true (not (has_id id x)) (x ∷ without id xs) (without id xs) (ap not (ne_eqb x.entry.id.0 id.0 (other x (contains_here x xs x refl))))
+    cond-true (not (has_id id x)) (x ∷ without_entry id xs) (without_entry id xs) (ap not (ne_eqb x.entry.id.0 id.0 (other x (contains_here x xs x refl))))
     ∙ ap (λ (ys : List Held). x ∷ ys) (none_without id xs (λ y there. other y (contains_there x xs y there)))
 
-first_goes : (x : Held) (xs : List Held) → ((y : Held) → Contains xs y → y.entry.id.0 ≢ x.entry.id.0) → without x.entry.id (x ∷ xs) ≡ xs
+first_goes : (x : Held) (xs : List Held) → ((y : Held) → Contains xs y → y.entry.id.0 ≢ x.entry.id.0) → without_entry x.entry.id (x ∷ xs) ≡ xs
 first_goes x xs other =
-    cond-false (not (has_id x.entry.id x)) (x ∷ without x.entry.id xs) (without x.entry.id xs) (ap not (eq-eqb x.entry.id.0 x.entry.id.0 refl))
+    cond-false (not (has_id x.entry.id x)) (x ∷ without_entry x.entry.id xs) (without_entry x.entry.id xs) (ap not (eq-eqb x.entry.id.0 x.entry.id.0 refl))
     ∙ none_without x.entry.id xs other
 
-module _ (passes : Entry → Bool) where
+module _ (passes : PendingRequest → Bool) where
   abbrev those : List Held → List Held
   those book = filter (λ (e : Held). passes e.entry) book
 
@@ -73,7 +73,7 @@ module _ (passes : Entry → Bool) where
 
 -- ---- what came of it
 
-module _ (o : Outcome) (back : (e : Entry) → keeps_loan o e ≡ false) where
+module _ (o : Outcome) (back : (e : PendingRequest) → quarantines_loan o e ≡ false) where
   abbrev replies_to : List Held → List Reply
   replies_to es = map (λ (e : Held). reply_to e o) es
 
@@ -84,7 +84,7 @@ module _ (o : Outcome) (back : (e : Entry) → keeps_loan o e ≡ false) where
     given : GivesBack old.table new.table es
     kept : new.kept ≡ old.kept
 
-  all_met : (es : List Held) (replies : List Reply) (old new : Holdings) → AllPairs IsEarlier es → All (Stands old.table) es → MeetFates (λ e. Ends o) es replies old new → AllMet es replies old new
+  all_met : (es : List Held) (replies : List Reply) (old new : Holdings) → AllPairs IsEarlier es → All (HasItsFrames old.table) es → AreResolved (λ e. Complete o) es replies old new → AllMet es replies old new
   all_met [] replies old new ordered stands (none, same) = record {
     told = none;
     left = ap (λ (h : Holdings). h.book) same;
@@ -146,10 +146,10 @@ module _ (o : Outcome) (back : (e : Entry) → keeps_loan o e ≡ false) where
   gives : (fs : List Frame) (t : Table) → LendsOnly t (give fs t) fs None
   gives fs t = record { owners = owners_left fs t; these = all_given fs t; others = others_left fs t }
 
-  may_come : (es : List Held) (old : Holdings) → (new : Holdings) × MeetFates (λ e. Ends o) es (replies_to es) old new
+  may_come : (es : List Held) (old : Holdings) → (new : Holdings) × AreResolved (λ e. Complete o) es (replies_to es) old new
   may_come [] old = (old, (refl, refl))
   may_come (e ∷ es) old =
-      let mid : Holdings = record { book = without e.entry.id old.book; table = give e.frames old.table; kept = old.kept } in
+      let mid : Holdings = record { book = without_entry e.entry.id old.book; table = give e.frames old.table; kept = old.kept } in
       let r = may_come es mid in
       (r.0, (mid, reply_to e o ∷ [], replies_to es, refl, (refl, refl, subst (λ (b : Bool). EndsLoan b e old mid) (sym (back e.entry)) (refl, gives e.frames old.table)), r.1))
 
@@ -191,28 +191,28 @@ same_given old one other es a b = record {
 
 -- ---- both ways
 
-module _ (passes : Entry → Bool) (o : Outcome) (back : (e : Entry) → keeps_loan o e ≡ false) (old : Holdings) (order : IsInOrder old.book) (accepted : All (IsAccepted old.table) old.book) where
+module _ (passes : PendingRequest → Bool) (o : Outcome) (back : (e : PendingRequest) → quarantines_loan o e ≡ false) (old : Holdings) (order : BookIsInOrder old.book) (accepted : All (IsAccepted old.table) old.book) where
   abbrev es : List Held
   es = filter (λ (e : Held). passes e.entry) old.book
 
   ordered : AllPairs IsEarlier es
   ordered = AllPairs-filter IsEarlier (λ (e : Held). passes e.entry) old.book order.ordered
 
-  stand : All (Stands old.table) es
-  stand = All-filter (λ (e : Held). passes e.entry) (Stands old.table) old.book (λ i d small. (accepted i d small).lent)
+  stand : All (HasItsFrames old.table) es
+  stand = All-filter (λ (e : Held). passes e.entry) (HasItsFrames old.table) old.book (λ i d small. (accepted i d small).lent)
 
-  pub at_once : (replies : List Reply) (new : Holdings) → MeetFates (λ e. Ends o) es replies old new → AnswersAll passes o replies old new
+  pub at_once : (replies : List Reply) (new : Holdings) → AreResolved (λ e. Complete o) es replies old new → AnswersAlike passes o replies old new
   at_once replies new meets =
       let m = all_met o back es replies old new ordered stand meets in
       record { told = m.told; left = m.left ∙ left_over passes old.book order.ordered; given = m.given; kept = m.kept }
 
-  pub one_by_one : (replies : List Reply) (new : Holdings) → AnswersAll passes o replies old new
-      → (now : Holdings) × MeetFates (λ e. Ends o) es replies old now × (now.book ≡ new.book) × (now.kept ≡ new.kept) × LendsOnly now.table new.table [] None
+  pub one_by_one : (replies : List Reply) (new : Holdings) → AnswersAlike passes o replies old new
+      → (now : Holdings) × AreResolved (λ e. Complete o) es replies old now × (now.book ≡ new.book) × (now.kept ≡ new.kept) × LendsOnly now.table new.table [] None
   one_by_one replies new answers =
       let r = may_come o back es old in
       let m = at_once (replies_to o back es) r.0 r.1 in (
         r.0,
-        subst (λ (list : List Reply). MeetFates (λ e. Ends o) es list old r.0) (sym answers.told) r.1,
+        subst (λ (list : List Reply). AreResolved (λ e. Complete o) es list old r.0) (sym answers.told) r.1,
         m.left ∙ sym answers.left,
         m.kept ∙ sym answers.kept,
         same_given old.table r.0.table new.table es m.given answers.given,

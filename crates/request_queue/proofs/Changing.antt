@@ -13,8 +13,8 @@ use Rattle.ata_types.specs.declared.request.ClientId.{ClientId}
 use Rattle.ata_types.specs.declared.request.RequestId.{RequestId}
 use Rattle.block_machine.specs.declared.due.Unanswered.{Unanswered}
 use Rattle.block_machine.specs.Due as machine
-use Rattle.request_queue.specs.Entries.{Held, asks, asks_of, has_id, at, without, issue, requeued, older, marked_under, unanswered_of, IsEarlier, IsInOrder, HasFewIssues, IsFresh}
-use Rattle.request_queue.specs.declared.Entry.{Entry}
+use Rattle.request_queue.specs.Entries.{Held, asks, asks_of, has_id, at_entry, without_entry, issue, requeued_entry, older_entry, marked_under, unanswered_entries, IsEarlier, BookIsInOrder, HasFewIssues, IsFresh}
+use Rattle.request_queue.specs.declared.PendingRequest.{PendingRequest}
 use Rattle.request_queue.proofs.Members.{count_cons, count_append, count_map, contains_here, contains_there, contains_cases}
 use Rattle.block_machine.specs.Rules.{is_under}
 
@@ -23,16 +23,16 @@ use Rattle.block_machine.specs.Rules.{is_under}
 pub there : (es : List Held) (place : ℕ) (e : Held) → slice_get es place ≡ Some e → Contains es e
 there es place e h = (place, slice_get_within es place e h, get_or_from_slice_get es place e e h)
 
-pub request_is : (es : List Held) (place : ℕ) (r : Entry) (d : Held) → slice_get (map (λ (e : Held). e.entry) es) place ≡ Some r → (get_or es place d).entry ≡ r
+pub request_is : (es : List Held) (place : ℕ) (r : PendingRequest) (d : Held) → slice_get (map (λ (e : Held). e.entry) es) place ≡ Some r → (get_or es place d).entry ≡ r
 request_is es place r d h =
     let within = slice_get_within (map (λ (e : Held). e.entry) es) place r h in
     let lt : place < length es = omega (arith, within, length-map es (λ (e : Held). e.entry)) in
     sym (get_or-map (λ (e : Held). e.entry) es place d d.entry lt) ∙ get_or_from_slice_get (map (λ (e : Held). e.entry) es) place r d.entry h
 
-pub request_at : (es : List Held) (place : ℕ) (r : Entry) (e : Held) → slice_get (map (λ (x : Held). x.entry) es) place ≡ Some r → slice_get es place ≡ Some e → e.entry ≡ r
+pub request_at : (es : List Held) (place : ℕ) (r : PendingRequest) (e : Held) → slice_get (map (λ (x : Held). x.entry) es) place ≡ Some r → slice_get es place ≡ Some e → e.entry ≡ r
 request_at es place r e h is = ap (λ (x : Held). x.entry) (sym (get_or_from_slice_get es place e e is)) ∙ request_is es place r e h
 
-pub place_within : (es : List Held) (place : ℕ) (r : Entry) → slice_get (map (λ (e : Held). e.entry) es) place ≡ Some r → place < length es
+pub place_within : (es : List Held) (place : ℕ) (r : PendingRequest) → slice_get (map (λ (e : Held). e.entry) es) place ≡ Some r → place < length es
 place_within es place r h = let within = slice_get_within (map (λ (e : Held). e.entry) es) place r h in omega (arith, within, length-map es (λ (e : Held). e.entry))
 
 -- two of one id are one
@@ -52,10 +52,10 @@ one_by_id es a b ordered x y same = ⊎_elim
     (cases_lt x.0 y.0)
 
 -- another state at the place of a request is a change of the request with its id
-pub changed_at : (es : List Held) (place : ℕ) (e : Held) (id : RequestId) (f : Entry → Entry) → AllPairs IsEarlier es → slice_get es place ≡ Some e → e.entry.id ≡ id
-    → set es place (record e { entry = f e.entry }) ≡ map (at id f) es
+pub changed_at : (es : List Held) (place : ℕ) (e : Held) (id : RequestId) (f : PendingRequest → PendingRequest) → AllPairs IsEarlier es → slice_get es place ≡ Some e → e.entry.id ≡ id
+    → set es place (record e { entry = f e.entry }) ≡ map (at_entry id f) es
 changed_at es place e id f ordered is named =
-    same_lists (set es place new) (map (at id f) es) (length-set es place new ∙ sym (length-map es (at id f))) each
+    same_lists (set es place new) (map (at_entry id f) es) (length-set es place new ∙ sym (length-map es (at_entry id f))) each
   where
     new : Held
     new = record e { entry = f e.entry }
@@ -63,20 +63,20 @@ changed_at es place e id f ordered is named =
     within : place < length es
     within = slice_get_within es place e is
 
-    each : (k : ℕ) (d : Held) → k < length (set es place new) → get_or (set es place new) k d ≡ get_or (map (at id f) es) k d
+    each : (k : ℕ) (d : Held) → k < length (set es place new) → get_or (set es place new) k d ≡ get_or (map (at_entry id f) es) k d
     each k d lt =
         let short : k < length es = omega (arith, lt, length-set es place new) in
         ⊎_elim
         (λ (same : k ≡ place).
         ap (λ (n : ℕ). get_or (set es place new) n d) same
         ∙ (get_or-set_same es place new d within
-        ∙ sym (ap (λ (n : ℕ). get_or (map (at id f) es) n d) same
-        ∙ (get_or-map (at id f) es place d d within
-        ∙ (ap (at id f) (get_or_from_slice_get es place e d is)
+        ∙ sym (ap (λ (n : ℕ). get_or (map (at_entry id f) es) n d) same
+        ∙ (get_or-map (at_entry id f) es place d d within
+        ∙ (ap (at_entry id f) (get_or_from_slice_get es place e d is)
         ∙ cond-true (has_id id e) new e (eq-eqb e.entry.id.0 id.0 (ap (λ (i : RequestId). i.0) named)))))))
         (λ (ne : k ≢ place).
         get_or-set_other es place k new d ne
-        ∙ sym (get_or-map (at id f) es k d d short
+        ∙ sym (get_or-map (at_entry id f) es k d d short
         ∙ cond-false (has_id id (get_or es k d)) (record (get_or es k d) { entry = f (get_or es k d).entry }) (get_or es k d)
         (ne_eqb (get_or es k d).entry.id.0 id.0 (apart k d ne short))))
         (cases_eq k place)
@@ -98,25 +98,25 @@ later_than x xs y ordered h =
     let lt : x.entry.id.0 < (get_or xs h.0 y).entry.id.0 = ordered 0 (suc h.0) y (omega arith) (let l = h.1 in omega (arith, l)) in
     subst (λ (z : Held). x.entry.id.0 < z.entry.id.0) h.2 lt
 
-none_named : (id : RequestId) (xs : List Held) → ((y : Held) → Contains xs y → has_id id y ≡ false) → without id xs ≡ xs
+none_named : (id : RequestId) (xs : List Held) → ((y : Held) → Contains xs y → has_id id y ≡ false) → without_entry id xs ≡ xs
 none_named id [] none = refl
 none_named id (x ∷ xs) none =
-    cond-true (not (has_id id x)) (x ∷ without id xs) (without id xs) (ap not (none x (contains_here x xs x refl)))
+    cond-true (not (has_id id x)) (x ∷ without_entry id xs) (without_entry id xs) (ap not (none x (contains_here x xs x refl)))
     ∙ ap (λ (ys : List Held). x ∷ ys) (none_named id xs (λ y h. none y (contains_there x xs y h)))
 
 -- a place taken out is a request taken out
-pub dropped_at : (es : List Held) (place : ℕ) (e : Held) (id : RequestId) → AllPairs IsEarlier es → slice_get es place ≡ Some e → e.entry.id ≡ id → remove es place ≡ without id es
+pub dropped_at : (es : List Held) (place : ℕ) (e : Held) (id : RequestId) → AllPairs IsEarlier es → slice_get es place ≡ Some e → e.entry.id ≡ id → remove es place ≡ without_entry id es
 dropped_at [] place e id ordered is named = let no : ◌≡◌ {A = Option Held} None (Some e) = is in cc
 dropped_at (x ∷ xs) zero e id ordered is named =
     let same : x ≡ e = same_Some x e is in
     let its : x.entry.id.0 ≡ id.0 = ap (λ (y : Held). y.entry.id.0) same ∙ ap (λ (i : RequestId). i.0) named in
-    sym (cond-false (not (has_id id x)) (x ∷ without id xs) (without id xs) (ap not (eq-eqb x.entry.id.0 id.0 its))
+    sym (cond-false (not (has_id id x)) (x ∷ without_entry id xs) (without_entry id xs) (ap not (eq-eqb x.entry.id.0 id.0 its))
     ∙ none_named id xs (λ y h. ne_eqb y.entry.id.0 id.0 (λ same. let lt = later_than x xs y ordered h in let f : ⊥ = omega (arith, lt, same, its) in f)))
 dropped_at (x ∷ xs) (suc place) e id ordered is named =
     let rest = dropped_at xs place e id (rest_ordered x xs ordered) is named in
     let lt = later_than x xs e ordered (there xs place e is) in
     ap (λ (ys : List Held). x ∷ ys) rest
-    ∙ sym (cond-true (not (has_id id x)) (x ∷ without id xs) (without id xs)
+    ∙ sym (cond-true (not (has_id id x)) (x ∷ without_entry id xs) (without_entry id xs)
     (ap not (ne_eqb x.entry.id.0 id.0 (λ same. let n = ap (λ (i : RequestId). i.0) named in let f : ⊥ = omega (arith, lt, same, n) in f))))
 
 -- ---- the book stays in order
@@ -127,7 +127,7 @@ pub record Leaves (e x : Held) : Type 0 where
   pub client : x.entry.client.0 ≡ e.entry.client.0
   pub issues : HasFewIssues x.entry
 
-pub changed_in_order : (es : List Held) (g : Held → Held) → ((e : Held) → Contains es e → Leaves e (g e)) → IsInOrder es → IsInOrder (map g es)
+pub changed_in_order : (es : List Held) (g : Held → Held) → ((e : Held) → Contains es e → Leaves e (g e)) → BookIsInOrder es → BookIsInOrder (map g es)
 changed_in_order es g leaves s = record {
   ordered = λ i j d lt below.
       let inside : j < length es = short j below in
@@ -144,7 +144,7 @@ changed_in_order es g leaves s = record {
       (omega (arith, c.0, p, x.0.client), omega (arith, c.1, p, x.0.client));
   few = λ client.
       let f = s.few client in
-      let same : unanswered_of (map g es) client ≡ unanswered_of es client =
+      let same : unanswered_entries (map g es) client ≡ unanswered_entries es client =
       count_map (λ (e : Held). e.entry.client.0 == client) (λ (e : Held). e.entry.client.0 == client) g es (λ y h. ap (λ (n : ℕ). n == client) (leaves y h).client) in
       omega (arith, f, same);
   issues = λ i d below.
@@ -159,17 +159,17 @@ changed_in_order es g leaves s = record {
     at_place k d lt = (leaves (get_or es k d) (k, lt, get_or_default es k (get_or es k d) d lt), get_or-map g es k d d lt)
 
 -- a change of one request, that the request bears
-pub one_in_order : (es : List Held) (id : RequestId) (f : Entry → Entry) → ((r : Entry) → (f r).id.0 ≡ r.id.0) → ((r : Entry) → (f r).client.0 ≡ r.client.0)
-    → ((e : Held) → Contains es e → e.entry.id.0 ≡ id.0 → HasFewIssues (f e.entry)) → IsInOrder es → IsInOrder (map (at id f) es)
-one_in_order es id f ids clients bears s = changed_in_order es (at id f) (λ e h. go e h (has_id id e) refl) s
+pub one_in_order : (es : List Held) (id : RequestId) (f : PendingRequest → PendingRequest) → ((r : PendingRequest) → (f r).id.0 ≡ r.id.0) → ((r : PendingRequest) → (f r).client.0 ≡ r.client.0)
+    → ((e : Held) → Contains es e → e.entry.id.0 ≡ id.0 → HasFewIssues (f e.entry)) → BookIsInOrder es → BookIsInOrder (map (at_entry id f) es)
+one_in_order es id f ids clients bears s = changed_in_order es (at_entry id f) (λ e h. go e h (has_id id e) refl) s
   where
-    go : (e : Held) → Contains es e → (b : Bool) → has_id id e ≡ b → Leaves e (at id f e)
+    go : (e : Held) → Contains es e → (b : Bool) → has_id id e ≡ b → Leaves e (at_entry id f e)
     go e h true named = subst (λ (x : Held). Leaves e x) (sym (cond-true (has_id id e) (record e { entry = f e.entry }) e named))
         (record { id = ids e.entry; client = clients e.entry; issues = bears e h (eqb-true e.entry.id.0 id.0 named) })
     go e h false named = subst (λ (x : Held). Leaves e x) (sym (cond-false (has_id id e) (record e { entry = f e.entry }) e named))
         (record { id = refl; client = refl; issues = All-contains (λ (x : Held). HasFewIssues x.entry) es e s.issues h })
 
-pub issued_in_order : (es : List Held) (id : RequestId) (e : Held) → IsInOrder es → Contains es e → e.entry.id ≡ id → e.entry.issued ≡ false → IsInOrder (map (at id issue) es)
+pub issued_in_order : (es : List Held) (id : RequestId) (e : Held) → BookIsInOrder es → Contains es e → e.entry.id ≡ id → e.entry.issued ≡ false → BookIsInOrder (map (at_entry id issue) es)
 issued_in_order es id e s here named waits = one_in_order es id issue (λ r. refl) (λ r. refl) bears s
   where
     bears : (x : Held) → Contains es x → x.entry.id.0 ≡ id.0 → HasFewIssues (issue x.entry)
@@ -179,17 +179,17 @@ issued_in_order es id e s here named waits = one_in_order es id issue (λ r. ref
         let n = ap (λ (y : Held). y.entry.issues) is in
         (omega (arith, left, n), λ no. absurd (false≢true (sym no)))
 
-pub waiting_in_order : (es : List Held) (id : RequestId) (e : Held) → IsInOrder es → Contains es e → e.entry.id ≡ id → e.entry.issues < 4 → IsInOrder (map (at id requeued) es)
-waiting_in_order es id e s here named few = one_in_order es id requeued (λ r. refl) (λ r. refl) bears s
+pub waiting_in_order : (es : List Held) (id : RequestId) (e : Held) → BookIsInOrder es → Contains es e → e.entry.id ≡ id → e.entry.issues < 4 → BookIsInOrder (map (at_entry id requeued_entry) es)
+waiting_in_order es id e s here named few = one_in_order es id requeued_entry (λ r. refl) (λ r. refl) bears s
   where
-    bears : (x : Held) → Contains es x → x.entry.id.0 ≡ id.0 → HasFewIssues (requeued x.entry)
+    bears : (x : Held) → Contains es x → x.entry.id.0 ≡ id.0 → HasFewIssues (requeued_entry x.entry)
     bears x h same =
         let is : x ≡ e = one_by_id es x e s.ordered h here (same ∙ sym (ap (λ (i : RequestId). i.0) named)) in
         let n = ap (λ (y : Held). y.entry.issues) is in
         (omega (arith, few, n), λ no. omega (arith, few, n))
 
-pub longer_in_order : (es : List Held) (e : Held) → IsInOrder es → All (λ x. x.entry.id.0 < e.entry.id.0) es → IsFresh e.entry → 1 ≤ e.entry.client.0 → e.entry.client.0 ≤ 8
-    → unanswered_of es e.entry.client.0 < 16 → IsInOrder (es ++ e ∷ [])
+pub longer_in_order : (es : List Held) (e : Held) → BookIsInOrder es → All (λ x. x.entry.id.0 < e.entry.id.0) es → IsFresh e.entry → 1 ≤ e.entry.client.0 → e.entry.client.0 ≤ 8
+    → unanswered_entries es e.entry.client.0 < 16 → BookIsInOrder (es ++ e ∷ [])
 longer_in_order es e s newest fresh low high has_room = record {
   ordered = all_pairs_push IsEarlier es e s.ordered newest;
   clients = All-push (λ (x : Held). (1 ≤ x.entry.client.0) × (x.entry.client.0 ≤ 8)) es e s.clients (low, high);
@@ -197,7 +197,7 @@ longer_in_order es e s newest fresh low high has_room = record {
   issues = All-push (λ (x : Held). HasFewIssues x.entry) es e s.issues (let n = fresh.1 in (omega (arith, n), λ no. omega (arith, n)));
 }
   where
-    counted : (client : ℕ) → unanswered_of (es ++ e ∷ []) client ≡ unanswered_of es client + cond {A = ℕ} (e.entry.client.0 == client) 1 0
+    counted : (client : ℕ) → unanswered_entries (es ++ e ∷ []) client ≡ unanswered_entries es client + cond {A = ℕ} (e.entry.client.0 == client) 1 0
     counted client =
         let p : Held → Bool = λ x. x.entry.client.0 == client in
         let a = count_append p es (e ∷ []) in
@@ -208,9 +208,9 @@ longer_in_order es e s newest fresh low high has_room = record {
     small true = omega arith
     small false = omega arith
 
-    few : (client : ℕ) → (e.entry.client.0 ≡ client) ⊎ (e.entry.client.0 ≢ client) → unanswered_of (es ++ e ∷ []) client ≤ 16
+    few : (client : ℕ) → (e.entry.client.0 ≡ client) ⊎ (e.entry.client.0 ≢ client) → unanswered_entries (es ++ e ∷ []) client ≤ 16
     few client (inl is) =
-        let P : ℕ → Type 0 = λ n. unanswered_of es n < 16 in
+        let P : ℕ → Type 0 = λ n. unanswered_entries es n < 16 in
         let here = subst P is has_room in
         omega (arith, counted client, small (e.entry.client.0 == client), here)
     few client (inr other) =
@@ -220,29 +220,29 @@ longer_in_order es e s newest fresh low high has_room = record {
 -- ---- and as each is changed
 
 -- each of them changed
-abbrev pub all_changed : (Entry → Entry) → List Held → List Held
+abbrev pub all_changed : (PendingRequest → PendingRequest) → List Held → List Held
 all_changed f es = map (λ (e : Held). record e { entry = f e.entry }) es
 
 -- a test's change of an entry, or none, has what both have
-pub either_way : (P : Entry → Type 0) (b : Bool) (x y : Entry) → P x → P y → P (cond b x y)
+pub either_way : (P : PendingRequest → Type 0) (b : Bool) (x y : PendingRequest) → P x → P y → P (cond b x y)
 either_way P true x y p q = p
 either_way P false x y p q = q
 
 -- what a change of all leaves of an entry
-pub record Spares (r x : Entry) : Type 0 where
+pub record Spares (r x : PendingRequest) : Type 0 where
   pub asked : asks x ≡ asks r
   pub client : x.client ≡ r.client
   pub issues : x.issues ≡ r.issues
 
-pub older_spares : (ports : Port → Bool) (r : Entry) → Spares r (older ports r)
+pub older_spares : (ports : Port → Bool) (r : PendingRequest) → Spares r (older_entry ports r)
 older_spares ports r = either_way (Spares r) (r.issued && ports r.port) (record r { age = min (suc r.age) 3 }) r
     (record { asked = refl; client = refl; issues = refl }) (record { asked = refl; client = refl; issues = refl })
 
-pub revoked_spares : (client : ClientId) (grant : ℕ) (r : Entry) → Spares r (marked_under client grant r)
+pub revoked_spares : (client : ClientId) (grant : ℕ) (r : PendingRequest) → Spares r (marked_under client grant r)
 revoked_spares client grant r = either_way (Spares r) (is_under client grant r.client r.grant) (record r { revoked = true }) r
     (record { asked = refl; client = refl; issues = refl }) (record { asked = refl; client = refl; issues = refl })
 
-pub all_in_order : (f : Entry → Entry) → ((r : Entry) → Spares r (f r)) → (es : List Held) → IsInOrder es → IsInOrder (all_changed f es)
+pub all_in_order : (f : PendingRequest → PendingRequest) → ((r : PendingRequest) → Spares r (f r)) → (es : List Held) → BookIsInOrder es → BookIsInOrder (all_changed f es)
 all_in_order f spares es s = changed_in_order es (λ (e : Held). record e { entry = f e.entry }) leaves s
   where
     leaves : (e : Held) → Contains es e → Leaves e (record e { entry = f e.entry })
@@ -255,19 +255,19 @@ all_in_order f spares es s = changed_in_order es (λ (e : Held). record e { entr
           issues = subst (λ (n : ℕ). (n ≤ 4) × ((f e.entry).issued ≡ false → n < 4)) (sym k.issues) (left.0, λ waits. left.1 (sym (ap (λ (u : Unanswered). u.issued) k.asked) ∙ waits));
         }
 
-pub all_asked : (f : Entry → Entry) → ((r : Entry) → Spares r (f r)) → (es : List Held) → asks_of (all_changed f es) ≡ asks_of es
+pub all_asked : (f : PendingRequest → PendingRequest) → ((r : PendingRequest) → Spares r (f r)) → (es : List Held) → asks_of (all_changed f es) ≡ asks_of es
 all_asked f spares [] = refl
 all_asked f spares (e ∷ es) =
     ap (λ (u : Unanswered). u ∷ asks_of (all_changed f es)) (spares e.entry).asked
     ∙ ap (λ (us : List Unanswered). asks e.entry ∷ us) (all_asked f spares es)
 
 -- those before a place are changed, and the others are as they were
-pub record ChangedSoFar (f : Entry → Entry) (old now : List Held) (place : ℕ) : Type 0 where
+pub record ChangedSoFar (f : PendingRequest → PendingRequest) (old now : List Held) (place : ℕ) : Type 0 where
   pub done : (k : ℕ) (d : Held) → k < place → k < length old → get_or now k d ≡ record (get_or old k d) { entry = f (get_or old k d).entry }
   pub rest : (k : ℕ) (d : Held) → place ≤ k → get_or now k d ≡ get_or old k d
   pub long : length now ≡ length old
 
-one_changed_more : (f : Entry → Entry) (old now : List Held) (place : ℕ) (e : Held) (r : Entry) → ChangedSoFar f old now place → slice_get now place ≡ Some e → r ≡ f e.entry
+one_changed_more : (f : PendingRequest → PendingRequest) (old now : List Held) (place : ℕ) (e : Held) (r : PendingRequest) → ChangedSoFar f old now place → slice_get now place ≡ Some e → r ≡ f e.entry
     → ChangedSoFar f old (set now place (record e { entry = r })) (place + 1)
 one_changed_more f old now place e r so_far is changed = record {
   done = λ k d lt short. ⊎_elim
@@ -275,7 +275,7 @@ one_changed_more f old now place e r so_far is changed = record {
       let its : get_or old k d ≡ e = ap (λ (n : ℕ). get_or old n d) here ∙ (sym (so_far.rest place d (omega arith)) ∙ get_or_from_slice_get now place e d is) in
       ap (λ (n : ℕ). get_or (set now place new) n d) here
       ∙ (get_or-set_same now place new d (slice_get_within now place e is)
-      ∙ (ap (λ (x : Entry). record e { entry = x }) changed
+      ∙ (ap (λ (x : PendingRequest). record e { entry = x }) changed
       ∙ ap (λ (x : Held). record x { entry = f x.entry }) (sym its))))
       (λ (other : k ≢ place). get_or-set_other now place k new d other ∙ so_far.done k d (omega (arith, lt, other)) short)
       (cases_eq k place);
@@ -286,7 +286,7 @@ one_changed_more f old now place e r so_far is changed = record {
     new : Held
     new = record e { entry = r }
 
-pub all_are_changed : (f : Entry → Entry) (old now : List Held) (place : ℕ) → length old ≤ place → ChangedSoFar f old now place → now ≡ all_changed f old
+pub all_are_changed : (f : PendingRequest → PendingRequest) (old now : List Held) (place : ℕ) → length old ≤ place → ChangedSoFar f old now place → now ≡ all_changed f old
 all_are_changed f old now place all so_far =
     same_lists now (all_changed f old) (so_far.long ∙ sym (length-map old (λ (e : Held). record e { entry = f e.entry })))
     (λ k d lt.
@@ -294,15 +294,15 @@ all_are_changed f old now place all so_far =
     so_far.done k d (omega (arith, short, all)) short ∙ sym (get_or-map (λ (e : Held). record e { entry = f e.entry }) old k d d short))
 
 -- the request in a place, changed, keeps its id
-pub keeps_its_id : (f : Entry → Entry) → ((r : Entry) → Spares r (f r)) → (es : List Held) (place : ℕ) (r x : Entry) → slice_get (map (λ (e : Held). e.entry) es) place ≡ Some r → x ≡ f r
+pub keeps_its_id : (f : PendingRequest → PendingRequest) → ((r : PendingRequest) → Spares r (f r)) → (es : List Held) (place : ℕ) (r x : PendingRequest) → slice_get (map (λ (e : Held). e.entry) es) place ≡ Some r → x ≡ f r
     → IfSome (slice_get es place) (λ old. x.id ≡ old.entry.id)
 keeps_its_id f spares es place r x is changed =
     let d : Held = record { entry = r; frames = [] } in
     subst (λ (o : Option Held). IfSome o (λ old. x.id ≡ old.entry.id)) (sym (slice_get-get_or es place d (place_within es place r is)))
-    (ap (λ (y : Entry). y.id) changed ∙ (ap (λ (u : Unanswered). u.id) (spares r).asked ∙ ap (λ (y : Entry). y.id) (sym (request_is es place r d is))))
+    (ap (λ (y : PendingRequest). y.id) changed ∙ (ap (λ (u : Unanswered). u.id) (spares r).asked ∙ ap (λ (y : PendingRequest). y.id) (sym (request_is es place r d is))))
 
 -- and put back it is one changed more
-pub next_changed : (f : Entry → Entry) (old now later : List Held) (place : ℕ) (r x : Entry) → ChangedSoFar f old now place → slice_get (map (λ (e : Held). e.entry) now) place ≡ Some r → x ≡ f r
+pub next_changed : (f : PendingRequest → PendingRequest) (old now later : List Held) (place : ℕ) (r x : PendingRequest) → ChangedSoFar f old now place → slice_get (map (λ (e : Held). e.entry) now) place ≡ Some r → x ≡ f r
     → (e : Held) × (slice_get now place ≡ Some e) × (later ≡ set now place (record e { entry = x })) → ChangedSoFar f old later (place + 1)
 next_changed f old now later place r x so_far is changed e =
     subst (λ (es : List Held). ChangedSoFar f old es (place + 1)) (sym e.2)
@@ -310,23 +310,23 @@ next_changed f old now later place r x so_far is changed e =
 
 -- ---- and as one goes
 
-pub without_in : (id : RequestId) (es : List Held) (e : Held) → Contains (without id es) e → Contains es e
+pub without_in : (id : RequestId) (es : List Held) (e : Held) → Contains (without_entry id es) e → Contains es e
 without_in id [] e h = h
 without_in id (x ∷ xs) e h = go (not (has_id id x)) (λ k. without_in id xs e k) h
   where
-    go : (b : Bool) → (Contains (without id xs) e → Contains xs e) → Contains (cond b (x ∷ without id xs) (without id xs)) e → Contains (x ∷ xs) e
-    go true rest k = ⊎_elim (λ same. contains_here x xs e same) (λ later. contains_there x xs e (rest later)) (contains_cases x (without id xs) e k)
+    go : (b : Bool) → (Contains (without_entry id xs) e → Contains xs e) → Contains (cond b (x ∷ without_entry id xs) (without_entry id xs)) e → Contains (x ∷ xs) e
+    go true rest k = ⊎_elim (λ same. contains_here x xs e same) (λ later. contains_there x xs e (rest later)) (contains_cases x (without_entry id xs) e k)
     go false rest k = contains_there x xs e (rest k)
 
-fewer_counted : (id : RequestId) (p : Held → Bool) (es : List Held) → count_by p (without id es) ≤ count_by p es
+fewer_counted : (id : RequestId) (p : Held → Bool) (es : List Held) → count_by p (without_entry id es) ≤ count_by p es
 fewer_counted id p [] = omega arith
 fewer_counted id p (x ∷ xs) = go (not (has_id id x)) (fewer_counted id p xs)
   where
-    go : (b : Bool) → count_by p (without id xs) ≤ count_by p xs → count_by p (cond b (x ∷ without id xs) (without id xs)) ≤ count_by p (x ∷ xs)
-    go true rest = omega (arith, rest, count_cons p x xs, count_cons p x (without id xs))
+    go : (b : Bool) → count_by p (without_entry id xs) ≤ count_by p xs → count_by p (cond b (x ∷ without_entry id xs) (without_entry id xs)) ≤ count_by p (x ∷ xs)
+    go true rest = omega (arith, rest, count_cons p x xs, count_cons p x (without_entry id xs))
     go false rest = omega (arith, rest, count_cons p x xs)
 
-pub fewer_in_order : (id : RequestId) (es : List Held) → IsInOrder es → IsInOrder (without id es)
+pub fewer_in_order : (id : RequestId) (es : List Held) → BookIsInOrder es → BookIsInOrder (without_entry id es)
 fewer_in_order id es s = record {
   ordered = AllPairs-filter IsEarlier (λ e. not (has_id id e)) es s.ordered;
   clients = All-filter (λ e. not (has_id id e)) (λ (x : Held). (1 ≤ x.entry.client.0) × (x.entry.client.0 ≤ 8)) es s.clients;

@@ -10,8 +10,8 @@ use Rattle.ata_types.specs.declared.request.RequestId.{RequestId}
 use Rattle.std.proofs.lemmas.Bool.{false≢true, cases_eq, ne_eqb}
 use Rattle.std.proofs.lemmas.List.Elements.{All-head, All-tail}
 use Rattle.request_queue.specs.Counts.{AreCounts}
-use Rattle.request_queue.specs.Entries.{Held, at, has_id, unanswered_of}
-use Rattle.request_queue.specs.declared.Entry.{Entry}
+use Rattle.request_queue.specs.Entries.{Held, at_entry, has_id, unanswered_entries}
+use Rattle.request_queue.specs.declared.PendingRequest.{PendingRequest}
 use Rattle.request_queue.proofs.Members.{count_append, count_cons, count_map}
 
 -- those that pass one of two tests are no more than those that pass each
@@ -32,7 +32,7 @@ no_more p q r (x ∷ xs) either =
 abbrev below : List Held → ℕ → ℕ
 below book n = count_by (λ e. nat_lt e.entry.client.0 n) book
 
-one_further : (book : List Held) (n : ℕ) → below book (suc n) ≤ below book n + unanswered_of book n
+one_further : (book : List Held) (n : ℕ) → below book (suc n) ≤ below book n + unanswered_entries book n
 one_further book n = no_more (λ e. nat_lt e.entry.client.0 n) (λ e. e.entry.client.0 == n) (λ e. nat_lt e.entry.client.0 (suc n)) book (λ e less.
     let lt = ltb-true e.entry.client.0 (suc n) less in
     ⊎_elim
@@ -59,19 +59,19 @@ all_below (e ∷ es) n to =
     let head : cond {A = ℕ} (nat_lt e.entry.client.0 n) 1 0 ≡ 1 = ap (λ (b : Bool). cond {A = ℕ} b 1 0) (lt-ltb e.entry.client.0 n (All-head (λ (x : Held). x.entry.client.0 < n) e es to)) in
     omega (arith, rest, head, count_cons (λ (x : Held). nat_lt x.entry.client.0 n) e es)
 
-module _ (book : List Held) (from : All (λ e. 1 ≤ e.entry.client.0) book) (few : (client : ℕ) → unanswered_of book client ≤ 16) where
+module _ (book : List Held) (from : All (λ e. 1 ≤ e.entry.client.0) book) (few : (client : ℕ) → unanswered_entries book client ≤ 16) where
   at_most : (n : ℕ) → below book (suc n) ≤ 16 * n
   at_most zero = none_below book from
   at_most (suc n) = let rest = at_most n in let next = one_further book (suc n) in let f = few (suc n) in omega (arith, rest, next, f)
 
-  less : (n client : ℕ) → 1 ≤ client → client ≤ n → unanswered_of book client < 16 → below book (suc n) < 16 * n
+  less : (n client : ℕ) → 1 ≤ client → client ≤ n → unanswered_entries book client < 16 → below book (suc n) < 16 * n
   less zero client low high has_room = absurd (omega (arith, low, high))
   less (suc n) client low high has_room =
       let next = one_further book (suc n) in
       ⊎_elim
       (λ (same : client ≡ suc n).
       let rest = at_most n in
-      let here = ap (λ (k : ℕ). unanswered_of book k) same in
+      let here = ap (λ (k : ℕ). unanswered_entries book k) same in
       omega (arith, rest, next, here, has_room))
       (λ other.
       let rest = less n client low (omega (arith, high, other)) has_room in
@@ -79,14 +79,14 @@ module _ (book : List Held) (from : All (λ e. 1 ≤ e.entry.client.0) book) (fe
       omega (arith, rest, next, f))
       (cases_eq client (suc n))
 
-  pub fits : (client : ℕ) → All (λ e. e.entry.client.0 ≤ 8) book → 1 ≤ client → client ≤ 8 → unanswered_of book client < 16 → length book < MOST_UNANSWERED
+  pub fits : (client : ℕ) → All (λ e. e.entry.client.0 ≤ 8) book → 1 ≤ client → client ≤ 8 → unanswered_entries book client < 16 → length book < MOST_UNANSWERED
   fits client to low high has_room =
       let all = all_below book 9 (λ k d small. let t = to k d small in omega (arith, t)) in
       let l = less 8 client low high has_room in
       omega (arith, all, l)
 
 -- so there are 128 at most
-pub all_fit : (book : List Held) → All (λ e. 1 ≤ e.entry.client.0) book → ((client : ℕ) → unanswered_of book client ≤ 16) → All (λ e. e.entry.client.0 ≤ 8) book → length book ≤ MOST_UNANSWERED
+pub all_fit : (book : List Held) → All (λ e. 1 ≤ e.entry.client.0) book → ((client : ℕ) → unanswered_entries book client ≤ 16) → All (λ e. e.entry.client.0 ≤ 8) book → length book ≤ MOST_UNANSWERED
 all_fit book from few to =
     let all = all_below book 9 (λ k d small. let t = to k d small in omega (arith, t)) in
     let most = at_most book from few 8 in
@@ -94,7 +94,7 @@ all_fit book from few to =
 
 -- ---- the counts that a book notes
 
-none_counted : (client : ℕ) (es : List Held) → 9 ≤ client → All (λ e. e.entry.client.0 ≤ 8) es → unanswered_of es client ≡ 0
+none_counted : (client : ℕ) (es : List Held) → 9 ≤ client → All (λ e. e.entry.client.0 ≤ 8) es → unanswered_entries es client ≡ 0
 none_counted client [] high to = refl
 none_counted client (e ∷ es) high to =
     let rest = none_counted client es high (All-tail (λ (x : Held). x.entry.client.0 ≤ 8) e es to) in
@@ -104,56 +104,56 @@ none_counted client (e ∷ es) high to =
     omega (arith, rest, none, count_cons (λ (x : Held). x.entry.client.0 == client) e es)
 
 -- one beyond the last number has none
-pub beyond : (client : ℕ) (es : List Held) (counts : List ℕ) → AreCounts es counts → length counts ≤ client → All (λ e. e.entry.client.0 ≤ 8) es → unanswered_of es client ≡ 0
+pub beyond : (client : ℕ) (es : List Held) (counts : List ℕ) → AreCounts es counts → length counts ≤ client → All (λ e. e.entry.client.0 ≤ 8) es → unanswered_entries es client ≡ 0
 beyond client es counts are high to = let n = are.nine in none_counted client es (omega (arith, n, high)) to
 
 -- a client's count changes alone
-set_counts : (old new : List Held) (counts : List ℕ) (client count : ℕ) → AreCounts old counts → client < 9 → count ≡ unanswered_of new client
-    → ((other : ℕ) → other ≢ client → unanswered_of new other ≡ unanswered_of old other) → AreCounts new (set counts client count)
+set_counts : (old new : List Held) (counts : List ℕ) (client count : ℕ) → AreCounts old counts → client < 9 → count ≡ unanswered_entries new client
+    → ((other : ℕ) → other ≢ client → unanswered_entries new other ≡ unanswered_entries old other) → AreCounts new (set counts client count)
 set_counts old new counts client count are lt its others = record {
   nine = length-set counts client count ∙ are.nine;
   each = λ other small. elim (cases_eq other client) [
-    | inl e ↦ let n = are.nine in ap (λ (k : ℕ). get_or (set counts client count) k 0) e ∙ (get_or-set_same counts client count 0 (omega (arith, n, lt)) ∙ (its ∙ ap (unanswered_of new) (sym e)))
+    | inl e ↦ let n = are.nine in ap (λ (k : ℕ). get_or (set counts client count) k 0) e ∙ (get_or-set_same counts client count 0 (omega (arith, n, lt)) ∙ (its ∙ ap (unanswered_entries new) (sym e)))
     | inr ne ↦ get_or-set_other counts client other count 0 ne ∙ (are.each other small ∙ sym (others other ne))
   ];
 }
 
-pub one_counted : (es : List Held) (e : Held) (counts : List ℕ) (count : ℕ) → AreCounts es counts → e.entry.client.0 < 9 → count ≡ unanswered_of es e.entry.client.0 + 1
+pub one_counted : (es : List Held) (e : Held) (counts : List ℕ) (count : ℕ) → AreCounts es counts → e.entry.client.0 < 9 → count ≡ unanswered_entries es e.entry.client.0 + 1
     → AreCounts (es ++ e ∷ []) (set counts e.entry.client.0 count)
 one_counted es e counts count are lt is = set_counts es (es ++ e ∷ []) counts e.entry.client.0 count are lt
     (let m = more e.entry.client.0 in let one : ◌≡◌ {A = ℕ} (cond (e.entry.client.0 == e.entry.client.0) 1 0) 1 = ap (λ (b : Bool). cond {A = ℕ} b 1 0) (eq-eqb e.entry.client.0 e.entry.client.0 refl) in omega (arith, is, m, one))
     (λ other ne. let m = more other in let none : ◌≡◌ {A = ℕ} (cond (e.entry.client.0 == other) 1 0) 0 = ap (λ (b : Bool). cond {A = ℕ} b 1 0) (ne_eqb e.entry.client.0 other (λ same. ne (sym same))) in omega (arith, m, none))
   where
-    more : (client : ℕ) → unanswered_of (es ++ e ∷ []) client ≡ unanswered_of es client + cond {A = ℕ} (e.entry.client.0 == client) 1 0
+    more : (client : ℕ) → unanswered_entries (es ++ e ∷ []) client ≡ unanswered_entries es client + cond {A = ℕ} (e.entry.client.0 == client) 1 0
     more client =
         let p : Held → Bool = λ x. x.entry.client.0 == client in
         let a = count_append p es (e ∷ []) in
         let b = count_cons p e [] in
         omega (arith, a, b)
 
-pub one_fewer : (es : List Held) (e : Held) (i : ℕ) → slice_get es i ≡ Some e → (client : ℕ) → unanswered_of es client ≡ unanswered_of (remove es i) client + cond {A = ℕ} (e.entry.client.0 == client) 1 0
-one_fewer es e i at client =
+pub one_fewer : (es : List Held) (e : Held) (i : ℕ) → slice_get es i ≡ Some e → (client : ℕ) → unanswered_entries es client ≡ unanswered_entries (remove es i) client + cond {A = ℕ} (e.entry.client.0 == client) 1 0
+one_fewer es e i at_entry client =
     let p : Held → Bool = λ x. x.entry.client.0 == client in
     let whole = ap (count_by p) (sym (take-append-drop i es)) in
     let front = count_append p (take i es) (drop i es) in
-    let here = ap (count_by p) (drop-cons es i e (slice_get_within es i e at)) in
+    let here = ap (count_by p) (drop-cons es i e (slice_get_within es i e at_entry)) in
     let head = count_cons p (get_or es i e) (drop (suc i) es) in
-    let same : ◌≡◌ {A = ℕ} (cond (p (get_or es i e)) 1 0) (cond (p e) 1 0) = ap (λ (y : Held). cond {A = ℕ} (p y) 1 0) (get_or_from_slice_get es i e e at) in
+    let same : ◌≡◌ {A = ℕ} (cond (p (get_or es i e)) 1 0) (cond (p e) 1 0) = ap (λ (y : Held). cond {A = ℕ} (p y) 1 0) (get_or_from_slice_get es i e e at_entry) in
     let rest = count_append p (take i es) (drop (suc i) es) in
     omega (arith, whole, front, here, head, same, rest)
 
 -- a request of its client is counted
-pub is_counted : (es : List Held) (e : Held) (i : ℕ) → slice_get es i ≡ Some e → 1 ≤ unanswered_of es e.entry.client.0
-is_counted es e i at =
-    let m = one_fewer es e i at e.entry.client.0 in
+pub is_counted : (es : List Held) (e : Held) (i : ℕ) → slice_get es i ≡ Some e → 1 ≤ unanswered_entries es e.entry.client.0
+is_counted es e i at_entry =
+    let m = one_fewer es e i at_entry e.entry.client.0 in
     let one : ◌≡◌ {A = ℕ} (cond (e.entry.client.0 == e.entry.client.0) 1 0) 1 = ap (λ (b : Bool). cond {A = ℕ} b 1 0) (eq-eqb e.entry.client.0 e.entry.client.0 refl) in
     omega (arith, m, one)
 
 pub one_uncounted : (es : List Held) (e : Held) (i : ℕ) (counts : List ℕ) (count : ℕ) → AreCounts es counts → slice_get es i ≡ Some e → e.entry.client.0 < 9
-    → count + 1 ≡ unanswered_of es e.entry.client.0 → AreCounts (remove es i) (set counts e.entry.client.0 count)
-one_uncounted es e i counts count are at lt is = set_counts es (remove es i) counts e.entry.client.0 count are lt
-    (let m = one_fewer es e i at e.entry.client.0 in let one : ◌≡◌ {A = ℕ} (cond (e.entry.client.0 == e.entry.client.0) 1 0) 1 = ap (λ (b : Bool). cond {A = ℕ} b 1 0) (eq-eqb e.entry.client.0 e.entry.client.0 refl) in omega (arith, is, m, one))
-    (λ other ne. let m = one_fewer es e i at other in let none : ◌≡◌ {A = ℕ} (cond (e.entry.client.0 == other) 1 0) 0 = ap (λ (b : Bool). cond {A = ℕ} b 1 0) (ne_eqb e.entry.client.0 other (λ same. ne (sym same))) in omega (arith, m, none))
+    → count + 1 ≡ unanswered_entries es e.entry.client.0 → AreCounts (remove es i) (set counts e.entry.client.0 count)
+one_uncounted es e i counts count are at_entry lt is = set_counts es (remove es i) counts e.entry.client.0 count are lt
+    (let m = one_fewer es e i at_entry e.entry.client.0 in let one : ◌≡◌ {A = ℕ} (cond (e.entry.client.0 == e.entry.client.0) 1 0) 1 = ap (λ (b : Bool). cond {A = ℕ} b 1 0) (eq-eqb e.entry.client.0 e.entry.client.0 refl) in omega (arith, is, m, one))
+    (λ other ne. let m = one_fewer es e i at_entry other in let none : ◌≡◌ {A = ℕ} (cond (e.entry.client.0 == other) 1 0) 0 = ap (λ (b : Bool). cond {A = ℕ} b 1 0) (ne_eqb e.entry.client.0 other (λ same. ne (sym same))) in omega (arith, m, none))
 
 -- a change that leaves each request's client leaves the counts
 changed_counts : (es : List Held) (g : Held → Held) (counts : List ℕ) → ((e : Held) → (g e).entry.client.0 ≡ e.entry.client.0) → AreCounts es counts → AreCounts (map g es) counts
@@ -167,8 +167,8 @@ either : (b : Bool) (x y : Held) → x.entry.client.0 ≡ y.entry.client.0 → (
 either true x y same = same
 either false x y same = refl
 
-pub counts_at : (es : List Held) (id : RequestId) (f : Entry → Entry) (counts : List ℕ) → ((r : Entry) → (f r).client.0 ≡ r.client.0) → AreCounts es counts → AreCounts (map (at id f) es) counts
-counts_at es id f counts same are = changed_counts es (at id f) counts (λ e. either (has_id id e) (record e { entry = f e.entry }) e (same e.entry)) are
+pub counts_at : (es : List Held) (id : RequestId) (f : PendingRequest → PendingRequest) (counts : List ℕ) → ((r : PendingRequest) → (f r).client.0 ≡ r.client.0) → AreCounts es counts → AreCounts (map (at_entry id f) es) counts
+counts_at es id f counts same are = changed_counts es (at_entry id f) counts (λ e. either (has_id id e) (record e { entry = f e.entry }) e (same e.entry)) are
 
-pub counts_changed : (es : List Held) (f : Entry → Entry) (counts : List ℕ) → ((r : Entry) → (f r).client.0 ≡ r.client.0) → AreCounts es counts → AreCounts (map (λ (e : Held). record e { entry = f e.entry }) es) counts
+pub counts_changed : (es : List Held) (f : PendingRequest → PendingRequest) (counts : List ℕ) → ((r : PendingRequest) → (f r).client.0 ≡ r.client.0) → AreCounts es counts → AreCounts (map (λ (e : Held). record e { entry = f e.entry }) es) counts
 counts_changed es f counts same are = changed_counts es (λ (e : Held). record e { entry = f e.entry }) counts (λ e. same e.entry) are

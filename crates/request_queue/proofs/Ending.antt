@@ -6,7 +6,7 @@ use Rattle.std.proofs.lemmas.Option.{same_Some}
 use Rattle.ata_types.specs.declared.request.Frame.{Frame}
 use Rattle.ata_types.specs.declared.request.RequestId.{RequestId}
 use Rattle.dma_frames.specs.Table.{Table, lent_to, LendsOnly}
-use Rattle.request_queue.specs.Entries.{Held, IsEarlier, Stands, GivesBack}
+use Rattle.request_queue.specs.Entries.{Held, IsEarlier, HasItsFrames, GivesBack}
 use Rattle.request_queue.proofs.Members.{contains_none, contains_here, contains_there, contains_cases}
 
 pub first_and_rest : (es rest : List Held) (e : Held) → slice_get es 0 ≡ Some e → rest ≡ remove es 0 → es ≡ e ∷ rest
@@ -17,19 +17,19 @@ pub ordered_rest : (e : Held) (rest : List Held) → AllPairs IsEarlier (e ∷ r
 ordered_rest e rest ordered i j d lt small = ordered (suc i) (suc j) d (omega arith) (omega arith)
 
 -- the frames of the first are given back: those of the others stay lent
-pub stand_still : (old new : Table) (e : Held) (rest : List Held) → LendsOnly old new e.frames None → All (Stands old) (e ∷ rest) → AllPairs IsEarlier (e ∷ rest) → All (Stands new) rest
+pub stand_still : (old new : Table) (e : Held) (rest : List Held) → LendsOnly old new e.frames None → All (HasItsFrames old) (e ∷ rest) → AllPairs IsEarlier (e ∷ rest) → All (HasItsFrames new) rest
 stand_still old new e rest lends all ordered k d small i f inside =
     let x : Held = get_or rest k d in
-    let lent : lent_to old (get_or x.frames i f) ≡ Some x.entry.id = All-tail (Stands old) e rest all k d small i f inside in
+    let lent : lent_to old (get_or x.frames i f) ≡ Some x.entry.id = All-tail (HasItsFrames old) e rest all k d small i f inside in
     let later : e.entry.id.0 < x.entry.id.0 = ordered 0 (suc k) d (omega arith) (omega arith) in
     lends.others (get_or x.frames i f) (λ own.
-    let mine = All-contains (λ (g : Frame). lent_to old g ≡ Some e.entry.id) e.frames (get_or x.frames i f) (All-head (Stands old) e rest all) own in
+    let mine = All-contains (λ (g : Frame). lent_to old g ≡ Some e.entry.id) e.frames (get_or x.frames i f) (All-head (HasItsFrames old) e rest all) own in
     let ids = ap (λ (n : RequestId). n.0) (same_Some x.entry.id e.entry.id (sym lent ∙ mine)) in
     let no : ⊥ = omega (arith, later, ids) in no)
     ∙ lent
 
 -- the frames of the first are given back, and then those of the others
-pub more_given : (old mid new : Table) (e : Held) (rest : List Held) → LendsOnly old mid e.frames None → All (Stands mid) rest → GivesBack mid new rest → GivesBack old new (e ∷ rest)
+pub more_given : (old mid new : Table) (e : Held) (rest : List Held) → LendsOnly old mid e.frames None → All (HasItsFrames mid) rest → GivesBack mid new rest → GivesBack old new (e ∷ rest)
 more_given old mid new e rest lends stands given = record {
   owners = given.owners ∙ lends.owners;
   none = λ x f here there. ⊎_elim
@@ -43,7 +43,7 @@ more_given old mid new e rest lends stands given = record {
   where
     taken : (y : Held) (f : Frame) → Contains rest y → Contains y.frames f → lent_to mid f ≡ None → ⊥
     taken y f member has free =
-        let a : Stands mid y = All-contains (Stands mid) rest y stands member in
+        let a : HasItsFrames mid y = All-contains (HasItsFrames mid) rest y stands member in
         let both : Some y.entry.id ≡ None = sym (All-contains (λ (z : Frame). lent_to mid z ≡ Some y.entry.id) y.frames f a has) ∙ free in
         cc
 

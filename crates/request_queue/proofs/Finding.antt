@@ -4,8 +4,8 @@ use Rattle.std.specs.List.{AllPairs, Contains}
 use Rattle.std.proofs.lemmas.Bool.{cond-true, cond-false, both_ways, ne_eqb}
 use Rattle.std.proofs.lemmas.Option.{same_Some}
 use Rattle.ata_types.specs.declared.request.RequestId.{RequestId}
-use Rattle.request_queue.specs.Entries.{Held, has_id, held_of, at, without, IsEarlier, IsUnanswered}
-use Rattle.request_queue.specs.declared.Entry.{Entry}
+use Rattle.request_queue.specs.Entries.{Held, has_id, held_of, at_entry, without_entry, IsEarlier, IsUnanswered}
+use Rattle.request_queue.specs.declared.PendingRequest.{PendingRequest}
 use Rattle.request_queue.proofs.Members.{contains_none, contains_here, contains_there, contains_cases, into_map}
 use Rattle.request_queue.proofs.Changing.{rest_ordered, one_by_id, without_in}
 
@@ -53,34 +53,34 @@ none_found (x ∷ xs) id is h = by (λ later k. none_found xs id later k) (has_i
 
 -- ---- after a change
 
-pub changed_there : (es : List Held) (id : RequestId) (f : Entry → Entry) (e : Held) → Contains es e → e.entry.id ≡ id → Contains (map (at id f) es) (record e { entry = f e.entry })
+pub changed_there : (es : List Held) (id : RequestId) (f : PendingRequest → PendingRequest) (e : Held) → Contains es e → e.entry.id ≡ id → Contains (map (at_entry id f) es) (record e { entry = f e.entry })
 changed_there es id f e h is =
-    subst (λ (x : Held). Contains (map (at id f) es) x) (cond-true (has_id id e) (record e { entry = f e.entry }) e (names id e is)) (into_map (at id f) es e h)
+    subst (λ (x : Held). Contains (map (at_entry id f) es) x) (cond-true (has_id id e) (record e { entry = f e.entry }) e (names id e is)) (into_map (at_entry id f) es e h)
 
-pub other_there : (es : List Held) (id : RequestId) (f : Entry → Entry) (e : Held) → Contains es e → e.entry.id ≢ id → Contains (map (at id f) es) e
+pub other_there : (es : List Held) (id : RequestId) (f : PendingRequest → PendingRequest) (e : Held) → Contains es e → e.entry.id ≢ id → Contains (map (at_entry id f) es) e
 other_there es id f e h other =
-    subst (λ (x : Held). Contains (map (at id f) es) x) (cond-false (has_id id e) (record e { entry = f e.entry }) e (unnamed id e other)) (into_map (at id f) es e h)
+    subst (λ (x : Held). Contains (map (at_entry id f) es) x) (cond-false (has_id id e) (record e { entry = f e.entry }) e (unnamed id e other)) (into_map (at_entry id f) es e h)
 
-pub without_other : (id : RequestId) (es : List Held) (e : Held) → Contains (without id es) e → e.entry.id ≢ id
+pub without_other : (id : RequestId) (es : List Held) (e : Held) → Contains (without_entry id es) e → e.entry.id ≢ id
 without_other id [] e h = absurd (contains_none e h)
 without_other id (x ∷ xs) e h = go (has_id id x) refl (λ k. without_other id xs e k) h
   where
-    go : (b : Bool) → has_id id x ≡ b → (Contains (without id xs) e → e.entry.id ≢ id) → Contains (cond (not b) (x ∷ without id xs) (without id xs)) e → e.entry.id ≢ id
+    go : (b : Bool) → has_id id x ≡ b → (Contains (without_entry id xs) e → e.entry.id ≢ id) → Contains (cond (not b) (x ∷ without_entry id xs) (without_entry id xs)) e → e.entry.id ≢ id
     go true t rest k = rest k
     go false t rest k = ⊎_elim
         (λ (same : e ≡ x) (is : e.entry.id ≡ id). both_ways _ t (names id x (ap (λ (y : Held). y.entry.id) (sym same) ∙ is)))
         (λ later. rest later)
-        (contains_cases x (without id xs) e k)
+        (contains_cases x (without_entry id xs) e k)
 
-pub stays : (id : RequestId) (es : List Held) (e : Held) → Contains es e → e.entry.id ≢ id → Contains (without id es) e
+pub stays : (id : RequestId) (es : List Held) (e : Held) → Contains es e → e.entry.id ≢ id → Contains (without_entry id es) e
 stays id [] e h other = absurd (contains_none e h)
 stays id (x ∷ xs) e h other = go (has_id id x) refl (λ k. stays id xs e k other) (contains_cases x xs e h)
   where
-    go : (b : Bool) → has_id id x ≡ b → (Contains xs e → Contains (without id xs) e) → (e ≡ x) ⊎ Contains xs e → Contains (cond (not b) (x ∷ without id xs) (without id xs)) e
+    go : (b : Bool) → has_id id x ≡ b → (Contains xs e → Contains (without_entry id xs) e) → (e ≡ x) ⊎ Contains xs e → Contains (cond (not b) (x ∷ without_entry id xs) (without_entry id xs)) e
     go true t rest (inl same) = absurd (other (ap (λ (y : Held). y.entry.id) same ∙ named id x t))
     go true t rest (inr k) = rest k
-    go false t rest (inl same) = contains_here x (without id xs) e same
-    go false t rest (inr k) = contains_there x (without id xs) e (rest k)
+    go false t rest (inl same) = contains_here x (without_entry id xs) e same
+    go false t rest (inr k) = contains_there x (without_entry id xs) e (rest k)
 
-pub without_is : (es : List Held) (id : RequestId) (e : Held) → Contains (without id es) e ↔ (Contains es e × (e.entry.id ≢ id))
+pub without_is : (es : List Held) (id : RequestId) (e : Held) → Contains (without_entry id es) e ↔ (Contains es e × (e.entry.id ≢ id))
 without_is es id e = ((λ h. (without_in id es e h, without_other id es e h)), (λ h. stays id es e h.0 h.1))

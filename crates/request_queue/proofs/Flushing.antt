@@ -6,10 +6,10 @@ use Rattle.std.proofs.lemmas.List.{map-append}
 use Rattle.std.proofs.lemmas.List.Elements.{filter-append}
 use Rattle.ata_types.specs.declared.request.RequestId.{RequestId}
 use Rattle.block_machine.specs.declared.due.Unanswered.{Unanswered}
-use Rattle.block_machine.specs.Due.{is_flush, mark_issued, mark_waiting, with_none}
+use Rattle.block_machine.specs.Due.{is_flush, mark_issued, mark_waiting, without_request}
 use Rattle.request_queue.specs.declared.flushes.Flush.{Flush}
-use Rattle.request_queue.specs.Entries.{Held, asks, asks_of, at, issue, requeued, without}
-use Rattle.request_queue.specs.Flushes.{flush_of, flushes_of}
+use Rattle.request_queue.specs.Entries.{Held, asks, asks_of, at_entry, issue, requeued_entry, without_entry}
+use Rattle.request_queue.specs.Flushes.{listed_flush, flushes_of}
 use Rattle.request_queue.proofs.Indexing.{asks_more}
 use Rattle.request_queue.proofs.Members.{into_map, map_in}
 use Rattle.request_queue.proofs.Unheld.{in_filter, of_filter}
@@ -17,11 +17,11 @@ use Rattle.request_queue.proofs.Working.{after_answer, after_issue, after_requeu
 
 -- ---- of a book
 
-listed : (r : Unanswered) (book : List Unanswered) → is_flush r.op ≡ true → flushes_of (r ∷ book) ≡ flush_of r ∷ flushes_of book
-listed r book is = ap (map flush_of) (cond-true (is_flush r.op) (r ∷ filter (λ x. is_flush x.op) book) (filter (λ x. is_flush x.op) book) is)
+listed : (r : Unanswered) (book : List Unanswered) → is_flush r.op ≡ true → flushes_of (r ∷ book) ≡ listed_flush r ∷ flushes_of book
+listed r book is = ap (map listed_flush) (cond-true (is_flush r.op) (r ∷ filter (λ x. is_flush x.op) book) (filter (λ x. is_flush x.op) book) is)
 
 passed : (r : Unanswered) (book : List Unanswered) → is_flush r.op ≡ false → flushes_of (r ∷ book) ≡ flushes_of book
-passed r book is = ap (map flush_of) (cond-false (is_flush r.op) (r ∷ filter (λ x. is_flush x.op) book) (filter (λ x. is_flush x.op) book) is)
+passed r book is = ap (map listed_flush) (cond-false (is_flush r.op) (r ∷ filter (λ x. is_flush x.op) book) (filter (λ x. is_flush x.op) book) is)
 
 -- there are no more than requests
 pub few_flushes : (book : List Unanswered) → length (flushes_of book) ≤ length book
@@ -33,72 +33,72 @@ few_flushes (r ∷ book) = go (is_flush r.op) refl (few_flushes book)
     go false is rest = let e = ap length (passed r book is) in omega (arith, e, rest)
 
 -- a flush of the book is listed
-pub in_flushes : (book : List Unanswered) (r : Unanswered) → Contains book r → is_flush r.op ≡ true → Contains (flushes_of book) (flush_of r)
-in_flushes book r there is = into_map flush_of (filter (λ x. is_flush x.op) book) r (in_filter (λ (x : Unanswered). is_flush x.op) book r there is)
+pub in_flushes : (book : List Unanswered) (r : Unanswered) → Contains book r → is_flush r.op ≡ true → Contains (flushes_of book) (listed_flush r)
+in_flushes book r there is = into_map listed_flush (filter (λ x. is_flush x.op) book) r (in_filter (λ (x : Unanswered). is_flush x.op) book r there is)
 
 -- and what is listed is a flush of the book
-pub of_flushes : (book : List Unanswered) (f : Flush) → Contains (flushes_of book) f → (r : Unanswered) × Contains book r × (is_flush r.op ≡ true) × (flush_of r ≡ f)
+pub of_flushes : (book : List Unanswered) (f : Flush) → Contains (flushes_of book) f → (r : Unanswered) × Contains book r × (is_flush r.op ≡ true) × (listed_flush r ≡ f)
 of_flushes book f there =
-    let m = map_in flush_of (filter (λ x. is_flush x.op) book) f there in
+    let m = map_in listed_flush (filter (λ x. is_flush x.op) book) f there in
     let own = of_filter (λ (x : Unanswered). is_flush x.op) book m.0 m.1 in
     (m.0, own.0, own.1, sym m.2)
 
 -- accepted
 longer_flushes : (xs ys : List Unanswered) → flushes_of (xs ++ ys) ≡ flushes_of xs ++ flushes_of ys
-longer_flushes xs ys = ap (map flush_of) (filter-append (λ (x : Unanswered). is_flush x.op) xs ys) ∙ map-append flush_of (filter (λ x. is_flush x.op) xs) (filter (λ x. is_flush x.op) ys)
+longer_flushes xs ys = ap (map listed_flush) (filter-append (λ (x : Unanswered). is_flush x.op) xs ys) ∙ map-append listed_flush (filter (λ x. is_flush x.op) xs) (filter (λ x. is_flush x.op) ys)
 
 -- changed in nothing that the list has
-same_flushes : (g : Unanswered → Unanswered) → ((r : Unanswered) → flush_of (g r) ≡ flush_of r) → ((r : Unanswered) → (g r).op ≡ r.op) → (book : List Unanswered)
+same_flushes : (g : Unanswered → Unanswered) → ((r : Unanswered) → listed_flush (g r) ≡ listed_flush r) → ((r : Unanswered) → (g r).op ≡ r.op) → (book : List Unanswered)
     → flushes_of (map g book) ≡ flushes_of book
 same_flushes g same op [] = refl
 same_flushes g same op (r ∷ book) = go (is_flush r.op) refl (same_flushes g same op book)
   where
     go : (b : Bool) → is_flush r.op ≡ b → flushes_of (map g book) ≡ flushes_of book → flushes_of (map g (r ∷ book)) ≡ flushes_of (r ∷ book)
     go true is rest = listed (g r) (map g book) (ap is_flush (op r) ∙ is)
-        ∙ (ap (λ (f : Flush). f ∷ flushes_of (map g book)) (same r) ∙ (ap (λ (fs : List Flush). flush_of r ∷ fs) rest ∙ sym (listed r book is)))
+        ∙ (ap (λ (f : Flush). f ∷ flushes_of (map g book)) (same r) ∙ (ap (λ (fs : List Flush). listed_flush r ∷ fs) rest ∙ sym (listed r book is)))
     go false is rest = passed (g r) (map g book) (ap is_flush (op r) ∙ is) ∙ (rest ∙ sym (passed r book is))
 
-same_marked : (b : Bool) (r : Unanswered) (issued : Bool) → (flush_of (cond b (record r { issued = issued }) r) ≡ flush_of r) × ((cond b (record r { issued = issued }) r).op ≡ r.op)
+same_marked : (b : Bool) (r : Unanswered) (issued : Bool) → (listed_flush (cond b (record r { issued = issued }) r) ≡ listed_flush r) × ((cond b (record r { issued = issued }) r).op ≡ r.op)
 same_marked true r issued = (refl, refl)
 same_marked false r issued = (refl, refl)
 
 -- answered
-left_listed : (id : RequestId) (book : List Unanswered) → filter (λ (f : Flush). not (f.id.0 == id.0)) (flushes_of book) ≡ flushes_of (with_none id book)
+left_listed : (id : RequestId) (book : List Unanswered) → filter (λ (f : Flush). not (f.id.0 == id.0)) (flushes_of book) ≡ flushes_of (without_request id book)
 left_listed id [] = refl
 left_listed id (r ∷ book) = go (is_flush r.op) (not (r.id.0 == id.0)) refl refl (left_listed id book)
   where
     stays : Flush → Bool
     stays f = not (f.id.0 == id.0)
 
-    kept : not (r.id.0 == id.0) ≡ true → with_none id (r ∷ book) ≡ r ∷ with_none id book
-    kept is = cond-true (not (r.id.0 == id.0)) (r ∷ with_none id book) (with_none id book) is
+    kept : not (r.id.0 == id.0) ≡ true → without_request id (r ∷ book) ≡ r ∷ without_request id book
+    kept is = cond-true (not (r.id.0 == id.0)) (r ∷ without_request id book) (without_request id book) is
 
-    dropped : not (r.id.0 == id.0) ≡ false → with_none id (r ∷ book) ≡ with_none id book
-    dropped is = cond-false (not (r.id.0 == id.0)) (r ∷ with_none id book) (with_none id book) is
+    dropped : not (r.id.0 == id.0) ≡ false → without_request id (r ∷ book) ≡ without_request id book
+    dropped is = cond-false (not (r.id.0 == id.0)) (r ∷ without_request id book) (without_request id book) is
 
-    go : (b c : Bool) → is_flush r.op ≡ b → not (r.id.0 == id.0) ≡ c → filter stays (flushes_of book) ≡ flushes_of (with_none id book)
-        → filter stays (flushes_of (r ∷ book)) ≡ flushes_of (with_none id (r ∷ book))
+    go : (b c : Bool) → is_flush r.op ≡ b → not (r.id.0 == id.0) ≡ c → filter stays (flushes_of book) ≡ flushes_of (without_request id book)
+        → filter stays (flushes_of (r ∷ book)) ≡ flushes_of (without_request id (r ∷ book))
     go true true flush other rest = ap (filter stays) (listed r book flush)
-        ∙ (cond-true (stays (flush_of r)) (flush_of r ∷ filter stays (flushes_of book)) (filter stays (flushes_of book)) other
-        ∙ (ap (λ (fs : List Flush). flush_of r ∷ fs) rest ∙ (sym (listed r (with_none id book) flush) ∙ ap flushes_of (sym (kept other)))))
+        ∙ (cond-true (stays (listed_flush r)) (listed_flush r ∷ filter stays (flushes_of book)) (filter stays (flushes_of book)) other
+        ∙ (ap (λ (fs : List Flush). listed_flush r ∷ fs) rest ∙ (sym (listed r (without_request id book) flush) ∙ ap flushes_of (sym (kept other)))))
     go true false flush own rest = ap (filter stays) (listed r book flush)
-        ∙ (cond-false (stays (flush_of r)) (flush_of r ∷ filter stays (flushes_of book)) (filter stays (flushes_of book)) own
+        ∙ (cond-false (stays (listed_flush r)) (listed_flush r ∷ filter stays (flushes_of book)) (filter stays (flushes_of book)) own
         ∙ (rest ∙ ap flushes_of (sym (dropped own))))
-    go false true none other rest = ap (filter stays) (passed r book none) ∙ (rest ∙ (sym (passed r (with_none id book) none) ∙ ap flushes_of (sym (kept other))))
+    go false true none other rest = ap (filter stays) (passed r book none) ∙ (rest ∙ (sym (passed r (without_request id book) none) ∙ ap flushes_of (sym (kept other))))
     go false false none own rest = ap (filter stays) (passed r book none) ∙ (rest ∙ ap flushes_of (sym (dropped own)))
 
 -- ---- of the book's own requests
 
-pub issued_flushes : (es : List Held) (id : RequestId) (fs : List Flush) → fs ≡ flushes_of (asks_of es) → fs ≡ flushes_of (asks_of (map (at id issue) es))
+pub issued_flushes : (es : List Held) (id : RequestId) (fs : List Flush) → fs ≡ flushes_of (asks_of es) → fs ≡ flushes_of (asks_of (map (at_entry id issue) es))
 issued_flushes es id fs is = is ∙ sym (ap flushes_of (after_issue es id)
     ∙ same_flushes (mark_issued id) (λ r. (same_marked (r.id.0 == id.0) r true).0) (λ r. (same_marked (r.id.0 == id.0) r true).1) (asks_of es))
 
-pub requeued_flushes : (es : List Held) (id : RequestId) (fs : List Flush) → fs ≡ flushes_of (asks_of es) → fs ≡ flushes_of (asks_of (map (at id requeued) es))
+pub requeued_flushes : (es : List Held) (id : RequestId) (fs : List Flush) → fs ≡ flushes_of (asks_of es) → fs ≡ flushes_of (asks_of (map (at_entry id requeued_entry) es))
 requeued_flushes es id fs is = is ∙ sym (ap flushes_of (after_requeue es id)
     ∙ same_flushes (mark_waiting id) (λ r. (same_marked (r.id.0 == id.0) r false).0) (λ r. (same_marked (r.id.0 == id.0) r false).1) (asks_of es))
 
 pub fewer_flushes : (es : List Held) (id : RequestId) (fs left : List Flush) → fs ≡ flushes_of (asks_of es) → left ≡ filter (λ (f : Flush). not (f.id.0 == id.0)) fs
-    → left ≡ flushes_of (asks_of (without id es))
+    → left ≡ flushes_of (asks_of (without_entry id es))
 fewer_flushes es id fs left is are = are ∙ (ap (filter (λ (f : Flush). not (f.id.0 == id.0))) is ∙ (left_listed id (asks_of es) ∙ ap flushes_of (sym (after_answer es id))))
 
 pub more_flushes : (es : List Held) (e : Held) (r : Unanswered) (fs more : List Flush) → r ≡ asks e.entry → fs ≡ flushes_of (asks_of es) → more ≡ fs ++ flushes_of (r ∷ [])

@@ -10,11 +10,11 @@ use Rattle.std.proofs.lemmas.List.Elements.{Contains-append_left, Contains-appen
 use Rattle.std.proofs.lemmas.Option.{slice_get_within, slice_get-map, get_or_from_slice_get}
 use Rattle.ata_types.specs.declared.request.RequestId.{RequestId}
 use Rattle.block_machine.specs.declared.due.Unanswered.{Unanswered}
-use Rattle.block_machine.specs.Due.{IsInOrder, conflict, is_earlier, is_flush, is_writer, overlap}
+use Rattle.block_machine.specs.Due.{IsInOrder, must_keep_order, is_earlier_on_port, is_flush, is_writer, overlap}
 use Rattle.range_index.specs.declared.Item.{Item}
 use Rattle.range_index.specs.Items.{is_earlier_conflict}
-use Rattle.request_queue.specs.Entries.{Held, asks, asks_of, issue, requeued}
-use Rattle.request_queue.specs.Flushes.{flush_of, flushes_of, is_earlier_flush}
+use Rattle.request_queue.specs.Entries.{Held, asks, asks_of, issue, requeued_entry}
+use Rattle.request_queue.specs.Flushes.{listed_flush, flushes_of, is_earlier_flush}
 use Rattle.request_queue.specs.declared.flushes.Flush.{Flush}
 use Rattle.request_queue.specs.Holders.{AreHolders, AreHoldersBut, IsHolderOf, has_holder, is_held_by, may_have_holder, may_hold}
 use Rattle.request_queue.specs.Sectors.{AreIndexed, AreSectorsOf, item_of, index_of_port}
@@ -39,7 +39,7 @@ module _ (book : List Unanswered) (lists : List (List Item)) (is : AreIndexed bo
   none_found : list_any (is_earlier_conflict (item_of r)) items ≡ false → list_any (is_earlier_flush r) flushes ≡ false → has_holder book r ≡ false
   none_found none no_flushes = false_from_ne_true _ (λ held.
       let o = one_found (may_hold r) book (and_parts (may_have_holder r) _ held).1 in
-      let parts = and_parts (is_earlier o.0 r) _ o.2 in
+      let parts = and_parts (is_earlier_on_port o.0 r) _ o.2 in
       by o.0 o.1 parts.0 parts.1 (is_flush o.0.op) refl)
     where
       by_sectors : (o : Unanswered) → is_flush o.op ≡ false → ((is_flush o.op || is_flush r.op) || ((is_writer o.op || is_writer r.op) && overlap o.range r.range)) ≡ true
@@ -52,9 +52,9 @@ module _ (book : List Unanswered) (lists : List (List Item)) (is : AreIndexed bo
           (λ both. both)
           (or_cases (is_flush o.op || is_flush r.op) _ meets)
 
-      by : (o : Unanswered) → Contains book o → is_earlier o r ≡ true → conflict o r ≡ true → (b : Bool) → is_flush o.op ≡ b → ⊥
-      by o there earlier meets true flush = both_ways _ no_flushes (found (is_earlier_flush r) flushes (flush_of o)
-          (subst (λ (fs : List Flush). Contains fs (flush_of o)) (sym are_flushes) (in_flushes book o there flush)) earlier)
+      by : (o : Unanswered) → Contains book o → is_earlier_on_port o r ≡ true → must_keep_order o r ≡ true → (b : Bool) → is_flush o.op ≡ b → ⊥
+      by o there earlier meets true flush = both_ways _ no_flushes (found (is_earlier_flush r) flushes (listed_flush o)
+          (subst (λ (fs : List Flush). Contains fs (listed_flush o)) (sym are_flushes) (in_flushes book o there flush)) earlier)
       by o there earlier meets false other =
           let early = and_parts (o.port.0 == r.port.0) _ earlier in
           let both = and_parts (o.port.0 == r.port.0) _ meets in
@@ -77,7 +77,7 @@ module _ (book : List Unanswered) (lists : List (List Item)) (is : AreIndexed bo
   flush_holds f there early =
       let h = of_flushes book f (subst (λ (fs : List Flush). Contains fs f) are_flushes there) in
       let o = h.0 in
-      let earlier : is_earlier o r ≡ true = ap (is_earlier_flush r) h.3 ∙ early in (
+      let earlier : is_earlier_on_port o r ≡ true = ap (is_earlier_flush r) h.3 ∙ early in (
         may,
         (o, h.1, ap (λ (g : Flush). g.id) h.3, and_from _ _ earlier (and_from _ _ (and_parts (o.port.0 == r.port.0) _ earlier).0 (or_left _ _ (or_left _ _ h.2)))),
       )
@@ -106,7 +106,7 @@ carried old new r s (Some id) same back forth is =
 
 -- one that may hold a request was accepted before it
 pub holds_earlier : (r o : Unanswered) → may_hold r o ≡ true → o.id.0 < r.id.0
-holds_earlier r o is = ltb-true o.id.0 r.id.0 (and_parts (o.port.0 == r.port.0) _ (and_parts (is_earlier o r) _ is).0).1
+holds_earlier r o is = ltb-true o.id.0 r.id.0 (and_parts (o.port.0 == r.port.0) _ (and_parts (is_earlier_on_port o r) _ is).0).1
 
 -- accepted
 module _ (book : List Unanswered) (holders : List (Option RequestId)) (r : Unanswered) (h : Option RequestId) (are : AreHolders book holders)
@@ -326,18 +326,18 @@ issued_holders es holders i e are at =
     (marked_holders (asks_of es) holders i (asks e.entry) true None are (asks_there es i e at) refl)
 
 pub requeued_holders : (es : List Held) (holders : List (Option RequestId)) (i : ℕ) (e : Held) (r : Unanswered) (h : Option RequestId) → AreHolders (asks_of es) holders → slice_get es i ≡ Some e
-    → slice_get (asks_of (set es i (record e { entry = requeued e.entry }))) i ≡ Some r → IsHolderOf (asks_of (set es i (record e { entry = requeued e.entry }))) r h
-    → AreHolders (asks_of (set es i (record e { entry = requeued e.entry }))) (set holders i h)
+    → slice_get (asks_of (set es i (record e { entry = requeued_entry e.entry }))) i ≡ Some r → IsHolderOf (asks_of (set es i (record e { entry = requeued_entry e.entry }))) r h
+    → AreHolders (asks_of (set es i (record e { entry = requeued_entry e.entry }))) (set holders i h)
 requeued_holders es holders i e r h are at its is =
     let there = asks_there es i e at in
-    let new = asks_set es i (record e { entry = requeued e.entry }) in
-    let waiting : Unanswered = asks (requeued e.entry) in
+    let new = asks_set es i (record e { entry = requeued_entry e.entry }) in
+    let waiting : Unanswered = asks (requeued_entry e.entry) in
     let same : r ≡ waiting =
     sym (get_or_from_slice_get (set (asks_of es) i waiting) i r waiting (subst (λ (book : List Unanswered). slice_get book i ≡ Some r) new its))
     ∙ get_or-set_same (asks_of es) i waiting waiting (slice_get_within (asks_of es) i (asks e.entry) there) in
     subst (λ (book : List Unanswered). AreHolders book (set holders i h)) (sym new)
     (marked_holders (asks_of es) holders i (asks e.entry) false h are there
-    (subst (λ (book : List Unanswered). IsHolderOf book waiting h) new (subst (λ (x : Unanswered). IsHolderOf (asks_of (set es i (record e { entry = requeued e.entry }))) x h) same is)))
+    (subst (λ (book : List Unanswered). IsHolderOf book waiting h) new (subst (λ (x : Unanswered). IsHolderOf (asks_of (set es i (record e { entry = requeued_entry e.entry }))) x h) same is)))
 
 pub fewer_holders : (es : List Held) (holders : List (Option RequestId)) (i : ℕ) (e : Held) (id : RequestId) → AreHolders (asks_of es) holders → IsInOrder (asks_of es)
     → slice_get es i ≡ Some e → e.entry.id ≡ id → AreHoldersBut id i (remove (asks_of es) i) (remove holders i)

@@ -7,11 +7,11 @@ use Rattle.std.proofs.lemmas.List.{get_or_default}
 use Rattle.std.proofs.lemmas.List.Folds.{Any-from_list_any}
 use Rattle.std.proofs.lemmas.Option.{slice_get_within, get_or_from_slice_get}
 use Rattle.ata_types.specs.declared.Port.{Port}
-use Rattle.block_machine.specs.declared.due.Mode.{Mode}
+use Rattle.block_machine.specs.declared.due.QueueMode.{QueueMode}
 use Rattle.block_machine.specs.declared.due.Unanswered.{Unanswered}
-use Rattle.block_machine.specs.Due.{conflict, holds_back, is_clear, is_plain}
+use Rattle.block_machine.specs.Due.{must_keep_order, waits_for, is_clear, is_plain}
 use Rattle.request_queue.specs.Holders.{may_have_holder, may_hold}
-use Rattle.request_queue.specs.Walk.{IsIssuedOf, IsReached, is_issued_alone}
+use Rattle.request_queue.specs.Walk.{IsIssuedOf, IsReachedInWalk, is_issued_alone}
 use Rattle.request_queue.specs.declared.due.Issued.{Issued}
 use Rattle.request_queue.proofs.Members.{count_cons, contains_none, contains_here, contains_there, contains_cases}
 use Rattle.request_queue.proofs.Unheld.{found, one_found, queued_is_read_or_write, same_bool}
@@ -40,7 +40,7 @@ pub counted_any : (p : Unanswered → Bool) (xs : List Unanswered) → nat_lt 0 
 counted_any p xs = same_bool (nat_lt 0 (count_by p xs)) (list_any p xs) (λ some. from_count p xs (ltb-true 0 (count_by p xs) some))
     (λ any. let a = Any-from_list_any p xs any in lt-ltb 0 (count_by p xs) (to_count p xs a.1 (a.0, a.2, a.3) a.4))
 
-module _ (mode : Mode) (requests : List Unanswered) (i : ℕ) (r : Unanswered) (reached : IsReached mode requests i r) where
+module _ (mode : QueueMode) (requests : List Unanswered) (i : ℕ) (r : Unanswered) (reached : IsReachedInWalk mode requests i r) where
   its : get_or requests i r ≡ r
   its = get_or_from_slice_get requests i r r reached.at
 
@@ -67,17 +67,17 @@ module _ (mode : Mode) (requests : List Unanswered) (i : ℕ) (r : Unanswered) (
   of_one_port o there = eq-eqb o.port.0 r.port.0 (ap (λ (p : Port). p.0) (subst (λ (u : Unanswered). u.port ≡ r.port) there.2 (reached.own there.0 o there.1)))
 
   -- a plain request waits for all that are issued, and for all before it
-  plain_held : is_plain mode r.op ≡ true → list_any (holds_back mode r) requests ≡ (list_any (λ (u : Unanswered). u.issued) requests || nat_lt 0 i)
-  plain_held plain = same_bool (list_any (holds_back mode r) requests) (list_any (λ (u : Unanswered). u.issued) requests || nat_lt 0 i) back ahead
+  plain_held : is_plain mode r.op ≡ true → list_any (waits_for mode r) requests ≡ (list_any (λ (u : Unanswered). u.issued) requests || nat_lt 0 i)
+  plain_held plain = same_bool (list_any (waits_for mode r) requests) (list_any (λ (u : Unanswered). u.issued) requests || nat_lt 0 i) back ahead
     where
-      way : (o : Unanswered) → holds_back mode r o ≡ ((o.port.0 == r.port.0) && (o.issued || nat_lt o.id.0 r.id.0))
-      way o = ap (λ (b : Bool). (o.port.0 == r.port.0) && b) (cond-true (is_plain mode r.op) (o.issued || nat_lt o.id.0 r.id.0) ((is_plain mode o.op && o.issued) || (nat_lt o.id.0 r.id.0 && (is_plain mode o.op || conflict o r))) plain)
+      way : (o : Unanswered) → waits_for mode r o ≡ ((o.port.0 == r.port.0) && (o.issued || nat_lt o.id.0 r.id.0))
+      way o = ap (λ (b : Bool). (o.port.0 == r.port.0) && b) (cond-true (is_plain mode r.op) (o.issued || nat_lt o.id.0 r.id.0) ((is_plain mode o.op && o.issued) || (nat_lt o.id.0 r.id.0 && (is_plain mode o.op || must_keep_order o r))) plain)
 
-      ahead : (list_any (λ (u : Unanswered). u.issued) requests || nat_lt 0 i) ≡ true → list_any (holds_back mode r) requests ≡ true
+      ahead : (list_any (λ (u : Unanswered). u.issued) requests || nat_lt 0 i) ≡ true → list_any (waits_for mode r) requests ≡ true
       ahead is = ⊎_elim
           (λ (b : list_any (λ (u : Unanswered). u.issued) requests ≡ true).
           let any = one_found (λ (u : Unanswered). u.issued) requests b in
-          found (holds_back mode r) requests any.0 any.1 (way any.0 ∙ and_from _ _ (of_one_port any.0 any.1) (or_left any.0.issued _ any.2)))
+          found (waits_for mode r) requests any.0 any.1 (way any.0 ∙ and_from _ _ (of_one_port any.0 any.1) (or_left any.0.issued _ any.2)))
           (λ (f : nat_lt 0 i ≡ true).
           let some = ltb-true 0 i f in
           let lt = within in
@@ -85,12 +85,12 @@ module _ (mode : Mode) (requests : List Unanswered) (i : ℕ) (r : Unanswered) (
           let b = ap (λ (u : Unanswered). u.id.0) its in
           let o = get_or requests 0 r in
           let there : Contains requests o = (0, omega (arith, some, lt), get_or_default requests 0 o r (omega (arith, some, lt))) in
-          found (holds_back mode r) requests o there (way o ∙ and_from _ _ (of_one_port o there) (or_right o.issued _ (lt-ltb o.id.0 r.id.0 (omega (arith, up, b))))))
+          found (waits_for mode r) requests o there (way o ∙ and_from _ _ (of_one_port o there) (or_right o.issued _ (lt-ltb o.id.0 r.id.0 (omega (arith, up, b))))))
           (or_cases _ _ is)
 
-      back : list_any (holds_back mode r) requests ≡ true → (list_any (λ (u : Unanswered). u.issued) requests || nat_lt 0 i) ≡ true
+      back : list_any (waits_for mode r) requests ≡ true → (list_any (λ (u : Unanswered). u.issued) requests || nat_lt 0 i) ≡ true
       back is =
-          let any = one_found (holds_back mode r) requests is in
+          let any = one_found (waits_for mode r) requests is in
           let parts = and_parts (any.0.port.0 == r.port.0) _ (sym (way any.0) ∙ any.2) in
           ⊎_elim
           (λ (b : any.0.issued ≡ true). or_left _ (nat_lt 0 i) (found (λ (u : Unanswered). u.issued) requests any.0 any.1 b))
@@ -100,49 +100,49 @@ module _ (mode : Mode) (requests : List Unanswered) (i : ℕ) (r : Unanswered) (
           (or_cases any.0.issued _ parts.1)
 
   -- a queued request without a holder waits for a plain one that is issued
-  queued_held : r.issued ≡ false → is_plain mode r.op ≡ false → list_any (holds_back mode r) requests ≡ list_any (is_issued_alone mode) requests
-  queued_held waits queued = same_bool (list_any (holds_back mode r) requests) (list_any (is_issued_alone mode) requests) back ahead
+  queued_held : r.issued ≡ false → is_plain mode r.op ≡ false → list_any (waits_for mode r) requests ≡ list_any (is_issued_alone mode) requests
+  queued_held waits queued = same_bool (list_any (waits_for mode r) requests) (list_any (is_issued_alone mode) requests) back ahead
     where
-      way : (o : Unanswered) → holds_back mode r o ≡ ((o.port.0 == r.port.0) && ((is_plain mode o.op && o.issued) || (nat_lt o.id.0 r.id.0 && (is_plain mode o.op || conflict o r))))
+      way : (o : Unanswered) → waits_for mode r o ≡ ((o.port.0 == r.port.0) && ((is_plain mode o.op && o.issued) || (nat_lt o.id.0 r.id.0 && (is_plain mode o.op || must_keep_order o r))))
       way o = ap (λ (b : Bool). (o.port.0 == r.port.0) && b)
-          (cond-false (is_plain mode r.op) (o.issued || nat_lt o.id.0 r.id.0) ((is_plain mode o.op && o.issued) || (nat_lt o.id.0 r.id.0 && (is_plain mode o.op || conflict o r))) queued)
+          (cond-false (is_plain mode r.op) (o.issued || nat_lt o.id.0 r.id.0) ((is_plain mode o.op && o.issued) || (nat_lt o.id.0 r.id.0 && (is_plain mode o.op || must_keep_order o r))) queued)
 
-      ahead : list_any (is_issued_alone mode) requests ≡ true → list_any (holds_back mode r) requests ≡ true
+      ahead : list_any (is_issued_alone mode) requests ≡ true → list_any (waits_for mode r) requests ≡ true
       ahead is =
           let any = one_found (is_issued_alone mode) requests is in
-          found (holds_back mode r) requests any.0 any.1 (way any.0 ∙ and_from _ _ (of_one_port any.0 any.1) (or_left (is_plain mode any.0.op && any.0.issued) _ any.2))
+          found (waits_for mode r) requests any.0 any.1 (way any.0 ∙ and_from _ _ (of_one_port any.0 any.1) (or_left (is_plain mode any.0.op && any.0.issued) _ any.2))
 
-      none_meets : (o : Unanswered) → Contains requests o → nat_lt o.id.0 r.id.0 ≡ true → is_plain mode o.op ≡ false → conflict o r ≡ true → ⊥
+      none_meets : (o : Unanswered) → Contains requests o → nat_lt o.id.0 r.id.0 ≡ true → is_plain mode o.op ≡ false → must_keep_order o r ≡ true → ⊥
       none_meets o there less alone meets = both_ways _ reached.unheld
           (and_from (may_have_holder r) _ (and_from (not r.issued) _ (ap not waits) (queued_is_read_or_write mode r.op queued))
           (found (may_hold r) requests o there (and_from _ _ (and_from _ _ (of_one_port o there) less) meets)))
 
-      back : list_any (holds_back mode r) requests ≡ true → list_any (is_issued_alone mode) requests ≡ true
+      back : list_any (waits_for mode r) requests ≡ true → list_any (is_issued_alone mode) requests ≡ true
       back is =
-          let any = one_found (holds_back mode r) requests is in
+          let any = one_found (waits_for mode r) requests is in
           let o = any.0 in
           let parts = and_parts (o.port.0 == r.port.0) _ (sym (way o) ∙ any.2) in
           ⊎_elim
           (λ (b : (is_plain mode o.op && o.issued) ≡ true). found (is_issued_alone mode) requests o any.1 b)
-          (λ (b : (nat_lt o.id.0 r.id.0 && (is_plain mode o.op || conflict o r)) ≡ true).
+          (λ (b : (nat_lt o.id.0 r.id.0 && (is_plain mode o.op || must_keep_order o r)) ≡ true).
           let less = and_parts (nat_lt o.id.0 r.id.0) _ b in
           let low = earlier o any.1 (ltb-true o.id.0 r.id.0 less.0) in
           let alone : is_plain mode o.op ≡ false = ap (λ (u : Unanswered). is_plain mode u.op) (sym any.1.2) ∙ reached.queued any.1.0 o low in
           absurd (⊎_elim
           (λ (p : is_plain mode o.op ≡ true). both_ways _ alone p)
-          (λ (m : conflict o r ≡ true). none_meets o any.1 less.0 alone m)
+          (λ (m : must_keep_order o r ≡ true). none_meets o any.1 less.0 alone m)
           (or_cases (is_plain mode o.op) _ less.1)))
           (or_cases (is_plain mode o.op && o.issued) _ parts.1)
 
   module _ (issued : Issued) (are : IsIssuedOf mode requests issued) where
     pub issued_isnt_clear : r.issued ≡ true → false ≡ is_clear mode requests r
-    issued_isnt_clear is = sym (ap (λ (b : Bool). not b && not (list_any (holds_back mode r) requests)) is)
+    issued_isnt_clear is = sym (ap (λ (b : Bool). not b && not (list_any (waits_for mode r) requests)) is)
 
     pub plain_is_clear : r.issued ≡ false → is_plain mode r.op ≡ true → (none first : Bool) → (none ≡ true) ↔ (issued.count ≡ 0) → (first ≡ true) ↔ (i ≡ 0)
         → (none && first) ≡ is_clear mode requests r
     plain_is_clear waits plain none first counted numbered = same_bool (none && first) (is_clear mode requests r) ahead back
       where
-        held : list_any (holds_back mode r) requests ≡ (nat_lt 0 issued.count || nat_lt 0 i)
+        held : list_any (waits_for mode r) requests ≡ (nat_lt 0 issued.count || nat_lt 0 i)
         held = plain_held plain ∙ ap (λ (b : Bool). b || nat_lt 0 i) (sym (ap (nat_lt 0) are.0 ∙ counted_any (λ (u : Unanswered). u.issued) requests))
 
         ahead : (none && first) ≡ true → is_clear mode requests r ≡ true
@@ -170,4 +170,4 @@ module _ (mode : Mode) (requests : List Unanswered) (i : ℕ) (r : Unanswered) (
 
     pub queued_is_clear : r.issued ≡ false → is_plain mode r.op ≡ false → not issued.alone ≡ is_clear mode requests r
     queued_is_clear waits queued =
-        ap not (are.1 ∙ sym (queued_held waits queued)) ∙ sym (ap (λ (b : Bool). not b && not (list_any (holds_back mode r) requests)) waits)
+        ap not (are.1 ∙ sym (queued_held waits queued)) ∙ sym (ap (λ (b : Bool). not b && not (list_any (waits_for mode r) requests)) waits)

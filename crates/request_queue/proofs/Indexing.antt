@@ -18,7 +18,7 @@ use Rattle.block_machine.specs.declared.due.Unanswered.{Unanswered}
 use Rattle.block_machine.specs.Due.{IsInOrder, is_flush}
 use Rattle.range_index.specs.declared.Item.{Item}
 use Rattle.block_machine.specs.Due.{mark_issued, mark_waiting}
-use Rattle.request_queue.specs.Entries.{Held, asks, asks_of, at, issue, requeued}
+use Rattle.request_queue.specs.Entries.{Held, asks, asks_of, at_entry, issue, requeued_entry}
 use Rattle.request_queue.proofs.Working.{after_issue, after_requeue}
 use Rattle.request_queue.proofs.PermutedPairs.{permuted_pairs}
 use Rattle.request_queue.specs.Sectors.{AreIndexed, IsListOf, is_in_list, item_of, index_of_port}
@@ -44,9 +44,9 @@ module _ {X : Type 0} (id : X → RequestId) where
       permuted_pairs (λ a b. id a ≢ id b) apart_back (y ∷ xs) (insert xs place y) (IsPermutation-insert xs place y)
       (AllPairs-cons (λ a b. id a ≢ id b) y xs (λ k d lt e. fresh k d lt (sym e)) distinct)
 
-  module _ (xs : List X) (place : ℕ) (x : X) (at : slice_get xs place ≡ Some x) (distinct : AreDistinct xs) where
+  module _ (xs : List X) (place : ℕ) (x : X) (at_entry : slice_get xs place ≡ Some x) (distinct : AreDistinct xs) where
     moved : IsPermutation xs (x ∷ remove xs place)
-    moved = IsPermutation-remove xs place x (slice_get_within xs place x at) (sym (get_or_from_slice_get xs place x x at))
+    moved = IsPermutation-remove xs place x (slice_get_within xs place x at_entry) (sym (get_or_from_slice_get xs place x x at_entry))
 
     all_apart : AreDistinct (x ∷ remove xs place)
     all_apart = permuted_pairs (λ a b. id a ≢ id b) apart_back xs (x ∷ remove xs place) moved distinct
@@ -65,12 +65,12 @@ pub ids_apart : (book : List Unanswered) → IsInOrder book → AreDistinct (λ 
 ids_apart book ordered i j d less lt e = let up = ordered i j d less lt in let same = ap (λ (x : RequestId). x.0) e in omega (arith, up, same)
 
 count_removed : (p : Unanswered → Bool) (xs : List Unanswered) (i : ℕ) (x : Unanswered) → slice_get xs i ≡ Some x → count_by p xs ≡ count_by p (remove xs i) + cond (p x) 1 0
-count_removed p xs i x at =
+count_removed p xs i x at_entry =
     let whole = ap (count_by p) (sym (take-append-drop i xs)) in
     let front = count_append p (take i xs) (drop i xs) in
-    let here = ap (count_by p) (drop-cons xs i x (slice_get_within xs i x at)) in
+    let here = ap (count_by p) (drop-cons xs i x (slice_get_within xs i x at_entry)) in
     let head = count_cons p (get_or xs i x) (drop (suc i) xs) in
-    let same : ◌≡◌ {A = ℕ} (cond (p (get_or xs i x)) 1 0) (cond (p x) 1 0) = ap (λ (y : Unanswered). cond {A = ℕ} (p y) 1 0) (get_or_from_slice_get xs i x x at) in
+    let same : ◌≡◌ {A = ℕ} (cond (p (get_or xs i x)) 1 0) (cond (p x) 1 0) = ap (λ (y : Unanswered). cond {A = ℕ} (p y) 1 0) (get_or_from_slice_get xs i x x at_entry) in
     let rest = count_append p (take i xs) (drop (suc i) xs) in
     omega (arith, whole, front, here, head, same, rest)
 
@@ -108,10 +108,10 @@ module _ (list : ℕ) (book : List Unanswered) (items : List Item) (is : IsListO
   }
     where
       here : (o : Unanswered) → Contains (book ++ r ∷ []) o → index_of_port o.port ≡ list → is_flush o.op ≡ false → Contains book o
-      here o there at has = elim (Contains-append_cases book (r ∷ []) o there) [
+      here o there at_entry has = elim (Contains-append_cases book (r ∷ []) o there) [
         | inl h ↦ h
         | inr h ↦ elim (contains_cases r [] o h) [
-          | inl e ↦ absurd (both_ways _ out (ap (is_in_list list) (sym e) ∙ in_list list o at has))
+          | inl e ↦ absurd (both_ways _ out (ap (is_in_list list) (sym e) ∙ in_list list o at_entry has))
           | inr none ↦ absurd (contains_none o none)
         ]
       ]
@@ -127,10 +127,10 @@ module _ (list : ℕ) (book : List Unanswered) (items : List Item) (is : IsListO
 
   pub own_accepted : index_of_port r.port ≡ list → is_flush r.op ≡ false → All (λ o. o.id.0 < r.id.0) book → (place : ℕ) → place ≤ length items
       → IsListOf list (book ++ r ∷ []) (insert items place (item_of r))
-  own_accepted at has newest place within = record {
+  own_accepted at_entry has newest place within = record {
     sectors = λ x. (
       λ there. elim ((in_insert (λ (i : Item). i.id) items place (item_of r) x).0 there) [
-        | inl e ↦ (r, Contains-append_right book (r ∷ []) r (contains_here r [] r refl), at, has, sym e)
+        | inl e ↦ (r, Contains-append_right book (r ∷ []) r (contains_here r [] r refl), at_entry, has, sym e)
         | inr old ↦ let h = (is.sectors x).0 old in (h.0, Contains-append_left book (r ∷ []) h.0 h.1, h.2, h.3, h.4)
       ],
       λ h. (in_insert (λ (i : Item). i.id) items place (item_of r) x).1 (elim (Contains-append_cases book (r ∷ []) h.0 h.1) [
@@ -142,23 +142,23 @@ module _ (list : ℕ) (book : List Unanswered) (items : List Item) (is : IsListO
       ]),
     );
     number = let n = is.number in let c = count_append (is_in_list list) book (r ∷ []) in let one = count_cons (is_in_list list) r [] in
-        let some : ◌≡◌ {A = ℕ} (cond (is_in_list list r) 1 0) 1 = cond-true (is_in_list list r) 1 0 (in_list list r at has) in let l = length-insert items place (item_of r) within in
+        let some : ◌≡◌ {A = ℕ} (cond (is_in_list list r) 1 0) 1 = cond-true (is_in_list list r) 1 0 (in_list list r at_entry has) in let l = length-insert items place (item_of r) within in
         omega (arith, n, c, one, some, l);
     distinct = distinct_insert (λ (i : Item). i.id) items place (item_of r) is.distinct (fresh_item newest);
   }
 
 -- ---- answered
 
-module _ (list : ℕ) (book : List Unanswered) (items : List Item) (is : IsListOf list book items) (ordered : IsInOrder book) (i : ℕ) (r : Unanswered) (at : slice_get book i ≡ Some r) where
+module _ (list : ℕ) (book : List Unanswered) (items : List Item) (is : IsListOf list book items) (ordered : IsInOrder book) (i : ℕ) (r : Unanswered) (at_entry : slice_get book i ≡ Some r) where
   left : (o : Unanswered) → Contains (remove book i) o ↔ (Contains book o × (o.id ≢ r.id))
-  left o = in_remove (λ (u : Unanswered). u.id) book i r at (ids_apart book ordered) o
+  left o = in_remove (λ (u : Unanswered). u.id) book i r at_entry (ids_apart book ordered) o
 
   same_request : (o : Unanswered) → Contains book o → o.id ≡ r.id → o ≡ r
   same_request o there e = elim (cases_eq there.0 i) [
-    | inl same ↦ sym there.2 ∙ (ap (λ (k : ℕ). get_or book k o) same ∙ get_or_from_slice_get book i r o at)
+    | inl same ↦ sym there.2 ∙ (ap (λ (k : ℕ). get_or book k o) same ∙ get_or_from_slice_get book i r o at_entry)
     | inr not ↦ absurd (elim (cases_lt there.0 i) [
-      | inl low ↦ ids_apart book ordered there.0 i o low (slice_get_within book i r at) (ap (λ (u : Unanswered). u.id) there.2 ∙ (e ∙ ap (λ (u : Unanswered). u.id) (sym (get_or_from_slice_get book i r o at))))
-      | inr high ↦ ids_apart book ordered i there.0 o (omega arith) there.1 (ap (λ (u : Unanswered). u.id) (get_or_from_slice_get book i r o at) ∙ (sym e ∙ ap (λ (u : Unanswered). u.id) (sym there.2)))
+      | inl low ↦ ids_apart book ordered there.0 i o low (slice_get_within book i r at_entry) (ap (λ (u : Unanswered). u.id) there.2 ∙ (e ∙ ap (λ (u : Unanswered). u.id) (sym (get_or_from_slice_get book i r o at_entry))))
+      | inr high ↦ ids_apart book ordered i there.0 o (omega arith) there.1 (ap (λ (u : Unanswered). u.id) (get_or_from_slice_get book i r o at_entry) ∙ (sym e ∙ ap (λ (u : Unanswered). u.id) (sym there.2)))
     ])
   ]
 
@@ -169,7 +169,7 @@ module _ (list : ℕ) (book : List Unanswered) (items : List Item) (is : IsListO
           (h.0, (left h.0).1 (h.1, λ e. both_ways _ out (ap (is_in_list list) (sym (same_request h.0 h.1 e)) ∙ in_list list h.0 h.2 h.3)), h.2, h.3, h.4),
       λ h. (is.sectors x).1 (h.0, ((left h.0).0 h.1).0, h.2, h.3, h.4),
     );
-    number = let n = is.number in let c = count_removed (is_in_list list) book i r at in
+    number = let n = is.number in let c = count_removed (is_in_list list) book i r at_entry in
         let none : ◌≡◌ {A = ℕ} (cond (is_in_list list r) 1 0) 0 = cond-false (is_in_list list r) 1 0 out in omega (arith, n, c, none);
     distinct = is.distinct;
   }
@@ -184,7 +184,7 @@ module _ (list : ℕ) (book : List Unanswered) (items : List Item) (is : IsListO
           (in_remove (λ (y : Item). y.id) items place (item_of r) found is.distinct x).1
           ((is.sectors x).1 (h.0, two.0, h.2, h.3, h.4), λ e. two.1 (ap (λ (y : Item). y.id) h.4 ∙ e)),
     );
-    number = let n = is.number in let c = count_removed (is_in_list list) book i r at in
+    number = let n = is.number in let c = count_removed (is_in_list list) book i r at_entry in
         let some : ◌≡◌ {A = ℕ} (cond (is_in_list list r) 1 0) 1 = cond-true (is_in_list list r) 1 0 (in_list list r here has) in
         let l = length-remove items place (slice_get_within items place (item_of r) found) in omega (arith, n, c, some, l);
     distinct = distinct_remove;
@@ -241,19 +241,19 @@ module _ (book : List Unanswered) (lists : List (List Item)) (is : AreIndexed bo
   pub items_fresh : All (λ o. o.id.0 < r.id.0) book → All (λ x. x.id ≢ (item_of r).id) (get_or lists (index_of_port r.port) [])
   items_fresh newest = fresh_item (index_of_port r.port) book (get_or lists (index_of_port r.port) []) own_list r newest
 
-  module _ (ordered : IsInOrder book) (i : ℕ) (at : slice_get book i ≡ Some r) where
+  module _ (ordered : IsInOrder book) (i : ℕ) (at_entry : slice_get book i ≡ Some r) where
     pub flush_answered : is_flush r.op ≡ true → AreIndexed (remove book i) lists
-    flush_answered flush = record { four = is.four; each = λ list lt. other_answered list book (get_or lists list []) (is.each list lt) ordered i r at (flush_in_none list r flush) }
+    flush_answered flush = record { four = is.four; each = λ list lt. other_answered list book (get_or lists list []) (is.each list lt) ordered i r at_entry (flush_in_none list r flush) }
 
     pub answered : is_flush r.op ≡ false → (place : ℕ) → slice_get (get_or lists (index_of_port r.port) []) place ≡ Some (item_of r)
         → AreIndexed (remove book i) (set lists (index_of_port r.port) (remove (get_or lists (index_of_port r.port) []) place))
     answered has place found =
         set_indexed (remove book i) lists (index_of_port r.port) (remove (get_or lists (index_of_port r.port) []) place) (in_four r.port) is.four
-        (own_answered (index_of_port r.port) book (get_or lists (index_of_port r.port) []) own_list ordered i r at refl has place found)
-        (λ list lt other. other_answered list book (get_or lists list []) (is.each list lt) ordered i r at (out_of_list list r other))
+        (own_answered (index_of_port r.port) book (get_or lists (index_of_port r.port) []) own_list ordered i r at_entry refl has place found)
+        (λ list lt other. other_answered list book (get_or lists list []) (is.each list lt) ordered i r at_entry (out_of_list list r other))
 
     pub its_item : is_flush r.op ≡ false → Contains (get_or lists (index_of_port r.port) []) (item_of r)
-    its_item has = (own_list.sectors (item_of r)).1 (r, (i, slice_get_within book i r at, get_or_from_slice_get book i r r at), refl, has, refl)
+    its_item has = (own_list.sectors (item_of r)).1 (r, (i, slice_get_within book i r at_entry, get_or_from_slice_get book i r r at_entry), refl, has, refl)
 
 pub changed_indexed : (book : List Unanswered) (lists : List (List Item)) (g : Unanswered → Unanswered) → ((r : Unanswered) → item_of (g r) ≡ item_of r) → ((r : Unanswered) → (g r).op ≡ r.op)
     → ((r : Unanswered) → (g r).port ≡ r.port) → AreIndexed book lists → AreIndexed (map g book) lists
@@ -285,11 +285,11 @@ same_marked : (b : Bool) (r : Unanswered) (issued : Bool) → (item_of (cond b (
 same_marked true r issued = (refl, refl, refl)
 same_marked false r issued = (refl, refl, refl)
 
-pub issued_indexed : (es : List Held) (id : RequestId) (lists : List (List Item)) → AreIndexed (asks_of es) lists → AreIndexed (asks_of (map (at id issue) es)) lists
+pub issued_indexed : (es : List Held) (id : RequestId) (lists : List (List Item)) → AreIndexed (asks_of es) lists → AreIndexed (asks_of (map (at_entry id issue) es)) lists
 issued_indexed es id lists is = subst (λ (book : List Unanswered). AreIndexed book lists) (sym (after_issue es id))
     (changed_indexed (asks_of es) lists (mark_issued id) (λ r. (same_marked (r.id.0 == id.0) r true).0) (λ r. (same_marked (r.id.0 == id.0) r true).1) (λ r. (same_marked (r.id.0 == id.0) r true).2) is)
 
-pub requeued_indexed : (es : List Held) (id : RequestId) (lists : List (List Item)) → AreIndexed (asks_of es) lists → AreIndexed (asks_of (map (at id requeued) es)) lists
+pub requeued_indexed : (es : List Held) (id : RequestId) (lists : List (List Item)) → AreIndexed (asks_of es) lists → AreIndexed (asks_of (map (at_entry id requeued_entry) es)) lists
 requeued_indexed es id lists is = subst (λ (book : List Unanswered). AreIndexed book lists) (sym (after_requeue es id))
     (changed_indexed (asks_of es) lists (mark_waiting id) (λ r. (same_marked (r.id.0 == id.0) r false).0) (λ r. (same_marked (r.id.0 == id.0) r false).1) (λ r. (same_marked (r.id.0 == id.0) r false).2) is)
 

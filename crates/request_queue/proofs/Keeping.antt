@@ -17,15 +17,15 @@ use Rattle.std.proofs.lemmas.Option.{same_Some}
 use Rattle.slab.proofs.SlabLemmas.{ContainsKey-within, Updates-with_value}
 use Rattle.slab.specs.Slab.{Slab, get, slab_len, Updates, with_value}
 use Rattle.dma_frames.specs.Loan.{Lending}
-use Rattle.request_queue.specs.declared.Entry.{Entry}
+use Rattle.request_queue.specs.declared.PendingRequest.{PendingRequest}
 use Rattle.request_queue.specs.Entries.{Held}
-use Rattle.request_queue.specs.Store.{blank, frames_of, held_at, entries, IsKept, IsSound}
+use Rattle.request_queue.specs.Store.{blank_entry, frames_of, held_at, entries, KeyHasLoan, SlabIsSound}
 
 none-some : {A : Type 0} {o : Option A} (x : A) → o ≡ None → o ≡ Some x → ⊥
 none-some x p q = let r = sym p ∙ q in cc
 
 -- entries under other keys stay
-same_entries : (s s' : Slab Entry) (loans loans' : List (Option Lending)) (key : ℕ)
+same_entries : (s s' : Slab PendingRequest) (loans loans' : List (Option Lending)) (key : ℕ)
     → ((k : ℕ) → k ≢ key → get s' k ≡ get s k) → ((k : ℕ) → k ≢ key → get_or loans' k None ≡ get_or loans k None)
     → (order : List ℕ) → All (λ k. k ≢ key) order → entries s' loans' order ≡ entries s loans order
 same_entries s s' loans loans' key others beside [] ne = refl
@@ -37,13 +37,13 @@ same_entries s s' loans loans' key others beside (k ∷ ks) ne =
 set_beside : (loans : List (Option Lending)) (key : ℕ) (slot : Option Lending) (k : ℕ) → k ≢ key → get_or (set loans key slot) k None ≡ get_or loans k None
 set_beside loans key slot k ne = get_or-set_other loans key k slot None ne
 
-module _ (s s' : Slab Entry) (loans : List (Option Lending)) (order : List ℕ) (key : ℕ) (sound : IsSound s loans order) where
+module _ (s s' : Slab PendingRequest) (loans : List (Option Lending)) (order : List ℕ) (key : ℕ) (sound : SlabIsSound s loans order) where
   -- a key without a request isn't in the order
   pub fresh : get s key ≡ None → All (λ k. k ≢ key) order
   fresh none i d lt e = let h = sound.held i d lt in none-some h.request (subst (λ n. get s n ≡ None) (sym e) none) h.has_request
 
   -- what stays held
-  still_held : (slot : Option Lending) → ((k : ℕ) → k ≢ key → get s' k ≡ get s k) → (k : ℕ) → k ≢ key → IsKept s loans k → IsKept s' (set loans key slot) k
+  still_held : (slot : Option Lending) → ((k : ℕ) → k ≢ key → get s' k ≡ get s k) → (k : ℕ) → k ≢ key → KeyHasLoan s loans k → KeyHasLoan s' (set loans key slot) k
   still_held slot others k ne h = record {
     request = h.request;
     loan = h.loan;
@@ -53,18 +53,18 @@ module _ (s s' : Slab Entry) (loans : List (Option Lending)) (order : List ℕ) 
     in_place = rw length-set h.in_place;
   }
 
-  module _ (r : Entry) (loan : Lending) (vacant : get s key ≡ None) (updates : Updates s s' key (Some r)) (within : key < length loans) (id : loan.request ≡ r.id) where
+  module _ (r : PendingRequest) (loan : Lending) (vacant : get s key ≡ None) (updates : Updates s s' key (Some r)) (within : key < length loans) (id : loan.request ≡ r.id) where
     pub entries_more : entries s' (set loans key (Some loan)) (order ++ key ∷ []) ≡ entries s loans order ++ record { entry = r; frames = loan.frames } ∷ []
     entries_more = map-append (held_at s' (set loans key (Some loan))) order (key ∷ [])
         ∙ rw (same_entries s s' loans (set loans key (Some loan)) key updates.others (set_beside loans key (Some loan)) order (fresh vacant), updates.changed, get_or-set_same loans key (Some loan) None within) refl
 
-    pub sound_more : slab_len s' ≡ slab_len s + 1 → s'.capacity ≡ s.capacity → IsSound s' (set loans key (Some loan)) (order ++ key ∷ [])
+    pub sound_more : slab_len s' ≡ slab_len s + 1 → s'.capacity ≡ s.capacity → SlabIsSound s' (set loans key (Some loan)) (order ++ key ∷ [])
     sound_more len capacity = record {
       room = rw capacity sound.room;
       places = length-set loans key (Some loan) ∙ (sound.places ∙ sym capacity);
       count = rw (len, length_push) (omega (arith, sound.count));
       distinct = all_pairs_push (λ (a : ℕ) (b : ℕ). a ≢ b) order key sound.distinct (fresh vacant);
-      held = All-push (IsKept s' (set loans key (Some loan))) order key
+      held = All-push (KeyHasLoan s' (set loans key (Some loan))) order key
           (λ i d lt. still_held (Some loan) updates.others (get_or order i d) (fresh vacant i d lt) (sound.held i d lt))
           (record { request = r; loan = loan; has_request = updates.changed; has_loan = get_or-set_same loans key (Some loan) None within; same_id = id; in_place = rw length-set within });
       vacant = λ k out.
@@ -85,23 +85,23 @@ module _ (s s' : Slab Entry) (loans : List (Option Lending)) (order : List ℕ) 
         shorter : length (remove order place) + 1 ≡ length order
         shorter = length-remove order place within
 
-    kept : All (IsKept s loans) (remove order place)
+    kept : All (KeyHasLoan s loans) (remove order place)
     kept i d lt =
         let shorter = length-remove order place within in
         elim (cases_lt i place) [
-          | inl low ↦ subst (IsKept s loans) (sym (get_or-remove_below order place d i low within)) (sound.held i d (omega arith))
-          | inr high ↦ subst (IsKept s loans) (sym (get_or-remove_above order place d i high within)) (sound.held (i + 1) d (omega arith))
+          | inl low ↦ subst (KeyHasLoan s loans) (sym (get_or-remove_below order place d i low within)) (sound.held i d (omega arith))
+          | inr high ↦ subst (KeyHasLoan s loans) (sym (get_or-remove_above order place d i high within)) (sound.held (i + 1) d (omega arith))
         ]
 
     pub entries_less : entries s' (set loans key None) (remove order place) ≡ remove (entries s loans order) place
     entries_less = same_entries s s' loans (set loans key None) key updates.others (set_beside loans key None) (remove order place) once
         ∙ (map-append (held_at s loans) (take place order) (drop (suc place) order) ∙ rw (take-map, drop-map) refl)
 
-    pub entry_there : (r : Entry) (loan : Lending) → get s key ≡ Some r → get_or loans key None ≡ Some loan → slice_get (entries s loans order) place ≡ Some (record { entry = r; frames = loan.frames })
+    pub entry_there : (r : PendingRequest) (loan : Lending) → get s key ≡ Some r → get_or loans key None ≡ Some loan → slice_get (entries s loans order) place ≡ Some (record { entry = r; frames = loan.frames })
     entry_there r loan has_request has_loan = slice_get-map (held_at s loans) order place
         ∙ rw (slice_get-get_or order place key within, is_key key, has_request, has_loan) refl
 
-    pub sound_less : slab_len s' + 1 ≡ slab_len s → s'.capacity ≡ s.capacity → IsSound s' (set loans key None) (remove order place)
+    pub sound_less : slab_len s' + 1 ≡ slab_len s → s'.capacity ≡ s.capacity → SlabIsSound s' (set loans key None) (remove order place)
     sound_less len capacity = record {
       room = rw capacity sound.room;
       places = length-set loans key None ∙ (sound.places ∙ sym capacity);
@@ -109,23 +109,23 @@ module _ (s s' : Slab Entry) (loans : List (Option Lending)) (order : List ℕ) 
       distinct = all_pairs_remove (λ (a : ℕ) (b : ℕ). a ≢ b) order place within sound.distinct;
       held = λ i d lt. still_held None updates.others (get_or (remove order place) i d) (once i d lt) (kept i d lt);
       vacant = λ k out. elim (cases_eq k key) [
-        | inl e ↦ rw e (updates.changed, get_or-set_same loans key None None (subst (IsKept s loans) (is_key 0) (sound.held place 0 within)).in_place)
+        | inl e ↦ rw e (updates.changed, get_or-set_same loans key None None (subst (KeyHasLoan s loans) (is_key 0) (sound.held place 0 within)).in_place)
         | inr ne ↦ let old = sound.vacant k (λ w. out (in_remove order place w.0 k within w.1 (sym w.2)
             (λ e. ne (sym w.2 ∙ (ap (λ n. get_or order n k) e ∙ is_key k)))).1) in
             (updates.others k ne ∙ old.0, set_beside loans key None k ne ∙ old.1)
       ];
     }
 
-    held_there : IsKept s loans key
-    held_there = subst (IsKept s loans) (is_key 0) (sound.held place 0 within)
+    held_there : KeyHasLoan s loans key
+    held_there = subst (KeyHasLoan s loans) (is_key 0) (sound.held place 0 within)
 
     pub key_in_place : key < length loans
     key_in_place = held_there.in_place
 
-    pub loan_of_request : (r : Entry) (loan : Lending) → get s key ≡ Some r → get_or loans key None ≡ Some loan → loan.request ≡ r.id
+    pub loan_of_request : (r : PendingRequest) (loan : Lending) → get s key ≡ Some r → get_or loans key None ≡ Some loan → loan.request ≡ r.id
     loan_of_request r loan has_request has_loan =
         ap (λ (l : Lending). l.request) (same_Some loan held_there.loan (sym has_loan ∙ held_there.has_loan))
-        ∙ (held_there.same_id ∙ ap (λ (x : Entry). x.id) (same_Some held_there.request r (sym held_there.has_request ∙ has_request)))
+        ∙ (held_there.same_id ∙ ap (λ (x : PendingRequest). x.id) (same_Some held_there.request r (sym held_there.has_request ∙ has_request)))
 
 -- ---- what stands at a place
 
@@ -133,24 +133,24 @@ pub map-map : {A B C : Type 0} (g : B → C) (f : A → B) (xs : List A) → map
 map-map g f [] = refl
 map-map g f (x ∷ xs) = ap (λ ys. g (f x) ∷ ys) (map-map g f xs)
 
-module _ (s : Slab Entry) (loans : List (Option Lending)) (order : List ℕ) (key place : ℕ) (within : place < length order) (is_key : (d : ℕ) → get_or order place d ≡ key) where
+module _ (s : Slab PendingRequest) (loans : List (Option Lending)) (order : List ℕ) (key place : ℕ) (within : place < length order) (is_key : (d : ℕ) → get_or order place d ≡ key) where
   pub stands_at : slice_get (entries s loans order) place ≡ Some (held_at s loans key)
   stands_at = slice_get-map (held_at s loans) order place ∙ rw (slice_get-get_or order place key within, is_key key) refl
 
-  pub request_there : (r : Entry) → get s key ≡ Some r → slice_get (map (λ (e : Held). e.entry) (entries s loans order)) place ≡ Some r
+  pub request_there : (r : PendingRequest) → get s key ≡ Some r → slice_get (map (λ (e : Held). e.entry) (entries s loans order)) place ≡ Some r
   request_there r there = slice_get-map (λ (e : Held). e.entry) (entries s loans order) place ∙ rw (stands_at, there) refl
 
   pub frames_there : (loan : Lending) → get_or loans key None ≡ Some loan → slice_get (map (λ (e : Held). e.frames) (entries s loans order)) place ≡ Some loan.frames
   frames_there loan there = slice_get-map (λ (e : Held). e.frames) (entries s loans order) place ∙ rw (stands_at, there) refl
 
-  kept_there : IsSound s loans order → IsKept s loans key
-  kept_there sound = subst (IsKept s loans) (is_key 0) (sound.held place 0 within)
+  kept_there : SlabIsSound s loans order → KeyHasLoan s loans key
+  kept_there sound = subst (KeyHasLoan s loans) (is_key 0) (sound.held place 0 within)
 
-  pub key_there : IsSound s loans order → key < length loans
+  pub key_there : SlabIsSound s loans order → key < length loans
   key_there sound = (kept_there sound).in_place
 
   -- the loan beside a request is that request's
-  pub lent_there : IsSound s loans order → (loan : Lending) → get_or loans key None ≡ Some loan → slice_get (map (λ (e : Held). e.entry.id) (entries s loans order)) place ≡ Some loan.request
+  pub lent_there : SlabIsSound s loans order → (loan : Lending) → get_or loans key None ≡ Some loan → slice_get (map (λ (e : Held). e.entry.id) (entries s loans order)) place ≡ Some loan.request
   lent_there sound loan there =
       let k = kept_there sound in
       slice_get-map (λ (e : Held). e.entry.id) (entries s loans order) place
@@ -159,23 +159,23 @@ module _ (s : Slab Entry) (loans : List (Option Lending)) (order : List ℕ) (ke
 -- ---- another state of one request
 
 -- a value that is replaced leaves as many
-pub slab_len-with_value : (s : Slab Entry) (key : ℕ) (old new : Entry) → get s key ≡ Some old → slab_len (with_value s key new) ≡ slab_len s
+pub slab_len-with_value : (s : Slab PendingRequest) (key : ℕ) (old new : PendingRequest) → get s key ≡ Some old → slab_len (with_value s key new) ≡ slab_len s
 slab_len-with_value s key old new there =
     let within = ContainsKey-within s key (subst IsSome (sym there) refl) in
-    let sums = sum_by-set (λ (slot : Option Entry). cond (is_some slot) 1 0) s.slots key (Some new) None within in
+    let sums = sum_by-set (λ (slot : Option PendingRequest). cond (is_some slot) 1 0) s.slots key (Some new) None within in
     let sums' = rw there at sums in
     omega (arith, sums')
 
-module _ (s : Slab Entry) (loans : List (Option Lending)) (order : List ℕ) (key place : ℕ) (old new : Entry)
-    (sound : IsSound s loans order) (within : place < length order) (is_key : (d : ℕ) → get_or order place d ≡ key)
+module _ (s : Slab PendingRequest) (loans : List (Option Lending)) (order : List ℕ) (key place : ℕ) (old new : PendingRequest)
+    (sound : SlabIsSound s loans order) (within : place < length order) (is_key : (d : ℕ) → get_or order place d ≡ key)
     (there : get s key ≡ Some old) where
-  abbrev after : Slab Entry
+  abbrev after : Slab PendingRequest
   after = with_value s key new
 
   updates : Updates s after key (Some new)
   updates = Updates-with_value s key new (subst IsSome (sym there) refl)
 
-  pub sound_replaced : new.id ≡ old.id → IsSound after loans order
+  pub sound_replaced : new.id ≡ old.id → SlabIsSound after loans order
   sound_replaced same = record {
     room = sound.room;
     places = sound.places;
@@ -188,14 +188,14 @@ module _ (s : Slab Entry) (loans : List (Option Lending)) (order : List ℕ) (ke
         (updates.others k ne ∙ was.0, was.1);
   }
     where
-      held_after : (k : ℕ) → IsKept s loans k → IsKept after loans k
+      held_after : (k : ℕ) → KeyHasLoan s loans k → KeyHasLoan after loans k
       held_after k h = elim (cases_eq k key) [
         | inl e ↦ record {
           request = new;
           loan = h.loan;
           has_request = ap (λ n. get after n) e ∙ updates.changed;
           has_loan = h.has_loan;
-          same_id = h.same_id ∙ (ap (λ (x : Entry). x.id) (same_Some h.request old (sym h.has_request ∙ (ap (λ n. get s n) e ∙ there))) ∙ sym same);
+          same_id = h.same_id ∙ (ap (λ (x : PendingRequest). x.id) (same_Some h.request old (sym h.has_request ∙ (ap (λ n. get s n) e ∙ there))) ∙ sym same);
           in_place = h.in_place;
         }
         | inr ne ↦ record {
@@ -223,7 +223,7 @@ module _ (s : Slab Entry) (loans : List (Option Lending)) (order : List ℕ) (ke
             | inl e ↦ rw e (get_or-map (held_at after loans) order place key d within
                 ∙ (rw (is_key key, updates.changed) refl ∙ sym (get_or-set_same (map (held_at s loans) order) place changed d (omega (arith, within, length-map order (held_at s loans))))))
             | inr ne ↦ get_or-map (held_at after loans) order k key d short
-                ∙ (ap (λ (o : Option Entry). record { entry = unwrap_or o blank; frames = frames_of (get_or loans (get_or order k key) None) }) (updates.others (get_or order k key) (apart k ne short))
+                ∙ (ap (λ (o : Option PendingRequest). record { entry = unwrap_or o blank_entry; frames = frames_of (get_or loans (get_or order k key) None) }) (updates.others (get_or order k key) (apart k ne short))
                 ∙ (sym (get_or-map (held_at s loans) order k key d short) ∙ sym (get_or-set_other (map (held_at s loans) order) place k changed d ne)))
           ]
         where

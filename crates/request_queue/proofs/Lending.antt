@@ -10,8 +10,8 @@ use Rattle.ata_types.specs.declared.request.ClientId.{ClientId}
 use Rattle.ata_types.specs.declared.request.Frame.{Frame}
 use Rattle.ata_types.specs.declared.request.RequestId.{RequestId}
 use Rattle.dma_frames.specs.Table.{Table, lent_to, LendsOnly}
-use Rattle.request_queue.specs.Entries.{Held, IsAccepted, Stands, has_id, at, without, issue, requeued, older, aged, marked_under, all_marked_under}
-use Rattle.request_queue.specs.declared.Entry.{Entry}
+use Rattle.request_queue.specs.Entries.{Held, IsAccepted, HasItsFrames, has_id, at_entry, without_entry, issue, requeued_entry, older_entry, aged, marked_under, all_marked_under}
+use Rattle.request_queue.specs.declared.PendingRequest.{PendingRequest}
 use Rattle.request_queue.proofs.Members.{map_in}
 use Rattle.request_queue.proofs.Changing.{either_way, without_in}
 use Rattle.request_queue.proofs.Finding.{without_other}
@@ -53,8 +53,8 @@ all_lent old new es frames to lends free all = each (IsAccepted new) es (λ e h.
     let both : Some e.entry.id ≡ None = sym lent ∙ none in cc))
 
 pub all_answered : (old new : Table) (es : List Held) (e : Held) → Contains es e → LendsOnly old new e.frames None → All (IsAccepted old) es
-    → All (IsAccepted new) (without e.entry.id es)
-all_answered old new es e here lends all = each (IsAccepted new) (without e.entry.id es) (λ x h.
+    → All (IsAccepted new) (without_entry e.entry.id es)
+all_answered old new es e here lends all = each (IsAccepted new) (without_entry e.entry.id es) (λ x h.
     let a = All-contains (IsAccepted old) es x all (without_in e.entry.id es x h) in
     let b = All-contains (IsAccepted old) es e all here in
     still_accepted old new e.frames None x lends a (frames_apart old x e (without_other e.entry.id es x h) a b))
@@ -81,29 +81,29 @@ all_changed table es g keeps all = each (IsAccepted table) (map g es) (λ x h.
     let old = map_in g es x h in
     subst (λ (y : Held). IsAccepted table y) (sym old.2) (keeps old.0 (All-contains (IsAccepted table) es old.0 all old.1)))
 
-at_one : (table : Table) (id : RequestId) (f : Entry → Entry) → ((e : Held) → IsAccepted table e → IsAccepted table (record e { entry = f e.entry }))
-    → (e : Held) → IsAccepted table e → IsAccepted table (at id f e)
+at_one : (table : Table) (id : RequestId) (f : PendingRequest → PendingRequest) → ((e : Held) → IsAccepted table e → IsAccepted table (record e { entry = f e.entry }))
+    → (e : Held) → IsAccepted table e → IsAccepted table (at_entry id f e)
 at_one table id f keeps e a = go (has_id id e) refl
   where
-    go : (b : Bool) → has_id id e ≡ b → IsAccepted table (at id f e)
+    go : (b : Bool) → has_id id e ≡ b → IsAccepted table (at_entry id f e)
     go true t = subst (λ (x : Held). IsAccepted table x) (sym (cond-true (has_id id e) (record e { entry = f e.entry }) e t)) (keeps e a)
     go false t = subst (λ (x : Held). IsAccepted table x) (sym (cond-false (has_id id e) (record e { entry = f e.entry }) e t)) a
 
-pub all_issued : (table : Table) (es : List Held) (id : RequestId) → All (IsAccepted table) es → All (IsAccepted table) (map (at id issue) es)
-all_issued table es id all = all_changed table es (at id issue) (at_one table id issue (λ e a. further table e true (suc e.entry.issues) 0 e.entry.revoked a)) all
+pub all_issued : (table : Table) (es : List Held) (id : RequestId) → All (IsAccepted table) es → All (IsAccepted table) (map (at_entry id issue) es)
+all_issued table es id all = all_changed table es (at_entry id issue) (at_one table id issue (λ e a. further table e true (suc e.entry.issues) 0 e.entry.revoked a)) all
 
-pub all_requeued : (table : Table) (es : List Held) (id : RequestId) → All (IsAccepted table) es → All (IsAccepted table) (map (at id requeued) es)
-all_requeued table es id all = all_changed table es (at id requeued) (at_one table id requeued (λ e a. further table e false e.entry.issues e.entry.age e.entry.revoked a)) all
+pub all_requeued : (table : Table) (es : List Held) (id : RequestId) → All (IsAccepted table) es → All (IsAccepted table) (map (at_entry id requeued_entry) es)
+all_requeued table es id all = all_changed table es (at_entry id requeued_entry) (at_one table id requeued_entry (λ e a. further table e false e.entry.issues e.entry.age e.entry.revoked a)) all
 
 pub all_aged : (table : Table) (es : List Held) (ports : Port → Bool) → All (IsAccepted table) es → All (IsAccepted table) (aged ports es)
-all_aged table es ports all = all_changed table es (λ (e : Held). record e { entry = older ports e.entry })
-    (λ e a. either_way (λ (r : Entry). IsAccepted table (record e { entry = r })) (e.entry.issued && ports e.entry.port) (record (e.entry) { age = min (suc e.entry.age) 3 }) e.entry
+all_aged table es ports all = all_changed table es (λ (e : Held). record e { entry = older_entry ports e.entry })
+    (λ e a. either_way (λ (r : PendingRequest). IsAccepted table (record e { entry = r })) (e.entry.issued && ports e.entry.port) (record (e.entry) { age = min (suc e.entry.age) 3 }) e.entry
     (further table e e.entry.issued e.entry.issues (min (suc e.entry.age) 3) e.entry.revoked a) a) all
 
 pub all_revoked : (table : Table) (es : List Held) (client : ClientId) (grant : ℕ) → All (IsAccepted table) es → All (IsAccepted table) (all_marked_under client grant es)
 all_revoked table es client grant all = all_changed table es (λ (e : Held). record e { entry = marked_under client grant e.entry })
-    (λ e a. either_way (λ (r : Entry). IsAccepted table (record e { entry = r })) (is_under client grant e.entry.client e.entry.grant) (record (e.entry) { revoked = true }) e.entry
+    (λ e a. either_way (λ (r : PendingRequest). IsAccepted table (record e { entry = r })) (is_under client grant e.entry.client e.entry.grant) (record (e.entry) { revoked = true }) e.entry
     (further table e e.entry.issued e.entry.issues e.entry.age true a) a) all
 
-pub all_stand : (table : Table) (es : List Held) → All (IsAccepted table) es → All (Stands table) es
-all_stand table es all = each (Stands table) es (λ e h. (All-contains (IsAccepted table) es e all h).lent)
+pub all_stand : (table : Table) (es : List Held) → All (IsAccepted table) es → All (HasItsFrames table) es
+all_stand table es all = each (HasItsFrames table) es (λ e h. (All-contains (IsAccepted table) es e all h).lent)

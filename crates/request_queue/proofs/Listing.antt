@@ -5,10 +5,10 @@ use Rattle.std.proofs.lemmas.Bool.{cond-true, cond-false}
 use Rattle.std.proofs.lemmas.List.{take_more, map-append, append-nil}
 use Rattle.std.proofs.lemmas.List.Elements.{filter-append}
 use Rattle.request_queue.specs.Entries.{Held, ids_where}
-use Rattle.request_queue.specs.declared.Entry.{Entry}
+use Rattle.request_queue.specs.declared.PendingRequest.{PendingRequest}
 use Rattle.request_queue.proofs.Changing.{request_is, place_within}
 
-module _ (p : Entry → Bool) (es : List Held) (i : ℕ) (r : Entry) (is : slice_get (map (λ (e : Held). e.entry) es) i ≡ Some r) where
+module _ (p : PendingRequest → Bool) (es : List Held) (i : ℕ) (r : PendingRequest) (is : slice_get (map (λ (e : Held). e.entry) es) i ≡ Some r) where
   abbrev d : Held
   d = record { entry = r; frames = [] }
 
@@ -26,7 +26,7 @@ module _ (p : Entry → Bool) (es : List Held) (i : ℕ) (r : Entry) (is : slice
 
   pub one_listed : p r ≡ true → ids_where p (take i es) ++ r.id ∷ [] ≡ ids_where p (take (i + 1) es)
   one_listed passes = sym (more ∙ (ap (λ (xs : List Held). ids_where p (take i es) ++ map (λ (e : Held). e.entry.id) xs) (cond-true (p here.entry) (here ∷ []) [] (test ∙ passes))
-      ∙ ap (λ (x : Entry). ids_where p (take i es) ++ x.id ∷ []) (request_is es i r d is)))
+      ∙ ap (λ (x : PendingRequest). ids_where p (take i es) ++ x.id ∷ []) (request_is es i r d is)))
 
   pub one_passed_over : p r ≡ false → ids_where p (take i es) ≡ ids_where p (take (i + 1) es)
   one_passed_over fails = sym (more ∙ (ap (λ (xs : List Held). ids_where p (take i es) ++ map (λ (e : Held). e.entry.id) xs) (cond-false (p here.entry) (here ∷ []) [] (test ∙ fails))

@@ -10,13 +10,13 @@ use Rattle.std.proofs.lemmas.List.Kept.{AllPairs-filter}
 use Rattle.std.proofs.lemmas.Option.{get_or_from_slice_get, slice_get_within, slice_get-get_or, slice_get-map}
 use Rattle.ata_types.specs.declared.Port.{Port}
 use Rattle.ata_types.specs.declared.request.RequestId.{RequestId}
-use Rattle.block_machine.specs.declared.due.Mode.{Mode}
+use Rattle.block_machine.specs.declared.due.QueueMode.{QueueMode}
 use Rattle.block_machine.specs.declared.due.Unanswered.{Unanswered}
 use Rattle.block_machine.specs.Due.{IsInOrder, is_plain, issued_count, free_slots, due_of}
 use Rattle.request_queue.specs.Entries.{Held, asks, asks_of, due_ids}
 use Rattle.request_queue.specs.Holders.{has_holder, may_have_holder, may_hold, unheld}
-use Rattle.request_queue.specs.Walk.{IsReached}
-use Rattle.request_queue.specs.Store.{asks_at, blank}
+use Rattle.request_queue.specs.Walk.{IsReachedInWalk}
+use Rattle.request_queue.specs.Store.{asks_at, blank_entry}
 use Rattle.request_queue.proofs.Members.{count_append, count_cons, taken_more}
 use Rattle.request_queue.proofs.Unheld.{due_without, found, of_filter, one_found}
 
@@ -72,27 +72,27 @@ module _ (port : Port) (all book : List Unanswered) (is : book ≡ unheld port a
       both_ways _ (not-true _ (and_parts (r.port.0 == port.0) _ its).1) (and_from _ _ two.0 (found (may_hold r) all o.0 in_all o.2)))
 
   -- the walk has come to it
-  pub reached : IsInOrder all → (mode : Mode) (i : ℕ) (r : Unanswered) → slice_get book i ≡ Some r
-      → ((k : ℕ) (d : Unanswered) → k < i → is_plain mode (get_or book k d).op ≡ false) → IsReached mode book i r
+  pub reached : IsInOrder all → (mode : QueueMode) (i : ℕ) (r : Unanswered) → slice_get book i ≡ Some r
+      → ((k : ℕ) (d : Unanswered) → k < i → is_plain mode (get_or book k d).op ≡ false) → IsReachedInWalk mode book i r
   reached order mode i r at queued = record { at = at; ordered = unheld_in_order order; own = of_port_of i r at; unheld = unheld_at i r at; queued = queued }
 
-  pub own_free : (mode : Mode) (free : ℕ) → free ≡ mode.usable - count_by (λ r. r.issued) book → free ≡ free_slots mode book port
+  pub own_free : (mode : QueueMode) (free : ℕ) → free ≡ mode.usable - count_by (λ r. r.issued) book → free ≡ free_slots mode book port
   own_free mode free counted = counted ∙ ap (λ (n : ℕ). mode.usable - n) (own_issued port book own)
 
-  pub own_due : (mode : Mode) (due : List RequestId) → due ≡ due_ids mode port book → due ≡ due_ids mode port all
+  pub own_due : (mode : QueueMode) (due : List RequestId) → due ≡ due_ids mode port book → due ≡ due_ids mode port all
   own_due mode due so_far = so_far ∙ ap (λ (rs : List Unanswered). map (λ (r : Unanswered). r.id) rs) (ap (due_of mode port) is ∙ due_without mode port all)
 
 -- as many as there are places
 pub as_long : (es : List Held) (places : List ℕ) → length (asks_at es places) ≡ length places
-as_long es places = length-map places (λ (place : ℕ). get_or (asks_of es) place (asks blank))
+as_long es places = length-map places (λ (place : ℕ). get_or (asks_of es) place (asks blank_entry))
 
 -- the request at the place with a number
 pub at_number : (es : List Held) (places read : List ℕ) (n : ℕ) (r : Unanswered) → n < length places → read ≡ places → slice_get (asks_of es) (get_or read n 0) ≡ Some r
     → slice_get (asks_at es places) n ≡ Some r
 at_number es places read n r lt same is =
-    slice_get-map (λ (place : ℕ). get_or (asks_of es) place (asks blank)) places n
-    ∙ (ap (option_map (λ (place : ℕ). get_or (asks_of es) place (asks blank))) (slice_get-get_or places n 0 lt)
-    ∙ ap Some (ap (λ (xs : List ℕ). get_or (asks_of es) (get_or xs n 0) (asks blank)) (sym same) ∙ get_or_from_slice_get (asks_of es) (get_or read n 0) r (asks blank) is))
+    slice_get-map (λ (place : ℕ). get_or (asks_of es) place (asks blank_entry)) places n
+    ∙ (ap (option_map (λ (place : ℕ). get_or (asks_of es) place (asks blank_entry))) (slice_get-get_or places n 0 lt)
+    ∙ ap Some (ap (λ (xs : List ℕ). get_or (asks_of es) (get_or xs n 0) (asks blank_entry)) (sym same) ∙ get_or_from_slice_get (asks_of es) (get_or read n 0) r (asks blank_entry) is))
 
 -- one place more
 module _ (p : Unanswered → Bool) (es : List Held) (places : List ℕ) (i : ℕ) (r : Unanswered) (is : slice_get (asks_of es) i ≡ Some r)
@@ -102,9 +102,9 @@ module _ (p : Unanswered → Bool) (es : List Held) (places : List ℕ) (i : ℕ
 
   pub one_in : p r ≡ true → asks_at es (places ++ i ∷ []) ≡ filter p (take (i + 1) (asks_of es))
   one_in passes =
-      map-append (λ (place : ℕ). get_or (asks_of es) place (asks blank)) places (i ∷ [])
-      ∙ (ap (λ (xs : List Unanswered). xs ++ get_or (asks_of es) i (asks blank) ∷ []) so_far
-      ∙ (ap (λ (x : Unanswered). filter p (take i (asks_of es)) ++ x ∷ []) (get_or_from_slice_get (asks_of es) i r (asks blank) is)
+      map-append (λ (place : ℕ). get_or (asks_of es) place (asks blank_entry)) places (i ∷ [])
+      ∙ (ap (λ (xs : List Unanswered). xs ++ get_or (asks_of es) i (asks blank_entry) ∷ []) so_far
+      ∙ (ap (λ (x : Unanswered). filter p (take i (asks_of es)) ++ x ∷ []) (get_or_from_slice_get (asks_of es) i r (asks blank_entry) is)
       ∙ sym (more ∙ ap (λ (xs : List Unanswered). filter p (take i (asks_of es)) ++ xs) (cond-true (p r) (r ∷ []) [] passes))))
 
   pub one_out : p r ≡ false → asks_at es places ≡ filter p (take (i + 1) (asks_of es))
@@ -115,8 +115,8 @@ module _ (p : Unanswered → Bool) (es : List Held) (places : List ℕ) (i : ℕ
 module _ (es : List Held) (places : List ℕ) (i : ℕ) (r : Unanswered) (is : slice_get (asks_of es) i ≡ Some r) (p : Unanswered → Bool) where
   asked_more : asks_at es (places ++ i ∷ []) ≡ asks_at es places ++ r ∷ []
   asked_more =
-      map-append (λ (place : ℕ). get_or (asks_of es) place (asks blank)) places (i ∷ [])
-      ∙ ap (λ (x : Unanswered). asks_at es places ++ x ∷ []) (get_or_from_slice_get (asks_of es) i r (asks blank) is)
+      map-append (λ (place : ℕ). get_or (asks_of es) place (asks blank_entry)) places (i ∷ [])
+      ∙ ap (λ (x : Unanswered). asks_at es places ++ x ∷ []) (get_or_from_slice_get (asks_of es) i r (asks blank_entry) is)
 
   pub counted_more : count_by p (asks_at es (places ++ i ∷ [])) ≡ count_by p (asks_at es places) + cond (p r) 1 0
   counted_more =

@@ -7,13 +7,13 @@ use Rattle.slab.specs.Slab.{Slab, get, slab_len, Updates}
 use Rattle.ata_types.specs.declared.request.RequestId.{RequestId}
 use Rattle.dma_frames.specs.Loan.{Lending}
 use Rattle.dma_frames.specs.Table.{Table, lent_to}
-use Rattle.request_queue.specs.Entries.{Held, Stands}
-use Rattle.request_queue.specs.Store.{entries, held_at, IsSound}
-use Rattle.request_queue.specs.declared.Entry.{Entry}
+use Rattle.request_queue.specs.Entries.{Held, HasItsFrames}
+use Rattle.request_queue.specs.Store.{entries, held_at, SlabIsSound}
+use Rattle.request_queue.specs.declared.PendingRequest.{PendingRequest}
 use Rattle.request_queue.proofs.Changing.{there}
 use Rattle.request_queue.proofs.Keeping.{entries_less, sound_less, entry_there, loan_of_request, key_in_place}
 
-module _ (s s' : Slab Entry) (loans : List (Option Lending)) (order : List ℕ) (es : List Held) (view : entries s loans order ≡ es) (sound : IsSound s loans order)
+module _ (s s' : Slab PendingRequest) (loans : List (Option Lending)) (order : List ℕ) (es : List Held) (view : entries s loans order ≡ es) (sound : SlabIsSound s loans order)
     (place key : ℕ) (inside : place < length es) (its : key ≡ get_or order place key) (updates : Updates s s' key None) where
   within : place < length order
   within =
@@ -26,10 +26,10 @@ module _ (s s' : Slab Entry) (loans : List (Option Lending)) (order : List ℕ) 
   pub rest_is : entries s' (set loans key None) (remove order place) ≡ remove es place
   rest_is = entries_less s s' loans order key sound place within is_key updates ∙ ap (λ (xs : List Held). remove xs place) view
 
-  pub still_sound : slab_len s' + 1 ≡ slab_len s → s'.capacity ≡ s.capacity → IsSound s' (set loans key None) (remove order place)
+  pub still_sound : slab_len s' + 1 ≡ slab_len s → s'.capacity ≡ s.capacity → SlabIsSound s' (set loans key None) (remove order place)
   still_sound = sound_less s s' loans order key sound place within is_key updates
 
-  module _ (slot : Option Lending) (at : slot ≡ get_or loans key slot) (request : Entry) (loan : Lending) (has_request : get s key ≡ Some request) (is : slot ≡ Some loan) where
+  module _ (slot : Option Lending) (at : slot ≡ get_or loans key slot) (request : PendingRequest) (loan : Lending) (has_request : get s key ≡ Some request) (is : slot ≡ Some loan) where
     has_loan : get_or loans key None ≡ Some loan
     has_loan = get_or_default loans key None slot (key_in_place s s' loans order key sound place within is_key updates) ∙ (sym at ∙ is)
 
@@ -41,8 +41,8 @@ module _ (s s' : Slab Entry) (loans : List (Option Lending)) (order : List ℕ) 
     its_loan = loan_of_request s s' loans order key sound place within is_key updates request loan has_request has_loan
 
     -- what was lent to it may be given back
-    pub may_go_back : (table : Table) → All (Stands table) es → All (λ f. lent_to table f ≡ Some loan.request) loan.frames
+    pub may_go_back : (table : Table) → All (HasItsFrames table) es → All (λ f. lent_to table f ≡ Some loan.request) loan.frames
     may_go_back table stands =
         let e : Held = record { entry = request; frames = loan.frames } in
         subst (λ (id : RequestId). All (λ f. lent_to table f ≡ Some id) loan.frames) (sym its_loan)
-        (All-contains (Stands table) es e stands (there es place e taken_is))
+        (All-contains (HasItsFrames table) es e stands (there es place e taken_is))

@@ -7,9 +7,9 @@ use Rattle.std.proofs.lemmas.List.Folds.{list_any_at, Any-from_list_any}
 use Rattle.ata_types.specs.declared.Port.{Port}
 use Rattle.ata_types.specs.declared.request.Op.{Op}
 use Rattle.ata_types.specs.declared.request.Op.TheVariants.{Read, Write, Trim, Flush}
-use Rattle.block_machine.specs.declared.due.Mode.{Mode}
+use Rattle.block_machine.specs.declared.due.QueueMode.{QueueMode}
 use Rattle.block_machine.specs.declared.due.Unanswered.{Unanswered}
-use Rattle.block_machine.specs.Due.{ahead, conflict, due_of, free_slots, holds_back, is_clear, is_due, is_earlier, is_flush, is_plain, issued_count}
+use Rattle.block_machine.specs.Due.{ahead, must_keep_order, due_of, free_slots, waits_for, is_clear, is_due, is_earlier_on_port, is_flush, is_plain, issued_count}
 use Rattle.request_queue.specs.Holders.{has_holder, is_read_or_write, may_have_holder, may_hold, unheld}
 use Rattle.request_queue.proofs.Members.{count_cons, contains_none, contains_here, contains_there, contains_cases}
 
@@ -78,7 +78,7 @@ counted_within {X} p q t (x ∷ xs) same = go (p x) refl (counted_within p q t x
 -- ---- operations
 
 -- where one read or write is queued, all are
-queued_with : (mode : Mode) (a b : Op) → is_plain mode a ≡ false → is_read_or_write b ≡ true → is_plain mode b ≡ false
+queued_with : (mode : QueueMode) (a b : Op) → is_plain mode a ≡ false → is_read_or_write b ≡ true → is_plain mode b ≡ false
 queued_with mode Read Read q is = q
 queued_with mode Read Write q is = q
 queued_with mode Write Read q is = q
@@ -90,7 +90,7 @@ queued_with mode Read Flush q is = absurd (both_ways _ refl is)
 queued_with mode Write Trim q is = absurd (both_ways _ refl is)
 queued_with mode Write Flush q is = absurd (both_ways _ refl is)
 
-pub queued_is_read_or_write : (mode : Mode) (op : Op) → is_plain mode op ≡ false → is_read_or_write op ≡ true
+pub queued_is_read_or_write : (mode : QueueMode) (op : Op) → is_plain mode op ≡ false → is_read_or_write op ≡ true
 queued_is_read_or_write mode Read q = refl
 queued_is_read_or_write mode Write q = refl
 queued_is_read_or_write mode Trim q = absurd (both_ways _ q refl)
@@ -104,7 +104,7 @@ no_flush Flush is = absurd (both_ways _ refl is)
 
 -- ---- without a holder
 
-module _ (mode : Mode) (port : Port) (book : List Unanswered) where
+module _ (mode : QueueMode) (port : Port) (book : List Unanswered) where
   abbrev p : Unanswered → Bool
   p r = r.port.0 == port.0 && not (has_holder book r)
 
@@ -113,10 +113,10 @@ module _ (mode : Mode) (port : Port) (book : List Unanswered) where
 
   -- its holder was accepted before it, on its port
   its_holder : (r : Unanswered) → has_holder book r ≡ true → (o : Unanswered) × Contains book o × ((o.port.0 == r.port.0) ≡ true) × (o.id.0 < r.id.0)
-      × (conflict o r ≡ true)
+      × (must_keep_order o r ≡ true)
   its_holder r held =
       let any = one_found (may_hold r) book (and_parts (may_have_holder r) _ held).1 in
-      let parts = and_parts (is_earlier any.0 r) _ any.2 in
+      let parts = and_parts (is_earlier_on_port any.0 r) _ any.2 in
       let early = and_parts (any.0.port.0 == r.port.0) _ parts.0 in
       (any.0, any.1, early.0, ltb-true any.0.id.0 r.id.0 early.1, parts.1)
 
@@ -124,9 +124,9 @@ module _ (mode : Mode) (port : Port) (book : List Unanswered) where
   held_back : (r : Unanswered) → has_holder book r ≡ true → is_clear mode book r ≡ false
   held_back r held = false_from_ne_true _ (λ clear.
       let o = its_holder r held in
-      both_ways _ (not-true _ (and_parts (not r.issued) _ clear).1) (found (holds_back mode r) book o.0 o.1 (by o.0 o.2 (lt-ltb o.0.id.0 r.id.0 o.3) o.4 (is_plain mode r.op) refl)))
+      both_ways _ (not-true _ (and_parts (not r.issued) _ clear).1) (found (waits_for mode r) book o.0 o.1 (by o.0 o.2 (lt-ltb o.0.id.0 r.id.0 o.3) o.4 (is_plain mode r.op) refl)))
     where
-      by : (o : Unanswered) → (o.port.0 == r.port.0) ≡ true → nat_lt o.id.0 r.id.0 ≡ true → conflict o r ≡ true → (b : Bool) → is_plain mode r.op ≡ b → holds_back mode r o ≡ true
+      by : (o : Unanswered) → (o.port.0 == r.port.0) ≡ true → nat_lt o.id.0 r.id.0 ≡ true → must_keep_order o r ≡ true → (b : Bool) → is_plain mode r.op ≡ b → waits_for mode r o ≡ true
       by o same lt meets true plain = and_from _ _ same (cond-true (is_plain mode r.op) _ _ plain ∙ or_right o.issued _ lt)
       by o same lt meets false queued = and_from _ _ same
           (cond-false (is_plain mode r.op) _ _ queued ∙ or_right (is_plain mode o.op && o.issued) _ (and_from _ _ lt (or_right (is_plain mode o.op) _ meets)))
@@ -149,17 +149,17 @@ module _ (mode : Mode) (port : Port) (book : List Unanswered) where
       go before false free = (o, in_filter p book o there (and_from _ _ own (ap not free)), omega arith, own)
 
   -- what holds such a one back holds it back among those without a holder
-  still_back : (x : Unanswered) → p x ≡ true → x.issued ≡ false → list_any (holds_back mode x) book ≡ true → list_any (holds_back mode x) (unheld port book) ≡ true
+  still_back : (x : Unanswered) → p x ≡ true → x.issued ≡ false → list_any (waits_for mode x) book ≡ true → list_any (waits_for mode x) (unheld port book) ≡ true
   still_back x passes free is = go (p o) refl
     where
-      any : (o : Unanswered) × Contains book o × (holds_back mode x o ≡ true)
-      any = one_found (holds_back mode x) book is
+      any : (o : Unanswered) × Contains book o × (waits_for mode x o ≡ true)
+      any = one_found (waits_for mode x) book is
 
       o : Unanswered
       o = any.0
 
       parts : ((o.port.0 == x.port.0) ≡ true) × (cond (is_plain mode x.op) (o.issued || nat_lt o.id.0 x.id.0)
-          ((is_plain mode o.op && o.issued) || (nat_lt o.id.0 x.id.0 && (is_plain mode o.op || conflict o x))) ≡ true)
+          ((is_plain mode o.op && o.issued) || (nat_lt o.id.0 x.id.0 && (is_plain mode o.op || must_keep_order o x))) ≡ true)
       parts = and_parts (o.port.0 == x.port.0) _ any.2
 
       mine : ((x.port.0 == port.0) ≡ true) × (not (has_holder book x) ≡ true)
@@ -176,53 +176,53 @@ module _ (mode : Mode) (port : Port) (book : List Unanswered) where
           by false is = absurd (both_ways _ out (and_from _ _ own (ap not is)))
 
       -- a plain one is held back by the first
-      first : nat_lt o.id.0 x.id.0 ≡ true → is_plain mode x.op ≡ true → list_any (holds_back mode x) (unheld port book) ≡ true
+      first : nat_lt o.id.0 x.id.0 ≡ true → is_plain mode x.op ≡ true → list_any (waits_for mode x) (unheld port book) ≡ true
       first less plain =
           let f = earliest (suc o.id.0) o (omega arith) any.1 own in
           let low = f.2 in
           let lt = ltb-true o.id.0 x.id.0 less in
           let same : (f.0.port.0 == x.port.0) ≡ true = ap (λ (n : ℕ). f.0.port.0 == n) (eqb-true x.port.0 port.0 mine.0) ∙ f.3 in
-          found (holds_back mode x) (unheld port book) f.0 f.1
+          found (waits_for mode x) (unheld port book) f.0 f.1
           (and_from _ _ same (cond-true (is_plain mode x.op) _ _ plain ∙ or_right f.0.issued _ (lt-ltb f.0.id.0 x.id.0 (omega (arith, low, lt)))))
 
       -- a queued one would have a holder
-      none : has_holder book o ≡ true → nat_lt o.id.0 x.id.0 ≡ true → is_plain mode x.op ≡ false → conflict o x ≡ true → ⊥
+      none : has_holder book o ≡ true → nat_lt o.id.0 x.id.0 ≡ true → is_plain mode x.op ≡ false → must_keep_order o x ≡ true → ⊥
       none held less queued meets =
           both_ways _ (not-true _ mine.1)
           (and_from (may_have_holder x) _ (and_from (not x.issued) _ (ap not free) (queued_is_read_or_write mode x.op queued))
           (found (may_hold x) book o any.1 (and_from _ _ (and_from _ _ parts.0 less) meets)))
 
-      out_of : has_holder book o ≡ true → (b : Bool) → is_plain mode x.op ≡ b → list_any (holds_back mode x) (unheld port book) ≡ true
+      out_of : has_holder book o ≡ true → (b : Bool) → is_plain mode x.op ≡ b → list_any (waits_for mode x) (unheld port book) ≡ true
       out_of held true plain = ⊎_elim
           (λ (issued : o.issued ≡ true). absurd (both_ways _ (waits o held) issued))
           (λ (less : nat_lt o.id.0 x.id.0 ≡ true). first less plain)
           (or_cases o.issued _ (sym (cond-true (is_plain mode x.op) _ _ plain) ∙ parts.1))
       out_of held false queued = ⊎_elim
           (λ (alone : (is_plain mode o.op && o.issued) ≡ true). absurd (both_ways _ (waits o held) (and_parts (is_plain mode o.op) _ alone).1))
-          (λ (early : (nat_lt o.id.0 x.id.0 && (is_plain mode o.op || conflict o x)) ≡ true).
+          (λ (early : (nat_lt o.id.0 x.id.0 && (is_plain mode o.op || must_keep_order o x)) ≡ true).
           let two = and_parts (nat_lt o.id.0 x.id.0) _ early in
           let read_or_write = (and_parts (not o.issued) _ (and_parts (may_have_holder o) _ held).0).1 in
           absurd (⊎_elim
           (λ (plain : is_plain mode o.op ≡ true). both_ways _ (queued_with mode x.op o.op queued read_or_write) plain)
-          (λ (meets : conflict o x ≡ true). none held two.0 queued meets)
+          (λ (meets : must_keep_order o x ≡ true). none held two.0 queued meets)
           (or_cases (is_plain mode o.op) _ two.1)))
           (or_cases (is_plain mode o.op && o.issued) _ (sym (cond-false (is_plain mode x.op) _ _ queued) ∙ parts.1))
 
-      go : (b : Bool) → p o ≡ b → list_any (holds_back mode x) (unheld port book) ≡ true
-      go true in_it = found (holds_back mode x) (unheld port book) o (in_filter p book o any.1 in_it) any.2
+      go : (b : Bool) → p o ≡ b → list_any (waits_for mode x) (unheld port book) ≡ true
+      go true in_it = found (waits_for mode x) (unheld port book) o (in_filter p book o any.1 in_it) any.2
       go false out = out_of (held_of out) (is_plain mode x.op) refl
 
   -- so it is clear among them where it is clear
   same_clear : (x : Unanswered) → p x ≡ true → is_clear mode (unheld port book) x ≡ is_clear mode book x
   same_clear x passes = go x.issued refl
     where
-      fewer : list_any (holds_back mode x) (unheld port book) ≡ true → list_any (holds_back mode x) book ≡ true
-      fewer is = let any = one_found (holds_back mode x) (unheld port book) is in found (holds_back mode x) book any.0 (of_filter p book any.0 any.1).0 any.2
+      fewer : list_any (waits_for mode x) (unheld port book) ≡ true → list_any (waits_for mode x) book ≡ true
+      fewer is = let any = one_found (waits_for mode x) (unheld port book) is in found (waits_for mode x) book any.0 (of_filter p book any.0 any.1).0 any.2
 
       go : (b : Bool) → x.issued ≡ b → is_clear mode (unheld port book) x ≡ is_clear mode book x
-      go true issued = ap (λ (b : Bool). not b && not (list_any (holds_back mode x) (unheld port book))) issued
-          ∙ sym (ap (λ (b : Bool). not b && not (list_any (holds_back mode x) book)) issued)
-      go false free = ap (λ (b : Bool). not x.issued && not b) (same_bool (list_any (holds_back mode x) (unheld port book)) (list_any (holds_back mode x) book) fewer (still_back x passes free))
+      go true issued = ap (λ (b : Bool). not b && not (list_any (waits_for mode x) (unheld port book))) issued
+          ∙ sym (ap (λ (b : Bool). not b && not (list_any (waits_for mode x) book)) issued)
+      go false free = ap (λ (b : Bool). not x.issued && not b) (same_bool (list_any (waits_for mode x) (unheld port book)) (list_any (waits_for mode x) book) fewer (still_back x passes free))
 
   out_of_way : (x : Unanswered) → p x ≡ false → (x.port.0 == port.0) ≡ true → is_clear mode book x ≡ false
   out_of_way x out own = by (has_holder book x) refl
@@ -232,15 +232,15 @@ module _ (mode : Mode) (port : Port) (book : List Unanswered) where
       by false free = absurd (both_ways _ out (and_from _ _ own (ap not free)))
 
   same_ahead : (r : Unanswered) → (r.port.0 == port.0) ≡ true → ahead mode (unheld port book) r ≡ ahead mode book r
-  same_ahead r own = sym (counted_within p (λ (o : Unanswered). is_earlier o r && is_clear mode (unheld port book) o) (λ (o : Unanswered). is_earlier o r && is_clear mode book o) book (λ o there. go o (p o) refl))
+  same_ahead r own = sym (counted_within p (λ (o : Unanswered). is_earlier_on_port o r && is_clear mode (unheld port book) o) (λ (o : Unanswered). is_earlier_on_port o r && is_clear mode book o) book (λ o there. go o (p o) refl))
     where
-      go : (o : Unanswered) (b : Bool) → p o ≡ b → (is_earlier o r && is_clear mode book o) ≡ (p o && (is_earlier o r && is_clear mode (unheld port book) o))
-      go o true passes = ap (λ (c : Bool). is_earlier o r && c) (sym (same_clear o passes)) ∙ sym (ap (λ (c : Bool). c && (is_earlier o r && is_clear mode (unheld port book) o)) passes)
+      go : (o : Unanswered) (b : Bool) → p o ≡ b → (is_earlier_on_port o r && is_clear mode book o) ≡ (p o && (is_earlier_on_port o r && is_clear mode (unheld port book) o))
+      go o true passes = ap (λ (c : Bool). is_earlier_on_port o r && c) (sym (same_clear o passes)) ∙ sym (ap (λ (c : Bool). c && (is_earlier_on_port o r && is_clear mode (unheld port book) o)) passes)
       go o false out = false_from_ne_true _ (λ both.
-          let two = and_parts (is_earlier o r) _ both in
+          let two = and_parts (is_earlier_on_port o r) _ both in
           let same = (and_parts (o.port.0 == r.port.0) _ two.0).0 in
           both_ways _ (out_of_way o out (ap (λ (n : ℕ). o.port.0 == n) (sym (eqb-true r.port.0 port.0 own)) ∙ same)) two.1)
-          ∙ sym (ap (λ (c : Bool). c && (is_earlier o r && is_clear mode (unheld port book) o)) out)
+          ∙ sym (ap (λ (c : Bool). c && (is_earlier_on_port o r && is_clear mode (unheld port book) o)) out)
 
   same_issued : issued_count (unheld port book) port ≡ issued_count book port
   same_issued = sym (counted_within p (λ (o : Unanswered). o.port.0 == port.0 && o.issued) (λ (o : Unanswered). o.port.0 == port.0 && o.issued) book (λ o there. go o (p o) refl))

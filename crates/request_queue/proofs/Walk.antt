@@ -10,9 +10,9 @@ use Rattle.std.proofs.lemmas.List.Elements.{filter-append}
 use Rattle.std.proofs.lemmas.Option.{slice_get_within, get_or_from_slice_get}
 use Rattle.ata_types.specs.declared.Port.{Port}
 use Rattle.ata_types.specs.declared.request.RequestId.{RequestId}
-use Rattle.block_machine.specs.declared.due.Mode.{Mode}
+use Rattle.block_machine.specs.declared.due.QueueMode.{QueueMode}
 use Rattle.block_machine.specs.declared.due.Unanswered.{Unanswered}
-use Rattle.block_machine.specs.Due.{IsInOrder, conflict, holds_back, is_plain, is_clear, ahead, free_slots, is_due, due_ahead}
+use Rattle.block_machine.specs.Due.{IsInOrder, must_keep_order, waits_for, is_plain, is_clear, ahead, free_slots, is_due, due_ahead}
 use Rattle.request_queue.proofs.Members.{taken_more, count_least, none_pass}
 
 turn : (a b c : Bool) → ((a && b) && c) ≡ (b && (a && c))
@@ -30,19 +30,19 @@ same_lt a b n both = go (nat_lt a n) (nat_lt b n) refl refl
     go true false p q = absurd (both_ways _ q (lt-ltb b n (both.0 (ltb-true a n p))))
     go false true p q = absurd (both_ways _ p (lt-ltb a n (both.1 (ltb-true b n q))))
 
-abbrev pub due_test : Mode → Port → List Unanswered → Unanswered → Bool
+abbrev pub due_test : QueueMode → Port → List Unanswered → Unanswered → Bool
 due_test mode port book x = x.port.0 == port.0 && is_due mode book x
 
 -- what the walk has before this place
-abbrev pub ids_so_far : Mode → Port → List Unanswered → ℕ → List RequestId
+abbrev pub ids_so_far : QueueMode → Port → List Unanswered → ℕ → List RequestId
 ids_so_far mode port book i = map (λ (x : Unanswered). x.id) (filter (due_test mode port book) (take i book))
 
 -- the walk's tests of a request of the port, where so many slots are free and so many of them are given away: whether it goes, and whether no
 -- later one does
-abbrev pub walk_test : Mode → List Unanswered → Unanswered → ℕ → ℕ → Bool
+abbrev pub walk_test : QueueMode → List Unanswered → Unanswered → ℕ → ℕ → Bool
 walk_test mode book r given free = is_clear mode book r && (is_plain mode r.op || nat_lt given free)
 
-abbrev pub end_test : Mode → Unanswered → ℕ → ℕ → Bool
+abbrev pub end_test : QueueMode → Unanswered → ℕ → ℕ → Bool
 end_test mode r given free = is_plain mode r.op || not (nat_lt given free)
 
 -- two laws of the machine: those that stand before a request are the earlier ones, and a slot is left after them, clear or due
@@ -51,10 +51,10 @@ StandBefore = (passes : Unanswered → Bool) (front back : List Unanswered) (r :
     → count_by (λ other. nat_lt other.id.0 r.id.0 && passes other) (front ++ r ∷ back) ≡ count_by passes front
 
 abbrev pub SlotsByDue : Type 0
-SlotsByDue = (mode : Mode) (book : List Unanswered) (r : Unanswered) → IsInOrder book → Contains book r
+SlotsByDue = (mode : QueueMode) (book : List Unanswered) (r : Unanswered) → IsInOrder book → Contains book r
     → (ahead mode book r < free_slots mode book r.port) ↔ (due_ahead mode book r < free_slots mode book r.port)
 
-module _ (before : StandBefore) (by_due : SlotsByDue) (mode : Mode) (port : Port) (book : List Unanswered) (ordered : IsInOrder book) where
+module _ (before : StandBefore) (by_due : SlotsByDue) (mode : QueueMode) (port : Port) (book : List Unanswered) (ordered : IsInOrder book) where
   here : (i : ℕ) (r : Unanswered) → slice_get book i ≡ Some r → Contains book r
   here i r at = (i, slice_get_within book i r at, get_or_from_slice_get book i r r at)
 
@@ -90,10 +90,10 @@ module _ (before : StandBefore) (by_due : SlotsByDue) (mode : Mode) (port : Port
       ap (λ (x : Bool). is_clear mode book r && (is_plain mode r.op || x)) slots ∙ sym (ap (λ (b : Bool). b && is_due mode book r) mine)
 
   -- what stands in the way of a request isn't there where the request is clear
-  unheld : (r o : Unanswered) → is_clear mode book o ≡ true → Contains book r → holds_back mode o r ≡ true → ⊥
+  unheld : (r o : Unanswered) → is_clear mode book o ≡ true → Contains book r → waits_for mode o r ≡ true → ⊥
   unheld r o clear h held =
       both_ways _ (not-true _ (and_parts _ _ clear).1)
-      (list_any_at (holds_back mode o) book h.0 r h.1 (ap (holds_back mode o) h.2 ∙ held))
+      (list_any_at (waits_for mode o) book h.0 r h.1 (ap (waits_for mode o) h.2 ∙ held))
 
   -- no later one is due
   pub none_later : (i : ℕ) (r : Unanswered) (given : ℕ) → slice_get book i ≡ Some r → (r.port.0 == port.0) ≡ true → given ≡ count_by (due_test mode port book) (take (i + 1) book)
@@ -105,7 +105,7 @@ module _ (before : StandBefore) (by_due : SlotsByDue) (mode : Mode) (port : Port
       let of_one_port : (r.port.0 == o.port.0) ≡ true = ap (λ (x : Port). r.port.0 == x.0) own ∙ its in
       let first : r.id.0 < o.id.0 = earlier in
       let lt : nat_lt r.id.0 o.id.0 ≡ true = lt-ltb r.id.0 o.id.0 first in
-      let held : holds_back mode o r ≡ true → ⊥ = unheld r o clear.0 (here i r at) in
+      let held : waits_for mode o r ≡ true → ⊥ = unheld r o clear.0 (here i r at) in
       by of_one_port lt held own clear.1 (is_plain mode o.op) refl ends)
     where
       earlier : r.id.0 < o.id.0
@@ -115,14 +115,14 @@ module _ (before : StandBefore) (by_due : SlotsByDue) (mode : Mode) (port : Port
           let q = ap (λ (x : Unanswered). x.id.0) (get_or_from_slice_get book j o r at_j) in
           omega (arith, lt, p, q)
 
-      by : (r.port.0 == o.port.0) ≡ true → nat_lt r.id.0 o.id.0 ≡ true → (holds_back mode o r ≡ true → ⊥) → o.port ≡ port
+      by : (r.port.0 == o.port.0) ≡ true → nat_lt r.id.0 o.id.0 ≡ true → (waits_for mode o r ≡ true → ⊥) → o.port ≡ port
           → (is_plain mode o.op || nat_lt (ahead mode book o) (free_slots mode book o.port)) ≡ true
           → (b : Bool) → is_plain mode o.op ≡ b → (is_plain mode r.op || not (nat_lt given (free_slots mode book port))) ≡ true → ⊥
       by same lt held own slot true plain last =
           held (and_from _ _ same (cond-true (is_plain mode o.op) _ _ plain ∙ or_right r.issued _ lt))
       by same lt held own slot false queued last = ⊎_elim
           (λ (alone : is_plain mode r.op ≡ true).
-          held (and_from _ _ same (cond-false (is_plain mode o.op) _ _ queued ∙ or_right (is_plain mode r.op && r.issued) _ (and_from _ _ lt (or_left (is_plain mode r.op) (conflict r o) alone)))))
+          held (and_from _ _ same (cond-false (is_plain mode o.op) _ _ queued ∙ or_right (is_plain mode r.op && r.issued) _ (and_from _ _ lt (or_left (is_plain mode r.op) (must_keep_order r o) alone)))))
           (λ (spent : not (nat_lt given (free_slots mode book port)) ≡ true).
           let few = ⊎_elim
           (λ (plain : is_plain mode o.op ≡ true). absurd (both_ways _ queued plain))
@@ -138,7 +138,7 @@ module _ (before : StandBefore) (by_due : SlotsByDue) (mode : Mode) (port : Port
 
 -- ---- at a place of the book
 
-module _ (before : StandBefore) (by_due : SlotsByDue) (mode : Mode) (port : Port) (book : List Unanswered) (ordered : IsInOrder book)
+module _ (before : StandBefore) (by_due : SlotsByDue) (mode : QueueMode) (port : Port) (book : List Unanswered) (ordered : IsInOrder book)
     (i : ℕ) (r : Unanswered) (at : slice_get book i ≡ Some r) (mine : (r.port.0 == port.0) ≡ true) (due : List RequestId) (so_far : due ≡ ids_so_far mode port book i) (given free : ℕ)
     (counted : given ≡ length due) (slots : free ≡ free_slots mode book port) where
   many : (n : ℕ) → length (ids_so_far mode port book n) ≡ count_by (due_test mode port book) (take n book)
@@ -171,7 +171,7 @@ module _ (before : StandBefore) (by_due : SlotsByDue) (mode : Mode) (port : Port
   steps_on after false stays is = is ∙ stays_on (sym stays)
 
 -- where the walk ends at this place, it has all
-pub has_all : StandBefore → SlotsByDue → (mode : Mode) (port : Port) (book : List Unanswered) → IsInOrder book → (i : ℕ) (r : Unanswered) → slice_get book i ≡ Some r → (r.port.0 == port.0) ≡ true
+pub has_all : StandBefore → SlotsByDue → (mode : QueueMode) (port : Port) (book : List Unanswered) → IsInOrder book → (i : ℕ) (r : Unanswered) → slice_get book i ≡ Some r → (r.port.0 == port.0) ≡ true
     → (due : List RequestId) → due ≡ ids_so_far mode port book (i + 1) → (given free : ℕ) → given ≡ length due → free ≡ free_slots mode book port
     → end_test mode r given free ≡ true → due ≡ map (λ (x : Unanswered). x.id) (filter (due_test mode port book) book)
 has_all before by_due mode port book ordered i r at mine due so_far given free counted slots ends =
@@ -182,7 +182,7 @@ has_all before by_due mode port book ordered i r at mine due so_far given free c
     many = counted ∙ (ap length so_far ∙ (length-map (filter (due_test mode port book) (take (i + 1) book)) (λ (x : Unanswered). x.id) ∙ length-filter (due_test mode port book) (take (i + 1) book)))
 
 -- a walk that goes on has room for one more
-pub has_room : (mode : Mode) (port : Port) (book : List Unanswered) (r : Unanswered) (given free : ℕ) → free ≡ free_slots mode book port → mode.usable ≤ 32
+pub has_room : (mode : QueueMode) (port : Port) (book : List Unanswered) (r : Unanswered) (given free : ℕ) → free ≡ free_slots mode book port → mode.usable ≤ 32
     → end_test mode r given free ≡ false → given < 32
 has_room mode port book r given free slots small goes_on =
     by (nat_lt given free) refl

@@ -7,20 +7,20 @@ use Rattle.ata_types.specs.declared.request.ClientId.{ClientId}
 use Rattle.ata_types.specs.declared.request.Frame.{Frame}
 use Rattle.ata_types.specs.declared.request.Op.TheVariants.{Flush}
 use Rattle.ata_types.specs.declared.request.RequestId.{RequestId}
-use Rattle.block_machine.specs.declared.due.Mode.{Mode}
+use Rattle.block_machine.specs.declared.due.QueueMode.{QueueMode}
 use Rattle.block_machine.specs.declared.due.Unanswered.{Unanswered}
 use Rattle.block_machine.specs.Due.{due_of}
-use Rattle.block_machine.specs.Rules.{IsCount, frames_for, is_under}
+use Rattle.block_machine.specs.Rules.{IsAllowedCount, frames_for, is_under}
 use Rattle.dma_frames.specs.Table.{Table, owner_of, lent_to}
-use Rattle.request_queue.specs.declared.Entry.{Entry}
+use Rattle.request_queue.specs.declared.PendingRequest.{PendingRequest}
 
 -- an unanswered request, and the frames that are lent to it
 pub record Held : Type 0 where
-  pub entry : Entry
+  pub entry : PendingRequest
   pub frames : List Frame
 
 -- what of a request says which are due
-abbrev pub asks : Entry → Unanswered
+abbrev pub asks : PendingRequest → Unanswered
 asks r = record { id = r.id; port = r.port; op = r.op; range = r.range; issued = r.issued }
 
 -- and the same of each request of a book
@@ -28,7 +28,7 @@ abbrev pub asks_of : List Held → List Unanswered
 asks_of entries = map (λ e. asks e.entry) entries
 
 -- the ids of the port's due requests, in order of acceptance
-abbrev pub due_ids : Mode → Port → List Unanswered → List RequestId
+abbrev pub due_ids : QueueMode → Port → List Unanswered → List RequestId
 due_ids mode port book = map (λ r. r.id) (due_of mode port book)
 
 -- the request has this id
@@ -40,32 +40,32 @@ abbrev pub held_of : RequestId → List Held → Option Held
 held_of id entries = find (has_id id) entries
 
 -- a change of the request with this id alone
-abbrev pub at : RequestId → (Entry → Entry) → Held → Held
-at id change e = if has_id id e then record e { entry = change e.entry } else e
+abbrev pub at_entry : RequestId → (PendingRequest → PendingRequest) → Held → Held
+at_entry id change e = if has_id id e then record e { entry = change e.entry } else e
 
 -- the requests but for the one with this id
-abbrev pub without : RequestId → List Held → List Held
-without id entries = filter (λ e. not (has_id id e)) entries
+abbrev pub without_entry : RequestId → List Held → List Held
+without_entry id entries = filter (λ e. not (has_id id e)) entries
 
 -- the request issued once more, of age 0
-abbrev pub issue : Entry → Entry
+abbrev pub issue : PendingRequest → PendingRequest
 issue r = record r { issued = true; issues = suc r.issues; age = 0 }
 
 -- the request waiting again
-abbrev pub requeued : Entry → Entry
-requeued r = record r { issued = false }
+abbrev pub requeued_entry : PendingRequest → PendingRequest
+requeued_entry r = record r { issued = false }
 
 -- The request a tick older, if it is issued on one of these ports. An age counts to three: what it would be beyond
 -- nobody asks.
-abbrev pub older : (Port → Bool) → Entry → Entry
-older ports r = if r.issued && ports r.port then record r { age = min (suc r.age) 3 } else r
+abbrev pub older_entry : (Port → Bool) → PendingRequest → PendingRequest
+older_entry ports r = if r.issued && ports r.port then record r { age = min (suc r.age) 3 } else r
 
 -- each request a tick older that is issued on one of these ports
 abbrev pub aged : (Port → Bool) → List Held → List Held
-aged ports entries = map (λ (e : Held). record e { entry = older ports e.entry }) entries
+aged ports entries = map (λ (e : Held). record e { entry = older_entry ports e.entry }) entries
 
 -- the request is marked, if it was accepted under this grant of the client: the grant is revoked
-abbrev pub marked_under : ClientId → ℕ → Entry → Entry
+abbrev pub marked_under : ClientId → ℕ → PendingRequest → PendingRequest
 marked_under client grant r = if is_under client grant r.client r.grant then record r { revoked = true } else r
 
 -- each request marked that was accepted under this grant of the client
@@ -74,20 +74,20 @@ all_marked_under client grant entries =
     map (λ (e : Held). record e { entry = marked_under client grant e.entry }) entries
 
 -- the ids of the requests that pass, in order of acceptance
-abbrev pub ids_where : (Entry → Bool) → List Held → List RequestId
+abbrev pub ids_where : (PendingRequest → Bool) → List Held → List RequestId
 ids_where passes entries = map (λ e. e.entry.id) (filter (λ e. passes e.entry) entries)
 
 -- the request is of this port
-abbrev pub is_of : Port → Entry → Bool
+abbrev pub is_of : Port → PendingRequest → Bool
 is_of port r = r.port.0 == port.0
 
 -- the request waits, and was accepted under this grant of the client
-abbrev pub waits_under : ClientId → ℕ → Entry → Bool
+abbrev pub waits_under : ClientId → ℕ → PendingRequest → Bool
 waits_under client grant r = not r.issued && is_under client grant r.client r.grant
 
 -- how many of the requests are a client's
-abbrev pub unanswered_of : List Held → ℕ → ℕ
-unanswered_of entries client = count_by (λ e. e.entry.client.0 == client) entries
+abbrev pub unanswered_entries : List Held → ℕ → ℕ
+unanswered_entries entries client = count_by (λ e. e.entry.client.0 == client) entries
 
 -- the request was accepted before the other
 abbrev pub IsEarlier : Held → Held → Type 0
@@ -107,7 +107,7 @@ MayGoAgain id entries = (e : Held) × Contains entries e × (e.entry.id ≡ id) 
     × (e.entry.issues < 4)
 
 -- it was just accepted
-abbrev pub IsFresh : Entry → Type 0
+abbrev pub IsFresh : PendingRequest → Type 0
 IsFresh r = (r.issued ≡ false) × (r.issues ≡ 0) × (r.age ≡ 0) × (r.revoked ≡ false)
 
 -- the port is one of these
@@ -115,7 +115,7 @@ abbrev pub is_among : List Bool → Port → Bool
 is_among ports port = slice_index_or ports port.0 false
 
 -- the request is an issued one of the port, and three ticks old
-abbrev pub IsOverdueOn : Port → Entry → Type 0
+abbrev pub IsOverdueOn : Port → PendingRequest → Type 0
 IsOverdueOn port r = (r.port ≡ port) × (r.issued ≡ true) × (3 ≤ r.age)
 
 -- an issued request of the port is three ticks old
@@ -127,15 +127,15 @@ abbrev pub IsAnyOverdue : List Held → Type 0
 IsAnyOverdue entries = (port : Port) × IsOverdue port entries
 
 -- A request was issued four times at most; and fewer times where it waits, so that it may be issued.
-abbrev pub HasFewIssues : Entry → Type 0
+abbrev pub HasFewIssues : PendingRequest → Type 0
 HasFewIssues r = (r.issues ≤ 4) × (r.issued ≡ false → r.issues < 4)
 
 -- Requests as a book holds them: their ids rise, each is of a client 1 to 8, no client has more than 16, and each has
 -- few issues. So there are 128 at most.
-pub record IsInOrder (entries : List Held) : Type 0 where
+pub record BookIsInOrder (entries : List Held) : Type 0 where
   pub ordered : AllPairs IsEarlier entries
   pub clients : All (λ e. (1 ≤ e.entry.client.0) × (e.entry.client.0 ≤ 8)) entries
-  pub few : (client : ℕ) → unanswered_of entries client ≤ 16
+  pub few : (client : ℕ) → unanswered_entries entries client ≤ 16
   pub issues : All (λ e. HasFewIssues e.entry) entries
 
 -- An accepted request: of a client 1 to 8, of as many sectors as its operation may have, all of them below 2^48 (a
@@ -143,7 +143,7 @@ pub record IsInOrder (entries : List Held) : Type 0 where
 pub record IsAccepted (table : Table) (held : Held) : Type 0 where
   pub client_from : 1 ≤ held.entry.client.0
   pub client_to : held.entry.client.0 ≤ 8
-  pub sectors : IsCount held.entry.op held.entry.range.count
+  pub sectors : IsAllowedCount held.entry.op held.entry.range.count
   pub below : held.entry.op ≢ Flush → held.entry.range.first.0 + held.entry.range.count ≤ 2 ^ 48
   pub frames : length held.frames ≡ frames_for held.entry.op held.entry.range.count
   pub clients : All (λ frame. DRIVER_FRAMES ≤ frame.0) held.frames
@@ -152,8 +152,8 @@ pub record IsAccepted (table : Table) (held : Held) : Type 0 where
   pub lent : All (λ frame. lent_to table frame ≡ Some held.entry.id) held.frames
 
 -- each of the entry's frames is lent to its request
-abbrev pub Stands : Table → Held → Type 0
-Stands table e = All (λ f. lent_to table f ≡ Some e.entry.id) e.frames
+abbrev pub HasItsFrames : Table → Held → Type 0
+HasItsFrames table e = All (λ f. lent_to table f ≡ Some e.entry.id) e.frames
 
 -- what is lent to these requests is given back: their frames are lent to none, and nothing else changed
 pub record GivesBack (old new : Table) (entries : List Held) : Type 0 where

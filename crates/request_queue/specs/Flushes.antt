@@ -5,12 +5,12 @@ use Rattle.block_machine.specs.declared.due.Unanswered.{Unanswered}
 use Rattle.request_queue.specs.declared.flushes.Flush.{Flush}
 
 -- a flush as it is listed
-abbrev pub flush_of : Unanswered → Flush
-flush_of r = record { id = r.id; port = r.port }
+abbrev pub listed_flush : Unanswered → Flush
+listed_flush r = record { id = r.id; port = r.port }
 
 -- the flushes of the book, in order of acceptance
 abbrev pub flushes_of : List Unanswered → List Flush
-flushes_of book = map flush_of (filter (λ r. is_flush r.op) book)
+flushes_of book = map listed_flush (filter (λ r. is_flush r.op) book)
 
 -- the flush was accepted before the request, on the same port
 abbrev pub is_earlier_flush : Unanswered → Flush → Bool

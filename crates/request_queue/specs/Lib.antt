@@ -2,7 +2,7 @@ pub mod Entries
 pub mod Counts
 pub mod Store
 pub mod Machine
-pub mod Fates
+pub mod Dispositions
 pub mod Sectors
 pub mod Flushes
 pub mod Holders

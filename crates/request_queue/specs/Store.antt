@@ -7,11 +7,11 @@ use Rattle.ata_types.specs.declared.limits.TheConstants.{MOST_UNANSWERED}
 use Rattle.dma_frames.specs.Loan.{Lending}
 use Rattle.block_machine.specs.declared.due.Unanswered.{Unanswered}
 use Rattle.request_queue.specs.Entries.{Held, asks, asks_of}
-use Rattle.request_queue.specs.declared.Entry.{Entry}
+use Rattle.request_queue.specs.declared.PendingRequest.{PendingRequest}
 
--- what an empty key would show; `IsSound` says that none is shown
-abbrev pub blank : Entry
-blank = record {
+-- what an empty key would show; `SlabIsSound` says that none is shown
+abbrev pub blank_entry : PendingRequest
+blank_entry = record {
   id = record { 0 = 0 };
   client = record { 0 = 0 };
   grant = 0;
@@ -30,19 +30,19 @@ frames_of None = []
 frames_of (Some loan) = loan.frames
 
 -- what stands at a key
-abbrev pub held_at : Slab Entry → List (Option Lending) → ℕ → Held
+abbrev pub held_at : Slab PendingRequest → List (Option Lending) → ℕ → Held
 held_at requests loans key = record {
-  entry = unwrap_or (get requests key) blank;
+  entry = unwrap_or (get requests key) blank_entry;
   frames = frames_of (slice_index_or loans key None);
 }
 
 -- the requests in order of acceptance: what contracts see of a store
-abbrev pub entries : Slab Entry → List (Option Lending) → List ℕ → List Held
+abbrev pub entries : Slab PendingRequest → List (Option Lending) → List ℕ → List Held
 entries requests loans order = map (held_at requests loans) order
 
 -- the key has a request, and beside it the loan of that request
-pub record IsKept (requests : Slab Entry) (loans : List (Option Lending)) (key : ℕ) : Type 0 where
-  pub request : Entry
+pub record KeyHasLoan (requests : Slab PendingRequest) (loans : List (Option Lending)) (key : ℕ) : Type 0 where
+  pub request : PendingRequest
   pub loan : Lending
   pub has_request : get requests key ≡ Some request
   pub has_loan : slice_index_or loans key None ≡ Some loan
@@ -50,14 +50,14 @@ pub record IsKept (requests : Slab Entry) (loans : List (Option Lending)) (key :
   pub in_place : key < length loans
 
 -- each key in the order has its request and loan, and no other key has one
-pub record IsSound (requests : Slab Entry) (loans : List (Option Lending)) (order : List ℕ) : Type 0 where
+pub record SlabIsSound (requests : Slab PendingRequest) (loans : List (Option Lending)) (order : List ℕ) : Type 0 where
   pub room : MOST_UNANSWERED ≤ requests.capacity
   pub places : length loans ≡ requests.capacity
   pub count : slab_len requests ≡ length order
   pub distinct : AllPairs (λ (a : ℕ) (b : ℕ). a ≢ b) order
-  pub held : All (IsKept requests loans) order
+  pub held : All (KeyHasLoan requests loans) order
   pub vacant : (key : ℕ) → (Contains order key → ⊥) → (get requests key ≡ None) × (slice_index_or loans key None ≡ None)
 
 -- what of the requests at these places says whether they are due
 abbrev pub asks_at : List Held → List ℕ → List Unanswered
-asks_at held places = map (λ place. slice_index_or (asks_of held) place (asks blank)) places
+asks_at held places = map (λ place. slice_index_or (asks_of held) place (asks blank_entry)) places

@@ -2,23 +2,23 @@
 use Rattle.std.specs.Prelude.{ℕ, ◌≡◌, ◌<◌, Bool, false, ◌&&◌, List, Some, All, count_by, slice_get, slice_index_or}
 use Rattle.std.specs.List.{list_any}
 use Rattle.block_machine.specs.Due.{IsInOrder, is_plain}
-use Rattle.block_machine.specs.declared.due.Mode.{Mode}
+use Rattle.block_machine.specs.declared.due.QueueMode.{QueueMode}
 use Rattle.block_machine.specs.declared.due.Unanswered.{Unanswered}
 use Rattle.request_queue.specs.Holders.{has_holder}
 use Rattle.request_queue.specs.declared.due.Issued.{Issued}
 
 -- the request is issued, and goes alone
-abbrev pub is_issued_alone : Mode → Unanswered → Bool
+abbrev pub is_issued_alone : QueueMode → Unanswered → Bool
 is_issued_alone mode r = is_plain mode r.op && r.issued
 
 -- this is issued of the requests: so many, and whether one of them was issued alone
-abbrev pub IsIssuedOf : Mode → List Unanswered → Issued → Type 0
+abbrev pub IsIssuedOf : QueueMode → List Unanswered → Issued → Type 0
 IsIssuedOf mode requests issued = (issued.count ≡ count_by (λ r. r.issued) requests)
     × (issued.alone ≡ list_any (is_issued_alone mode) requests)
 
 -- The request has this number among those of its port without a holder, in order of acceptance. All before it are
 -- queued, since the walk ends at a plain one.
-pub record IsReached (mode : Mode) (requests : List Unanswered) (number : ℕ) (r : Unanswered) : Type 0 where
+pub record IsReachedInWalk (mode : QueueMode) (requests : List Unanswered) (number : ℕ) (r : Unanswered) : Type 0 where
   pub at : slice_get requests number ≡ Some r
   pub ordered : IsInOrder requests
   pub own : All (λ other. other.port ≡ r.port) requests

@@ -5,17 +5,17 @@ ghost use Rattle.dma_frames.specs.Table.{LendsOnly};
 ghost use Rattle.request_queue.specs.Beside.{AreBeside};
 ghost use Rattle.request_queue.specs.Holders.{AreHolders};
 ghost use Rattle.request_queue.specs.Entries.{due_ids};
-ghost use Rattle.request_queue.specs.Entries.{Held, GivesBack, IsEarlier, IsFresh, IsInOrder, IsUnanswered, IsWaiting, MayGoAgain, Stands, IsAnyOverdue, IsOverdue, IsOverdueOn, aged, asks_of, at, ids_where, is_among, is_of, issue, older, requeued, all_marked_under, marked_under, unanswered_of, waits_under, without};
+ghost use Rattle.request_queue.specs.Entries.{Held, GivesBack, IsEarlier, IsFresh, BookIsInOrder, IsUnanswered, IsWaiting, MayGoAgain, HasItsFrames, IsAnyOverdue, IsOverdue, IsOverdueOn, aged, asks_of, at_entry, ids_where, is_among, is_of, issue, older_entry, requeued_entry, all_marked_under, marked_under, unanswered_entries, waits_under, without_entry};
 
-use crate::Entry;
+use crate::PendingRequest;
 use crate::due::{DueIds, list_due};
 use crate::flushes::{Flush, add_flush, no_flushes, take_flush};
 use crate::holders::{holder_of, no_holders, search_anew};
 use crate::sectors::{add_sectors, no_sectors, take_sectors};
-use crate::store::{Store, asks_of};
+use crate::store::{RequestSlab, asks_of};
 use arrayvec::ArrayVec;
 use ata_types::{ClientId, MOST_UNANSWERED, PORTS, Port, RequestId};
-use block_machine::Mode;
+use block_machine::QueueMode;
 use dma_frames::{FrameTable, Loan};
 use range_index::Ranges;
 use std::alloc::Global;
@@ -34,7 +34,7 @@ pub struct NoMemory;
 /// Unanswered requests of all ports, in order of acceptance. It can't be dropped, as it holds loans: `give_all_back`
 /// ends it.
 pub struct Book {
-    store: Store,
+    store: RequestSlab,
     /// The sectors of the requests, port by port, which tell what conflicts.
     sectors: [Ranges; PORTS],
     /// The flushes of all ports, in order of acceptance. A flush has no sectors, and conflicts all the same.
@@ -49,7 +49,7 @@ impl Model for Book {
     ghost use Rattle.std.specs.Prelude.{List, ◌≡◌, ◌≤◌, vec_capacity};
     ghost use Rattle.ata_types.specs.declared.limits.TheConstants.{MOST_UNANSWERED};
     ghost use Rattle.request_queue.specs.Counts.{AreCounts};
-    ghost use Rattle.request_queue.specs.Entries.{Held, IsInOrder, asks_of};
+    ghost use Rattle.request_queue.specs.Entries.{Held, BookIsInOrder, asks_of};
     ghost use Rattle.request_queue.specs.Flushes.{flushes_of};
     ghost use Rattle.request_queue.specs.Beside.{AreBeside};
     ghost use Rattle.request_queue.specs.Holders.{AreHolders};
@@ -59,7 +59,7 @@ impl Model for Book {
 
     ghost view = { λ b. b.store };
 
-    ghost invariant = { λ b. IsInOrder b.store × AreIndexed (asks_of b.store) b.sectors
+    ghost invariant = { λ b. BookIsInOrder b.store × AreIndexed (asks_of b.store) b.sectors
         × AreHolders (asks_of b.store) b.holders.items × (MOST_UNANSWERED ≤ vec_capacity b.holders)
         × AreCounts b.store b.counts
         × (b.flushes.items ≡ flushes_of (asks_of b.store)) × (MOST_UNANSWERED ≤ vec_capacity b.flushes) };
@@ -80,7 +80,7 @@ impl Book {
         let Ok(holders) = no_holders(alloc) else {
             return Err(NoMemory);
         };
-        match Store::new(alloc) {
+        match RequestSlab::new(alloc) {
             Ok(store) => Ok(Book {
                 store,
                 sectors,
@@ -94,7 +94,7 @@ impl Book {
 
     /// How many of the requests are the client's.
     pub fn unanswered(&self, client: ClientId) -> usize
-        ensures { result ≡ unanswered_of self.now client.0 }
+        ensures { result ≡ unanswered_entries self.now client.0 }
     {
         match self.counts.get(usize::from(client.0)) {
             Some(count) => *count,
@@ -105,11 +105,11 @@ impl Book {
     /// Puts a request last, with its loan. It stands in its caller's code: a loan has room for the frames of the
     /// longest request, and is copied once less there.
     #[inline(always)]
-    pub fn accept(&mut self, request: Entry, loan: Loan)
+    pub fn accept(&mut self, request: PendingRequest, loan: Loan)
         requires newest { All (λ e. e.entry.id.0 < request.id.0) self.old }
         requires fresh { IsFresh request }
         requires client { (1 ≤ request.client.0) × (request.client.0 ≤ 8) }
-        requires few { unanswered_of self.old request.client.0 < 16 }
+        requires few { unanswered_entries self.old request.client.0 < 16 }
         requires id { loan.request ≡ request.id }
         ensures { self.new ≡ self.old ++ record { entry = request; frames = loan.frames } ∷ [] }
     {
@@ -125,7 +125,7 @@ impl Book {
     /// Makes the caller's list that of the due requests of a port that takes commands in this mode, in order of
     /// acceptance: of their ids. A request that was answered and whose frames stay lent takes none of the slots that
     /// are counted: its port is dead.
-    pub fn issuable(&self, mode: Mode, port: Port, due: &mut DueIds)
+    pub fn issuable(&self, mode: QueueMode, port: Port, due: &mut DueIds)
         requires { mode.usable ≤ 32 }
         ensures { due.new.items ≡ due_ids mode port (asks_of self.now) }
     {
@@ -134,7 +134,7 @@ impl Book {
     }
 
     /// An unanswered request, and how far it is.
-    pub fn request(&self, id: RequestId) -> Entry
+    pub fn request(&self, id: RequestId) -> PendingRequest
         requires { IsUnanswered id self.now }
         ensures { (e : Held) × Contains self.now e × (e.entry ≡ result) × (result.id ≡ id) }
     {
@@ -168,13 +168,13 @@ impl Book {
     /// Notes that a waiting request is issued.
     pub fn issue(&mut self, id: RequestId)
         requires { IsWaiting id self.old }
-        ensures { self.new ≡ map (at id issue) self.old }
+        ensures { self.new ≡ map (at_entry id issue) self.old }
     {
         let place = place_of(&self.store, id);
         let old = self.store.request(place);
         self.store.replace(
             place,
-            Entry {
+            PendingRequest {
                 issued: true,
                 issues: old.issues + 1,
                 age: 0,
@@ -187,13 +187,13 @@ impl Book {
     /// Notes that a request which was issued fewer than four times waits again, in its old place and with its loan.
     pub fn requeue(&mut self, id: RequestId)
         requires { MayGoAgain id self.old }
-        ensures { self.new ≡ map (at id requeued) self.old }
+        ensures { self.new ≡ map (at_entry id requeued_entry) self.old }
     {
         let place = place_of(&self.store, id);
         let old = self.store.request(place);
         self.store.replace(
             place,
-            Entry {
+            PendingRequest {
                 issued: false,
                 ..old
             },
@@ -209,7 +209,7 @@ impl Book {
     /// Notes a tick: the issued requests of these ports, by number, are a tick older. An age counts to three and no
     /// further. It tells whether an issued request is overdue then, of whichever port.
     pub fn tick(&mut self, ports: &[bool]) -> bool
-        ensures older { self.new ≡ aged (is_among ports.now) self.old }
+        ensures older_entry { self.new ≡ aged (is_among ports.now) self.old }
         ensures overdue { IsTrue result ↔ IsAnyOverdue self.new }
     {
         age(&mut self.store, self.holders.as_slice(), ports)
@@ -236,11 +236,11 @@ impl Book {
 
     /// Takes a request out; the others stay in their order. It stands in its callers' code, as `accept` does.
     #[inline(always)]
-    pub fn answer(&mut self, id: RequestId) -> (Entry, Loan)
+    pub fn answer(&mut self, id: RequestId) -> (PendingRequest, Loan)
         requires { IsUnanswered id self.old }
         ensures entry { Contains self.old (record { entry = result.0; frames = result.1.frames }) }
         ensures id { (result.0.id ≡ id) × (result.1.request ≡ id) }
-        ensures rest { self.new ≡ without id self.old }
+        ensures rest { self.new ≡ without_entry id self.old }
     {
         let place = place_of(&self.store, id);
         take_beside(
@@ -255,12 +255,12 @@ impl Book {
     }
 
     /// Takes a request out, and gives back what was lent to it; the others stay in their order. So no loan is moved.
-    pub fn release(&mut self, id: RequestId, table: &mut FrameTable) -> Entry
+    pub fn release(&mut self, id: RequestId, table: &mut FrameTable) -> PendingRequest
         requires unanswered { IsUnanswered id self.old }
-        requires stands { All (Stands table.old) self.old }
+        requires stands { All (HasItsFrames table.old) self.old }
         ensures entry { (e : Held) × Contains self.old e × (e.entry ≡ result) × (result.id ≡ id)
             × LendsOnly table.old table.new e.frames None }
-        ensures rest { self.new ≡ without id self.old }
+        ensures rest { self.new ≡ without_entry id self.old }
     {
         let place = place_of(&self.store, id);
         take_beside(
@@ -276,7 +276,7 @@ impl Book {
 
     /// Ends the book: what it has lent is given back.
     pub fn give_all_back(self, table: &mut FrameTable)
-        requires { All (Stands table.old) self }
+        requires { All (HasItsFrames table.old) self }
         ensures { GivesBack table.old table.new self }
     {
         let Book {
@@ -292,7 +292,7 @@ impl Book {
 
 /// The place of a request. The last one is looked at first, as it was just accepted mostly. Ids rise from place to
 /// place, so half of those that are left fall away at a time.
-fn place_of(store: &Store, id: RequestId) -> usize
+fn place_of(store: &RequestSlab, id: RequestId) -> usize
     requires ordered { AllPairs IsEarlier store.now }
     requires unanswered { IsUnanswered id store.now }
     ensures { (e : Held) × (slice_get store.now result ≡ Some e) × (e.entry.id ≡ id) }
@@ -320,11 +320,11 @@ fn take_beside(
     flushes: &mut Vec<Flush>,
     holders: &mut Vec<Option<RequestId>>,
     counts: &mut [usize; COUNTS],
-    store: &Store,
+    store: &RequestSlab,
     place: usize,
 )
     requires place { place < length store.now }
-    requires ordered { IsInOrder store.now }
+    requires ordered { BookIsInOrder store.now }
     requires beside { AreBeside store.now sectors.old flushes.old.items holders.old.items counts.old }
     ensures beside { AreBeside (remove store.now place) sectors.new flushes.new.items holders.new.items counts.new }
     ensures flushes { vec_capacity flushes.new ≡ vec_capacity flushes.old }
@@ -345,7 +345,7 @@ fn take_beside(
     counts[usize::from(request.client.0)] -= 1;
 }
 
-fn ids_of(store: &Store, port: Port) -> ArrayVec<RequestId, MOST_UNANSWERED>
+fn ids_of(store: &RequestSlab, port: Port) -> ArrayVec<RequestId, MOST_UNANSWERED>
     requires { length store.now ≤ MOST_UNANSWERED }
     ensures { result.items ≡ ids_where (is_of port) store.now }
 {
@@ -359,7 +359,11 @@ fn ids_of(store: &Store, port: Port) -> ArrayVec<RequestId, MOST_UNANSWERED>
     ids
 }
 
-fn waiting_of(store: &Store, client: ClientId, grant: u8) -> ArrayVec<RequestId, MOST_UNANSWERED>
+fn waiting_of(
+    store: &RequestSlab,
+    client: ClientId,
+    grant: u8,
+) -> ArrayVec<RequestId, MOST_UNANSWERED>
     requires { length store.now ≤ MOST_UNANSWERED }
     ensures { result.items ≡ ids_where (waits_under client grant) store.now }
 {
@@ -373,14 +377,14 @@ fn waiting_of(store: &Store, client: ClientId, grant: u8) -> ArrayVec<RequestId,
     ids
 }
 
-fn waits_under(request: Entry, client: ClientId, grant: u8) -> bool
+fn waits_under(request: PendingRequest, client: ClientId, grant: u8) -> bool
     ensures { result ≡ waits_under client grant request }
 {
     !request.issued && is_under(request, client, grant)
 }
 
 /// Whether the request was accepted under this grant of the client.
-fn is_under(request: Entry, client: ClientId, grant: u8) -> bool
+fn is_under(request: PendingRequest, client: ClientId, grant: u8) -> bool
     ensures { result ≡ is_under client grant request.client request.grant }
 {
     request.client.0 == client.0 && request.grant == grant
@@ -388,9 +392,9 @@ fn is_under(request: Entry, client: ClientId, grant: u8) -> bool
 
 /// Makes the issued requests of these ports a tick older, and tells whether one is overdue then. Those that have a
 /// holder wait, and aren't looked at.
-fn age(store: &mut Store, holders: &[Option<RequestId>], ports: &[bool]) -> bool
+fn age(store: &mut RequestSlab, holders: &[Option<RequestId>], ports: &[bool]) -> bool
     requires holders { AreHolders (asks_of store.old) holders.now }
-    ensures older { store.new ≡ aged (is_among ports.now) store.old }
+    ensures older_entry { store.new ≡ aged (is_among ports.now) store.old }
     ensures overdue { IsTrue result ↔ IsAnyOverdue store.new }
 {
     let mut overdue = false;
@@ -398,7 +402,7 @@ fn age(store: &mut Store, holders: &[Option<RequestId>], ports: &[bool]) -> bool
         if holders[place].is_none() {
             let request = store.request(place);
             if request.issued {
-                let grown = older(request, ports);
+                let grown = older_entry(request, ports);
                 store.replace(place, grown);
                 overdue |= grown.age >= OVERDUE;
             }
@@ -408,7 +412,7 @@ fn age(store: &mut Store, holders: &[Option<RequestId>], ports: &[bool]) -> bool
 }
 
 /// Marks the requests that were accepted under this grant of the client.
-fn mark(store: &mut Store, client: ClientId, grant: u8)
+fn mark(store: &mut RequestSlab, client: ClientId, grant: u8)
     ensures { store.new ≡ all_marked_under client grant store.old }
 {
     for place in 0..store.len() {
@@ -418,11 +422,11 @@ fn mark(store: &mut Store, client: ClientId, grant: u8)
 }
 
 /// The request, marked if it was accepted under this grant of the client.
-fn revoked(request: Entry, client: ClientId, grant: u8) -> Entry
+fn revoked(request: PendingRequest, client: ClientId, grant: u8) -> PendingRequest
     ensures { result ≡ marked_under client grant request }
 {
     if is_under(request, client, grant) {
-        Entry {
+        PendingRequest {
             revoked: true,
             ..request
         }
@@ -432,11 +436,11 @@ fn revoked(request: Entry, client: ClientId, grant: u8) -> Entry
 }
 
 /// The request a tick older, if it is issued on one of these ports.
-fn older(request: Entry, ports: &[bool]) -> Entry
-    ensures { result ≡ older (is_among ports.now) request }
+fn older_entry(request: PendingRequest, ports: &[bool]) -> PendingRequest
+    ensures { result ≡ older_entry (is_among ports.now) request }
 {
     if request.issued && is_among(ports, request.port) {
-        Entry {
+        PendingRequest {
             age: request.age.saturating_add(1).min(OVERDUE),
             ..request
         }
@@ -445,7 +449,7 @@ fn older(request: Entry, ports: &[bool]) -> Entry
     }
 }
 
-fn is_overdue(request: Entry, port: Port) -> bool
+fn is_overdue(request: PendingRequest, port: Port) -> bool
     ensures { IsTrue result ↔ IsOverdueOn port request }
 {
     request.issued && request.port == port && request.age >= OVERDUE
@@ -461,8 +465,8 @@ fn is_among(ports: &[bool], port: Port) -> bool
 }
 
 /// Gives back what was lent to the requests.
-fn give_back(store: Store, table: &mut FrameTable)
-    requires stands { All (Stands table.old) store }
+fn give_back(store: RequestSlab, table: &mut FrameTable)
+    requires stands { All (HasItsFrames table.old) store }
     requires ordered { AllPairs IsEarlier store }
     ensures { GivesBack table.old table.new store }
 {

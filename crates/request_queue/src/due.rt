@@ -4,14 +4,14 @@ ghost use Rattle.block_machine.specs.Due as machine;
 ghost use Rattle.block_machine.specs.declared.due.Unanswered.{Unanswered};
 ghost use Rattle.request_queue.specs.Entries.{asks_of, due_ids};
 ghost use Rattle.request_queue.specs.Holders.{AreHolders, unheld};
-ghost use Rattle.request_queue.specs.Walk.{IsIssuedOf, IsReached, is_issued_alone};
+ghost use Rattle.request_queue.specs.Walk.{IsIssuedOf, IsReachedInWalk, is_issued_alone};
 ghost use Rattle.request_queue.specs.Store.{asks_at};
 
-use crate::store::Store;
+use crate::store::RequestSlab;
 use arrayvec::ArrayVec;
 use ata_types::{MOST_UNANSWERED, Port, RequestId, SLOTS};
-use block_machine::laws::{earlier_ones_stand_before, slots_by_due};
-use block_machine::{Mode, Unanswered, is_plain};
+use block_machine::laws::{law_earlier_ones_stand_before, law_slots_by_due};
+use block_machine::{QueueMode, Unanswered, is_plain};
 
 /// Ids of due requests: no more than a port has slots.
 pub type DueIds = ArrayVec<RequestId, SLOTS>;
@@ -30,9 +30,9 @@ struct Issued {
 /// requests without a holder, and one walk over these, which counts the slots that it gives away, and ends where no
 /// later request can be due.
 pub fn list_due(
-    store: &Store,
+    store: &RequestSlab,
     holders: &[Option<RequestId>],
-    mode: Mode,
+    mode: QueueMode,
     port: Port,
     due: &mut DueIds,
 )
@@ -43,8 +43,8 @@ pub fn list_due(
     requires empty { due.old.items ≡ [] }
     ensures { due.new.items ≡ due_ids mode port (asks_of store.now) }
 {
-    earlier_ones_stand_before();
-    slots_by_due();
+    law_earlier_ones_stand_before();
+    law_slots_by_due();
     let mut places = ArrayVec::new();
     let issued = find_unheld(store, holders, mode, port, &mut places);
     let free = free_slots(mode, issued.count);
@@ -62,9 +62,9 @@ pub fn list_due(
 
 /// Lists the places of the port's requests without a holder, and tells what of these is issued.
 fn find_unheld(
-    store: &Store,
+    store: &RequestSlab,
     holders: &[Option<RequestId>],
-    mode: Mode,
+    mode: QueueMode,
     port: Port,
     places: &mut Places,
 ) -> Issued
@@ -100,7 +100,7 @@ fn slots_of(asks: &Unanswered) -> usize
 }
 
 /// What of the request at the place with this number says whether it is due.
-fn nth(store: &Store, places: &Places, number: usize) -> Unanswered
+fn nth(store: &RequestSlab, places: &Places, number: usize) -> Unanswered
     requires within { All (λ place. place < length store.now) places.now.items }
     requires number { number < length places.now.items }
     ensures { slice_get (asks_at store.now places.now.items) number ≡ Some result }
@@ -109,28 +109,28 @@ fn nth(store: &Store, places: &Places, number: usize) -> Unanswered
 }
 
 /// Whether the request goes, if it is clear to go, where so many slots are free and so many of them are given away.
-fn goes(mode: Mode, asks: &Unanswered, clear: bool, given: usize, free: usize) -> bool
+fn goes(mode: QueueMode, asks: &Unanswered, clear: bool, given: usize, free: usize) -> bool
     ensures { result ≡ (clear && (machine.is_plain mode asks.now.op || nat_lt given free)) }
 {
     clear && (is_plain(mode, asks.op) || given < free)
 }
 
 /// Whether none after this one goes: where this one is plain, those of its port wait for it, and else no slot is left.
-fn ends(mode: Mode, asks: &Unanswered, given: usize, free: usize) -> bool
+fn ends(mode: QueueMode, asks: &Unanswered, given: usize, free: usize) -> bool
     ensures { result ≡ (machine.is_plain mode asks.now.op || not (nat_lt given free)) }
 {
     is_plain(mode, asks.op) || !(given < free)
 }
 
 /// Whether the request is issued, and goes alone.
-fn is_issued_alone(mode: Mode, asks: &Unanswered) -> bool
+fn is_issued_alone(mode: QueueMode, asks: &Unanswered) -> bool
     ensures { result ≡ is_issued_alone mode asks.now }
 {
     is_plain(mode, asks.op) && asks.issued
 }
 
 /// How many usable slots are free, where so many are taken.
-fn free_slots(mode: Mode, issued: usize) -> usize
+fn free_slots(mode: QueueMode, issued: usize) -> usize
     ensures { result ≡ mode.usable - issued }
 {
     (mode.usable as usize).saturating_sub(issued)
@@ -139,8 +139,8 @@ fn free_slots(mode: Mode, issued: usize) -> usize
 /// Whether the request waits, and nothing stands in its way. It has this number among those of its port without a
 /// holder, all before it are queued, and this is issued of them. A plain one waits for all that are issued and all
 /// before it, a queued one for what is issued alone.
-fn is_clear(mode: Mode, asks: &Unanswered, number: usize, issued: Issued) -> bool
-    ensures { (requests : List Unanswered) → IsReached mode requests number asks.now
+fn is_clear(mode: QueueMode, asks: &Unanswered, number: usize, issued: Issued) -> bool
+    ensures { (requests : List Unanswered) → IsReachedInWalk mode requests number asks.now
         → IsIssuedOf mode requests issued → result ≡ machine.is_clear mode requests asks.now }
 {
     if asks.issued {

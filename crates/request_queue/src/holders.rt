@@ -8,7 +8,7 @@ ghost use Rattle.request_queue.specs.Sectors.{AreIndexed};
 
 use crate::flushes::{Flush, earlier_flush};
 use crate::sectors::{index_of_port, item_of};
-use crate::store::Store;
+use crate::store::RequestSlab;
 use ata_types::{MOST_UNANSWERED, Op, PORTS, RequestId};
 use block_machine::Unanswered;
 use range_index::Ranges;
@@ -47,7 +47,7 @@ pub fn search_anew(
     holders: &mut Vec<Option<RequestId>>,
     sectors: &[Ranges; PORTS],
     flushes: &[Flush],
-    store: &Store,
+    store: &RequestSlab,
     place: usize,
     answered: RequestId,
 )

@@ -6,50 +6,51 @@ ghost use Rattle.ata_types.specs.declared.request.Frame.{Frame};
 ghost use Rattle.ata_types.specs.declared.request.Outcome.{Outcome};
 ghost use Rattle.ata_types.specs.declared.request.Reply.{Reply};
 ghost use Rattle.ata_types.specs.declared.request.RequestId.{RequestId};
-ghost use Rattle.block_machine.specs.Due.{AreDueInTurn, IsDue, IsInOrder as machine_in_order, with_issued, with_none, with_waiting};
+ghost use Rattle.block_machine.specs.Due.{AreAllDueInOrder, IsDue, IsInOrder, with_issued, without_request, with_waiting};
 ghost use Rattle.block_machine.specs.State.{Machine, unanswered};
 ghost use Rattle.block_machine.specs.State as machine;
 ghost use Rattle.block_machine.specs.Steps as steps;
-ghost use Rattle.block_machine.specs.declared.due.Mode.{Mode};
+ghost use Rattle.block_machine.specs.declared.due.QueueMode.{QueueMode};
 ghost use Rattle.block_machine.specs.declared.due.Unanswered.{Unanswered};
 ghost use Rattle.dma_frames.specs.Table.{Table, LendsOnly, lent_to};
-ghost use Rattle.request_queue.specs.Entries.{Held, IsAccepted, IsEarlier, IsFresh, IsInOrder, IsUnanswered, IsWaiting, MayGoAgain, Stands, aged, asks_of, at, due_ids, held_of, issue, requeued, all_marked_under, unanswered_of, without};
-ghost use Rattle.request_queue.specs.Fates.{AnswersAll, Holdings, MeetFates, keeps_loan};
+ghost use Rattle.request_queue.specs.Entries.{Held, IsAccepted, IsEarlier, IsFresh, BookIsInOrder, IsUnanswered, IsWaiting, MayGoAgain, HasItsFrames, aged, asks_of, at_entry, due_ids, held_of, issue, requeued_entry, all_marked_under, unanswered_entries, without_entry};
+ghost use Rattle.request_queue.specs.Dispositions.{AnswersAlike, Holdings, AreResolved, quarantines_loan};
 ghost use Rattle.request_queue.specs.Machine.{IsBook, IsEntry};
-ghost use Rattle.request_queue.specs.declared.Entry.{Entry};
-ghost use Rattle.request_queue.specs.declared.fate.Fate.TheVariants.{Ends};
+ghost use Rattle.request_queue.specs.declared.PendingRequest.{PendingRequest};
+ghost use Rattle.request_queue.specs.declared.disposition.Disposition.TheVariants.{Complete};
 
 use ata_types::MOST_UNANSWERED;
-use block_machine::laws::{due_in_turn, due_is_exact};
+use block_machine::laws::{law_due_in_turn, law_due_is_exact};
 
 /// Where the machine's book is the book, the machine's due requests are the book's.
-pub fn the_machines_due()
+pub fn law_the_machines_due()
     ensures book { (entries : List Held) (pending : List machine.Pending) → IsBook entries pending
         → map unanswered pending ≡ asks_of entries }
-    ensures sound { (mode : Mode) (port : Port) (entries : List Held) (pending : List machine.Pending) (id : RequestId)
+    ensures sound { (mode : QueueMode) (port : Port) (entries : List Held) (pending : List machine.Pending)
+        (id : RequestId)
         → IsBook entries pending → Contains (due_ids mode port (asks_of entries)) id
         → (p : machine.Pending) × Contains pending p × (p.request.id ≡ id) × (p.request.port ≡ port)
         × IsDue mode (map unanswered pending) (unanswered p) }
-    ensures complete { (mode : Mode) (port : Port) (entries : List Held) (pending : List machine.Pending)
+    ensures complete { (mode : QueueMode) (port : Port) (entries : List Held) (pending : List machine.Pending)
         (p : machine.Pending)
         → IsBook entries pending → p.request.port ≡ port → IsDue mode (map unanswered pending) (unanswered p)
         → Contains (due_ids mode port (asks_of entries)) p.request.id }
 {
-    due_is_exact();
+    law_due_is_exact();
 }
 
 /// Each step of the machine on requests is a change of the book, or leaves it.
-pub fn steps_change_the_book()
+pub fn law_steps_change_the_book()
     ensures accept { (entries : List Held) (m : Machine) (e : Held) (r : machine.Accepted) → IsBook entries m.book
         → IsEntry e (steps.newly_accepted r)
         → IsBook (entries ++ e ∷ []) (steps.after_step m (steps.Accept r)).book }
-    ensures issue { (entries : List Held) (m : Machine) (mode : Mode) (p : machine.Pending) → IsBook entries m.book
-        → IsBook (map (at p.request.id issue) entries) (steps.after_step m (steps.Issue mode p)).book }
+    ensures issue { (entries : List Held) (m : Machine) (mode : QueueMode) (p : machine.Pending) → IsBook entries m.book
+        → IsBook (map (at_entry p.request.id issue) entries) (steps.after_step m (steps.Issue mode p)).book }
     ensures again { (entries : List Held) (m : Machine) (p : machine.Pending) → IsBook entries m.book
-        → IsBook (map (at p.request.id requeued) entries) (steps.after_step m (steps.Again p)).book }
+        → IsBook (map (at_entry p.request.id requeued_entry) entries) (steps.after_step m (steps.Again p)).book }
     ensures answer { (entries : List Held) (m : Machine) (p : machine.Pending) (outcome : Outcome)
         → IsBook entries m.book
-        → IsBook (without p.request.id entries) (steps.after_step m (steps.Answer p outcome)).book }
+        → IsBook (without_entry p.request.id entries) (steps.after_step m (steps.Answer p outcome)).book }
     ensures age { (entries : List Held) (m : Machine) (ports : Port → Bool) → IsBook entries m.book
         → IsBook (aged ports entries) (steps.after_step m (steps.Age ports)).book }
     ensures revoke { (entries : List Held) (m : Machine) (client : ClientId) (grant : ℕ) → IsBook entries m.book
@@ -61,22 +62,23 @@ pub fn steps_change_the_book()
 {}
 
 /// A client has as many requests in the machine's book.
-pub fn clients_have_as_many()
+pub fn law_clients_have_as_many()
     ensures { (entries : List Held) (pending : List machine.Pending) (client : ClientId) → IsBook entries pending
-        → steps.unanswered_of pending client ≡ unanswered_of entries client.0 }
+        → steps.unanswered_of pending client ≡ unanswered_entries entries client.0 }
 {}
 
 /// A due request of the book waits, so that it may be issued; and what the book's operations leave of what says which
 /// are due.
-pub fn operations_change_what_is_due()
-    ensures waits { (mode : Mode) (entries : List Held) (r : Unanswered) → IsDue mode (asks_of entries) r
+pub fn law_operations_change_what_is_due()
+    ensures waits { (mode : QueueMode) (entries : List Held) (r : Unanswered) → IsDue mode (asks_of entries) r
         → IsWaiting r.id entries }
-    ensures issue { (entries : List Held) (id : RequestId) → asks_of (map (at id issue) entries)
+    ensures issue { (entries : List Held) (id : RequestId) → asks_of (map (at_entry id issue) entries)
         ≡ with_issued id (asks_of entries) }
-    ensures requeue { (entries : List Held) (id : RequestId) → asks_of (map (at id requeued) entries) ≡ with_waiting id
+    ensures requeue { (entries : List Held) (id : RequestId)
+        → asks_of (map (at_entry id requeued_entry) entries) ≡ with_waiting id
         (asks_of entries) }
     ensures answer { (entries : List Held) (id : RequestId)
-        → asks_of (without id entries) ≡ with_none id (asks_of entries) }
+        → asks_of (without_entry id entries) ≡ without_request id (asks_of entries) }
     ensures tick { (entries : List Held) (ports : Port → Bool) → asks_of (aged ports entries) ≡ asks_of entries }
     ensures revoked { (entries : List Held) (client : ClientId) (grant : ℕ)
         → asks_of (all_marked_under client grant entries) ≡ asks_of entries }
@@ -84,18 +86,18 @@ pub fn operations_change_what_is_due()
 
 /// The due requests of a port may be issued one after the other: each of them waits when its turn comes; and then none
 /// is due.
-pub fn due_requests_go_in_turn()
-    ensures first { (mode : Mode) (port : Port) (entries : List Held) → IsInOrder entries
-        → AreDueInTurn mode port (due_ids mode port (asks_of entries)) (asks_of entries) }
-    ensures next { (mode : Mode) (port : Port) (id : RequestId) (ids : List RequestId) (entries : List Held)
-        → AreDueInTurn mode port (id ∷ ids) (asks_of entries)
-        → IsWaiting id entries × AreDueInTurn mode port ids (asks_of (map (at id issue) entries)) }
+pub fn law_due_requests_go_in_turn()
+    ensures first { (mode : QueueMode) (port : Port) (entries : List Held) → BookIsInOrder entries
+        → AreAllDueInOrder mode port (due_ids mode port (asks_of entries)) (asks_of entries) }
+    ensures next { (mode : QueueMode) (port : Port) (id : RequestId) (ids : List RequestId) (entries : List Held)
+        → AreAllDueInOrder mode port (id ∷ ids) (asks_of entries)
+        → IsWaiting id entries × AreAllDueInOrder mode port ids (asks_of (map (at_entry id issue) entries)) }
 {
-    due_in_turn();
+    law_due_in_turn();
 }
 
 /// Each request of the one book stands in the other.
-pub fn books_have_the_same_requests()
+pub fn law_books_have_the_same_requests()
     ensures held { (entries : List Held) (pending : List machine.Pending) (e : Held) → IsBook entries pending
         → Contains entries e → (p : machine.Pending) × Contains pending p × IsEntry e p }
     ensures pending { (entries : List Held) (pending : List machine.Pending) (p : machine.Pending)
@@ -103,10 +105,10 @@ pub fn books_have_the_same_requests()
 {}
 
 /// In a book in order an id is one request's, and the request is found by it.
-pub fn an_id_is_one_request()
-    ensures one { (entries : List Held) (a b : Held) → IsInOrder entries → Contains entries a → Contains entries b
+pub fn law_an_id_is_one_request()
+    ensures one { (entries : List Held) (a b : Held) → BookIsInOrder entries → Contains entries a → Contains entries b
         → a.entry.id ≡ b.entry.id → a ≡ b }
-    ensures found { (entries : List Held) (e : Held) → IsInOrder entries → Contains entries e
+    ensures found { (entries : List Held) (e : Held) → BookIsInOrder entries → Contains entries e
         → held_of e.entry.id entries ≡ Some e }
     ensures some { (entries : List Held) (id : RequestId) (e : Held) → held_of id entries ≡ Some e
         → Contains entries e × (e.entry.id ≡ id) }
@@ -114,37 +116,43 @@ pub fn an_id_is_one_request()
 {}
 
 /// What a change of the request with an id leaves of the requests, and what its answer does.
-pub fn operations_change_one_request()
-    ensures changed { (entries : List Held) (id : RequestId) (change : Entry → Entry) (e : Held) → Contains entries e
-        → e.entry.id ≡ id → Contains (map (at id change) entries) (record e { entry = change e.entry }) }
-    ensures others { (entries : List Held) (id : RequestId) (change : Entry → Entry) (e : Held) → Contains entries e
-        → e.entry.id ≢ id → Contains (map (at id change) entries) e }
-    ensures only { (entries : List Held) (id : RequestId) (change : Entry → Entry) (e : Held)
-        → Contains (map (at id change) entries) e → (old : Held) × Contains entries old × (e ≡ at id change old) }
+pub fn law_operations_change_one_request()
+    ensures changed { (entries : List Held) (id : RequestId) (change : PendingRequest → PendingRequest) (e : Held)
+        → Contains entries e
+        → e.entry.id ≡ id → Contains (map (at_entry id change) entries) (record e { entry = change e.entry }) }
+    ensures others { (entries : List Held) (id : RequestId) (change : PendingRequest → PendingRequest) (e : Held)
+        → Contains entries e
+        → e.entry.id ≢ id → Contains (map (at_entry id change) entries) e }
+    ensures only { (entries : List Held) (id : RequestId) (change : PendingRequest → PendingRequest) (e : Held)
+        → Contains (map (at_entry id change) entries) e → (old : Held) × Contains entries old
+        × (e ≡ at_entry id change old) }
     ensures answered { (entries : List Held) (id : RequestId) (e : Held)
-        → Contains (without id entries) e ↔ (Contains entries e × (e.entry.id ≢ id)) }
+        → Contains (without_entry id entries) e ↔ (Contains entries e × (e.entry.id ≢ id)) }
 {}
 
 /// A book stays in order as requests are accepted, issued, wait again, get older and are answered. It has 128 at most.
-pub fn the_book_stays_in_order()
-    ensures accepted { (entries : List Held) (e : Held) → IsInOrder entries → All (λ x. IsEarlier x e) entries
-        → IsFresh e.entry → 1 ≤ e.entry.client.0 → e.entry.client.0 ≤ 8 → unanswered_of entries e.entry.client.0 < 16
-        → IsInOrder (entries ++ e ∷ []) }
-    ensures issued { (entries : List Held) (id : RequestId) → IsInOrder entries → IsWaiting id entries
-        → IsInOrder (map (at id issue) entries) }
-    ensures requeued { (entries : List Held) (id : RequestId) → IsInOrder entries → MayGoAgain id entries
-        → IsInOrder (map (at id requeued) entries) }
-    ensures older { (entries : List Held) (ports : Port → Bool) → IsInOrder entries → IsInOrder (aged ports entries) }
-    ensures revoked { (entries : List Held) (client : ClientId) (grant : ℕ) → IsInOrder entries
-        → IsInOrder (all_marked_under client grant entries) }
-    ensures answered { (entries : List Held) (id : RequestId) → IsInOrder entries → IsInOrder (without id entries) }
-    ensures all { (entries : List Held) → IsInOrder entries → length entries ≤ MOST_UNANSWERED }
-    ensures asks { (entries : List Held) → IsInOrder entries → machine_in_order (asks_of entries) }
+pub fn law_the_book_stays_in_order()
+    ensures accepted { (entries : List Held) (e : Held) → BookIsInOrder entries → All (λ x. IsEarlier x e) entries
+        → IsFresh e.entry → 1 ≤ e.entry.client.0 → e.entry.client.0 ≤ 8
+        → unanswered_entries entries e.entry.client.0 < 16
+        → BookIsInOrder (entries ++ e ∷ []) }
+    ensures issued { (entries : List Held) (id : RequestId) → BookIsInOrder entries → IsWaiting id entries
+        → BookIsInOrder (map (at_entry id issue) entries) }
+    ensures requeued { (entries : List Held) (id : RequestId) → BookIsInOrder entries → MayGoAgain id entries
+        → BookIsInOrder (map (at_entry id requeued_entry) entries) }
+    ensures older_entry { (entries : List Held) (ports : Port → Bool) → BookIsInOrder entries
+        → BookIsInOrder (aged ports entries) }
+    ensures revoked { (entries : List Held) (client : ClientId) (grant : ℕ) → BookIsInOrder entries
+        → BookIsInOrder (all_marked_under client grant entries) }
+    ensures answered { (entries : List Held) (id : RequestId) → BookIsInOrder entries
+        → BookIsInOrder (without_entry id entries) }
+    ensures all { (entries : List Held) → BookIsInOrder entries → length entries ≤ MOST_UNANSWERED }
+    ensures asks { (entries : List Held) → BookIsInOrder entries → IsInOrder (asks_of entries) }
 {}
 
 /// Accepted requests stay so while frames of none of their own change hands: as another request's frames are lent to it
 /// or given back. No frame is lent to two of them.
-pub fn accepted_requests_stay()
+pub fn law_accepted_requests_stay()
     ensures apart { (table : Table) (a b : Held) → a.entry.id ≢ b.entry.id → IsAccepted table a → IsAccepted table b
         → (f : Frame) → Contains a.frames f → Contains b.frames f → ⊥ }
     ensures one { (old new : Table) (frames : List Frame) (to : Option RequestId) (e : Held)
@@ -155,30 +163,32 @@ pub fn accepted_requests_stay()
         → All (IsAccepted new) entries }
     ensures answered { (old new : Table) (entries : List Held) (e : Held) → Contains entries e
         → LendsOnly old new e.frames None → All (IsAccepted old) entries
-        → All (IsAccepted new) (without e.entry.id entries) }
+        → All (IsAccepted new) (without_entry e.entry.id entries) }
     ensures issued { (table : Table) (entries : List Held) (id : RequestId)
-        → All (IsAccepted table) entries → All (IsAccepted table) (map (at id issue) entries) }
+        → All (IsAccepted table) entries → All (IsAccepted table) (map (at_entry id issue) entries) }
     ensures requeued { (table : Table) (entries : List Held) (id : RequestId)
-        → All (IsAccepted table) entries → All (IsAccepted table) (map (at id requeued) entries) }
-    ensures older { (table : Table) (entries : List Held) (ports : Port → Bool)
+        → All (IsAccepted table) entries → All (IsAccepted table) (map (at_entry id requeued_entry) entries) }
+    ensures older_entry { (table : Table) (entries : List Held) (ports : Port → Bool)
         → All (IsAccepted table) entries → All (IsAccepted table) (aged ports entries) }
     ensures revoked { (table : Table) (entries : List Held) (client : ClientId) (grant : ℕ)
         → All (IsAccepted table) entries → All (IsAccepted table) (all_marked_under client grant entries) }
     ensures stand { (table : Table) (entries : List Held) → All (IsAccepted table) entries
-        → All (Stands table) entries }
+        → All (HasItsFrames table) entries }
 {}
 
 /// Where the requests of a book that pass a test are answered one after another, all with one outcome at which no loan
 /// is kept, the others are left, and what was lent to those is given back. And where that is so, it may have come about
 /// so, to a table that has the same lent.
-pub fn answers_of_one_outcome_are_one_change()
-    ensures at_once { (passes : Entry → Bool) (outcome : Outcome) → ((e : Entry) → keeps_loan outcome e ≡ false)
-        → (old : Holdings) → IsInOrder old.book → All (IsAccepted old.table) old.book → (replies : List Reply)
-        (new : Holdings) → MeetFates (λ e. Ends outcome) (filter (λ e. passes e.entry) old.book) replies old new
-        → AnswersAll passes outcome replies old new }
-    ensures one_by_one { (passes : Entry → Bool) (outcome : Outcome) → ((e : Entry) → keeps_loan outcome e ≡ false)
-        → (old : Holdings) → IsInOrder old.book → All (IsAccepted old.table) old.book → (replies : List Reply)
-        (new : Holdings) → AnswersAll passes outcome replies old new
-        → (now : Holdings) × MeetFates (λ e. Ends outcome) (filter (λ e. passes e.entry) old.book) replies old now
+pub fn law_answers_of_one_outcome_are_one_change()
+    ensures at_once { (passes : PendingRequest → Bool) (outcome : Outcome)
+        → ((e : PendingRequest) → quarantines_loan outcome e ≡ false)
+        → (old : Holdings) → BookIsInOrder old.book → All (IsAccepted old.table) old.book → (replies : List Reply)
+        (new : Holdings) → AreResolved (λ e. Complete outcome) (filter (λ e. passes e.entry) old.book) replies old new
+        → AnswersAlike passes outcome replies old new }
+    ensures one_by_one { (passes : PendingRequest → Bool) (outcome : Outcome)
+        → ((e : PendingRequest) → quarantines_loan outcome e ≡ false)
+        → (old : Holdings) → BookIsInOrder old.book → All (IsAccepted old.table) old.book → (replies : List Reply)
+        (new : Holdings) → AnswersAlike passes outcome replies old new
+        → (now : Holdings) × AreResolved (λ e. Complete outcome) (filter (λ e. passes e.entry) old.book) replies old now
         × (now.book ≡ new.book) × (now.kept ≡ new.kept) × LendsOnly now.table new.table [] None }
 {}

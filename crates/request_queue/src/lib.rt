@@ -1,14 +1,14 @@
 //! The book of unanswered requests of all ports, in order of acceptance, with their loans.
 //!
 //! A request is named by its id, and `new` alone takes memory. `issuable` gives the due requests of
-//! a port, which may be issued one after the other. `fate` says what becomes of a request once its
+//! a port, which may be issued one after the other. `disposition` says what becomes of a request once its
 //! port was stopped. Laws tie the book to the block machine's, step by step. It knows no register,
 //! and counts slots without their numbers. It holds loans, so `give_all_back` alone ends it.
 #![tactic(auto)]
 
 mod book;
+mod disposition;
 mod due;
-mod fate;
 mod flushes;
 mod holders;
 pub mod laws;
@@ -17,12 +17,12 @@ mod store;
 
 use ata_types::{ClientId, Op, Port, Range, RequestId};
 pub use book::{Book, NoMemory};
+pub use disposition::{Disposition, FailedRequest, Revalidation};
 pub use due::DueIds;
-pub use fate::{Failed, Fate, Prospect};
 
 /// An unanswered request, and how far it is.
 #[derive(Clone, Copy, Debug, Default, PartialEq, Eq)]
-pub struct Entry {
+pub struct PendingRequest {
     pub id: RequestId,
     pub client: ClientId,
     /// The number of the client's grant that it was accepted under.

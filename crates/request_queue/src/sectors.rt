@@ -4,7 +4,7 @@ ghost use Rattle.block_machine.specs.Due as machine;
 ghost use Rattle.request_queue.specs.Entries.{asks_of};
 ghost use Rattle.request_queue.specs.Sectors.{AreIndexed, item_of, index_of_port};
 
-use crate::store::Store;
+use crate::store::RequestSlab;
 use ata_types::{MOST_UNANSWERED, Op, PORTS, Port};
 use block_machine::{Unanswered, is_writer};
 use range_index::{Item, Ranges};
@@ -23,7 +23,7 @@ pub fn no_sectors(alloc: Global) -> Result<[Ranges; PORTS], AllocError>
 }
 
 /// Puts the sectors of a request into its port's list, before the request is put into the store.
-pub fn add_sectors(sectors: &mut [Ranges; PORTS], store: &Store, request: &Unanswered)
+pub fn add_sectors(sectors: &mut [Ranges; PORTS], store: &RequestSlab, request: &Unanswered)
     requires indexed { AreIndexed (asks_of store.now) sectors.old }
     requires room { length store.now < MOST_UNANSWERED }
     requires newest { All (λ r. r.id.0 < request.now.id.0) (asks_of store.now) }
@@ -37,7 +37,7 @@ pub fn add_sectors(sectors: &mut [Ranges; PORTS], store: &Store, request: &Unans
 }
 
 /// Takes the sectors of the request at a place out of its port's list, before the request is taken out of the store.
-pub fn take_sectors(sectors: &mut [Ranges; PORTS], store: &Store, place: usize)
+pub fn take_sectors(sectors: &mut [Ranges; PORTS], store: &RequestSlab, place: usize)
     requires indexed { AreIndexed (asks_of store.now) sectors.old }
     requires ordered { machine.IsInOrder (asks_of store.now) }
     requires place { place < length store.now }

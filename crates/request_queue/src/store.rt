@@ -1,9 +1,9 @@
 // Where the requests stand: in a slab, their loans beside it at their keys, and the keys in order of acceptance.
 ghost use Rattle.std.specs.Prelude.{◌≡◌, ◌<◌, ◌≤◌, ◌++◌, ◌∷◌, [], length, map, replicate, remove, slice_get, slice_set, All, IfOk, IfSome, None, Some};
 ghost use Rattle.dma_frames.specs.Table.{LendsOnly};
-ghost use Rattle.request_queue.specs.Entries.{Held, Stands, asks, asks_of};
+ghost use Rattle.request_queue.specs.Entries.{Held, HasItsFrames, asks, asks_of};
 
-use crate::Entry;
+use crate::PendingRequest;
 use ata_types::MOST_UNANSWERED;
 use block_machine::Unanswered;
 use dma_frames::{FrameTable, Loan};
@@ -13,27 +13,27 @@ use std::marker::Model;
 use std::mem;
 
 /// Requests with their loans, each at its place.
-pub struct Store {
-    requests: Slab<Entry>,
+pub struct RequestSlab {
+    requests: Slab<PendingRequest>,
     loans: Vec<Option<Loan>>,
     order: Vec<usize>,
 }
 
-impl Model for Store {
+impl Model for RequestSlab {
     ghost use Rattle.std.specs.Prelude.{List, ◌≤◌, length, vec_capacity};
     ghost use Rattle.ata_types.specs.declared.limits.TheConstants.{MOST_UNANSWERED};
     ghost use Rattle.request_queue.specs.Entries.{Held};
-    ghost use Rattle.request_queue.specs.Store.{entries, IsSound};
+    ghost use Rattle.request_queue.specs.Store.{entries, SlabIsSound};
 
     ghost Value = { List Held };
 
     ghost view = { λ s. entries s.requests s.loans.items s.order.items };
 
-    ghost invariant = { λ s. IsSound s.requests s.loans.items s.order.items
+    ghost invariant = { λ s. SlabIsSound s.requests s.loans.items s.order.items
         × (MOST_UNANSWERED ≤ vec_capacity s.order) };
 }
 
-impl Store {
+impl RequestSlab {
     /// A store of no requests, with room for 128. Nothing else takes memory.
     pub fn new(alloc: Global) -> Result<Self, AllocError>
         ensures { IfOk result (λ store. store ≡ []) }
@@ -41,7 +41,7 @@ impl Store {
         let requests = Slab::with_capacity(alloc, MOST_UNANSWERED)?;
         let order = Vec::with_capacity(alloc, MOST_UNANSWERED)?;
         let loans = no_loans(alloc, requests.capacity())?;
-        Ok(Store {
+        Ok(RequestSlab {
             requests,
             loans,
             order,
@@ -56,7 +56,7 @@ impl Store {
     }
 
     /// The request at this place.
-    pub fn request(&self, place: usize) -> Entry
+    pub fn request(&self, place: usize) -> PendingRequest
         requires { place < length self.now }
         ensures { slice_get (map (λ e. e.entry) self.now) place ≡ Some result }
     {
@@ -77,7 +77,7 @@ impl Store {
 
     /// Puts a request last, with its loan. It stands in its caller's code, as `Book::accept` does.
     #[inline(always)]
-    pub fn push(&mut self, request: Entry, loan: Loan)
+    pub fn push(&mut self, request: PendingRequest, loan: Loan)
         requires room { length self.old < MOST_UNANSWERED }
         requires id { loan.request ≡ request.id }
         ensures { self.new ≡ self.old ++ record { entry = request; frames = loan.frames } ∷ [] }
@@ -92,7 +92,7 @@ impl Store {
 
     /// Takes out the request at this place, with its loan. It stands in its callers' code, as `Book::accept` does.
     #[inline(always)]
-    pub fn remove(&mut self, place: usize) -> (Entry, Loan)
+    pub fn remove(&mut self, place: usize) -> (PendingRequest, Loan)
         requires { place < length self.old }
         ensures entry { slice_get self.old place ≡ Some (record { entry = result.0; frames = result.1.frames }) }
         ensures id { result.1.request ≡ result.0.id }
@@ -107,9 +107,9 @@ impl Store {
     }
 
     /// Takes out the request at this place, and gives back what was lent to it.
-    pub fn release(&mut self, place: usize, table: &mut FrameTable) -> Entry
+    pub fn release(&mut self, place: usize, table: &mut FrameTable) -> PendingRequest
         requires within { place < length self.old }
-        requires stands { All (Stands table.old) self.old }
+        requires stands { All (HasItsFrames table.old) self.old }
         ensures entry { (e : Held) × (slice_get self.old place ≡ Some e) × (e.entry ≡ result)
             × LendsOnly table.old table.new e.frames None }
         ensures rest { self.new ≡ remove self.old place }
@@ -124,7 +124,7 @@ impl Store {
     }
 
     /// Puts another state of the same request in its place.
-    pub fn replace(&mut self, place: usize, request: Entry)
+    pub fn replace(&mut self, place: usize, request: PendingRequest)
         requires within { place < length self.old }
         requires same_id { IfSome (slice_get self.old place) (λ old. request.id ≡ old.entry.id) }
         ensures { (e : Held) × (slice_get self.old place ≡ Some e)
@@ -146,7 +146,7 @@ impl Store {
     pub fn end(self)
         requires { self ≡ [] }
     {
-        let Store {
+        let RequestSlab {
             requests: _,
             loans,
             order: _,
@@ -163,7 +163,7 @@ impl Store {
 }
 
 /// What of a request says whether it is due.
-pub fn asks_of(entry: Entry) -> Unanswered
+pub fn asks_of(entry: PendingRequest) -> Unanswered
     ensures { result ≡ asks entry }
 {
     Unanswered {

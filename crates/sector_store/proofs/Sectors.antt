@@ -2,7 +2,7 @@
 use Rattle.std.proofs.Common.{ℕ, zero, suc, ◌≡◌, ◌<◌, List, [], length, slice_index_or, replicate, refl, inl, inr, arith, get_or-set_same, get_or-set_other}
 use Rattle.std.specs.Prelude.{slice_set}
 use Rattle.std.proofs.lemmas.Bool.Decides.{eqb_tells}
-use Rattle.sector_store.specs.Stores.{HoldSectors, IsSector, replaced}
+use Rattle.sector_store.specs.Stores.{HoldSectors, IsStoredSector, replaced}
 
 -- one sector replaced
 pub sectors_set : (xs : List (List ℕ)) (p : ℕ) (new : List ℕ) → p < length xs →
@@ -22,8 +22,8 @@ each_same P x d zero k here lt = absurd (omega arith)
 each_same P x d (suc n) zero here lt = here
 each_same P x d (suc n) (suc k) here lt = each_same P x d n k here (omega arith)
 
-pub zero_sector : IsSector (replicate 512 0)
+pub zero_sector : IsStoredSector (replicate 512 0)
 zero_sector = (refl, λ k d lt. each_same (λ b. b < 256) 0 d 512 k (omega arith) lt)
 
 pub hold_zeros : (n : ℕ) → HoldSectors (replicate n (replicate 512 0))
-hold_zeros n = λ k lt. each_same IsSector (replicate 512 0) [] n k zero_sector lt
+hold_zeros n = λ k lt. each_same IsStoredSector (replicate 512 0) [] n k zero_sector lt

@@ -3,15 +3,15 @@ use Rattle.std.proofs.Common.{ℕ, ◌≡◌, ◌≢◌, ◌<◌, ◌≤◌, inl
 use Rattle.std.proofs.lemmas.List.{get_or-replicate, length-set}
 use Rattle.std.proofs.lemmas.List.Sums.{sum_by-set}
 use Rattle.std.specs.Prelude.{slice_set}
-use Rattle.sector_store.specs.Pages.{IsLogPage, IsPage, IsWord, error_logged, status_logged, tag_logged, word}
+use Rattle.sector_store.specs.Pages.{IsLogPage, IsPage, IsWord, error_logged, status_logged, tag_logged, word_text}
 use Rattle.sector_store.specs.declared.pages.Abilities.{Abilities}
-use Rattle.sector_store.specs.declared.pages.FailedCommand.{FailedCommand}
+use Rattle.sector_store.specs.declared.pages.LoggedError.{LoggedError}
 
 -- a page with one word written
 abbrev pub with_word : List ℕ → ℕ → ℕ → List ℕ
 with_word page n w = slice_set (slice_set page (2 * n) (w % 256)) (2 * n + 1) (w / 256)
 
-pub word_written : (page : List ℕ) (n w : ℕ) → 2 * n + 1 < length page → word (with_word page n w) n ≡ w
+pub word_written : (page : List ℕ) (n w : ℕ) → 2 * n + 1 < length page → word_text (with_word page n w) n ≡ w
 word_written page n w small =
     let low = get_or-set_other (slice_set page (2 * n) (w % 256)) (2 * n + 1) (2 * n) (w / 256) 0 (λ e. absurd (omega (arith, e))) in
     let first = get_or-set_same page (2 * n) (w % 256) 0 (omega (arith, small)) in
@@ -24,7 +24,7 @@ byte_stays : (page : List ℕ) (n w k : ℕ) → k ≢ 2 * n → k ≢ 2 * n + 1
 byte_stays page n w k low high =
     get_or-set_other (slice_set page (2 * n) (w % 256)) (2 * n + 1) k (w / 256) 0 high ∙ get_or-set_other page (2 * n) k (w % 256) 0 low
 
-pub word_stays : (page : List ℕ) (n w k : ℕ) → k < n → word (with_word page n w) k ≡ word page k
+pub word_stays : (page : List ℕ) (n w k : ℕ) → k < n → word_text (with_word page n w) k ≡ word_text page k
 word_stays page n w k less =
     let low = byte_stays page n w (2 * k) (λ e. absurd (omega (arith, e, less))) (λ e. absurd (omega (arith, e, less))) in
     let high = byte_stays page n w (2 * k + 1) (λ e. absurd (omega (arith, e, less))) (λ e. absurd (omega (arith, e, less))) in
@@ -59,7 +59,7 @@ sum_set : (xs : List ℕ) (p v : ℕ) → p < length xs → sum (slice_set xs p 
 sum_set xs p v small = sum_by-set (λ (n : ℕ). n) xs p v 0 small
 
 module _ (serial : List ℕ) (sectors : ℕ) (a : Abilities) (page : List ℕ) (size : length page ≡ 512) (last : slice_index page 511 ≡ 0)
-    (words : (number : ℕ) → number < 255 → IsWord serial sectors a number (word page number)) where
+    (words : (number : ℕ) → number < 255 → IsWord serial sectors a number (word_text page number)) where
   abbrev signed_page : List ℕ
   signed_page = slice_set page 510 0xa5
 
@@ -78,7 +78,7 @@ module _ (serial : List ℕ) (sectors : ℕ) (a : Abilities) (page : List ℕ) (
         words = λ number less.
             let low = same (2 * number) (omega (arith, less)) in
             let high = same (2 * number + 1) (omega (arith, less)) in
-            let is : word page number ≡ word (slice_set signed_page 511 byte) number = omega (arith, low, high) in
+            let is : word_text page number ≡ word_text (slice_set signed_page 511 byte) number = omega (arith, low, high) in
             subst (λ w. IsWord serial sectors a number w) is (words number less);
         signed = get_or-set_other signed_page 511 510 byte 0 (λ e. absurd (omega (arith, e))) ∙ get_or-set_same page 510 0xa5 0 (omega (arith, size));
         checked =
@@ -107,7 +107,7 @@ module _ (tag status error : ℕ) where
       ∙ (get_or-set_other (replicate 512 0) 0 k tag 0 no_tag ∙ get_or-replicate 512 k 0 0 small))
 
   -- the page is done with a last byte that makes its sum 0
-  pub log_is : (failed : Option FailedCommand) (byte : ℕ) → tag ≡ tag_logged failed → status ≡ status_logged failed → error ≡ error_logged failed →
+  pub log_is : (failed : Option LoggedError) (byte : ℕ) → tag ≡ tag_logged failed → status ≡ status_logged failed → error ≡ error_logged failed →
       (byte + sum named_page) % 256 ≡ 0 → IsLogPage failed (slice_set named_page 511 byte)
   log_is failed byte its_tag its_status its_error zero_sum =
       let same : (k : ℕ) → k < 511 → slice_index (slice_set named_page 511 byte) k ≡ slice_index named_page k =

@@ -2,12 +2,12 @@
 -- that of log 10h, which READ LOG EXT brings (ACS-3, A.14).
 use Rattle.std.specs.Prelude.{ℕ, ◌≡◌, ◌≢◌, ◌+◌, ◌-◌, ◌*◌, ◌/◌, ◌%◌, ◌^◌, ◌<◌, ◌≤◌, ◌⊎◌, List, Option, None, Some, if◌then◌else◌, length, sum, slice_index, slice_index_or}
 use Rattle.sector_store.specs.declared.pages.Abilities.{Abilities}
-use Rattle.sector_store.specs.declared.pages.FailedCommand.{FailedCommand}
+use Rattle.sector_store.specs.declared.pages.LoggedError.{LoggedError}
 use Rattle.sector_store.specs.declared.pages.Trim.{Trim}
 use Rattle.sector_store.specs.declared.pages.Trim.TheVariants.{Full, Weak, Without}
 
-abbrev pub word : List ℕ → ℕ → ℕ
-word page number = slice_index page (2 * number) + 2 ^ 8 * slice_index page (2 * number + 1)
+abbrev pub word_text : List ℕ → ℕ → ℕ
+word_text page number = slice_index page (2 * number) + 2 ^ 8 * slice_index page (2 * number + 1)
 
 -- a character of a text that is filled with spaces
 abbrev pub character : List ℕ → ℕ → ℕ
@@ -45,26 +45,26 @@ pub record IsWord (serial : List ℕ) (sectors : ℕ) (a : Abilities) (number w 
 -- all bytes sum to 0 modulo 256.
 pub record IsPage (serial : List ℕ) (sectors : ℕ) (a : Abilities) (page : List ℕ) : Type 0 where
   pub size : length page ≡ 512
-  pub words : (number : ℕ) → number < 255 → IsWord serial sectors a number (word page number)
+  pub words : (number : ℕ) → number < 255 → IsWord serial sectors a number (word_text page number)
   pub signed : slice_index page 510 ≡ 0xa5
   pub checked : sum page % 2 ^ 8 ≡ 0
 
 -- NQ or the tag, the status, and the error of the queued command that failed, where one did
-abbrev pub tag_logged : Option FailedCommand → ℕ
+abbrev pub tag_logged : Option LoggedError → ℕ
 tag_logged None = 0x80
 tag_logged (Some failed) = failed.tag
 
-abbrev pub status_logged : Option FailedCommand → ℕ
+abbrev pub status_logged : Option LoggedError → ℕ
 status_logged None = 0
 status_logged (Some failed) = 0x41
 
-abbrev pub error_logged : Option FailedCommand → ℕ
+abbrev pub error_logged : Option LoggedError → ℕ
 error_logged None = 0
 error_logged (Some failed) = failed.error
 
 -- The page of log 10h: byte 0 has NQ, or the tag, byte 2 the status and byte 3 the error. All bytes sum to 0 modulo
 -- 256, by the last of them; the others are zero.
-pub record IsLogPage (failed : Option FailedCommand) (page : List ℕ) : Type 0 where
+pub record IsLogPage (failed : Option LoggedError) (page : List ℕ) : Type 0 where
   pub size : length page ≡ 512
   pub tag : slice_index page 0 ≡ tag_logged failed
   pub status : slice_index page 2 ≡ status_logged failed

@@ -1,23 +1,23 @@
 // A disk over a file or in memory.
 ghost use Rattle.std.specs.Prelude.{◌≡◌};
-ghost use Rattle.sector_store.specs.declared.disks.Disk.TheVariants.{File, Memory};
-ghost use Rattle.sector_store.specs.Disks.{failures_of, size_of, told_of};
+ghost use Rattle.sector_store.specs.declared.disks.DiskStore.TheVariants.{File, Memory};
+ghost use Rattle.sector_store.specs.Disks.{io_errors_of, size_of, told_of};
 
 use crate::{FileStore, MemStore, SectorStore};
 
 /// The sectors of a file, or sectors in memory. Those in memory are told, and no call on one of them fails.
 #[derive(Drop)]
-pub enum Disk {
+pub enum DiskStore {
     File(FileStore),
     Memory(MemStore),
 }
 
-impl SectorStore for Disk {
+impl SectorStore for DiskStore {
     ghost size = { size_of };
 
     ghost told = { told_of };
 
-    ghost failures = { failures_of };
+    ghost failures = { io_errors_of };
 
     ghost tells_sectors = { elim [ File file ↦ tt | Memory memory ↦ memory.are_sectors ] };
 
@@ -25,22 +25,22 @@ impl SectorStore for Disk {
 
     fn sectors(&self) -> u64 {
         match self {
-            Disk::File(file) => file.sectors(),
-            Disk::Memory(memory) => memory.sectors(),
+            DiskStore::File(file) => file.sectors(),
+            DiskStore::Memory(memory) => memory.sectors(),
         }
     }
 
     fn read(&mut self, sector: u64, out: &mut [u8; 512]) -> bool {
         match self {
-            Disk::File(file) => file.read(sector, out),
-            Disk::Memory(memory) => memory.read(sector, out),
+            DiskStore::File(file) => file.read(sector, out),
+            DiskStore::Memory(memory) => memory.read(sector, out),
         }
     }
 
     fn write(&mut self, sector: u64, bytes: &[u8; 512]) -> bool {
         match self {
-            Disk::File(file) => file.write(sector, bytes),
-            Disk::Memory(memory) => memory.write(sector, bytes),
+            DiskStore::File(file) => file.write(sector, bytes),
+            DiskStore::Memory(memory) => memory.write(sector, bytes),
         }
     }
 }

@@ -1,6 +1,6 @@
 // A disk over an open file.
 ghost use Rattle.std.specs.Prelude.{◌≡◌, ◌<◌, ◌≤◌, ◌*◌, ◌/◌, ◌^◌, Some, None, true, false};
-ghost use Rattle.sector_store.specs.Stores.{FailsOn, IsSector};
+ghost use Rattle.sector_store.specs.Stores.{FailsOn, IsStoredSector};
 
 use crate::{Failures, SectorStore};
 use std::fs::{File, Files, OpenOptions, TryLockError};
@@ -89,7 +89,7 @@ impl FileStore {
 
 /// Copies the bytes of a sector.
 fn copy(bytes: &[u8; 512], out: &mut [u8; 512])
-    ensures { IsSector out.new }
+    ensures { IsStoredSector out.new }
 {
     out.copy_from_slice(bytes);
 }

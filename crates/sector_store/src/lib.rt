@@ -10,6 +10,6 @@ mod file;
 pub mod pages;
 mod store;
 
-pub use disks::Disk;
+pub use disks::DiskStore;
 pub use file::FileStore;
 pub use store::{Failures, MemStore, SectorStore};

@@ -1,7 +1,7 @@
 // The pages by which a disk says what it is, and which queued command failed.
 ghost use Rattle.std.specs.Prelude.{◌≡◌, ◌<◌, ◌≤◌, ◌%◌, All, length, sum};
 ghost use Rattle.sector_store.specs.Pages.{IsLogPage, IsPage, IsWord, character, error_logged, status_logged, tag_logged, trim_function, trim_support};
-ghost use Rattle.sector_store.specs.Stores.{IsSector};
+ghost use Rattle.sector_store.specs.Stores.{IsStoredSector};
 
 /// What a disk says of DATA SET MANAGEMENT with TRIM.
 #[derive(Clone, Copy, Debug, Default, PartialEq, Eq)]
@@ -27,7 +27,7 @@ pub struct Abilities {
 
 /// A queued command that failed.
 #[derive(Clone, Copy, Debug, PartialEq, Eq)]
-pub struct FailedCommand {
+pub struct LoggedError {
     /// Its slot.
     pub tag: u8,
     /// The error that it ended with.
@@ -118,7 +118,7 @@ fn sum_of(page: &[u8]) -> u8
 pub fn identify_page(serial: &[u8], sectors: u64, abilities: Abilities) -> [u8; 512]
     requires { length serial.now ≤ 20 }
     ensures page { IsPage serial.now sectors abilities result }
-    ensures bytes { IsSector result }
+    ensures bytes { IsStoredSector result }
 {
     let mut page = [0; 512];
     for number in 0..FILLED_WORDS {
@@ -132,7 +132,7 @@ pub fn identify_page(serial: &[u8], sectors: u64, abilities: Abilities) -> [u8; 
 }
 
 /// Byte 0 of the log: NQ, or the tag of the command that failed.
-fn log_tag(failed: Option<FailedCommand>) -> u8
+fn log_tag(failed: Option<LoggedError>) -> u8
     ensures { result ≡ tag_logged failed }
 {
     match failed {
@@ -142,14 +142,14 @@ fn log_tag(failed: Option<FailedCommand>) -> u8
 }
 
 /// Its status there, in byte 2.
-fn log_status(failed: Option<FailedCommand>) -> u8
+fn log_status(failed: Option<LoggedError>) -> u8
     ensures { result ≡ status_logged failed }
 {
     if failed.is_some() { FAILED_STATUS } else { 0 }
 }
 
 /// Its error there, in byte 3.
-fn log_error(failed: Option<FailedCommand>) -> u8
+fn log_error(failed: Option<LoggedError>) -> u8
     ensures { result ≡ error_logged failed }
 {
     match failed {
@@ -159,9 +159,9 @@ fn log_error(failed: Option<FailedCommand>) -> u8
 }
 
 /// The page that READ LOG EXT brings of log 10h (ACS-3, A.14): it names the queued command that failed, or none.
-pub fn log_page(failed: Option<FailedCommand>) -> [u8; 512]
+pub fn log_page(failed: Option<LoggedError>) -> [u8; 512]
     ensures page { IsLogPage failed result }
-    ensures bytes { IsSector result }
+    ensures bytes { IsStoredSector result }
 {
     let mut log = [0; 512];
     log[0] = log_tag(failed);

@@ -1,6 +1,6 @@
 // Stores of sectors of 512 bytes.
 ghost use Rattle.std.specs.Prelude.{◌≡◌, ◌<◌, ◌≤◌, ◌⊎◌, ◌^◌, ℕ, List, Option, None, Some, IfSome, IfOk, option_map, replicate, true, false, length, slice_index_or, []};
-ghost use Rattle.sector_store.specs.Stores.{AreSectors, FailsOn, HoldSectors, IsSector, replaced};
+ghost use Rattle.sector_store.specs.Stores.{AreSectors, FailsOn, HoldSectors, IsStoredSector, replaced};
 ghost use Rattle.sector_store.specs.declared.store.Failures.{Failures};
 
 use std::alloc::{AllocError, Global};
@@ -37,7 +37,7 @@ pub trait SectorStore: Drop {
     fn read(&mut self, sector: u64, out: &mut [u8; 512]) -> bool
         ensures inside { result ≡ true → sector < size self.old }
         ensures gives { result ≡ true → IfSome (told self.old) (λ told. out.new ≡ told sector) }
-        ensures bytes { result ≡ true → IsSector out.new }
+        ensures bytes { result ≡ true → IsStoredSector out.new }
         ensures kept { result ≡ false → out.new ≡ out.old }
         ensures serves { (result ≡ true) ⊎ (size self.old ≤ sector) → failures self.new ≡ failures self.old }
         ensures fails { result ≡ false → sector < size self.old

@@ -5,16 +5,16 @@ use Rattle.std.proofs.lemmas.Bool.{and_from}
 use Rattle.std.proofs.lemmas.Bool.Decides.{eqb_tells, leb_tells}
 use Rattle.std.proofs.lemmas.List.{length-replicate}
 use Rattle.std.proofs.lemmas.List.Elements.{All-replicate}
-use Rattle.sector_store.specs.Stores.{IsSector, replaced}
+use Rattle.sector_store.specs.Stores.{IsStoredSector, replaced}
 use Rattle.server_examples.specs.Numbered.{numbered}
 
-same_bytes : (byte : ℕ) → byte < 256 → IsSector (replicate 512 byte)
+same_bytes : (byte : ℕ) → byte < 256 → IsStoredSector (replicate 512 byte)
 same_bytes byte small = (length-replicate 512 byte, All-replicate (λ b. b < 256) 512 byte small)
 
-pub numbered_sector : (first next k : ℕ) → IsSector (numbered first next k)
+pub numbered_sector : (first next k : ℕ) → IsStoredSector (numbered first next k)
 numbered_sector first next k = by (nat_le first k && nat_lt k next)
   where
-    by : (b : Bool) → IsSector (if b then replicate 512 0 else replicate 512 (k % 256))
+    by : (b : Bool) → IsStoredSector (if b then replicate 512 0 else replicate 512 (k % 256))
     by true = same_bytes 0 (omega arith)
     by false = same_bytes (k % 256) (omega arith)
 

@@ -25,18 +25,18 @@ use Rattle.adapter.specs.Memory.{changed}
 use Rattle.adapter.specs.declared.access.DeviceStep.{DeviceStep}
 use Rattle.adapter.specs.declared.access.DeviceStep.TheVariants.{Hold, Fatal}
 use Rattle.adapter.specs.declared.access.FatalError.TheVariants.{Interface, HostBus}
-use Rattle.block_machine.specs.Events.{Event as Call, Ask, Moment, Submit as AskSubmit, StoreAt, Service as AskService, Reset as AskReset, State as AskState, Device as AskDevice, Submitted, Stored, Served, WasReset, Shown, Stepped, AllDevices, EveryReadHolds, IsAnswered, IsIssuedIn, IsRun, IsStillStuck, StaysStuck, answers_of, issues_it, reply_of, moment_after, moment_of, replies_of, steps_of}
+use Rattle.block_machine.specs.Events.{CallRecord, Ask, AbstractState, Submit as AskSubmit, StoreAt, Service as AskService, Reset as AskReset, State as AskState, Device as AskDevice, Submitted, Stored, Served, WasReset, Shown, Stepped, AllDevices, EveryReadHolds, IsAnswered, IsIssuedIn, IsRun, IsStillStuck, StaysStuck, answers_of, issues_it, reply_of, moment_after, moment_of, replies_of, steps_of}
 use Rattle.block_machine.specs.Events as machine
-use Rattle.block_machine.specs.Histories.{Happening, Instant, events_of}
+use Rattle.block_machine.specs.Histories.{Happening, JointState, events_of}
 use Rattle.block_machine.specs.Left.{after}
 use Rattle.block_machine.specs.State.{Accepted, Pending, Machine}
 use Rattle.block_machine.specs.Steps.{Step, Touch, End, Unplug, Replace, Answer, Release}
 use Rattle.driver_history.specs.Evidence.{ShowsFailure}
-use Rattle.driver_history.specs.Histories.{CameBy, IsHistory}
+use Rattle.driver_history.specs.Histories.{CameBy, IsDriverHistory}
 use Rattle.identify.specs.declared.wanted.Wanted.{Wanted}
 use Rattle.machine_runs.specs.Told.{AsksFor, CameFrom, WasAsked, waits_again}
-use Rattle.server_history.specs.Histories.{HasBegun, Leads}
-use Rattle.server_history.specs.Server.{Server}
+use Rattle.server_history.specs.Histories.{HasBegun, LeadsToServer}
+use Rattle.server_history.specs.Server.{ServerState}
 use Rattle.block_server.specs.Promise.{RunsAsPromised}
 use Rattle.block_server.specs.Running.{ask_of, said_of}
 use Rattle.block_server.specs.View.{ServerView, server_of}
@@ -57,19 +57,19 @@ has_run device old new events before after promised empty begun telling =
       begun = begun.1;
       past = kept.added;
       calls = kept.clients.calls;
-      leads = subst (λ (past : List (Happening Device DeviceStep)). Leads begun.0 past (server_of device new)) whole kept.driver.leads;
+      leads = subst (λ (past : List (Happening Device DeviceStep)). LeadsToServer begun.0 past (server_of device new)) whole kept.driver.leads;
       run = subst (λ (past : List (Happening Device DeviceStep)). IsRun begun.0.moment (events_of past)) whole kept.clients.run;
       reads = subst (λ (past : List (Happening Device DeviceStep)). EveryReadHolds begun.0.moment (events_of past)) whole
           (kept.clients.reads (ap (λ (d : Device). d.telling) begun.1.stands.device_is ∙ telling));
     })
 
 -- what calls asked and said
-abbrev asks_of : List Event → List Said → List (Ask DeviceStep × machine.Said)
+abbrev asks_of : List Event → List Said → List (Ask DeviceStep × machine.CallResult)
 asks_of (event ∷ events) (one ∷ more) = (ask_of event, said_of one) ∷ asks_of events more
 asks_of _ _ = []
 
 -- a history has grown by calls that asked and said this
-abbrev Grows : List (Happening Device DeviceStep) → List (Ask DeviceStep × machine.Said) → List (Happening Device DeviceStep) → Type 0
+abbrev Grows : List (Happening Device DeviceStep) → List (Ask DeviceStep × machine.CallResult) → List (Happening Device DeviceStep) → Type 0
 Grows past [] later = later ≡ past
 Grows past (one ∷ more) later = (h : Happening Device DeviceStep) × (h.event.ask ≡ one.0) × (h.event.said ≡ one.1) × Grows (h ∷ past) more later
 
@@ -102,19 +102,19 @@ in_middle late x early = Contains-append_right late (x ∷ early) x (Contains-ap
 -- ---- who asked
 
 -- a call that isn't a submit asked for nothing
-device_asks_none : (r : Accepted) (event : Call DeviceStep) (step : DeviceStep) → event.ask ≡ AskDevice step → AsksFor r event → ⊥
+device_asks_none : (r : Accepted) (event : CallRecord DeviceStep) (step : DeviceStep) → event.ask ≡ AskDevice step → AsksFor r event → ⊥
 device_asks_none r event step is asks = let e : AskDevice step ≡ AskSubmit r.asked = sym is ∙ asks.0 in cc
 
-state_asks_none : (r : Accepted) (event : Call DeviceStep) (port : Port) → event.ask ≡ AskState port → AsksFor r event → ⊥
+state_asks_none : (r : Accepted) (event : CallRecord DeviceStep) (port : Port) → event.ask ≡ AskState port → AsksFor r event → ⊥
 state_asks_none r event port is asks = let e : ◌≡◌ {A = Ask DeviceStep} (AskState port) (AskSubmit r.asked) = sym is ∙ asks.0 in cc
 
-service_asks_none : (r : Accepted) (event : Call DeviceStep) → event.ask ≡ AskService → AsksFor r event → ⊥
+service_asks_none : (r : Accepted) (event : CallRecord DeviceStep) → event.ask ≡ AskService → AsksFor r event → ⊥
 service_asks_none r event is asks = let e : ◌≡◌ {A = Ask DeviceStep} AskService (AskSubmit r.asked) = sym is ∙ asks.0 in cc
 
-store_asks_none : (r : Accepted) (event : Call DeviceStep) (client : ClientId) (frame : Frame) (offset : ℕ) (bytes : List ℕ) → event.ask ≡ StoreAt client frame offset bytes → AsksFor r event → ⊥
+store_asks_none : (r : Accepted) (event : CallRecord DeviceStep) (client : ClientId) (frame : Frame) (offset : ℕ) (bytes : List ℕ) → event.ask ≡ StoreAt client frame offset bytes → AsksFor r event → ⊥
 store_asks_none r event client frame offset bytes is asks = let e : ◌≡◌ {A = Ask DeviceStep} (StoreAt client frame offset bytes) (AskSubmit r.asked) = sym is ∙ asks.0 in cc
 
-submit_asks : (r : Accepted) (event : Call DeviceStep) (asked : Request) → event.ask ≡ AskSubmit asked → AsksFor r event → r.asked ≡ asked
+submit_asks : (r : Accepted) (event : CallRecord DeviceStep) (asked : Request) → event.ask ≡ AskSubmit asked → AsksFor r event → r.asked ≡ asked
 submit_asks r event asked is asks = let e : ◌≡◌ {A = Ask DeviceStep} (AskSubmit asked) (AskSubmit r.asked) = sym is ∙ asks.0 in cc
 
 -- ---- a read that is answered Ok
@@ -123,11 +123,11 @@ submit_asks r event asked is asks = let e : ◌≡◌ {A = Ask DeviceStep} (AskS
 told_alone : (items : List Reply) (reply : Reply) → items ≡ reply ∷ [] → Contains items reply
 told_alone items reply only = subst (λ (xs : List Reply). Contains xs reply) (sym only) (in_middle [] reply [])
 
-served_last : (laws : RunLaws) (old new : Server) (asked : Request) (first : Instant Device) → Leads first [] old → (past : List (Happening Device DeviceStep)) (last : Happening Device DeviceStep)
-    → Leads first (last ∷ past) new → IsRun first.moment (events_of (last ∷ past)) → EveryReadHolds first.moment (events_of (last ∷ past)) → (items : List Reply) (reply : Reply)
+served_last : (laws : RunLaws) (old new : ServerState) (asked : Request) (first : JointState Device) → LeadsToServer first [] old → (past : List (Happening Device DeviceStep)) (last : Happening Device DeviceStep)
+    → LeadsToServer first (last ∷ past) new → IsRun first.moment (events_of (last ∷ past)) → EveryReadHolds first.moment (events_of (last ∷ past)) → (items : List Reply) (reply : Reply)
     → last.event.said ≡ Served items → items ≡ reply ∷ [] → reply.outcome ≡ outcome.Ok → asked.op ≡ Read → ((r : Accepted) → WasAsked r (events_of past) → r.asked ≡ asked) → ServesRead old new asked
 served_last laws old new asked first begun past last leads run holds items reply says only ok reads asks =
-    let there : Contains (replies_of last.event.said) reply = subst (λ (s : machine.Said). Contains (replies_of s) reply) (sym says) (told_alone items reply only) in
+    let there : Contains (replies_of last.event.said) reply = subst (λ (s : machine.CallResult). Contains (replies_of s) reply) (sym says) (told_alone items reply only) in
     let told = laws.asked first.moment (events_of past) last.event reply run there in
     let answered : Contains last.event.steps (Answer told.0 outcome.Ok) = subst (λ (o : Outcome). Contains last.event.steps (Answer told.0 o)) ok told.1 in
     record {
@@ -153,7 +153,7 @@ shows_a_read device old new read step id did replies reply laws r only ok reads 
     let calls : List (Happening Device DeviceStep) = c.0 ∷ b.0 ∷ a.0 ∷ [] in
     let is : r.past ≡ calls = c.3 in
     served_last laws (server_of device old) (server_of device new) read r.first r.begun (b.0 ∷ a.0 ∷ []) c.0
-    (subst (λ (p : List (Happening Device DeviceStep)). Leads r.first p (server_of device new)) is r.leads)
+    (subst (λ (p : List (Happening Device DeviceStep)). LeadsToServer r.first p (server_of device new)) is r.leads)
     (subst (λ (p : List (Happening Device DeviceStep)). IsRun r.first.moment (events_of p)) is r.run)
     (subst (λ (p : List (Happening Device DeviceStep)). EveryReadHolds r.first.moment (events_of p)) is r.reads)
     replies reply c.2 only ok reads
@@ -189,18 +189,18 @@ count_append : (p : Step → Bool) (late early : List Step) → count_by p (late
 count_append p late early = sum_by-append (λ s. cond {A = ℕ} (p s) 1 0) late early
 
 -- A call of the kind that lets all be: of its steps none is the server's, and ports are what they were.
-record LetsBe (old : Moment) (event : Call DeviceStep) : Type 0 where
+record LetsBe (old : AbstractState) (event : CallRecord DeviceStep) : Type 0 where
   issues : (id : RequestId) → IsIssuedIn id event.steps → ⊥
   asks : (r : Accepted) → AsksFor r event → ⊥
   ports : (port : Port) → event.ports.state port ≡ old.ports.state port
-  calm : (past : List (Call DeviceStep)) → IsStillStuck (event ∷ past) → IsStillStuck past
+  calm : (past : List (CallRecord DeviceStep)) → IsStillStuck (event ∷ past) → IsStillStuck past
 
-state_lets_be : (first : Moment) (past : List (Call DeviceStep)) (event : Call DeviceStep) (port : Port) (shown : PortState) → IsRun first (event ∷ past) → event.ask ≡ AskState port → event.said ≡ Shown shown
+state_lets_be : (first : AbstractState) (past : List (CallRecord DeviceStep)) (event : CallRecord DeviceStep) (port : Port) (shown : PortState) → IsRun first (event ∷ past) → event.ask ≡ AskState port → event.said ≡ Shown shown
     → LetsBe (moment_of first past) event × (shown ≡ (moment_of first past).ports.state port)
 state_lets_be first past event port shown r is says =
     let old = moment_of first past in
     let new = moment_of first (event ∷ past) in
-    let said_so = subst (λ (s : machine.Said). IsAnswered event.ask s old event.evidence event.steps new) says r.1.answered in
+    let said_so = subst (λ (s : machine.CallResult). IsAnswered event.ask s old event.evidence event.steps new) says r.1.answered in
     let a = subst (λ (q : Ask DeviceStep). IsAnswered q (Shown shown) old event.evidence event.steps new) is said_so in (
       record {
         issues = λ id i. let P : List Step → Type 0 = IsIssuedIn id in false≢true (subst P a.1 i);
@@ -211,12 +211,12 @@ state_lets_be first past event port shown r is says =
       a.0,
     )
 
-device_lets_be : (first : Moment) (past : List (Call DeviceStep)) (event : Call DeviceStep) (step : DeviceStep) → IsRun first (event ∷ past) → event.ask ≡ AskDevice step → event.said ≡ Stepped true
+device_lets_be : (first : AbstractState) (past : List (CallRecord DeviceStep)) (event : CallRecord DeviceStep) (step : DeviceStep) → IsRun first (event ∷ past) → event.ask ≡ AskDevice step → event.said ≡ Stepped true
     → LetsBe (moment_of first past) event
 device_lets_be first past event step r is says =
     let old = moment_of first past in
     let new = moment_of first (event ∷ past) in
-    let said_so = subst (λ (s : machine.Said). IsAnswered event.ask s old event.evidence event.steps new) says r.1.answered in
+    let said_so = subst (λ (s : machine.CallResult). IsAnswered event.ask s old event.evidence event.steps new) says r.1.answered in
     let a = subst (λ (q : Ask DeviceStep). IsAnswered q (Stepped true) old event.evidence event.steps new) is said_so in
     record {
       issues = λ id i. devices_issue_none id event.steps a.0 i;
@@ -232,7 +232,7 @@ record Was (m : Machine) (e : Pending) : Type 0 where
   same : before.request ≡ e.request
   issued : e.issued ≡ true → before.issued ≡ true
 
-was_then : (laws : RunLaws) (first : Moment) (past : List (Call DeviceStep)) (event : Call DeviceStep) (e : Pending) → IsRun first (event ∷ past) → LetsBe (moment_of first past) event
+was_then : (laws : RunLaws) (first : AbstractState) (past : List (CallRecord DeviceStep)) (event : CallRecord DeviceStep) (e : Pending) → IsRun first (event ∷ past) → LetsBe (moment_of first past) event
     → Contains (moment_of first (event ∷ past)).machine.book e → Was (moment_of first past).machine e
 was_then laws first past event e r lets h = ⊎_elim
     (λ (c : CameFrom (moment_of first past).machine event.steps e). record {
@@ -259,9 +259,9 @@ is_port_0 q few one two three = go q.0 refl
     go (suc (suc (suc (suc n)))) is = absurd (omega (arith, few, is))
 
 -- The first of these calls asks for the request, the next three tell that no port but the first is ready, then that meets a fatal error, and a service follows, and then the device goes on.
-record Restarted (wanted : List Wanted) (first : Instant Device) (asked : Request) (id : RequestId) (submit one two three fatal service finish : Happening Device DeviceStep) : Type 0 where
+record Restarted (wanted : List Wanted) (first : JointState Device) (asked : Request) (id : RequestId) (submit one two three fatal service finish : Happening Device DeviceStep) : Type 0 where
   run : IsRun first.moment (events_of (finish ∷ service ∷ fatal ∷ three ∷ two ∷ one ∷ submit ∷ []))
-  history : IsHistory wanted first (finish ∷ service ∷ fatal ∷ three ∷ two ∷ one ∷ submit ∷ [])
+  history : IsDriverHistory wanted first (finish ∷ service ∷ fatal ∷ three ∷ two ∷ one ∷ submit ∷ [])
   submits : (submit.event.ask ≡ AskSubmit asked) × (submit.event.said ≡ Submitted (Ok id))
   shows_1 : (one.event.ask ≡ AskState (record { 0 = 1 })) × (one.event.said ≡ Shown Absent)
   shows_2 : (two.event.ask ≡ AskState (record { 0 = 2 })) × (two.event.said ≡ Shown Absent)
@@ -271,11 +271,11 @@ record Restarted (wanted : List Wanted) (first : Instant Device) (asked : Reques
   goes_on : (step : DeviceStep) × (finish.event.ask ≡ AskDevice step) × (finish.event.said ≡ Stepped true)
 
 -- after the fatal error the port shows it
-shows_failure : (past : Moment) (event : Call DeviceStep) (old new : Device) (accesses : List Access) → event.ask ≡ AskDevice (Fatal port_0 Interface) → event.said ≡ Stepped true
+shows_failure : (past : AbstractState) (event : CallRecord DeviceStep) (old new : Device) (accesses : List Access) → event.ask ≡ AskDevice (Fatal port_0 Interface) → event.said ≡ Stepped true
     → CameBy past event.ask event.said accesses old new → ShowsFailure (new.port 0)
 unfolding changed
 shows_failure past event old new accesses is says came =
-    let said_so = subst (λ (s : machine.Said). CameBy past event.ask s accesses old new) says came in
+    let said_so = subst (λ (s : machine.CallResult). CameBy past event.ask s accesses old new) says came in
     let done = subst (λ (q : Ask DeviceStep). CameBy past q (Stepped true) accesses old new) is said_so in
     ⊎_elim
     (λ fatal. inl (record { place = 27; from = omega arith; to = omega arith; set = ap (λ (d : Device). (d.port 0).is 27) fatal.effect }))
@@ -283,14 +283,14 @@ shows_failure past event old new accesses is says came =
     done.1
 
 -- what was unanswered before the port failed, and is the only one
-record Lone (first : Instant Device) (submit one two three fatal : Happening Device DeviceStep) (e : Pending) : Type 0 where
+record Lone (first : JointState Device) (submit one two three fatal : Happening Device DeviceStep) (e : Pending) : Type 0 where
   begun : Pending
   here : Contains (moment_of first.moment (events_of (submit ∷ []))).machine.book begun
   same : begun.request ≡ e.request
   at_port_0 : e.request.port.0 ≡ 0
   ready : (moment_of first.moment (events_of (fatal ∷ three ∷ two ∷ one ∷ submit ∷ []))).ports.state e.request.port ≡ Ready
 
-lone_of : (laws : RunLaws) (wanted : List Wanted) (first : Instant Device) (asked : Request) (id : RequestId) (submit one two three fatal service finish : Happening Device DeviceStep)
+lone_of : (laws : RunLaws) (wanted : List Wanted) (first : JointState Device) (asked : Request) (id : RequestId) (submit one two three fatal service finish : Happening Device DeviceStep)
     → Restarted wanted first asked id submit one two three fatal service finish → (e : Pending)
     → Contains (moment_of first.moment (events_of (fatal ∷ three ∷ two ∷ one ∷ submit ∷ []))).machine.book e → Lone first submit one two three fatal e
 lone_of laws wanted first asked id submit one two three fatal service finish c e here =
@@ -329,7 +329,7 @@ lone_of laws wanted first asked id submit one two three fatal service finish c e
     absent_ready is = cc
 
 -- it was issued by the submit
-issued_first : (laws : RunLaws) (first : Instant Device) (asked : Request) (id : RequestId) (submit : Happening Device DeviceStep) (e : Pending) → IsRun first.moment (events_of (submit ∷ []))
+issued_first : (laws : RunLaws) (first : JointState Device) (asked : Request) (id : RequestId) (submit : Happening Device DeviceStep) (e : Pending) → IsRun first.moment (events_of (submit ∷ []))
     → submit.event.ask ≡ AskSubmit asked → submit.event.said ≡ Submitted (Ok id) → Contains (moment_of first.moment (events_of (submit ∷ []))).machine.book e
     → 1 ≤ count_by (issues_it e.request.id) (steps_of (events_of (submit ∷ [])))
 issued_first laws first asked id submit e r is says here =
@@ -337,7 +337,7 @@ issued_first laws first asked id submit e r is says here =
     let legal = laws.legal first.moment run r in
     let its : (x : Pending) → Contains (moment_of first.moment run).machine.book x → x.request.id ≡ id = λ x h. ⊎_elim
     (λ (c : CameFrom first.moment.machine submit.event.steps x). absurd (nothing c.before (subst (λ (xs : List Pending). Contains xs c.before) legal.0.book c.here)))
-    (λ asks. let e : ◌≡◌ {A = machine.Said} (Submitted (Ok x.request.id)) (Submitted (Ok id)) = sym asks.1 ∙ says in cc)
+    (λ asks. let e : ◌≡◌ {A = machine.CallResult} (Submitted (Ok x.request.id)) (Submitted (Ok id)) = sym asks.1 ∙ says in cc)
     (laws.came first.moment [] submit.event x r h) in
     let ready = ⊎_elim (λ is. is) (λ (dead : ((moment_of first.moment run).ports.state e.request.port ≡ Dead) × IsStillStuck run).
     let no : ⊥ = subst (λ (q : Ask DeviceStep). StaysStuck q submit.event.said ⊥) is dead.1 in absurd no) (laws.ready first.moment run e r here) in
@@ -350,7 +350,7 @@ issued_first laws first asked id submit e r is says here =
     nothing x h = search rules
 
 -- So what is answered Ok after these was issued twice, and made to wait again.
-went_again : (laws : RunLaws) (wanted : List Wanted) (first : Instant Device) (asked : Request) (id : RequestId) (submit one two three fatal service finish : Happening Device DeviceStep)
+went_again : (laws : RunLaws) (wanted : List Wanted) (first : JointState Device) (asked : Request) (id : RequestId) (submit one two three fatal service finish : Happening Device DeviceStep)
     → Restarted wanted first asked id submit one two three fatal service finish → (e : Pending)
     → Contains (moment_of first.moment (events_of (finish ∷ service ∷ fatal ∷ three ∷ two ∷ one ∷ submit ∷ []))).machine.book e → e.issued ≡ true
     → (2 ≤ count_by (issues_it e.request.id) (steps_of (events_of (finish ∷ service ∷ fatal ∷ three ∷ two ∷ one ∷ submit ∷ []))))
@@ -411,9 +411,9 @@ shows_a_read_anew device old new read step id before replies reply laws r only o
     let past : List (Happening Device DeviceStep) = g.0 ∷ f.0 ∷ e.0 ∷ d.0 ∷ c.0 ∷ b.0 ∷ a.0 ∷ [] in
     let is : r.past ≡ h.0 ∷ past = h.3 in
     let run : IsRun r.first.moment (events_of (h.0 ∷ past)) = subst (λ (p : List (Happening Device DeviceStep)). IsRun r.first.moment (events_of p)) is r.run in
-    let history : IsHistory new.wanted r.first (h.0 ∷ past) = subst (IsHistory new.wanted r.first) is r.leads.history in
+    let history : IsDriverHistory new.wanted r.first (h.0 ∷ past) = subst (IsDriverHistory new.wanted r.first) is r.leads.history in
     let serves = served_last laws (server_of device old) (server_of device new) read r.first r.begun past h.0
-    (subst (λ (p : List (Happening Device DeviceStep)). Leads r.first p (server_of device new)) is r.leads) run
+    (subst (λ (p : List (Happening Device DeviceStep)). LeadsToServer r.first p (server_of device new)) is r.leads) run
     (subst (λ (p : List (Happening Device DeviceStep)). EveryReadHolds r.first.moment (events_of p)) is r.reads)
     replies reply h.2 only ok reads
     (λ q asked. ⊎_elim (λ x. absurd (device_asks_none q g.0.event step g.1 x)) (λ asked. ⊎_elim (λ x. absurd (service_asks_none q f.0.event f.1 x))
@@ -450,10 +450,10 @@ none_of None isnt = refl
 none_of (Some x) isnt = absurd (isnt (search rules))
 
 -- a store that is told the frame is lent
-store_refused : (old : Moment) (event : Call DeviceStep) (client : ClientId) (frame : Frame) (offset : ℕ) (bytes : List ℕ) → event.ask ≡ StoreAt client frame offset bytes → event.said ≡ Stored (Some FrameLent)
+store_refused : (old : AbstractState) (event : CallRecord DeviceStep) (client : ClientId) (frame : Frame) (offset : ℕ) (bytes : List ℕ) → event.ask ≡ StoreAt client frame offset bytes → event.said ≡ Stored (Some FrameLent)
     → IsAnswered event.ask event.said old event.evidence event.steps (moment_after old event) → IsSome ((moment_after old event).machine.lent frame)
 store_refused old event client frame offset bytes is says answered =
-    let said_so = subst (λ (s : machine.Said). IsAnswered event.ask s old event.evidence event.steps (moment_after old event)) says answered in
+    let said_so = subst (λ (s : machine.CallResult). IsAnswered event.ask s old event.evidence event.steps (moment_after old event)) says answered in
     let a = subst (λ (q : Ask DeviceStep). IsAnswered q (Stored (Some FrameLent)) old event.evidence event.steps (moment_after old event)) is said_so in
     subst (λ (xs : List Step). IsSome ((after old.machine xs).lent frame)) (sym a.1) a.0.0
 
@@ -462,22 +462,22 @@ some_of None is = absurd (false≢true is)
 some_of (Some x) is = (x, refl)
 
 -- the id that a submit gave
-id_given : (r : Accepted) (event : Call DeviceStep) (id : RequestId) → event.said ≡ Submitted (Ok id) → AsksFor r event → r.id ≡ id
+id_given : (r : Accepted) (event : CallRecord DeviceStep) (id : RequestId) → event.said ≡ Submitted (Ok id) → AsksFor r event → r.id ≡ id
 id_given r event id says asks = let e : Submitted (Ok r.id) ≡ Submitted (Ok id) = sym asks.1 ∙ says in cc
 
 -- a store that is told to be done
-store_done : (old : Moment) (event : Call DeviceStep) (client : ClientId) (frame : Frame) (offset : ℕ) (bytes : List ℕ) → event.ask ≡ StoreAt client frame offset bytes → event.said ≡ Stored None
+store_done : (old : AbstractState) (event : CallRecord DeviceStep) (client : ClientId) (frame : Frame) (offset : ℕ) (bytes : List ℕ) → event.ask ≡ StoreAt client frame offset bytes → event.said ≡ Stored None
     → IsAnswered event.ask event.said old event.evidence event.steps (moment_after old event) → old.machine.lent frame ≡ None
 store_done old event client frame offset bytes is says answered =
-    let said_so = subst (λ (s : machine.Said). IsAnswered event.ask s old event.evidence event.steps (moment_after old event)) says answered in
+    let said_so = subst (λ (s : machine.CallResult). IsAnswered event.ask s old event.evidence event.steps (moment_after old event)) says answered in
     let a = subst (λ (q : Ask DeviceStep). IsAnswered q (Stored None) old event.evidence event.steps (moment_after old event)) is said_so in
     none_of (old.machine.lent frame) (λ lent. a.0 FrameLent lent)
 
 -- a reset that ends, and answers nothing
-reset_releases : (old : Moment) (event : Call DeviceStep) → event.ask ≡ AskReset → event.said ≡ WasReset (Some [])
+reset_releases : (old : AbstractState) (event : CallRecord DeviceStep) → event.ask ≡ AskReset → event.said ≡ WasReset (Some [])
     → IsAnswered event.ask event.said old event.evidence event.steps (moment_after old event) → Contains event.steps Release × (answers_of event.steps ≡ [])
 reset_releases old event is says answered =
-    let said_so = subst (λ (s : machine.Said). IsAnswered event.ask s old event.evidence event.steps (moment_after old event)) says answered in
+    let said_so = subst (λ (s : machine.CallResult). IsAnswered event.ask s old event.evidence event.steps (moment_after old event)) says answered in
     let a = subst (λ (q : Ask DeviceStep). IsAnswered q (WasReset (Some [])) old event.evidence event.steps (moment_after old event)) is said_so in
     let few : length a.tells.answers ≡ 0 = sym (length-map a.tells.answers reply_of) ∙ sym (ap length a.tells.told) in (
       subst (λ (xs : List Step). Contains xs Release) (sym a.releases.split) (in_middle a.releases.later Release a.releases.earlier),
@@ -503,7 +503,7 @@ shows_a_release device old new request client frame bytes last_bytes id replies 
     let past : List (Happening Device DeviceStep) = e.0 ∷ d.0 ∷ before in
     let is : r.past ≡ g.0 ∷ f.0 ∷ past = g.3 in
     let run : IsRun r.first.moment (events_of (g.0 ∷ f.0 ∷ past)) = subst (λ (p : List (Happening Device DeviceStep)). IsRun r.first.moment (events_of p)) is r.run in
-    let there : Contains (replies_of d.0.event.said) reply = subst (λ (s : machine.Said). Contains (replies_of s) reply) (sym d.2) (told_alone replies reply only) in
+    let there : Contains (replies_of d.0.event.said) reply = subst (λ (s : machine.CallResult). Contains (replies_of s) reply) (sym d.2) (told_alone replies reply only) in
     let told = laws.asked r.first.moment (events_of before) d.0.event reply run.0.0.0 there in
     let answered : Contains d.0.event.steps (Answer told.0 outcome.PortDead) = subst (λ (o : Outcome). Contains d.0.event.steps (Answer told.0 o)) dead told.1 in
     let given_then : (x : Accepted) → WasAsked x (events_of before) → x.id ≡ id = λ x asked.
@@ -523,7 +523,7 @@ shows_a_release device old new request client frame bytes last_bytes id replies 
       past = past;
       reset = f.0;
       later = g.0 ∷ [];
-      leads = subst (λ (p : List (Happening Device DeviceStep)). Leads r.first p (server_of device new)) is r.leads;
+      leads = subst (λ (p : List (Happening Device DeviceStep)). LeadsToServer r.first p (server_of device new)) is r.leads;
       run = run;
       dead = told.0;
       its = ⊎_elim (λ x. submit_asks told.0.request c.0.event request c.1 x)

@@ -12,19 +12,19 @@ use Rattle.ata_types.specs.declared.request.Outcome.{Outcome}
 use Rattle.ata_types.specs.declared.request.Outcome.TheVariants.{Ok, PortDead}
 use Rattle.adapter.specs.Device.{Device}
 use Rattle.adapter.specs.declared.access.DeviceStep.{DeviceStep}
-use Rattle.block_machine.specs.Events.{Event as Call, Moment, Reset, Service, EveryReadHolds, IsLawful, IsRun, IsStillStuck, answers_of, issues_it, moment_of, replies_of, steps_of}
+use Rattle.block_machine.specs.Events.{CallRecord, AbstractState, Reset, Service, EveryReadHolds, IsLawful, IsRun, IsStillStuck, answers_of, issues_it, moment_of, replies_of, steps_of}
 use Rattle.block_machine.specs.Confined.{HasFrame, WasAccepted}
-use Rattle.block_machine.specs.Histories.{Happening, Instant, events_of, now}
+use Rattle.block_machine.specs.Histories.{Happening, JointState, events_of, now}
 use Rattle.block_machine.specs.Left.{IsLegal, IsStart, after}
 use Rattle.block_machine.specs.State.{Accepted, Machine, Pending}
 use Rattle.block_machine.specs.Steps.{Step, Answer, Release}
 use Rattle.driver_history.specs.Claims.{HeedsFailure}
 use Rattle.driver_history.specs.Evidence.{ShowsFailure}
-use Rattle.driver_history.specs.Histories.{IsHistory}
+use Rattle.driver_history.specs.Histories.{IsDriverHistory}
 use Rattle.identify.specs.declared.wanted.Wanted.{Wanted}
-use Rattle.machine_runs.specs.Told.{AsksFor, CameFrom, IsAnsweredOk, WasAsked, waits_again}
-use Rattle.server_history.specs.Histories.{Leads}
-use Rattle.server_history.specs.Server.{Server}
+use Rattle.machine_runs.specs.Told.{AsksFor, CameFrom, CallAnswersOk, WasAsked, waits_again}
+use Rattle.server_history.specs.Histories.{LeadsToServer}
+use Rattle.server_history.specs.Server.{ServerState}
 use Rattle.block_server.specs.Clients.{AreCalls}
 use Rattle.block_server.specs.Running.{ask_of, said_of}
 use Rattle.block_server.specs.View.{ServerView, server_of}
@@ -36,31 +36,31 @@ use Rattle.block_server.specs.declared.types.Said.TheVariants as says
 -- the server after them. It is a run, and each read that it answers Ok holds what was left.
 pub record HasRun {A : Type 0} (device : A → Device) (old new : ServerView A) (events : List Event)
     (said : List Said) : Type 0 where
-  pub first : Instant Device
-  pub begun : Leads first [] (server_of device old)
+  pub first : JointState Device
+  pub begun : LeadsToServer first [] (server_of device old)
   pub past : List (Happening Device DeviceStep)
   pub calls : AreCalls past (map ask_of events) (map said_of said)
-  pub leads : Leads first past (server_of device new)
+  pub leads : LeadsToServer first past (server_of device new)
   pub run : IsRun first.moment (events_of past)
   pub reads : EveryReadHolds first.moment (events_of past)
 
 -- A history leads from the new server to the other one, in whose last call the read that was asked for is answered Ok.
 -- Before that it was accepted and issued, each of its sectors was moved since its last issue, and it was ended; and its
 -- frames have what was left (`told`).
-pub record ServesRead (old new : Server) (asked : Request) : Type 0 where
-  pub first : Instant Device
-  pub begun : Leads first [] old
+pub record ServesRead (old new : ServerState) (asked : Request) : Type 0 where
+  pub first : JointState Device
+  pub begun : LeadsToServer first [] old
   pub past : List (Happening Device DeviceStep)
   pub last : Happening Device DeviceStep
-  pub leads : Leads first (last ∷ past) new
+  pub leads : LeadsToServer first (last ∷ past) new
   pub run : IsRun first.moment (events_of (last ∷ past))
   pub read : Pending
   pub its : read.request.asked ≡ asked
   pub reads : asked.op ≡ Read
-  pub told : IsAnsweredOk first.moment (events_of past) last.event read
+  pub told : CallAnswersOk first.moment (events_of past) last.event read
 
 -- And before that last call it was issued twice, and made to wait again.
-pub record ServesReadAnew (old new : Server) (asked : Request) : Type 0 where
+pub record ServesReadAnew (old new : ServerState) (asked : Request) : Type 0 where
   pub serves : ServesRead old new asked
   pub twice : 2 ≤ count_by (issues_it serves.read.request.id) (steps_of (events_of serves.past))
   pub again : 1 ≤ count_by (waits_again serves.read.request.id) (steps_of (events_of serves.past))
@@ -68,13 +68,13 @@ pub record ServesReadAnew (old new : Server) (asked : Request) : Type 0 where
 -- A history leads from the new server to the other one, in which what was asked for is answered PortDead, and this
 -- frame stays lent to it. Then a reset ends that answers nothing, but releases what is lent to answered requests; and
 -- after it the frame is lent to none.
-pub record ReleasesFrame (old new : Server) (asked : Request) (frame : Frame) : Type 0 where
-  pub first : Instant Device
-  pub begun : Leads first [] old
+pub record ReleasesFrame (old new : ServerState) (asked : Request) (frame : Frame) : Type 0 where
+  pub first : JointState Device
+  pub begun : LeadsToServer first [] old
   pub past : List (Happening Device DeviceStep)
   pub reset : Happening Device DeviceStep
   pub later : List (Happening Device DeviceStep)
-  pub leads : Leads first (later ++ reset ∷ past) new
+  pub leads : LeadsToServer first (later ++ reset ∷ past) new
   pub run : IsRun first.moment (events_of (later ++ reset ∷ past))
   pub dead : Pending
   pub its : dead.request.asked ≡ asked
@@ -109,38 +109,42 @@ IsReleased said = (id : RequestId) × (reply : Reply) × (reply.outcome ≡ Port
 -- What laws of `block_machine` and `machine_runs` say of runs, and one of `driver_history` of histories: what is shown
 -- rests on them.
 pub record RunLaws : Type 0 where
-  pub legal : (first : Moment) (run : List (Call DeviceStep)) → IsRun first run
+  pub legal : (first : AbstractState) (run : List (CallRecord DeviceStep)) → IsRun first run
       → IsStart first.machine × IsLegal first.machine (steps_of run)
       × ((moment_of first run).machine ≡ after first.machine (steps_of run))
   pub lent : (start : Machine) (history : List Step) (frame : Frame) (id : RequestId) → IsStart start
       → IsLegal start history → (after start history).lent frame ≡ Some id
       → (r : Accepted) × WasAccepted start history r × (r.id ≡ id) × HasFrame r frame
-  pub accepted : (first : Moment) (run : List (Call DeviceStep)) (r : Accepted) → IsRun first run
+  pub accepted : (first : AbstractState) (run : List (CallRecord DeviceStep)) (r : Accepted) → IsRun first run
       → WasAccepted first.machine (steps_of run) r → WasAsked r run
-  pub asked : (first : Moment) (past : List (Call DeviceStep)) (event : Call DeviceStep) (reply : Reply)
+  pub asked : (first : AbstractState) (past : List (CallRecord DeviceStep)) (event : CallRecord DeviceStep)
+      (reply : Reply)
       → IsRun first (event ∷ past) → Contains (replies_of event.said) reply → (e : Pending)
       × Contains event.steps (Answer e reply.outcome) × (e.request.id ≡ reply.id)
       × (e.request.asked.client ≡ reply.client) × WasAsked e.request past
-  pub lawful : (first : Moment) (past : List (Call DeviceStep)) (event : Call DeviceStep) (e : Pending) (o : Outcome)
+  pub lawful : (first : AbstractState) (past : List (CallRecord DeviceStep)) (event : CallRecord DeviceStep)
+      (e : Pending) (o : Outcome)
       → IsRun first (event ∷ past) → Contains event.steps (Answer e o) → IsLawful (moment_of first past) event.evidence
       event.ports e o
-  pub came : (first : Moment) (past : List (Call DeviceStep)) (event : Call DeviceStep) (e : Pending)
+  pub came : (first : AbstractState) (past : List (CallRecord DeviceStep)) (event : CallRecord DeviceStep) (e : Pending)
       → IsRun first (event ∷ past) → Contains (moment_of first (event ∷ past)).machine.book e
       → CameFrom (moment_of first past).machine event.steps e ⊎ AsksFor e.request event
-  pub served : (first : Moment) (past : List (Call DeviceStep)) (event : Call DeviceStep) (e : Pending)
+  pub served : (first : AbstractState) (past : List (CallRecord DeviceStep)) (event : CallRecord DeviceStep)
+      (e : Pending)
       → IsRun first (event ∷ past) → EveryReadHolds first (event ∷ past) → Contains event.steps (Answer e Ok)
-      → IsAnsweredOk first past event e
-  pub alone : (first : Moment) (run : List (Call DeviceStep)) (e : Pending) → IsRun first run
+      → CallAnswersOk first past event e
+  pub alone : (first : AbstractState) (run : List (CallRecord DeviceStep)) (e : Pending) → IsRun first run
       → Contains (moment_of first run).machine.book e → (moment_of first run).ports.state e.request.port ≡ Ready
       → ((other : Pending) → Contains (moment_of first run).machine.book other → other.request.id ≡ e.request.id)
       → e.issued ≡ true
   pub counted : (start : Machine) (history : List Step) (e : Pending) → IsStart start → IsLegal start history
       → Contains (after start history).book e → (count_by (issues_it e.request.id) history ≡ e.issues)
       × (count_by (issues_it e.request.id) history ≡ count_by (waits_again e.request.id) history + cond e.issued 1 0)
-  pub ready : (first : Moment) (run : List (Call DeviceStep)) (e : Pending) → IsRun first run
+  pub ready : (first : AbstractState) (run : List (CallRecord DeviceStep)) (e : Pending) → IsRun first run
       → Contains (moment_of first run).machine.book e → ((moment_of first run).ports.state e.request.port ≡ Ready)
       ⊎ (((moment_of first run).ports.state e.request.port ≡ Dead) × IsStillStuck run)
-  pub heeded : (wanted : List Wanted) (first : Instant Device) (past : List (Happening Device DeviceStep))
+  pub heeded : (wanted : List Wanted) (first : JointState Device) (past : List (Happening Device DeviceStep))
       (h : Happening Device DeviceStep) (port : Port)
-      → IsHistory wanted first (h ∷ past) → h.event.ask ≡ Service → (now first past).moment.ports.state port ≡ Ready
+      → IsDriverHistory wanted first (h ∷ past) → h.event.ask ≡ Service
+      → (now first past).moment.ports.state port ≡ Ready
       → ShowsFailure ((now first past).device.port port.0) → HeedsFailure port (now first past) h

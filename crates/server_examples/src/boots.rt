@@ -2,7 +2,7 @@
 use crate::watched::{ALL_PORTS, Access, Lie, NO_LIE, Watched, lie, model};
 use ata_types::{PORTS, Port, PortState};
 use hba_regs::{PortReg, Reg};
-use host_boot::{Found, take_over};
+use host_boot::{ProbeResult, take_over};
 use identify::{DiskInfo, Wanted};
 use std::alloc::Global;
 use std::process::Abort;
@@ -19,8 +19,8 @@ pub const IMAGE_DISK: [Wanted; PORTS] = [
 ];
 
 /// What an ordinary disk of so many sectors says of itself.
-const fn ready(sectors: u64) -> Found {
-    Found::Ready(DiskInfo {
+const fn ready(sectors: u64) -> ProbeResult {
+    ProbeResult::Ready(DiskInfo {
         serial: SERIAL,
         depth: 32,
         ncq: true,
@@ -29,15 +29,15 @@ const fn ready(sectors: u64) -> Found {
     })
 }
 
-const FOREIGN: Found = Found::Unready(PortState::Foreign);
+const FOREIGN: ProbeResult = ProbeResult::Unready(PortState::Foreign);
 
-const fn unfit(cause: u8) -> Found {
-    Found::Unready(PortState::Unfit(cause))
+const fn unfit(cause: u8) -> ProbeResult {
+    ProbeResult::Unready(PortState::Unfit(cause))
 }
 
 /// What port 0 is found to be where its disk, of so many sectors, tells some lies; with the slots of the adapter, and
 /// whether it does native command queuing.
-fn found(alloc: Global, sectors: u32, lies: [Lie; 4]) -> Result<(u8, bool, Found), Fail> {
+fn found(alloc: Global, sectors: u32, lies: [Lie; 4]) -> Result<(u8, bool, ProbeResult), Fail> {
     let mut model = model(alloc, ALL_PORTS, sectors)?;
     let [one, another, third, last] = lies;
     lie(&mut model, one);
@@ -146,7 +146,7 @@ fn sectors_are_1_to_2_to_the_48(rt: HostRuntime) -> Result<(), Fail> {
 struct Boot<'a> {
     pi: u8,
     wanted: [Wanted; PORTS],
-    found: [Found; PORTS],
+    found: [ProbeResult; PORTS],
     read: (Port, usize),
     touched: [bool; PORTS],
     writes: &'a [Access],
@@ -154,9 +154,9 @@ struct Boot<'a> {
 
 const NONE: Wanted = Wanted::Nothing;
 
-const UNSERVED: Found = Found::Unserved;
+const UNSERVED: ProbeResult = ProbeResult::Unserved;
 
-const ABSENT: Found = Found::Unready(PortState::Absent);
+const ABSENT: ProbeResult = ProbeResult::Unready(PortState::Absent);
 
 const ENABLE: Access = Access::Write(Reg::Ghc, 0x8000_0000);
 

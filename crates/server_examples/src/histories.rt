@@ -13,30 +13,31 @@ use arrayvec::ArrayVec;
 use ata_types::{
     ClientId, Frame, MemFault, Op, Outcome, Port, PortState, Request, RequestId, Slot,
 };
-use block_machine::laws::{lent_was_accepted, runs_are_legal};
+use block_machine::laws::{law_lent_was_accepted, law_runs_are_legal};
 use block_server::{Event, Said, Sayings, Server};
-use driver_history::troubles::shown_faults_are_heeded;
+use driver_history::troubles::law_shown_faults_are_heeded;
 use machine_runs::laws::{
-    a_lone_request_is_issued, accepted_was_asked, answers_are_lawful, issues_are_counted,
-    ok_was_served, replied_was_asked, unanswered_came_from, unanswered_where_ready,
+    law_a_lone_request_is_issued, law_accepted_was_asked, law_answers_are_lawful,
+    law_issues_are_counted, law_ok_was_served, law_replied_was_asked, law_unanswered_came_from,
+    law_unanswered_where_ready,
 };
 use std::alloc::Global;
 
 /// What laws say of runs.
-fn laws_of_runs()
+fn law_laws_of_runs()
     ensures { RunLaws }
 {
-    runs_are_legal::<DeviceStep>();
-    lent_was_accepted();
-    accepted_was_asked::<DeviceStep>();
-    replied_was_asked::<DeviceStep>();
-    answers_are_lawful::<DeviceStep>();
-    unanswered_came_from::<DeviceStep>();
-    ok_was_served::<DeviceStep>();
-    a_lone_request_is_issued::<DeviceStep>();
-    issues_are_counted();
-    unanswered_where_ready::<DeviceStep>();
-    shown_faults_are_heeded();
+    law_runs_are_legal::<DeviceStep>();
+    law_lent_was_accepted();
+    law_accepted_was_asked::<DeviceStep>();
+    law_replied_was_asked::<DeviceStep>();
+    law_answers_are_lawful::<DeviceStep>();
+    law_unanswered_came_from::<DeviceStep>();
+    law_ok_was_served::<DeviceStep>();
+    law_a_lone_request_is_issued::<DeviceStep>();
+    law_issues_are_counted();
+    law_unanswered_where_ready::<DeviceStep>();
+    law_shown_faults_are_heeded();
 }
 
 /// What calls of a new server say, one after another. None where memory for that is refused.
@@ -124,7 +125,7 @@ pub fn serves_a_read<A: Stepped>(alloc: Global, server: &mut Server<A>, read: Re
     requires telling { (A.device server.old.adapter).telling ≡ true }
     ensures { IsTrue result → ServesRead (server_of A.device server.old) (server_of A.device server.new) read }
 {
-    laws_of_runs();
+    law_laws_of_runs();
     let Op::Read = read.op else {
         return false;
     };
@@ -156,7 +157,7 @@ pub fn serves_a_read_anew<A: Stepped>(alloc: Global, server: &mut Server<A>, rea
     requires telling { (A.device server.old.adapter).telling ≡ true }
     ensures { IsTrue result → ServesReadAnew (server_of A.device server.old) (server_of A.device server.new) read }
 {
-    laws_of_runs();
+    law_laws_of_runs();
     let Op::Read = read.op else {
         return false;
     };
@@ -220,7 +221,7 @@ pub fn releases_a_frame<A: Stepped>(
     ensures { IsTrue result → ReleasesFrame (server_of A.device server.old) (server_of A.device server.new) request
         frame }
 {
-    laws_of_runs();
+    law_laws_of_runs();
     let events = [
         Event::Device(DeviceStep::Hold(Port(0))),
         Event::Device(DeviceStep::Fatal(Port(0), FatalError::HostBus)),

@@ -1,6 +1,6 @@
 // A disk that needs no memory for its sectors, for runs in which tens of thousands of them are cleared.
 ghost use Rattle.std.specs.Prelude.{ℕ, ◌≡◌, ◌≤◌, ◌<◌, ◌^◌, Some, replicate, true};
-ghost use Rattle.sector_store.specs.Stores.{IsSector};
+ghost use Rattle.sector_store.specs.Stores.{IsStoredSector};
 ghost use Rattle.server_examples.specs.Numbered.{numbered};
 
 use crate::failing_store::FailingCall;
@@ -17,7 +17,7 @@ pub struct NumberedStore {
     failing: FailingCall,
     ghost rising: { first ≤ next },
     ghost few: { sectors < 2 ^ 64 },
-    ghost are_sectors: { (k : ℕ) → IsSector (numbered first next k) },
+    ghost are_sectors: { (k : ℕ) → IsStoredSector (numbered first next k) },
 }
 
 impl NumberedStore {

@@ -8,7 +8,7 @@ use crate::watched::{ALL_PORTS, Readings, Watched, model};
 use adapter::{Adapter, DeviceStep, DiskNumber};
 use ata_types::{DRIVER_BYTES, PORTS, Port, PortState};
 use hba_regs::{PortReg, Reg};
-use host_boot::{Found, take_over};
+use host_boot::{ProbeResult, take_over};
 use port_control::{PortFault, receive, stop};
 use std::alloc::Global;
 use std::process::Abort;
@@ -48,7 +48,7 @@ fn received_anew<A: Adapter>(adapter: &mut A) -> PortState
     requires room { DRIVER_BYTES ≤ (A.device adapter.old).size }
 {
     let host = take_over(adapter, &IMAGE_DISK);
-    let Found::Ready(_) = host.ports[0] else {
+    let ProbeResult::Ready(_) = host.ports[0] else {
         return PortState::Absent;
     };
     let Ok(stopped) = stop(adapter, Port(0)) else {
@@ -62,11 +62,11 @@ fn received_anew<A: Adapter>(adapter: &mut A) -> PortState
 }
 
 /// What a port that is served was found to be.
-fn state(found: Found) -> PortState {
+fn state(found: ProbeResult) -> PortState {
     match found {
-        Found::Ready(_) => PortState::Ready,
-        Found::Unready(state) => state,
-        Found::Unserved => PortState::Absent,
+        ProbeResult::Ready(_) => PortState::Ready,
+        ProbeResult::Unready(state) => state,
+        ProbeResult::Unserved => PortState::Absent,
     }
 }
 

@@ -3,7 +3,7 @@ pub mod start
 pub mod plain_calls
 pub mod any_turn
 pub mod healthy_turn
-pub mod fates
+pub mod dispositions
 pub mod recovery_turn
 pub mod unready_turn
 pub mod whole_call

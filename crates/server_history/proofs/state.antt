@@ -16,7 +16,7 @@ pub mod PortSlots
 pub mod SlotCommands
 pub mod SlotMasks
 pub mod LoanCounts
-pub mod KeptLoans
+pub mod Quarantine
 pub mod IssueCounts
 pub mod PortsOverAccesses
 pub mod RunningPorts

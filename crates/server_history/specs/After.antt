@@ -7,41 +7,41 @@ use Rattle.hba_regs.specs.declared.reg.PortReg.TheVariants.{Cmd, Is, Serr}
 use Rattle.hba_regs.specs.declared.reg.Reg.TheVariants.{Px}
 use Rattle.adapter.specs.Access.{Access, Does, DoesAll}
 use Rattle.adapter.specs.Device.{Device}
-use Rattle.adapter.specs.Device.{PortState as PortOf}
+use Rattle.adapter.specs.Device.{DevicePort}
 use Rattle.adapter.specs.Device.Halt.{NotHalted}
 use Rattle.adapter.specs.Rules.{IsOn}
-use Rattle.agreement.specs.Acts.{Act, AreDone, accesses_of}
-use Rattle.agreement.specs.Agrees.{Agrees, HaveSlots}
-use Rattle.agreement.specs.Driven.{IsDrivenBy, IsOf}
-use Rattle.agreement.specs.Driver.{Goes, Known, Knows}
-use Rattle.agreement.specs.Errors.{NoneFatal}
-use Rattle.agreement.specs.Facts.{IsRecorded, Undisturbed}
-use Rattle.agreement.specs.Halting.{HaltsAsTaken, IsHaltedAsTaken}
-use Rattle.agreement.specs.Links.{HasDeviceOrNone, LeavesDisk, PlugsNone, SparesRegister}
-use Rattle.agreement.specs.Recovering.{WorksPlainly}
-use Rattle.agreement.specs.Slots.{Serves, Use, Uses, put, serving_count}
+use Rattle.refinement.specs.Acts.{Act, AreDone, accesses_of}
+use Rattle.refinement.specs.Relation.{StateRelation, HaveSlots}
+use Rattle.refinement.specs.Driven.{IsDrivenBy, IsOf}
+use Rattle.refinement.specs.Driver.{Goes, DriverState, DriverRelation}
+use Rattle.refinement.specs.Errors.{NoneFatal}
+use Rattle.refinement.specs.Facts.{IsRecorded, Undisturbed}
+use Rattle.refinement.specs.Halting.{HaltsAsTaken, IsHaltedAsTaken}
+use Rattle.refinement.specs.Links.{HasDeviceOrNone, LeavesDisk, PlugsNone, SparesRegister}
+use Rattle.refinement.specs.Recovering.{WorksPlainly}
+use Rattle.refinement.specs.Slots.{Serves, SlotState, SlotStates, put, serving_count}
 use Rattle.block_machine.specs.Due.{issued_count}
-use Rattle.block_machine.specs.Histories.{IsReached}
+use Rattle.block_machine.specs.Histories.{IsReachable}
 use Rattle.block_machine.specs.Left.{after}
 use Rattle.block_machine.specs.State.{Machine, unanswered}
 use Rattle.block_machine.specs.Steps.{NoneKept, Step}
 use Rattle.host_boot.specs.Again.{BootsAgain, BootsIfThere, IsOfStart}
 use Rattle.host_boot.specs.Taken.{FoundBadDisk, IsServed, StandsBehind}
 use Rattle.host_boot.specs.declared.Booted.{Booted}
-use Rattle.host_boot.specs.declared.Found.TheVariants.{Unready}
+use Rattle.host_boot.specs.declared.ProbeResult.TheVariants.{Unready}
 use Rattle.identify.specs.declared.wanted.Wanted.{Wanted}
 use Rattle.port_boot.specs.States.{ShowsOwnDisk}
 
 pub record RecoveryLaws : Type 0 where
   -- where each issued request of a port has a slot, as many slots serve one
-  pub counted : (uses : Uses) (m : Machine) (d : Device) → IsReached m → Agrees uses m d → (port : Port)
+  pub counted : (uses : SlotStates) (m : Machine) (d : Device) → IsReachable m → StateRelation uses m d → (port : Port)
       → NoneKept m port → (n : ℕ) → HaveSlots uses m port.0 []
       → ((slot : ℕ) (id : RequestId) → uses port.0 slot ≡ Serves id → slot < n)
       → serving_count uses port.0 n ≡ issued_count (map unanswered m.book) port
   -- acts lead to a machine that is reached
-  pub gone_reached : (k later : Known) (m : Machine) (steps : List Step) → IsReached m → Goes k m steps later
-      → IsReached (after m steps)
-  pub put_other : (uses : Uses) (port slot : ℕ) (u : Use) (other_port other_slot : ℕ)
+  pub gone_reached : (k later : DriverState) (m : Machine) (steps : List Step) → IsReachable m → Goes k m steps later
+      → IsReachable (after m steps)
+  pub put_other : (uses : SlotStates) (port slot : ℕ) (u : SlotState) (other_port other_slot : ℕ)
       → (other_port ≡ port → other_slot ≡ slot → ⊥) → put uses port slot u other_port other_slot ≡ uses other_port
       other_slot
   -- what accesses leave
@@ -71,7 +71,7 @@ pub record RecoveryLaws : Type 0 where
       → HasDeviceOrNone (new.port port.0)
 
 -- What of a port's trouble is shown.
-pub record TroubleLaws : Type 0 where
+pub record PortErrorLaws : Type 0 where
   -- each error, and each disk that goes or comes, is shown until it is cleared
   pub shows_fatal : (port : Port) (access : Access) (old new : Device) → old.hr ≡ false
       → SparesRegister (Px port Is) access → Does access old new
@@ -87,11 +87,13 @@ pub record TroubleLaws : Type 0 where
   pub disk_left : (port : ℕ) (access : Access) (old new : Device) → Does access old new → PlugsNone port old new
       → LeavesDisk (old.port port) (new.port port)
   -- and a queued command that has halted it is taken still
-  pub halts_acts : (port : Port) (acts : List Act) (k later : Known) (m : Machine) → IsReached m → Knows m k
+  pub halts_acts : (port : Port) (acts : List Act) (k later : DriverState) (m : Machine) → IsReachable m
+      → DriverRelation m k
       → AreDone acts k m later → All (SparesRegister (Px port Cmd)) (accesses_of acts)
       → IsHaltedAsTaken (k.device.port port.0) → IsHaltedAsTaken (later.device.port port.0)
-  pub halts_access : (uses : Uses) (m : Machine) (port : Port) (access : Access) (old new : Device) → IsReached m
-      → Agrees uses m old → SparesRegister (Px port Cmd) access → Does access old new
+  pub halts_access : (uses : SlotStates) (m : Machine) (port : Port) (access : Access) (old new : Device)
+      → IsReachable m
+      → StateRelation uses m old → SparesRegister (Px port Cmd) access → Does access old new
       → IsHaltedAsTaken (old.port port.0) → IsHaltedAsTaken (new.port port.0)
-  pub halts_calm : (p : PortOf) → p.halt ≡ NotHalted → HaltsAsTaken p
-  pub halts_plain : (p : PortOf) → WorksPlainly p → HaltsAsTaken p
+  pub halts_calm : (p : DevicePort) → p.halt ≡ NotHalted → HaltsAsTaken p
+  pub halts_plain : (p : DevicePort) → WorksPlainly p → HaltsAsTaken p

@@ -14,33 +14,33 @@ use Rattle.adapter.specs.Commands.{Meaning}
 use Rattle.adapter.specs.Rules.{IsOn}
 use Rattle.adapter.specs.Kept.{Keeps}
 use Rattle.adapter.specs.Steps.{Steps}
-use Rattle.agreement.specs.Acts.{Act, AreDone, accesses_of, steps_of}
-use Rattle.agreement.specs.Agrees.{Agrees, AreApart}
-use Rattle.agreement.specs.Readying.{IsStored, LeavesStored}
+use Rattle.refinement.specs.Acts.{Act, AreDone, accesses_of, act_steps}
+use Rattle.refinement.specs.Relation.{StateRelation, ServeApart}
+use Rattle.refinement.specs.Readying.{IsStored, LeavesStored}
 use Rattle.adapter.specs.Access.{Access, Does, DoesAll}
 use Rattle.adapter.specs.Access.Access.{Storing}
-use Rattle.adapter.specs.Says.{Says}
-use Rattle.agreement.specs.Driver.{MissesTable, Forgets, Goes, HasNoSlot, Known, Knows, parking}
-use Rattle.agreement.specs.Links.{SparesRegister}
-use Rattle.agreement.specs.Started.{ClearsNoStart}
+use Rattle.adapter.specs.Decoding.{DecodesTo}
+use Rattle.refinement.specs.Driver.{MissesTable, ForgetsRequest, Goes, HasNoSlot, DriverState, DriverRelation, parking}
+use Rattle.refinement.specs.Links.{SparesRegister}
+use Rattle.refinement.specs.Started.{ClearsNoStart}
 use Rattle.hba_regs.specs.declared.reg.PortReg.TheVariants.{Clb}
 use Rattle.hba_regs.specs.declared.reg.Reg.TheVariants.{Px}
-use Rattle.agreement.specs.GivingUp.{parking_all, served_ids}
-use Rattle.agreement.specs.Slots.{Armed, Free, IsOver, Own, Serves, Use, Uses, put}
+use Rattle.refinement.specs.GivingUp.{parking_all, served_ids}
+use Rattle.refinement.specs.Slots.{Armed, Free, IsOver, Own, Serves, SlotState, SlotStates, put}
 use Rattle.block_machine.specs.Due.{is_plain}
 use Rattle.block_machine.specs.State.{Accepted, Machine, Pending}
-use Rattle.block_machine.specs.Steps.{Step, Accept, Age, Again, Issue, Answer, IsLiving, IsNew, May, MayMove, after_step, stays, Revoke}
-use Rattle.block_machine.specs.declared.due.Mode.{Mode}
-use Rattle.agreement.specs.Facts.{EndedIn, IsClear, ShowsFault}
+use Rattle.block_machine.specs.Steps.{Step, Accept, Age, Again, Issue, Answer, IsLiving, IsNew, May, MayStillMove, after_step, stays, Revoke}
+use Rattle.block_machine.specs.declared.due.QueueMode.{QueueMode}
+use Rattle.refinement.specs.Facts.{EndedIn, IsClear, ShowsFault}
 use Rattle.dma_frames.specs.Table.{Table}
-use Rattle.request_queue.specs.Entries.{Held, IsAccepted, IsInOrder, aged, asks_of}
+use Rattle.request_queue.specs.Entries.{Held, IsAccepted, BookIsInOrder, aged, asks_of}
 use Rattle.request_queue.specs.Machine.{IsBook}
 use Rattle.block_machine.specs.Confined.{IsGranted, WasAccepted, WithinLimits}
 use Rattle.block_machine.specs.Left.{IsLegal, IsStart, after}
-use Rattle.block_machine.specs.Histories.{Instant, IsReached, Happening, now}
+use Rattle.block_machine.specs.Histories.{JointState, IsReachable, Happening, now}
 use Rattle.block_machine.specs.Events.{AllDevices, AllMay}
-use Rattle.agreement.specs.Spares.{AllFurther, IsFurther, SparesBook}
-use Rattle.driver_history.specs.Histories.{IsHistory}
+use Rattle.refinement.specs.Spares.{AllFurther, IsFurther, SparesBook}
+use Rattle.driver_history.specs.Histories.{IsDriverHistory}
 use Rattle.identify.specs.declared.wanted.Wanted.{Wanted}
 
 pub record BasicLaws : Type 0 where
@@ -51,13 +51,13 @@ pub record BasicLaws : Type 0 where
   pub joined : (m : Machine) (late early : List Step) → after m (late ++ early) ≡ after (after m early) late
   pub may : (m : Machine) (late early : List Step) → AllMay m early → AllMay (after m early) late
       → AllMay m (late ++ early)
-  pub reached : (m : Machine) (steps : List Step) → IsReached m → AllMay m steps → IsReached (after m steps)
-  pub history_reached : (wanted : List Wanted) (first : Instant Device) (past : List (Happening Device DeviceStep))
-      → IsHistory wanted first past → IsReached (now first past).moment.machine
+  pub reached : (m : Machine) (steps : List Step) → IsReachable m → AllMay m steps → IsReachable (after m steps)
+  pub history_reached : (wanted : List Wanted) (first : JointState Device) (past : List (Happening Device DeviceStep))
+      → IsDriverHistory wanted first past → IsReachable (now first past).moment.machine
   -- the book
-  pub one : (m : Machine) → IsReached m → (a b : Pending) → Contains m.book a → Contains m.book b
+  pub one : (m : Machine) → IsReachable m → (a b : Pending) → Contains m.book a → Contains m.book b
       → a.request.id.0 ≡ b.request.id.0 → a ≡ b
-  pub ended_issued : (m : Machine) (e : Pending) → IsReached m → Contains m.book e → e.ended ≡ true → e.issued ≡ true
+  pub ended_issued : (m : Machine) (e : Pending) → IsReachable m → Contains m.book e → e.ended ≡ true → e.issued ≡ true
   -- what the device's own steps leave of it
   pub spares : (m : Machine) (steps : List Step) → AllDevices steps → SparesBook m (after m steps)
   pub found_later : (old new : List Pending) (e : Pending) → AllFurther old new → Contains old e → (x : Pending)
@@ -71,73 +71,84 @@ pub record BasicLaws : Type 0 where
 -- what becomes of slots, and of the requests in them
 pub record SlotLaws : Type 0 where
   -- a request is accepted
-  pub accepted_agrees : (k : Known) (m : Machine) (r : Accepted) → Knows m k → Knows (after_step m (Accept r)) k
-  pub revoked_agrees : (k : Known) (m : Machine) (client : ClientId) (number : ℕ) → Knows m k
-      → Knows (after_step m (Revoke client number)) k
+  pub accepted_agrees : (k : DriverState) (m : Machine) (r : Accepted) → DriverRelation m k
+      → DriverRelation (after_step m (Accept r)) k
+  pub revoked_agrees : (k : DriverState) (m : Machine) (client : ClientId) (number : ℕ) → DriverRelation m k
+      → DriverRelation (after_step m (Revoke client number)) k
   -- a request is taken from its slot, once its command is over
-  pub parked_agrees : (k : Known) (m : Machine) → Knows m k → (port slot : ℕ) → IsOver (k.device.port port) slot
-      → (id : RequestId) → k.uses port slot ≡ Serves id → Knows m (parking k port slot id)
-  pub parked_frees : (k : Known) (port slot : ℕ) (id : RequestId) → AreApart k.uses → k.uses port slot ≡ Serves id
+  pub parked_agrees : (k : DriverState) (m : Machine) → DriverRelation m k → (port slot : ℕ)
+      → IsOver (k.device.port port) slot
+      → (id : RequestId) → k.uses port slot ≡ Serves id → DriverRelation m (parking k port slot id)
+  pub parked_frees : (k : DriverState) (port slot : ℕ) (id : RequestId) → ServeApart k.uses
+      → k.uses port slot ≡ Serves id
       → HasNoSlot (parking k port slot id).uses id
-  pub ended_clear : (uses : Uses) (m : Machine) (d : Device) (port : Port) (slot : ℕ) (e : Pending) → IsReached m
-      → Agrees uses m d → MayMove m e → e.ended ≡ true → uses port.0 slot ≡ Serves e.request.id
+  pub ended_clear : (uses : SlotStates) (m : Machine) (d : Device) (port : Port) (slot : ℕ) (e : Pending)
+      → IsReachable m
+      → StateRelation uses m d → MayStillMove m e → e.ended ≡ true → uses port.0 slot ≡ Serves e.request.id
       → IsClear (d.port port.0) slot × EndedIn m port e.request.id
   -- what becomes of requests that no slot serves
-  pub answered_agrees : (k : Known) (m : Machine) (e : Pending) (outcome : Outcome) (later : ℕ → List RequestId)
-      → IsReached m → Knows m k → Contains m.book e → stays e outcome ≡ false → HasNoSlot k.uses e.request.id
-      → Forgets e.request.id k.parked later → Knows (after_step m (Answer e outcome)) (record k { parked = later })
-  pub again_agrees : (k : Known) (m : Machine) (e : Pending) (later : ℕ → List RequestId) → IsReached m → Knows m k
-      → Contains m.book e → HasNoSlot k.uses e.request.id → Forgets e.request.id k.parked later
-      → Knows (after_step m (Again e)) (record k { parked = later })
+  pub answered_agrees : (k : DriverState) (m : Machine) (e : Pending) (outcome : Outcome) (later : ℕ → List RequestId)
+      → IsReachable m → DriverRelation m k → Contains m.book e → stays e outcome ≡ false → HasNoSlot k.uses e.request.id
+      → ForgetsRequest e.request.id k.parked later
+      → DriverRelation (after_step m (Answer e outcome)) (record k { parked = later })
+  pub again_agrees : (k : DriverState) (m : Machine) (e : Pending) (later : ℕ → List RequestId) → IsReachable m
+      → DriverRelation m k
+      → Contains m.book e → HasNoSlot k.uses e.request.id → ForgetsRequest e.request.id k.parked later
+      → DriverRelation (after_step m (Again e)) (record k { parked = later })
   -- and of one that is kept, in its slot or without one
-  pub kept_agrees : (k : Known) (m : Machine) (e : Pending) (outcome : Outcome) → IsReached m → Knows m k
-      → Contains m.book e → stays e outcome ≡ true → Knows (after_step m (Answer e outcome)) k
+  pub kept_agrees : (k : DriverState) (m : Machine) (e : Pending) (outcome : Outcome) → IsReachable m
+      → DriverRelation m k
+      → Contains m.book e → stays e outcome ≡ true → DriverRelation (after_step m (Answer e outcome)) k
   -- what acts give
-  pub acts_go : (acts : List Act) (k later : Known) (m : Machine) → Knows m k → AreDone acts k m later
-      → Goes k m (steps_of acts) later
+  pub acts_go : (acts : List Act) (k later : DriverState) (m : Machine) → DriverRelation m k → AreDone acts k m later
+      → Goes k m (act_steps acts) later
   -- slots that are given up, or put to another use, and requests that have none
-  pub served : (uses : Uses) (port n : ℕ) (id : RequestId) → Contains (served_ids uses port n) id → (slot : ℕ)
+  pub served : (uses : SlotStates) (port n : ℕ) (id : RequestId) → Contains (served_ids uses port n) id → (slot : ℕ)
       × (slot < n) × (uses port slot ≡ Serves id)
-  pub frees : (k : Known) (port slot : ℕ) (id : RequestId) → AreApart k.uses → k.uses port slot ≡ Serves id
+  pub frees : (k : DriverState) (port slot : ℕ) (id : RequestId) → ServeApart k.uses → k.uses port slot ≡ Serves id
       → HasNoSlot (parking_all k port).uses id
-  pub put_unserved : (uses : Uses) (port slot : ℕ) (u : Use) (id : RequestId) → HasNoSlot uses id
+  pub put_unserved : (uses : SlotStates) (port slot : ℕ) (u : SlotState) (id : RequestId) → HasNoSlot uses id
       → ((other : RequestId) → u ≡ Serves other → other ≢ id) → HasNoSlot (put uses port slot u) id
-  pub waiting : (uses : Uses) (m : Machine) (d : Device) → IsReached m → Agrees uses m d → (e : Pending)
+  pub waiting : (uses : SlotStates) (m : Machine) (d : Device) → IsReachable m → StateRelation uses m d → (e : Pending)
       → Contains m.book e → e.issued ≡ false → HasNoSlot uses e.request.id
   -- a request that is due finds a free slot
-  pub plain_free : (uses : Uses) (m : Machine) (d : Device) → IsReached m → Agrees uses m d
-      → (mode : Mode) (e : Pending) → May m (Issue mode e) → ((o : Operation) → uses e.request.port.0 0 ≡ Own o → ⊥)
+  pub plain_free : (uses : SlotStates) (m : Machine) (d : Device) → IsReachable m → StateRelation uses m d
+      → (mode : QueueMode) (e : Pending) → May m (Issue mode e)
+      → ((o : Operation) → uses e.request.port.0 0 ≡ Own o → ⊥)
       → ((slot : ℕ) → uses e.request.port.0 slot ≡ Armed → ⊥) → is_plain mode e.request.asked.op ≡ true
       → uses e.request.port.0 0 ≡ Free
-  pub queued_free : (uses : Uses) (m : Machine) (d : Device) → IsReached m → Agrees uses m d
-      → (mode : Mode) (e : Pending) → May m (Issue mode e) → ((o : Operation) → uses e.request.port.0 0 ≡ Own o → ⊥)
+  pub queued_free : (uses : SlotStates) (m : Machine) (d : Device) → IsReachable m → StateRelation uses m d
+      → (mode : QueueMode) (e : Pending) → May m (Issue mode e)
+      → ((o : Operation) → uses e.request.port.0 0 ≡ Own o → ⊥)
       → ((slot : ℕ) → uses e.request.port.0 slot ≡ Armed → ⊥) → is_plain mode e.request.asked.op ≡ false → (slot : ℕ)
       × (slot < mode.usable) × (uses e.request.port.0 slot ≡ Free)
   -- the bytes of a slot say one command
-  pub one_said : (memory : ℕ → ℕ) (list slot : ℕ) (m n : Meaning) (xs ys : List ℕ) → Says memory list slot m xs
-      → Says memory list slot n ys → (m ≡ n) × (xs ≡ ys)
+  pub one_said : (memory : ℕ → ℕ) (list slot : ℕ) (m n : Meaning) (xs ys : List ℕ) → DecodesTo memory list slot m xs
+      → DecodesTo memory list slot n ys → (m ≡ n) × (xs ≡ ys)
   -- what is stored for a slot stays so over acts that leave it
-  pub stored : (port : Port) (slot : ℕ) (c : Meaning) (places : List ℕ) (acts : List Act) (k later : Known)
-      (m : Machine) → IsReached m → Knows m k → AreDone acts k m later
+  pub stored : (port : Port) (slot : ℕ) (c : Meaning) (places : List ℕ) (acts : List Act) (k later : DriverState)
+      (m : Machine) → IsReachable m → DriverRelation m k → AreDone acts k m later
       → All (LeavesStored port slot) (accesses_of acts) → IsOn k.device → IsStored k.device port.0 slot c places
       → IsStored later.device port.0 slot c places
   -- and over an access that leaves it
-  pub stored_access : (uses : Uses) (m : Machine) (port : Port) (slot : ℕ) (c : Meaning) (places : List ℕ)
-      (access : Access) (old new : Device) → IsReached m → Agrees uses m old → old.hr ≡ false
+  pub stored_access : (uses : SlotStates) (m : Machine) (port : Port) (slot : ℕ) (c : Meaning) (places : List ℕ)
+      (access : Access) (old new : Device) → IsReachable m → StateRelation uses m old → old.hr ≡ false
       → ClearsNoStart port access → SparesRegister (Px port Clb) access
       → ((at : ℕ) (bytes : List ℕ) → access ≡ Storing at bytes → MissesTable port.0 slot at (length bytes))
       → Does access old new → IsStored old port.0 slot c places → IsStored new port.0 slot c places
   -- a fault that is shown is of the slot that alone is used
-  pub fault_sole : (uses : Uses) (m : Machine) (d : Device) (port slot : ℕ) (entries : List TapeEntry) → Agrees uses m d
+  pub fault_sole : (uses : SlotStates) (m : Machine) (d : Device) (port slot : ℕ) (entries : List TapeEntry)
+      → StateRelation uses m d
       → (s : ShowsFault entries (d.port port) port) → ((other : ℕ) → other ≢ slot → uses port other ≡ Free)
       → s.fault.slot.0 ≡ slot
 
 -- requests that get older
 pub record AgeLaws : Type 0 where
-  pub agrees : (k : Known) (m : Machine) (ready : Port → Bool) → Knows m k → Knows (after_step m (Age ready)) k
+  pub agrees : (k : DriverState) (m : Machine) (ready : Port → Bool) → DriverRelation m k
+      → DriverRelation (after_step m (Age ready)) k
   pub book : (entries : List Held) (m : Machine) (ready : Port → Bool) → IsBook entries m.book
       → IsBook (aged ready entries) (after_step m (Age ready)).book
-  pub ordered : (entries : List Held) (ready : Port → Bool) → IsInOrder entries → IsInOrder (aged ready entries)
+  pub ordered : (entries : List Held) (ready : Port → Bool) → BookIsInOrder entries → BookIsInOrder (aged ready entries)
   pub accepted : (table : Table) (entries : List Held) (ready : Port → Bool) → All (IsAccepted table) entries
       → All (IsAccepted table) (aged ready entries)
   pub asks : (entries : List Held) (ready : Port → Bool) → asks_of (aged ready entries) ≡ asks_of entries
@@ -154,5 +165,5 @@ pub record LivingLaws : Type 0 where
       × ((frame : Frame) → (after start history).owner frame ≡ start.owner frame)
   pub one : (start : Machine) (history : List Step) (one other : Accepted) → WasAccepted start history one
       → WasAccepted start history other → one.id ≡ other.id → one ≡ other
-  pub answered : (m : Machine) (a b : Pending) → IsReached m → Contains m.book a → Contains m.kept b
+  pub answered : (m : Machine) (a b : Pending) → IsReachable m → Contains m.book a → Contains m.kept b
       → a.request.id.0 ≢ b.request.id.0

@@ -12,37 +12,37 @@ use Rattle.adapter.specs.declared.command.Operation.{Operation}
 use Rattle.adapter.specs.declared.command.Operation.TheVariants.{ReadLog}
 use Rattle.adapter.specs.declared.tape.Entry.{Entry as TapeEntry}
 use Rattle.adapter.specs.declared.tape.Fault.{Fault}
-use Rattle.adapter.specs.Rules.{IsFree, IsOn, Stays}
-use Rattle.agreement.specs.Acts.{InSlots, at as at_slots}
+use Rattle.adapter.specs.Rules.{IsFree, IsOn, IsStable}
+use Rattle.refinement.specs.Acts.{InSlots, at_slots}
 use Rattle.adapter.specs.Access.{Access, Does, DoesAll, Loads, Stores, Writes}
 use Rattle.adapter.specs.Access.Access.{Loading, Storing}
-use Rattle.agreement.specs.Links.{IsPlugging, SparesRegister}
-use Rattle.agreement.specs.Tape.{TellsAmong}
+use Rattle.refinement.specs.Links.{IsPlugging, SparesRegister}
+use Rattle.refinement.specs.Tape.{TellsAmong}
 use Rattle.hba_regs.specs.Bits.{bit}
 use Rattle.hba_regs.specs.declared.reg.PortReg.{PortReg}
 use Rattle.hba_regs.specs.declared.reg.PortReg.TheVariants.{Cmd, Sctl}
 use Rattle.hba_regs.specs.declared.reg.Reg.TheVariants.{Ghc, Px}
-use Rattle.agreement.specs.Driven.{AnyUse, IsDrivenBy, IsFollowed, IsOf, SendsNone, Grows}
-use Rattle.agreement.specs.Agrees.{Agrees}
-use Rattle.agreement.specs.Driver.{EndsWith, IsBacked, Known, Knows}
-use Rattle.agreement.specs.Slots.{Own, Uses, op_of}
-use Rattle.agreement.specs.Vacant.{IsFreshIfShown, IsVacant}
-use Rattle.block_machine.specs.Due.{AreDueInTurn, IsDue, IsInOrder as machine_in_order, due_of, of_port, with_issued, with_none, with_waiting}
-use Rattle.agreement.specs.Errors.{NoneComes}
+use Rattle.refinement.specs.Driven.{AnyUse, IsDrivenBy, IsSimulated, IsOf, SendsNone, Grows}
+use Rattle.refinement.specs.Relation.{StateRelation}
+use Rattle.refinement.specs.Driver.{EndsWith, IsBacked, DriverState, DriverRelation}
+use Rattle.refinement.specs.Slots.{Own, SlotStates, op_of}
+use Rattle.refinement.specs.Vacant.{IsFreshIfShown, IsVacant}
+use Rattle.block_machine.specs.Due.{AreAllDueInOrder, IsDue, IsInOrder, due_of, of_port, with_issued, without_request, with_waiting}
+use Rattle.refinement.specs.Errors.{NoneComes}
 use Rattle.block_machine.specs.State.{Machine, Pending}
 use Rattle.block_machine.specs.Refusals.{IsOpen}
 use Rattle.block_machine.specs.Steps.{Step, Accept, Again, Issue, Answer, Load, May, Revoke, Store, after_step, newly_accepted}
 use Rattle.block_machine.specs.State as machine
 use Rattle.block_machine.specs.Steps as steps
 use Rattle.ata_types.specs.declared.request.ClientId.{ClientId}
-use Rattle.block_machine.specs.declared.due.Mode.{Mode}
+use Rattle.block_machine.specs.declared.due.QueueMode.{QueueMode}
 use Rattle.block_machine.specs.declared.due.Unanswered.{Unanswered}
 use Rattle.dma_frames.specs.Table.{Table, LendsOnly, lent_to}
-use Rattle.agreement.specs.Facts.{RunsWell, Undisturbed}
+use Rattle.refinement.specs.Facts.{RunsWell, Undisturbed}
 use Rattle.std.specs.List.{list_any}
-use Rattle.block_machine.specs.Events.{changes_disk, IsDevices}
+use Rattle.block_machine.specs.Events.{changes_disk, IsByDevice}
 use Rattle.block_machine.specs.Left.{after}
-use Rattle.block_machine.specs.Histories.{IsReached}
+use Rattle.block_machine.specs.Histories.{IsReachable}
 use Rattle.error_recovery.specs.Evidence.{BringsLog, HasFailed}
 use Rattle.port_boot.specs.States.{RunsOn, IsOfBoot}
 use Rattle.port_control.specs.Engines.{Falls, Sticks}
@@ -50,13 +50,13 @@ use Rattle.error_recovery.specs.Recovery.{IsRecovering}
 use Rattle.ncq.specs.Masks.{ReadsDone, IsFinding}
 use Rattle.ncq.specs.Tasks.{IsIssuing, IsTaskOf, IssuesTask, MayServe, with_serving}
 use Rattle.ncq.specs.declared.Task.{Task}
-use Rattle.port_look.specs.Laws.{Laws}
-use Rattle.request_queue.specs.Entries.{Held, IsAccepted, IsEarlier, IsFresh, IsInOrder, IsWaiting, MayGoAgain, all_marked_under, asks_of, at, issue, requeued as requeued_entry, unanswered_of, without}
-use Rattle.request_queue.specs.declared.Entry.{Entry}
-use Rattle.request_queue.specs.Fates.{AnswersAll, Holdings, MeetFates, keeps_loan}
+use Rattle.port_events.specs.Laws.{Laws}
+use Rattle.request_queue.specs.Entries.{Held, IsAccepted, IsEarlier, IsFresh, BookIsInOrder, IsWaiting, MayGoAgain, all_marked_under, asks_of, at_entry, issue, requeued_entry, unanswered_entries, without_entry}
+use Rattle.request_queue.specs.declared.PendingRequest.{PendingRequest}
+use Rattle.request_queue.specs.Dispositions.{AnswersAlike, Holdings, AreResolved, quarantines_loan}
 use Rattle.request_queue.specs.Machine.{IsBook, IsEntry}
-use Rattle.request_queue.specs.declared.fate.Fate.TheVariants.{Ends}
-use Rattle.server_history.specs.After.{RecoveryLaws, TroubleLaws}
+use Rattle.request_queue.specs.declared.disposition.Disposition.TheVariants.{Complete}
+use Rattle.server_history.specs.After.{RecoveryLaws, PortErrorLaws}
 use Rattle.server_history.specs.Basics.{AgeLaws, BasicLaws, SlotLaws, LivingLaws}
 use Rattle.server_history.specs.Calls.{CallLaws, LookLaws}
 
@@ -67,52 +67,55 @@ pub record LawsBelow : Type 0 where
   -- the book and the machine's
   pub accepts : (entries : List Held) (m : Machine) (e : Held) (r : machine.Accepted) → IsBook entries m.book
       → IsEntry e (newly_accepted r) → IsBook (entries ++ e ∷ []) (after_step m (Accept r)).book
-  pub issues : (entries : List Held) (m : Machine) (mode : Mode) (p : Pending) → IsBook entries m.book
-      → IsBook (map (at p.request.id issue) entries) (after_step m (Issue mode p)).book
+  pub issues : (entries : List Held) (m : Machine) (mode : QueueMode) (p : Pending) → IsBook entries m.book
+      → IsBook (map (at_entry p.request.id issue) entries) (after_step m (Issue mode p)).book
   pub again : (entries : List Held) (m : Machine) (p : Pending) → IsBook entries m.book
-      → IsBook (map (at p.request.id requeued_entry) entries) (after_step m (Again p)).book
+      → IsBook (map (at_entry p.request.id requeued_entry) entries) (after_step m (Again p)).book
   pub answers : (entries : List Held) (m : Machine) (p : Pending) (outcome : Outcome) → IsBook entries m.book
-      → IsBook (without p.request.id entries) (after_step m (Answer p outcome)).book
+      → IsBook (without_entry p.request.id entries) (after_step m (Answer p outcome)).book
   pub revokes : (entries : List Held) (m : Machine) (client : ClientId) (grant : ℕ) → IsBook entries m.book
       → IsBook (all_marked_under client grant entries) (after_step m (Revoke client grant)).book
   pub counts : (entries : List Held) (book : List Pending) (client : ClientId) → IsBook entries book
-      → steps.unanswered_of book client ≡ unanswered_of entries client.0
+      → steps.unanswered_of book client ≡ unanswered_entries entries client.0
   -- its order
-  pub one : (entries : List Held) (a b : Held) → IsInOrder entries → Contains entries a → Contains entries b
+  pub one : (entries : List Held) (a b : Held) → BookIsInOrder entries → Contains entries a → Contains entries b
       → a.entry.id ≡ b.entry.id → a ≡ b
-  pub longer : (entries : List Held) (e : Held) → IsInOrder entries → All (λ x. IsEarlier x e) entries → IsFresh e.entry
-      → 1 ≤ e.entry.client.0 → e.entry.client.0 ≤ 8 → unanswered_of entries e.entry.client.0 < 16
-      → IsInOrder (entries ++ e ∷ [])
-  pub issued : (entries : List Held) (id : RequestId) → IsInOrder entries → IsWaiting id entries
-      → IsInOrder (map (at id issue) entries)
-  pub requeued : (entries : List Held) (id : RequestId) → IsInOrder entries → MayGoAgain id entries
-      → IsInOrder (map (at id requeued_entry) entries)
-  pub fewer : (entries : List Held) (id : RequestId) → IsInOrder entries → IsInOrder (without id entries)
-  pub marked : (entries : List Held) (client : ClientId) (grant : ℕ) → IsInOrder entries
-      → IsInOrder (all_marked_under client grant entries)
-  pub others : (entries : List Held) (id : RequestId) (change : Entry → Entry) (e : Held) → Contains entries e
-      → e.entry.id ≢ id → Contains (map (at id change) entries) e
-  pub left : (entries : List Held) (id : RequestId) (e : Held) → Contains (without id entries) e
+  pub longer : (entries : List Held) (e : Held) → BookIsInOrder entries → All (λ x. IsEarlier x e) entries
+      → IsFresh e.entry
+      → 1 ≤ e.entry.client.0 → e.entry.client.0 ≤ 8 → unanswered_entries entries e.entry.client.0 < 16
+      → BookIsInOrder (entries ++ e ∷ [])
+  pub issued : (entries : List Held) (id : RequestId) → BookIsInOrder entries → IsWaiting id entries
+      → BookIsInOrder (map (at_entry id issue) entries)
+  pub requeued : (entries : List Held) (id : RequestId) → BookIsInOrder entries → MayGoAgain id entries
+      → BookIsInOrder (map (at_entry id requeued_entry) entries)
+  pub fewer : (entries : List Held) (id : RequestId) → BookIsInOrder entries → BookIsInOrder (without_entry id entries)
+  pub marked : (entries : List Held) (client : ClientId) (grant : ℕ) → BookIsInOrder entries
+      → BookIsInOrder (all_marked_under client grant entries)
+  pub others : (entries : List Held) (id : RequestId) (change : PendingRequest → PendingRequest) (e : Held)
+      → Contains entries e
+      → e.entry.id ≢ id → Contains (map (at_entry id change) entries) e
+  pub left : (entries : List Held) (id : RequestId) (e : Held) → Contains (without_entry id entries) e
       ↔ (Contains entries e × (e.entry.id ≢ id))
-  pub asked : (entries : List Held) → IsInOrder entries → machine_in_order (asks_of entries)
+  pub asked : (entries : List Held) → BookIsInOrder entries → IsInOrder (asks_of entries)
   -- what is lent
   pub still_lent : (old new : Table) (entries : List Held) (frames : List Frame) (to : Option RequestId)
       → LendsOnly old new frames to → All (λ f. lent_to old f ≡ None) frames → All (IsAccepted old) entries
       → All (IsAccepted new) entries
   pub still_answered : (old new : Table) (entries : List Held) (e : Held) → Contains entries e
       → LendsOnly old new e.frames None → All (IsAccepted old) entries
-      → All (IsAccepted new) (without e.entry.id entries)
+      → All (IsAccepted new) (without_entry e.entry.id entries)
   pub still_issued : (table : Table) (entries : List Held) (id : RequestId) → All (IsAccepted table) entries
-      → All (IsAccepted table) (map (at id issue) entries)
+      → All (IsAccepted table) (map (at_entry id issue) entries)
   pub still_requeued : (table : Table) (entries : List Held) (id : RequestId) → All (IsAccepted table) entries
-      → All (IsAccepted table) (map (at id requeued_entry) entries)
+      → All (IsAccepted table) (map (at_entry id requeued_entry) entries)
   pub still_marked : (table : Table) (entries : List Held) (client : ClientId) (grant : ℕ)
       → All (IsAccepted table) entries → All (IsAccepted table) (all_marked_under client grant entries)
   -- requests that are answered with one outcome
-  pub answered_each : (passes : Entry → Bool) (outcome : Outcome) → ((e : Entry) → keeps_loan outcome e ≡ false)
-      → (old : Holdings) → IsInOrder old.book → All (IsAccepted old.table) old.book → (replies : List Reply)
-      (new : Holdings) → AnswersAll passes outcome replies old new
-      → (now : Holdings) × MeetFates (λ e. Ends outcome) (filter (λ e. passes e.entry) old.book) replies old now
+  pub answered_each : (passes : PendingRequest → Bool) (outcome : Outcome)
+      → ((e : PendingRequest) → quarantines_loan outcome e ≡ false)
+      → (old : Holdings) → BookIsInOrder old.book → All (IsAccepted old.table) old.book → (replies : List Reply)
+      (new : Holdings) → AnswersAlike passes outcome replies old new
+      → (now : Holdings) × AreResolved (λ e. Complete outcome) (filter (λ e. passes e.entry) old.book) replies old now
       × (now.book ≡ new.book) × (now.kept ≡ new.kept) × LendsOnly now.table new.table [] None
   -- what becomes of slots, and of the requests in them
   pub slots : SlotLaws
@@ -120,47 +123,48 @@ pub record LawsBelow : Type 0 where
   pub ages : AgeLaws
   -- what the device backs
   pub backed_none : (d : Device) (m : Machine) → IsBacked d d m []
-  pub backed_own : (d : Device) (m : Machine) (step : Step) → (IsDevices step → ⊥) → IsBacked d d m (step ∷ [])
+  pub backed_own : (d : Device) (m : Machine) (step : Step) → (IsByDevice step → ⊥) → IsBacked d d m (step ∷ [])
   pub backed_parts : (old mid new : Device) (m : Machine) (early late : List Step) → IsBacked old mid m early
       → IsBacked mid new (after m early) late → IsBacked old new m (late ++ early)
   -- what is due
-  pub waits : (mode : Mode) (entries : List Held) (r : Unanswered) → IsDue mode (asks_of entries) r
+  pub waits : (mode : QueueMode) (entries : List Held) (r : Unanswered) → IsDue mode (asks_of entries) r
       → IsWaiting r.id entries
-  pub asks_issued : (entries : List Held) (id : RequestId) → asks_of (map (at id issue) entries)
+  pub asks_issued : (entries : List Held) (id : RequestId) → asks_of (map (at_entry id issue) entries)
       ≡ with_issued id (asks_of entries)
   pub asks_answered : (entries : List Held) (id : RequestId)
-      → asks_of (without id entries) ≡ with_none id (asks_of entries)
-  pub exact : (mode : Mode) (port : Port) (book : List Unanswered) (r : Unanswered) → r.port ≡ port
+      → asks_of (without_entry id entries) ≡ without_request id (asks_of entries)
+  pub exact : (mode : QueueMode) (port : Port) (book : List Unanswered) (r : Unanswered) → r.port ≡ port
       → Contains (due_of mode port book) r ↔ IsDue mode book r
-  pub own : (mode : Mode) (port : Port) (book : List Unanswered) (r : Unanswered) → Contains (due_of mode port book) r
+  pub own : (mode : QueueMode) (port : Port) (book : List Unanswered) (r : Unanswered)
+      → Contains (due_of mode port book) r
       → r.port ≡ port
-  pub in_turn : (mode : Mode) (port : Port) (book : List Unanswered) → machine_in_order book
-      → AreDueInTurn mode port (map (λ r. r.id) (due_of mode port book)) book
-  pub same_due : (mode : Mode) (port : Port) (book other : List Unanswered) (r : Unanswered)
+  pub in_turn : (mode : QueueMode) (port : Port) (book : List Unanswered) → IsInOrder book
+      → AreAllDueInOrder mode port (map (λ r. r.id) (due_of mode port book)) book
+  pub same_due : (mode : QueueMode) (port : Port) (book other : List Unanswered) (r : Unanswered)
       → of_port port book ≡ of_port port other → r.port ≡ port → IsDue mode book r ↔ IsDue mode other r
-  pub issued_apart : (port : Port) (book : List Unanswered) (r : Unanswered) → machine_in_order book → Contains book r
+  pub issued_apart : (port : Port) (book : List Unanswered) (r : Unanswered) → IsInOrder book → Contains book r
       → r.port ≢ port → of_port port (with_issued r.id book) ≡ of_port port book
-  pub answered_apart : (port : Port) (book : List Unanswered) (r : Unanswered) → machine_in_order book → Contains book r
-      → r.port ≢ port → of_port port (with_none r.id book) ≡ of_port port book
+  pub answered_apart : (port : Port) (book : List Unanswered) (r : Unanswered) → IsInOrder book → Contains book r
+      → r.port ≢ port → of_port port (without_request r.id book) ≡ of_port port book
   -- accesses that serve ports
   pub looks : Laws
   pub looking : LookLaws
   -- a task is issued
-  pub issuing_ends : (port : Port) (slot : ℕ) (r : Task) (frames : List Frame) (mode : Mode) (e : Pending)
+  pub issuing_ends : (port : Port) (slot : ℕ) (r : Task) (frames : List Frame) (mode : QueueMode) (e : Pending)
       (old new : Device) (s : InSlots) (m : Machine)
-      → IssuesTask port slot r frames old new → IsTaskOf port slot r frames mode e → IsReached m
-      → Knows m (at_slots s old) → MayServe port slot mode e s m
+      → IssuesTask port slot r frames old new → IsTaskOf port slot r frames mode e → IsReachable m
+      → DriverRelation m (at_slots s old) → MayServe port slot mode e s m
       → EndsWith (at_slots s old) m (Issue mode e) (at_slots (with_serving port slot e.request.id s) new)
-  pub issuing_silent : (port : Port) (slot : ℕ) (r : Task) (frames : List Frame) (mode : Mode) (e : Pending)
+  pub issuing_silent : (port : Port) (slot : ℕ) (r : Task) (frames : List Frame) (mode : QueueMode) (e : Pending)
       (old new : Device) (s : InSlots) (m : Machine)
-      → IssuesTask port slot r frames old new → IsTaskOf port slot r frames mode e → IsReached m
-      → Knows m (at_slots s old) → MayServe port slot mode e s m → (q : ℕ) (o : Operation) → op_of o ≡ None
+      → IssuesTask port slot r frames old new → IsTaskOf port slot r frames mode e → IsReachable m
+      → DriverRelation m (at_slots s old) → MayServe port slot mode e s m → (q : ℕ) (o : Operation) → op_of o ≡ None
       → (s.uses q 0 ≡ Own o → ⊥) → SendsNone q o old new
   pub issuing_of : (port : Port) (slot : ℕ) (access : Access) → IsIssuing port slot access → IsOf port access
   -- it is found done
   pub finding_of : (port : Port) (access : Access) → IsFinding port access → IsOf port access
   pub finding_followed : (port : Port) (mask done : ℕ) (old new : Device) → ReadsDone port mask done old new
-      → IsFollowed (IsFinding port) AnyUse old new
+      → IsSimulated (IsFinding port) AnyUse old new
   -- the adapter
   pub switches_on : (v : ℕ) (old new : Device) → old.hr ≡ false → bit v 31 ≡ true → bit v 0 ≡ false
       → Writes Ghc v old new → IsOn new
@@ -170,17 +174,18 @@ pub record LawsBelow : Type 0 where
       → SparesRegister (Px q r) access
   pub of_host : (port : Port) (access : Access) → IsOf port access → SparesRegister Ghc access
   -- clients' bytes
-  pub client_stores : (k : Known) (m : Machine) (client : ClientId) (frame : Frame) (offset : ℕ) (bytes : List ℕ)
-      (new : Device) → IsReached m → Knows m k → May m (Store client frame offset bytes)
+  pub client_stores : (k : DriverState) (m : Machine) (client : ClientId) (frame : Frame) (offset : ℕ) (bytes : List ℕ)
+      (new : Device) → IsReachable m → DriverRelation m k → May m (Store client frame offset bytes)
       → Stores (FRAME_BYTES * frame.0 + offset) bytes k.device new
       → EndsWith k m (Store client frame offset bytes) (record k { device = new })
-  pub client_loads : (k : Known) (m : Machine) (client : ClientId) (frame : Frame) (offset : ℕ) (bytes : List ℕ)
-      (new : Device) → IsReached m → Knows m k → IsOpen m.owner m.lent client frame offset (length bytes)
+  pub client_loads : (k : DriverState) (m : Machine) (client : ClientId) (frame : Frame) (offset : ℕ) (bytes : List ℕ)
+      (new : Device) → IsReachable m → DriverRelation m k → IsOpen m.owner m.lent client frame offset (length bytes)
       → Loads (FRAME_BYTES * frame.0 + offset) bytes k.device new
       → EndsWith k m (Load client frame offset bytes) (record k { device = new })
-  pub client_bytes_free : (uses : Uses) (m : Machine) (d : Device) → IsReached m → Agrees uses m d → (client : ClientId)
+  pub client_bytes_free : (uses : SlotStates) (m : Machine) (d : Device) → IsReachable m → StateRelation uses m d
+      → (client : ClientId)
       (frame : Frame) (offset n : ℕ) → FRAME_BYTES * frame.0 + FRAME_BYTES ≤ d.size
-      → IsOpen m.owner m.lent client frame offset n → Stays (IsFree (FRAME_BYTES * frame.0 + offset) n) d
+      → IsOpen m.owner m.lent client frame offset n → IsStable (IsFree (FRAME_BYTES * frame.0 + offset) n) d
   -- a port that runs does so still
   pub runs_over : (port : Port) (access : Access) (old new : Device) → IsOn old → SparesRegister (Px port Sctl) access
       → SparesRegister (Px port Cmd) access → Does access old new → RunsOn port.0 old new
@@ -192,15 +197,17 @@ pub record LawsBelow : Type 0 where
   -- a port is recovered
   pub recovery : RecoveryLaws
   -- what is shown of trouble
-  pub trouble : TroubleLaws
+  pub port_error : PortErrorLaws
   -- a port's turn in a call
   pub calls : CallLaws
   -- a port that is recovered, or booted anew
   pub recovering_of : (port : Port) (access : Access) → IsRecovering port access → IsOf port access
-  pub recovering_loads : (port : Port) (at : ℕ) (bytes : List ℕ) → port.0 < 4 → IsRecovering port (Loading at bytes)
-      → at + length bytes ≤ DRIVER_BYTES
-  pub recovering_stores : (port : Port) (at : ℕ) (bytes : List ℕ) → port.0 < 4 → IsRecovering port (Storing at bytes)
-      → at + length bytes ≤ DRIVER_BYTES
+  pub recovering_loads : (port : Port) (at_entry : ℕ) (bytes : List ℕ) → port.0 < 4
+      → IsRecovering port (Loading at_entry bytes)
+      → at_entry + length bytes ≤ DRIVER_BYTES
+  pub recovering_stores : (port : Port) (at_entry : ℕ) (bytes : List ℕ) → port.0 < 4
+      → IsRecovering port (Storing at_entry bytes)
+      → at_entry + length bytes ≤ DRIVER_BYTES
   pub booting_of : (port : Port) (access : Access) → IsOfBoot port access → IsOf port access
   -- what accesses tell of a port's engines
   pub falls_then : (early late : List Access) (start running : ℕ) (port : Port) → Falls start running port early
@@ -217,7 +224,7 @@ pub record LawsBelow : Type 0 where
   pub log_stays : (port : Port) (start old new end : Device) (page : List ℕ) → Grows start old
       → SendsNone port.0 ReadLog new end → BringsLog port old new page → BringsLog port start end page
   -- a request that waits again
-  pub asks_requeued : (entries : List Held) (id : RequestId) → asks_of (map (at id requeued_entry) entries)
+  pub asks_requeued : (entries : List Held) (id : RequestId) → asks_of (map (at_entry id requeued_entry) entries)
       ≡ with_waiting id (asks_of entries)
   -- requests that are marked
   pub asks_marked : (entries : List Held) (client : ClientId) (grant : ℕ)

@@ -2,7 +2,7 @@
 use Rattle.std.specs.Prelude.{ℕ, true, false, ◌≡◌, ◌≢◌, ◌⊎◌, ◌≤◌, ◌%◌, List, All, Contains, length}
 use Rattle.ata_types.specs.declared.Port.{Port}
 use Rattle.ata_types.specs.declared.PortState.TheVariants.{Ready}
-use Rattle.adapter.specs.Device.{Device, PortState}
+use Rattle.adapter.specs.Device.{Device, DevicePort}
 use Rattle.adapter.specs.Seen.{SeenAt}
 use Rattle.adapter.specs.declared.access.DeviceStep.{DeviceStep}
 use Rattle.adapter.specs.declared.command.Operation.TheVariants.{ReadLog}
@@ -10,36 +10,36 @@ use Rattle.adapter.specs.declared.tape.Fault.{Fault}
 use Rattle.adapter.specs.Rules.{IsOn}
 use Rattle.adapter.specs.Steps.{Steps}
 use Rattle.adapter.specs.Access.{Access, DoesAll, Reads}
-use Rattle.agreement.specs.Links.{PlugsNone, SparesRegister, SameAdapter, HasDeviceOrNone}
+use Rattle.refinement.specs.Links.{PlugsNone, SparesRegister, SameAdapter, HasDeviceOrNone}
 use Rattle.hba_regs.specs.Bits.{bit}
 use Rattle.hba_regs.specs.declared.reg.PortReg.{PortReg}
 use Rattle.hba_regs.specs.declared.reg.PortReg.TheVariants.{Ssts}
 use Rattle.hba_regs.specs.declared.reg.Reg.TheVariants.{Ghc, Px}
-use Rattle.agreement.specs.Driven.{IsDrivenBy, IsOf, LeavesPort, SendsNone, Grows}
-use Rattle.agreement.specs.Errors.{NoneComes, IsFatalOf}
-use Rattle.agreement.specs.Facts.{IsFaulted, IsRecorded, RunsWell, ShowsNoTrouble, TellsNoTrouble, Undisturbed, IsFaultOf}
-use Rattle.block_machine.specs.Events.{Ask, Moment, Said, Service}
-use Rattle.block_machine.specs.Histories.{Instant}
+use Rattle.refinement.specs.Driven.{IsDrivenBy, IsOf, LeavesPort, SendsNone, Grows}
+use Rattle.refinement.specs.Errors.{NoneComes, IsFatalOf}
+use Rattle.refinement.specs.Facts.{IsFaulted, IsRecorded, RunsWell, ShowsNoTrouble, TellsNoTrouble, Undisturbed, IsFaultOf}
+use Rattle.block_machine.specs.Events.{Ask, AbstractState, CallResult, Service}
+use Rattle.block_machine.specs.Histories.{JointState}
 use Rattle.block_machine.specs.Ports.{Evidence, IsInterrupted, Ports, SamePort}
 use Rattle.driver_history.specs.Evidence.{IsEvidencedOf, ShowsChange, ShowsFailure}
 use Rattle.error_recovery.specs.Evidence.{BringsLog, HasFailed, GainsRunning}
-use Rattle.driver_history.specs.Histories.{BootsAnew, HasFaultAlone, LosesNoTrouble, RunsWellAnew, IsUnfitOrForeign, TriesDisk}
+use Rattle.driver_history.specs.Histories.{BootsAnew, HasFaultAlone, LosesNoPortError, RunsWellAnew, IsUnfitOrForeign, ProbesDisk}
 use Rattle.driver_history.specs.Parts.{HasTurnIn, NamesAlike, all_of, EndsLinked}
 use Rattle.driver_history.specs.Trace.{ClearsNone, ResetsLink}
 use Rattle.port_control.specs.Engines.{Stops}
-use Rattle.port_look.specs.Looks.{LooksAt, look_of, IsLooking}
-use Rattle.port_look.specs.Services.{HasLoss, IsOrdinary, IsService, ShowsDisks, ShowsFatals, ShowsFaults}
-use Rattle.port_look.specs.declared.Look.{Look}
-use Rattle.port_look.specs.declared.Look.TheVariants.{Broken, Failed, Lost, Undisturbed as Calm}
+use Rattle.port_events.specs.Looks.{LooksAt, look_of, IsLooking}
+use Rattle.port_events.specs.Services.{HasLoss, IsOrdinary, IsService, ShowsDisks, ShowsFatals, ShowsFaults}
+use Rattle.port_events.specs.declared.PortEvent.{PortEvent}
+use Rattle.port_events.specs.declared.PortEvent.TheVariants.{BusError, TaskFileError, LinkChanged, NoEvent}
 
 pub record LookLaws : Type 0 where
   -- a reading of a port's register
   pub seen : (port : Port) (r : PortReg) (v : ℕ) (old new : Device) → Reads (Px port r) v old new → old.hr ≡ false
       → SeenAt port.0 r v old new
-  pub leaves_none : (p : PortState) → LeavesPort p p
-  pub leaves_more : (old mid new : PortState) → LeavesPort old mid → LeavesPort mid new → LeavesPort old new
+  pub leaves_none : (p : DevicePort) → LeavesPort p p
+  pub leaves_more : (old mid new : DevicePort) → LeavesPort old mid → LeavesPort mid new → LeavesPort old new
   -- a command that failed
-  pub fails_look : (port : Port) (old new : Device) → IsOn old → LooksAt port Failed old new
+  pub fails_look : (port : Port) (old new : Device) → IsOn old → LooksAt port TaskFileError old new
       → (old.port port.0).st ≡ true → IsRecorded old.tape (old.port port.0) port.0 → IsFaulted (new.port port.0).halt
       × ((new.port port.0).notes.last_ssts % 16 ≡ 3)
   pub fails_reads : (port : Port) (r : PortReg) (v : ℕ) (old new : Device) → IsOn old → Reads (Px port r) v old new
@@ -47,26 +47,28 @@ pub record LookLaws : Type 0 where
       → IsFaulted (old.port port.0).halt → IsFaulted (new.port port.0).halt
       × ((new.port port.0).notes.last_ssts ≡ (old.port port.0).notes.last_ssts)
   -- what a look tells of trouble
-  pub looks_changed : (port : Port) (result : Look) (old new : Device) → IsOn old → LooksAt port result old new
-      → ((old.port port.0).serr_n ≡ true) ⊎ ((old.port port.0).serr_x ≡ true) → result ≡ Lost
-  pub looks_unlinked : (port : Port) (result : Look) (old new : Device) → IsOn old → LooksAt port result old new
-      → (old.port port.0).ssts_det ≢ 3 → (old.port port.0).link_due ≡ false → NoneComes port.0 old new → result ≡ Lost
-  pub looks_failed : (causes status : ℕ) → look_of causes status ≡ Failed
+  pub looks_changed : (port : Port) (result : PortEvent) (old new : Device) → IsOn old → LooksAt port result old new
+      → ((old.port port.0).serr_n ≡ true) ⊎ ((old.port port.0).serr_x ≡ true) → result ≡ LinkChanged
+  pub looks_unlinked : (port : Port) (result : PortEvent) (old new : Device) → IsOn old → LooksAt port result old new
+      → (old.port port.0).ssts_det ≢ 3 → (old.port port.0).link_due ≡ false → NoneComes port.0 old new
+      → result ≡ LinkChanged
+  pub looks_failed : (causes status : ℕ) → look_of causes status ≡ TaskFileError
       → (bit causes 30 ≡ true) × (bit causes 6 ≡ false) × (bit causes 22 ≡ false)
       × ((place : ℕ) → 27 ≤ place → place ≤ 29 → bit causes place ≡ false) × (status % 16 ≡ 3)
-  pub looks_undisturbed : (causes status : ℕ) → look_of causes status ≡ Calm → TellsNoTrouble causes × (status % 16 ≡ 3)
-  pub looks_calm : (port : Port) (result : Look) (old new : Device) → IsOn old → (l : LooksAt port result old new)
-      → result ≡ Calm → ShowsNoTrouble (old.port port.0) × Undisturbed port.0 old l.seen
+  pub looks_undisturbed : (causes status : ℕ) → look_of causes status ≡ NoEvent → TellsNoTrouble causes
+      × (status % 16 ≡ 3)
+  pub looks_calm : (port : Port) (result : PortEvent) (old new : Device) → IsOn old → (l : LooksAt port result old new)
+      → result ≡ NoEvent → ShowsNoTrouble (old.port port.0) × Undisturbed port.0 old l.seen
   -- a command that fails is heeded
-  pub looks_broken : (causes status : ℕ) → look_of causes status ≡ Broken
+  pub looks_broken : (causes status : ℕ) → look_of causes status ≡ BusError
       → ((bit causes 28 ≡ true) ⊎ (bit causes 29 ≡ true) ⊎ (bit causes 27 ≡ true)) × (bit causes 6 ≡ false)
       × (bit causes 22 ≡ false) × (status % 16 ≡ 3)
   -- trouble is heeded
-  pub looks_fault : (port : Port) (result : Look) (old new : Device) → IsOn old → (l : LooksAt port result old new)
+  pub looks_fault : (port : Port) (result : PortEvent) (old new : Device) → IsOn old → (l : LooksAt port result old new)
       → bit l.causes 30 ≡ false → ShowsFaults port.0 old new
-  pub looks_fatal : (port : Port) (result : Look) (old new : Device) → IsOn old → (l : LooksAt port result old new)
+  pub looks_fatal : (port : Port) (result : PortEvent) (old new : Device) → IsOn old → (l : LooksAt port result old new)
       → ((place : ℕ) → 27 ≤ place → place ≤ 29 → bit l.causes place ≡ false) → ShowsFatals port.0 old new
-  pub looks_disk : (port : Port) (result : Look) (old new : Device) → IsOn old → LooksAt port result old new
+  pub looks_disk : (port : Port) (result : PortEvent) (old new : Device) → IsOn old → LooksAt port result old new
       → ShowsDisks port.0 old new
   pub ordinary_faults : (port : Port) (old new : Device) → IsOn old → IsDrivenBy (IsOrdinary port) old new
       → ShowsFaults port.0 old new
@@ -74,15 +76,15 @@ pub record LookLaws : Type 0 where
       → ShowsFatals port.0 old new
   pub ordinary_disks : (port : Port) (old new : Device) → IsOn old → IsDrivenBy (IsOrdinary port) old new
       → ShowsDisks port.0 old new
-  pub looks_loss : (port : Port) (old new : Device) → IsOn old → LooksAt port Lost old new
+  pub looks_loss : (port : Port) (old new : Device) → IsOn old → LooksAt port LinkChanged old new
       → (old.port port.0).link_due ≡ false → HasLoss port.0 old new
   -- accesses that serve ports
   pub looking_service : (port : Port) (access : Access) → IsLooking port access → IsService access
   pub looking_of : (port : Port) (access : Access) → IsLooking port access → IsOf port access
-  pub looks_driven : (port : Port) (result : Look) (old new : Device) → LooksAt port result old new
+  pub looks_driven : (port : Port) (result : PortEvent) (old new : Device) → LooksAt port result old new
       → IsDrivenBy (IsLooking port) old new
-  pub looks_well : (port : Port) (result : Look) (old new : Device) → IsOn old → LooksAt port result old new
-      → RunsWell (old.port port.0) → Undisturbed port.0 old new → (result ≡ Calm) × RunsWell (new.port port.0)
+  pub looks_well : (port : Port) (result : PortEvent) (old new : Device) → IsOn old → LooksAt port result old new
+      → RunsWell (old.port port.0) → Undisturbed port.0 old new → (result ≡ NoEvent) × RunsWell (new.port port.0)
   -- what serving ports leaves
   pub services_on : (old new : Device) → IsOn old → IsDrivenBy IsService old new → IsOn new
   pub services_same : (old new : Device) → IsDrivenBy IsService old new → SameAdapter old new
@@ -97,8 +99,8 @@ pub record LookLaws : Type 0 where
 
 pub record CallLaws : Type 0 where
   -- a port's turn in a call
-  pub evidence : (port : Port) (old : Instant Device) (begun : Moment) (ended ports : Ports) (new : Device)
-      (turn call : Evidence) (ask : Ask DeviceStep) (said : Said) → IsOn old.device
+  pub evidence : (port : Port) (old : JointState Device) (begun : AbstractState) (ended ports : Ports) (new : Device)
+      (turn call : Evidence) (ask : Ask DeviceStep) (said : CallResult) → IsOn old.device
       → ((old.moment.ports.state port ≡ Ready) ⊎ Contains turn.lost port → (old.device.port port.0).link_due ≡ false)
       → (t : HasTurnIn port old.device new) → IsOn t.end → SamePort old.moment.ports begun.ports port
       → SamePort ended ports port → NamesAlike port turn call
@@ -109,33 +111,34 @@ pub record CallLaws : Type 0 where
   pub brings : (port : Port) (old new : Device) (page : List ℕ) → IsOn old → (t : HasTurnIn port old new)
       → SendsNone port.0 ReadLog t.end new → BringsLog port t.start t.end page → BringsLog port old new page
   -- a port's trouble, and its turn in the call
-  pub ordinary : (port : Port) (old : Instant Device) (new : Device) (accesses : List Access) (evidence : Evidence)
+  pub ordinary : (port : Port) (old : JointState Device) (new : Device) (accesses : List Access) (evidence : Evidence)
       (ports : Ports) → IsOn old.device
       → DoesAll accesses old.device new → All (SparesRegister Ghc) accesses → All (ClearsNone port) accesses
-      → LosesNoTrouble evidence old ports new port
-  pub ordinary_steps : (port : Port) (old : Instant Device) (new : Device) (evidence : Evidence) (ports : Ports)
-      → IsOn old.device → Steps old.device new → LosesNoTrouble evidence old ports new port
-  pub alone_then : (port : Port) (old : Instant Device) (begun : Moment) (new : Device) → IsOn old.device
+      → LosesNoPortError evidence old ports new port
+  pub ordinary_steps : (port : Port) (old : JointState Device) (new : Device) (evidence : Evidence) (ports : Ports)
+      → IsOn old.device → Steps old.device new → LosesNoPortError evidence old ports new port
+  pub alone_then : (port : Port) (old : JointState Device) (begun : AbstractState) (new : Device) → IsOn old.device
       → (old.device.port port.0).link_due ≡ false → (t : HasTurnIn port old.device new) → IsOn t.end
       → begun.ports.state port ≡ Ready → HasFaultAlone port old new
       → HasFaultAlone port (record { device = t.start; moment = begun }) t.end
-  pub call_trouble : (port : Port) (old : Instant Device) (begun : Moment) (ended ports : Ports) (new : Device)
+  pub call_trouble : (port : Port) (old : JointState Device) (begun : AbstractState) (ended ports : Ports)
+      (new : Device)
       (turn call : Evidence) → IsOn old.device
       → (t : HasTurnIn port old.device new) → IsOn t.end → SamePort ended ports port → NamesAlike port turn call
       → SamePort old.moment.ports begun.ports port → (ended.state port ≡ Ready → IsInterrupted turn port
       → length t.start.tape ≤ (t.end.port port.0).notes.st_set_at)
       → ((begun.ports.state port ≡ Ready) ⊎ (ended.state port ≡ Ready) → ShowsFailure (t.start.port port.0)
       ⊎ ShowsChange (t.start.port port.0) → IsInterrupted turn port)
-      → LosesNoTrouble turn (record { device = t.start; moment = begun }) ended t.end port
-      → LosesNoTrouble call old ports new port
-  pub call_boots : (port : Port) (old : Instant Device) (begun : Moment) (ended ports : Ports) (new : Device)
-      (one other : Said) → IsOn old.device
+      → LosesNoPortError turn (record { device = t.start; moment = begun }) ended t.end port
+      → LosesNoPortError call old ports new port
+  pub call_boots : (port : Port) (old : JointState Device) (begun : AbstractState) (ended ports : Ports) (new : Device)
+      (one other : CallResult) → IsOn old.device
       → (old.moment.ports.state port ≡ Ready → (old.device.port port.0).link_due ≡ false)
       → (t : HasTurnIn port old.device new) → IsOn t.end → SamePort ended ports port
       → SamePort old.moment.ports begun.ports port
       → BootsAnew Service one t.turn (record { device = t.start; moment = begun }) ended t.end port
       → BootsAnew Service other (all_of t) old ports new port
-  pub call_well : (port : Port) (old : Instant Device) (begun : Moment) (ended ports : Ports) (new : Device)
+  pub call_well : (port : Port) (old : JointState Device) (begun : AbstractState) (ended ports : Ports) (new : Device)
       (turn call : Evidence) → IsOn old.device
       → (t : HasTurnIn port old.device new) → IsOn t.end
       → (ended.state port ≡ Ready → ((old.device.port port.0).link_due ≡ false) ⊎ ResetsLink port t.turn)
@@ -143,16 +146,16 @@ pub record CallLaws : Type 0 where
       → (ended.state port ≡ Ready → (t.end.port port.0).notes.st_set_at ≤ length t.end.tape)
       → RunsWellAnew turn t.turn (record { device = t.start; moment = begun }) ended t.end port
       → RunsWellAnew call (all_of t) old ports new port
-  -- a disk that is tried in a port's turn
-  pub call_tries : (port : Port) (old : Instant Device) (begun : Moment) (ended ports : Ports) (new : Device)
+  -- a disk that is probed in a port's turn
+  pub call_tries : (port : Port) (old : JointState Device) (begun : AbstractState) (ended ports : Ports) (new : Device)
       → IsOn old.device → (t : HasTurnIn port old.device new) → IsOn t.end → SamePort ended ports port
       → SamePort old.moment.ports begun.ports port
       → (IsUnfitOrForeign old.moment.ports port → HasDeviceOrNone (old.device.port port.0))
       → EndsLinked port (record { device = t.start; moment = begun }) ended t.end
-      → (NoneComes port.0 t.start t.end → TriesDisk t.turn (record { device = t.start; moment = begun }) ended t.end
+      → (NoneComes port.0 t.start t.end → ProbesDisk t.turn (record { device = t.start; moment = begun }) ended t.end
       port)
-      → NoneComes port.0 old.device new → TriesDisk (all_of t) old ports new port
-  pub call_linked : (port : Port) (old : Instant Device) (begun : Moment) (ended ports : Ports) (new : Device)
+      → NoneComes port.0 old.device new → ProbesDisk (all_of t) old ports new port
+  pub call_linked : (port : Port) (old : JointState Device) (begun : AbstractState) (ended ports : Ports) (new : Device)
       → IsOn old.device → (t : HasTurnIn port old.device new) → IsOn t.end → SamePort ended ports port
       → SamePort old.moment.ports begun.ports port → EndsLinked port (record { device = t.start; moment = begun }) ended
       t.end → EndsLinked port old ports new

@@ -3,60 +3,62 @@ use Rattle.std.specs.Prelude.{ℕ, Bool, true, false, ◌≡◌, List, [], ◌�
 use Rattle.ata_types.specs.declared.refusal.MemFault.{MemFault}
 use Rattle.adapter.specs.Device.{Device}
 use Rattle.adapter.specs.declared.access.DeviceStep.{DeviceStep}
-use Rattle.block_machine.specs.Events.{Ask, Said, Stored, Loaded}
-use Rattle.block_machine.specs.Histories.{Instant, Happening}
+use Rattle.block_machine.specs.Events.{Ask, CallResult, Stored, Loaded}
+use Rattle.block_machine.specs.Histories.{JointState, Happening}
 use Rattle.block_machine.specs.Histories as histories
-use Rattle.driver_history.specs.Histories.{Begins, Ties}
-use Rattle.server_history.specs.Server.{Server, ports_of, IsSettled, IsMachineOf}
-use Rattle.server_history.specs.Stalled.{IsStalled}
+use Rattle.driver_history.specs.Histories.{Begins, CallCorresponds}
+use Rattle.server_history.specs.Server.{ServerState, ports_of, SettledInvariant, IsMachineOf}
+use Rattle.server_history.specs.Stalled.{StuckInvariant}
 
 -- An instant of a history is where the server stands: the device is its own, the ports are what it says, and the
 -- machine stands for it.
-pub record Stands (now : Instant Device) (s : Server) : Type 0 where
+pub record ServerRelation (now : JointState Device) (s : ServerState) : Type 0 where
   pub device_is : now.device ≡ s.device
   pub ports_are : now.moment.ports ≡ ports_of s
   pub machine : IsMachineOf s now.moment.machine
 
 -- what a store of a client's bytes says
-abbrev pub store_said : Result (Unit {0}) MemFault → Said
+abbrev pub store_said : Result (Unit {0}) MemFault → CallResult
 store_said (Ok done) = Stored None
 store_said (Err fault) = Stored (Some fault)
 
 -- what a load of a client's bytes says
-abbrev pub load_said : Result (Unit {0}) MemFault → List ℕ → Said
+abbrev pub load_said : Result (Unit {0}) MemFault → List ℕ → CallResult
 load_said (Ok done) bytes = Loaded (Ok bytes)
 load_said (Err fault) bytes = Loaded (Err fault)
 
 -- the history leads to the server
-abbrev pub Leads : Instant Device → List (Happening Device DeviceStep) → Server → Type 0
-Leads first past s = histories.Leads (Begins s.wanted) (Ties s.wanted) Stands first past s
+abbrev pub LeadsToServer : JointState Device → List (Happening Device DeviceStep) → ServerState → Type 0
+LeadsToServer first past s = histories.Leads (Begins s.wanted) (CallCorresponds s.wanted) ServerRelation first past s
 
 -- To every history that leads to the old server, a call that asked this and said that adds one event, which leads to
 -- the new one.
-abbrev pub AddsEvent : Server → Server → Ask DeviceStep → Said → Type 0
-AddsEvent old new ask said = (first : Instant Device) (past : List (Happening Device DeviceStep)) → Leads first past old
-    → (h : Happening Device DeviceStep) × (h.event.ask ≡ ask) × (h.event.said ≡ said) × Leads first (h ∷ past) new
+abbrev pub ExtendsHistory : ServerState → ServerState → Ask DeviceStep → CallResult → Type 0
+ExtendsHistory old new ask said = (first : JointState Device) (past : List (Happening Device DeviceStep))
+    → LeadsToServer first past old
+    → (h : Happening Device DeviceStep) × (h.event.ask ≡ ask) × (h.event.said ≡ said)
+    × LeadsToServer first (h ∷ past) new
 
 -- So it does; and the new server's adapter is on, and each request is issued that is due.
-pub record Adds (old new : Server) (ask : Ask DeviceStep) (said : Said) : Type 0 where
-  pub settled : IsSettled new
-  pub adds : AddsEvent old new ask said
+pub record ExtendsSettled (old new : ServerState) (ask : Ask DeviceStep) (said : CallResult) : Type 0 where
+  pub settled : SettledInvariant new
+  pub adds : ExtendsHistory old new ask said
 
 -- So it does; and the new server's adapter hasn't been seen to end a reset.
-pub record AddsStalled (old new : Server) (ask : Ask DeviceStep) (said : Said) : Type 0 where
-  pub stalled : IsStalled new
-  pub adds : AddsEvent old new ask said
+pub record ExtendsStuck (old new : ServerState) (ask : Ask DeviceStep) (said : CallResult) : Type 0 where
+  pub stalled : StuckInvariant new
+  pub adds : ExtendsHistory old new ask said
 
 -- What holds of a server between calls, by whether its last reset got stuck: its adapter is on, and each request is
 -- issued that is due; or the adapter hasn't been seen to end that reset.
-abbrev pub HoldsBy : Bool → Server → Type 0
-HoldsBy false s = IsSettled s
-HoldsBy true s = IsStalled s
+abbrev pub InvariantBy : Bool → ServerState → Type 0
+InvariantBy false s = SettledInvariant s
+InvariantBy true s = StuckInvariant s
 
 -- So it does, and it is for the new server as it was.
-abbrev pub AddsBy : Bool → Server → Server → Ask DeviceStep → Said → Type 0
-AddsBy stuck old new ask said = HoldsBy stuck new × AddsEvent old new ask said
+abbrev pub ExtendsBy : Bool → ServerState → ServerState → Ask DeviceStep → CallResult → Type 0
+ExtendsBy stuck old new ask said = InvariantBy stuck new × ExtendsHistory old new ask said
 
 -- a history without calls leads to the server
-abbrev pub HasBegun : Server → Type 0
-HasBegun s = (first : Instant Device) × Leads first [] s
+abbrev pub HasBegun : ServerState → Type 0
+HasBegun s = (first : JointState Device) × LeadsToServer first [] s

@@ -3,14 +3,14 @@ pub mod Stalled
 pub mod Kept
 pub mod Histories
 pub mod Served
-pub mod Mended
+pub mod ErrorHandling
 pub mod Resets
-pub mod Tried
+pub mod Probing
 pub mod Turns
 pub mod After
 pub mod Basics
 pub mod Calls
 pub mod Below
-pub mod Fates
+pub mod Dispositions
 pub mod Ended
 pub mod Revoked

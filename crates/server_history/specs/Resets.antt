@@ -4,28 +4,28 @@ use Rattle.ata_types.specs.declared.Port.{Port}
 use Rattle.ata_types.specs.declared.PortState.TheVariants.{Dead as DeadState}
 use Rattle.ata_types.specs.declared.request.Reply.{Reply}
 use Rattle.adapter.specs.Device.{Device}
-use Rattle.agreement.specs.Agrees.{port_at}
+use Rattle.refinement.specs.Relation.{port_at}
 use Rattle.host_boot.specs.Resets.{Resets}
-use Rattle.host_boot.specs.Taken.{TakesOver, found_of}
-use Rattle.host_boot.specs.declared.Found.{Found}
-use Rattle.host_boot.specs.declared.Found.TheVariants.{Ready, Unready}
+use Rattle.host_boot.specs.Taken.{TakesOver, probe_result_of}
+use Rattle.host_boot.specs.declared.ProbeResult.{ProbeResult}
+use Rattle.host_boot.specs.declared.ProbeResult.TheVariants.{Ready, Unready}
 use Rattle.host_boot.specs.declared.Host.{Host}
 use Rattle.identify.specs.declared.DiskInfo.{DiskInfo}
-use Rattle.request_queue.specs.Entries.{Held, IsAccepted, IsInOrder}
-use Rattle.request_queue.specs.Fates.{Holdings, MeetFates, fate_of}
-use Rattle.request_queue.specs.declared.fate.Prospect.{Prospect}
-use Rattle.request_queue.specs.declared.fate.Prospect.TheVariants.{SameDisk, DiskLost, Dead}
+use Rattle.request_queue.specs.Entries.{Held, IsAccepted, BookIsInOrder}
+use Rattle.request_queue.specs.Dispositions.{Holdings, AreResolved, disposition_of}
+use Rattle.request_queue.specs.declared.disposition.Revalidation.{Revalidation}
+use Rattle.request_queue.specs.declared.disposition.Revalidation.TheVariants.{SameDisk, DiskLost, Dead}
 use Rattle.server_history.specs.Kept.{IsKeptIn, TakesBack}
-use Rattle.server_history.specs.Mended.{IsSameDisk, holdings_of, requests_of}
+use Rattle.server_history.specs.ErrorHandling.{IsSameDisk, holdings_of, requests_of}
 use Rattle.server_history.specs.Served.{IssuesAll}
-use Rattle.server_history.specs.Server.{Server, disk_in, kept_at, mode_at, mode_found, remembered_at, slots_at, used_for}
+use Rattle.server_history.specs.Server.{ServerState, disk_in, kept_at, mode_at, mode_found, remembered_at, slots_at, used_for}
 
 -- ---- the adapter is taken over again
 
 -- The adapter was reset, the frames of the kept loans were given back, and the idle adapter was taken over: ports are
 -- what they were found to be, with no slot used; and the disk that each was last ready with is remembered. No request
 -- is answered, nor issued.
-pub record IsTakenAgain (old taken : Server) : Type 0 where
+pub record IsTakenAgain (old taken : ServerState) : Type 0 where
   pub idle : Device
   pub resets : Resets old.device idle
   pub back : TakesBack old.table taken.table (IsKeptIn old.kept)
@@ -37,7 +37,8 @@ pub record IsTakenAgain (old taken : Server) : Type 0 where
   pub remembered : (port : ℕ) → remembered_at taken.remembered port ≡ disk_in old (port_at port)
   pub four_remembered : length taken.remembered ≡ 4
   pub four_modes : length taken.modes ≡ 4
-  pub modes : (port : ℕ) → port < 4 → mode_at taken.modes port ≡ mode_found taken.device.cap (found_of host.ports port)
+  pub modes : (port : ℕ) → port < 4
+      → mode_at taken.modes port ≡ mode_found taken.device.cap (probe_result_of host.ports port)
   pub four_slots : length taken.slots ≡ 4
   pub places : (port : ℕ) → port < 4 → length (slots_at taken.slots port).places ≡ 32
   pub usable : (port : ℕ) → port < 4 → (slots_at taken.slots port).usable ≡ (mode_at taken.modes port).usable
@@ -55,39 +56,41 @@ pub record IsTakenAgain (old taken : Server) : Type 0 where
 -- ---- what becomes of its requests
 
 -- What a port's requests may expect then, by the disk that it was last ready with, if it ever was.
-abbrev pub IsProspectAnew : Option DiskInfo → Found → Prospect → Type 0
-IsProspectAnew was found SameDisk = (before now : DiskInfo) × (was ≡ Some before) × (found ≡ Ready now)
+abbrev pub IsResetRevalidation : Option DiskInfo → ProbeResult → Revalidation → Type 0
+IsResetRevalidation was found SameDisk = (before now : DiskInfo) × (was ≡ Some before) × (found ≡ Ready now)
     × IsSameDisk before now
-IsProspectAnew was found DiskLost = (found ≢ Unready DeadState)
+IsResetRevalidation was found DiskLost = (found ≢ Unready DeadState)
     × ((before now : DiskInfo) → was ≡ Some before → found ≡ Ready now → IsSameDisk before now → ⊥)
-IsProspectAnew was found Dead = found ≡ Unready DeadState
+IsResetRevalidation was found Dead = found ≡ Unready DeadState
 
 -- the server, with these holdings of the port
-abbrev pub with_holdings : Port → Holdings → Server → Server
+abbrev pub with_holdings : Port → Holdings → ServerState → ServerState
 with_holdings port now s = record s { table = now.table; kept = slice_set s.kept port.0 now.kept; book = now.book }
 
--- The requests of a port met their fates, in order of acceptance: none is told a fault, and what becomes of each else
--- its port's prospect says. So it came to this server.
-pub record SettlesPort (port : Port) (replies : List Reply) (old new : Server) : Type 0 where
-  pub prospect : Prospect
-  pub expects : IsProspectAnew (remembered_at old.remembered port.0) (found_of old.ports port.0) prospect
+-- The requests of a port were resolved, in order of acceptance: none is told a fault, and what becomes of each else
+-- its port's revalidation says. So it came to this server.
+pub record SettlesPort (port : Port) (replies : List Reply) (old new : ServerState) : Type 0 where
+  pub revalidation : Revalidation
+  pub expects : IsResetRevalidation (remembered_at old.remembered port.0)
+      (probe_result_of old.ports port.0) revalidation
   pub now : Holdings
-  pub meets : MeetFates (fate_of None prospect) (requests_of port old.book) replies (holdings_of port old) now
+  pub meets : AreResolved (disposition_of None revalidation) (requests_of port old.book) replies
+      (holdings_of port old) now
   pub server : new ≡ with_holdings port now old
 
 -- so it was with these ports, one after another, of which the first has this number
-abbrev pub SettlePorts : ℕ → List Found → List Reply → Server → Server → Type 0
+abbrev pub SettlePorts : ℕ → List ProbeResult → List Reply → ServerState → ServerState → Type 0
 SettlePorts port [] replies old new = (replies ≡ []) × (new ≡ old)
 SettlePorts port (found ∷ rest) replies old new =
-    (mid : Server) × (its later : List Reply) × (replies ≡ its ++ later) × SettlesPort (port_at port) its old mid
+    (mid : ServerState) × (its later : List Reply) × (replies ≡ its ++ later) × SettlesPort (port_at port) its old mid
     × SettlePorts (port + 1) rest later mid new
 
--- Its requests may meet their fates: there are loans of four ports; the requests are in order, each as it was accepted,
+-- Its requests may be resolved: there are loans of four ports; the requests are in order, each as it was accepted,
 -- with its frames lent to it; and there is a place for the loan of each that is issued, beside those that are kept of
 -- its port.
-pub record MaySettle (s : Server) : Type 0 where
+pub record MaySettle (s : ServerState) : Type 0 where
   pub four_kept : length s.kept ≡ 4
-  pub ordered : IsInOrder s.book
+  pub ordered : BookIsInOrder s.book
   pub accepted : All (IsAccepted s.table) s.book
   pub places : (port : Port) → length (kept_at s.kept port.0) + count_by (λ (e : Held). e.entry.issued)
       (requests_of port s.book) ≤ 32
@@ -95,17 +98,17 @@ pub record MaySettle (s : Server) : Type 0 where
 -- ---- the whole
 
 -- what is due was issued on those of these ports that are ready, one after another, of which the first has this number
-abbrev pub IssuePorts : ℕ → List Found → Server → Server → Type 0
+abbrev pub IssuePorts : ℕ → List ProbeResult → ServerState → ServerState → Type 0
 IssuePorts port [] old new = new ≡ old
-IssuePorts port (Ready info ∷ rest) old new = (mid : Server) × IssuesAll (port_at port) old mid
+IssuePorts port (Ready info ∷ rest) old new = (mid : ServerState) × IssuesAll (port_at port) old mid
     × IssuePorts (port + 1) rest mid new
 IssuePorts port (found ∷ rest) old new = IssuePorts (port + 1) rest old new
 
--- A reset that ended: the adapter was taken over again, all requests met their fates, port by port, and then what is
+-- A reset that ended: the adapter was taken over again, all requests were resolved, port by port, and then what is
 -- due was issued.
-pub record ResetsServer (replies : List Reply) (old new : Server) : Type 0 where
-  pub taken : Server
+pub record ResetsServer (replies : List Reply) (old new : ServerState) : Type 0 where
+  pub taken : ServerState
   pub takes : IsTakenAgain old taken
-  pub settled : Server
+  pub settled : ServerState
   pub settles : SettlePorts 0 taken.ports replies taken settled
   pub issues : IssuePorts 0 taken.ports settled new

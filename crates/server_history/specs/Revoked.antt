@@ -5,12 +5,12 @@ use Rattle.ata_types.specs.declared.request.Outcome.TheVariants.{Revoked}
 use Rattle.ata_types.specs.declared.request.Reply.{Reply}
 use Rattle.block_machine.specs.Rules.{HasRow, without_row}
 use Rattle.request_queue.specs.Entries.{all_marked_under, waits_under}
-use Rattle.request_queue.specs.Fates.{AnswersAll}
-use Rattle.server_history.specs.Mended.{holdings_of}
-use Rattle.server_history.specs.Server.{Server}
+use Rattle.request_queue.specs.Dispositions.{AnswersAlike}
+use Rattle.server_history.specs.ErrorHandling.{holdings_of}
+use Rattle.server_history.specs.Server.{ServerState}
 
 -- the server without the client's grant of this number, and with each request marked that was accepted under it
-abbrev pub without_grant : ClientId → ℕ → Server → Server
+abbrev pub without_grant : ClientId → ℕ → ServerState → ServerState
 without_grant client number s = record s {
   grants = without_row client number s.grants;
   book = all_marked_under client number s.book;
@@ -18,8 +18,8 @@ without_grant client number s = record s {
 
 -- A client's grant was revoked: its row was there, and is gone; requests that were accepted under it are marked; and
 -- of these the ones that waited were told Revoked. Nothing else changed.
-pub record RevokesGrant (client : ClientId) (number : ℕ) (replies : List Reply) (old new : Server) : Type 0 where
+pub record RevokesGrant (client : ClientId) (number : ℕ) (replies : List Reply) (old new : ServerState) : Type 0 where
   pub has : HasRow client number old.grants
-  pub answers : AnswersAll (waits_under client number) Revoked replies
+  pub answers : AnswersAlike (waits_under client number) Revoked replies
       (holdings_of has.0.port (without_grant client number old)) (holdings_of has.0.port new)
   pub server : new ≡ record (without_grant client number old) { table = new.table; book = new.book }

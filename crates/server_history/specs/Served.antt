@@ -8,10 +8,10 @@ use Rattle.ata_types.specs.declared.request.Reply.{Reply}
 use Rattle.ata_types.specs.declared.request.Request.{Request}
 use Rattle.ata_types.specs.declared.request.RequestId.{RequestId}
 use Rattle.adapter.specs.Device.{Device}
-use Rattle.agreement.specs.Driven.{IsDrivenBy}
+use Rattle.refinement.specs.Driven.{IsDrivenBy}
 use Rattle.block_machine.specs.Due.{IsDue, is_plain}
-use Rattle.block_machine.specs.declared.due.Mode.{Mode}
-use Rattle.block_machine.specs.Events.{AllDevices, IsDevices}
+use Rattle.block_machine.specs.declared.due.QueueMode.{QueueMode}
+use Rattle.block_machine.specs.Events.{AllDevices, IsByDevice}
 use Rattle.block_machine.specs.Rules.{IsNamed}
 use Rattle.block_machine.specs.State.{Pending}
 use Rattle.block_machine.specs.Steps.{Step, Answer, Issue, AllTouched}
@@ -20,16 +20,16 @@ use Rattle.adapter.specs.Access.{Access}
 use Rattle.hba_regs.specs.Bits.{bit}
 use Rattle.ncq.specs.Masks.{ReadsDone}
 use Rattle.ncq.specs.Tasks.{HasBlockOf, IsIssuing, IssuesTask, addresses_of, meaning_of}
-use Rattle.agreement.specs.Readying.{IsStored}
+use Rattle.refinement.specs.Readying.{IsStored}
 use Rattle.ncq.specs.declared.Task.{Task}
-use Rattle.request_queue.specs.Entries.{Held, IsEarlier, asks, asks_of, at, due_ids, issue, without}
+use Rattle.request_queue.specs.Entries.{Held, IsEarlier, asks, asks_of, at_entry, due_ids, issue, without_entry}
 use Rattle.request_queue.specs.Machine.{IsEntry}
-use Rattle.server_history.specs.Server.{Server, mode_in, slots_at, used_for, with_slot}
-use Rattle.slots.specs.Uses.{Uses as PortSlots, IsLowestFree, use_at}
-use Rattle.slots.specs.declared.Use.{Use as SlotUse}
-use Rattle.port_look.specs.Looks.{LooksAt}
-use Rattle.port_look.specs.declared.Look.{Look}
-use Rattle.port_look.specs.declared.Look.TheVariants.{Undisturbed as Calm}
+use Rattle.server_history.specs.Server.{ServerState, mode_in, slots_at, used_for, with_slot}
+use Rattle.slots.specs.Uses.{PortSlots, IsLowestFree, use_at}
+use Rattle.slots.specs.declared.SlotUse.{SlotUse}
+use Rattle.port_events.specs.Looks.{LooksAt}
+use Rattle.port_events.specs.declared.PortEvent.{PortEvent}
+use Rattle.port_events.specs.declared.PortEvent.TheVariants.{NoEvent}
 
 -- ---- a port's turn
 
@@ -76,25 +76,25 @@ pub record ChecksUsed (port : Port) (slots : PortSlots) (replies : List Reply) (
 -- A port's turn in a service, in which no trouble was told of: the port was looked at, and the slots that it uses were
 -- checked.
 pub record HasTurn (port : Port) (slots : PortSlots) (replies : List Reply) (old new : Device) : Type 0 where
-  pub look : Look
+  pub look : PortEvent
   pub seen : Device
   pub looks : LooksAt port look old seen
-  pub quiet : look ≡ Calm
-  pub calm : look ≡ Calm → ChecksUsed port slots replies seen new
+  pub quiet : look ≡ NoEvent
+  pub calm : look ≡ NoEvent → ChecksUsed port slots replies seen new
 
 -- ---- requests are issued
 
 -- a request, as a port with this mode issues it
-abbrev pub task_of : Mode → Held → Task
+abbrev pub task_of : QueueMode → Held → Task
 task_of mode e = record { op = e.entry.op; range = e.entry.range; queued = not (is_plain mode e.entry.op) }
 
 -- what a slot is used for that has its command
-abbrev pub use_for : Mode → Held → SlotUse
+abbrev pub use_for : QueueMode → Held → SlotUse
 use_for mode e = record { id = e.entry.id; queued = (task_of mode e).queued }
 
 -- A due request of the port was issued in the lowest slot that was free: the slot's bytes say it, and a trim's block
 -- names its sectors.
-pub record IssuesOne (port : Port) (id : RequestId) (old new : Server) : Type 0 where
+pub record IssuesOne (port : Port) (id : RequestId) (old new : ServerState) : Type 0 where
   pub request : Held
   pub here : Contains old.book request
   pub id_is : request.entry.id ≡ id
@@ -110,16 +110,16 @@ pub record IssuesOne (port : Port) (id : RequestId) (old new : Server) : Type 0 
   pub server : new ≡ record old {
     device = new.device;
     slots = with_slot old.slots port.0 slot (Some (use_for (mode_in old port) request));
-    book = map (at id issue) old.book;
+    book = map (at_entry id issue) old.book;
   }
 
 -- these requests of the port were issued, one after another
-abbrev pub IssuesEach : Port → List RequestId → Server → Server → Type 0
+abbrev pub IssuesEach : Port → List RequestId → ServerState → ServerState → Type 0
 IssuesEach port [] old new = new ≡ old
-IssuesEach port (id ∷ ids) old new = (mid : Server) × IssuesOne port id old mid × IssuesEach port ids mid new
+IssuesEach port (id ∷ ids) old new = (mid : ServerState) × IssuesOne port id old mid × IssuesEach port ids mid new
 
 -- the port's due requests were issued, in order of acceptance
-abbrev pub IssuesAll : Port → Server → Server → Type 0
+abbrev pub IssuesAll : Port → ServerState → ServerState → Type 0
 IssuesAll port old new = IssuesEach port (due_ids (mode_in old port) port (asks_of old.book)) old new
 
 -- ---- a request is accepted
@@ -143,12 +143,12 @@ accepted_as port r id = record {
 }
 
 -- the server, with the request last in its book, and these loans
-abbrev pub accepting : Port → Request → RequestId → Table → Server → Server
+abbrev pub accepting : Port → Request → RequestId → Table → ServerState → ServerState
 accepting port r id table s = record s { table = table; book = s.book ++ accepted_as port r id ∷ []; last = s.last + 1 }
 
 -- The request goes last in the book with the next id, on the port of its row, and its frames are lent to it. Then what
 -- is due on the port is issued.
-pub record Accepts (port : Port) (r : Request) (id : RequestId) (old new : Server) : Type 0 where
+pub record Accepts (port : Port) (r : Request) (id : RequestId) (old new : ServerState) : Type 0 where
   pub row : GrantRow
   pub named : IsNamed old.grants r row
   pub port_is : row.port ≡ port
@@ -160,7 +160,7 @@ pub record Accepts (port : Port) (r : Request) (id : RequestId) (old new : Serve
 -- ---- a port is served
 
 -- but for the device, the loans, the slots and the book, the server is as it was
-abbrev pub SameSettings : Server → Server → Type 0
+abbrev pub SameSettings : ServerState → ServerState → Type 0
 SameSettings old new = new ≡ record old { device = new.device; table = new.table; slots = new.slots; book = new.book }
 
 -- the reply that says that a request was done
@@ -168,7 +168,7 @@ abbrev pub done_reply : Held → Reply
 done_reply e = record { id = e.entry.id; client = e.entry.client; outcome = outcome.Ok }
 
 -- The request of a slot of the port was answered: it left slot and book, and its frames were given back.
-pub record AnswersOne (port : Port) (request : Held) (old new : Server) : Type 0 where
+pub record AnswersOne (port : Port) (request : Held) (old new : ServerState) : Type 0 where
   pub here : Contains old.book request
   pub port_is : request.entry.port ≡ port
   pub slot : ℕ
@@ -180,45 +180,45 @@ pub record AnswersOne (port : Port) (request : Held) (old new : Server) : Type 0
   pub server : new ≡ record old {
     table = new.table;
     slots = with_slot old.slots port.0 slot None;
-    book = without
+    book = without_entry
         request.entry.id old.book;
   }
 
 -- these requests, whose slots have their bits set here, were answered one after another
-abbrev pub AnswersEach : Port → ℕ → List Held → Server → Server → Type 0
+abbrev pub AnswersEach : Port → ℕ → List Held → ServerState → ServerState → Type 0
 AnswersEach port done [] old new = new ≡ old
 AnswersEach port done (request ∷ requests) old new =
-    (mid : Server) × (one : AnswersOne port request old mid) × (bit done one.slot ≡ true)
+    (mid : ServerState) × (one : AnswersOne port request old mid) × (bit done one.slot ≡ true)
     × AnswersEach port done requests mid new
 
 -- What was found done on the port was answered, in order of acceptance, and no slot of it is in use any more. Then what
 -- is due on the port was issued.
-pub record AnswersDone (port : Port) (done : ℕ) (replies : List Reply) (old new : Server) : Type 0 where
+pub record AnswersDone (port : Port) (done : ℕ) (replies : List Reply) (old new : ServerState) : Type 0 where
   pub requests : List Held
   pub told : replies ≡ map done_reply requests
   pub ordered : AllPairs IsEarlier requests
-  pub mid : Server
+  pub mid : ServerState
   pub each : AnswersEach port done requests old mid
   pub free : (slot : ℕ) → slot < 32 → bit done slot ≡ true → used_for mid.slots port.0 slot ≡ None
   pub issued : IssuesAll port mid new
 
 -- Nobody was answered in the turn, and nothing but the device changed; or what was found done in it was, from the
 -- moment on when the masks had been read.
-abbrev pub AnswersTurn : (port : Port) (replies : List Reply) (old new : Server)
+abbrev pub AnswersTurn : (port : Port) (replies : List Reply) (old new : ServerState)
     → HasTurn port (slots_at old.slots port.0) replies old.device new.device → Type 0
 AnswersTurn port replies old new turn =
     ((replies ≡ []) × (new ≡ record old { device = new.device }))
-    ⊎ ((calm : turn.look ≡ Calm) × (some : HasNone (turn.calm calm).mask → ⊥)
+    ⊎ ((calm : turn.look ≡ NoEvent) × (some : HasNone (turn.calm calm).mask → ⊥)
     × AnswersDone port ((turn.calm calm).checks some).done replies
     (record old { device = ((turn.calm calm).checks some).read }) new)
 
 -- ---- as the machine has it
 
 -- the steps are the device's, but for those that issue requests of the port
-abbrev pub IssuesOnly : Mode → Port → List Step → Type 0
+abbrev pub IssuesOnly : QueueMode → Port → List Step → Type 0
 IssuesOnly mode port [] = Unit {0}
 IssuesOnly mode port (Issue its e ∷ steps) = (its ≡ mode) × (e.request.port ≡ port) × IssuesOnly mode port steps
-IssuesOnly mode port (step ∷ steps) = IsDevices step × IssuesOnly mode port steps
+IssuesOnly mode port (step ∷ steps) = IsByDevice step × IssuesOnly mode port steps
 
 -- the answers of these requests, one after another, the last first
 abbrev pub answers_in : List Pending → List Step
@@ -235,7 +235,7 @@ pub record HasEnded (port : Port) (request : Held) (done : Pending) : Type 0 whe
 
 -- The steps are the device's, then the answers of these requests, which had ended, and then the device's but for the
 -- issues of requests of the port.
-pub record AnswersBy (mode : Mode) (port : Port) (replies : List Reply) (steps : List Step) : Type 0 where
+pub record AnswersBy (mode : QueueMode) (port : Port) (replies : List Reply) (steps : List Step) : Type 0 where
   pub requests : List Held
   pub told : replies ≡ map done_reply requests
   pub ordered : AllPairs IsEarlier requests

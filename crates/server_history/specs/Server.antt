@@ -11,49 +11,49 @@ use Rattle.ata_types.specs.declared.request.RequestId.{RequestId}
 use Rattle.adapter.specs.Commands.{Meaning, is_queued}
 use Rattle.adapter.specs.Device.{Device}
 use Rattle.adapter.specs.Rules.{IsOn, HasPort}
-use Rattle.agreement.specs.Driven.{known}
-use Rattle.agreement.specs.Driver.{Knows}
-use Rattle.agreement.specs.Halting.{HaltsAsTaken}
-use Rattle.agreement.specs.Links.{HasDeviceOrNone}
-use Rattle.agreement.specs.Readying.{IsStored}
-use Rattle.agreement.specs.Slots.{Free, Serves, Use, Uses}
+use Rattle.refinement.specs.Driven.{known}
+use Rattle.refinement.specs.Driver.{DriverRelation}
+use Rattle.refinement.specs.Halting.{HaltsAsTaken}
+use Rattle.refinement.specs.Links.{HasDeviceOrNone}
+use Rattle.refinement.specs.Readying.{IsStored}
+use Rattle.refinement.specs.Slots.{Free, Serves, SlotState, SlotStates}
 use Rattle.block_machine.specs.Due.{NoneDue, is_plain}
-use Rattle.block_machine.specs.Histories.{IsReached}
+use Rattle.block_machine.specs.Histories.{IsReachable}
 use Rattle.block_machine.specs.Left.{IsRow}
 use Rattle.block_machine.specs.Ports.{Ports}
 use Rattle.block_machine.specs.Refusals.{Situation}
 use Rattle.block_machine.specs.Rules.{DifferInName, HasRow}
 use Rattle.block_machine.specs.State.{Machine, Pending}
-use Rattle.block_machine.specs.declared.due.Mode.{Mode}
+use Rattle.block_machine.specs.declared.due.QueueMode.{QueueMode}
 use Rattle.dma_frames.specs.Loan.{Lending}
 use Rattle.dma_frames.specs.Table.{Table, owner_of, lent_to}
-use Rattle.host_boot.specs.Taken.{FoundBadDisk, StillStandsBehind, found_of, wanted_of}
-use Rattle.host_boot.specs.declared.Found.{Found}
-use Rattle.host_boot.specs.declared.Found.TheVariants.{Unserved, Ready, Unready}
+use Rattle.host_boot.specs.Taken.{FoundBadDisk, StillStandsBehind, probe_result_of, wanted_of}
+use Rattle.host_boot.specs.declared.ProbeResult.{ProbeResult}
+use Rattle.host_boot.specs.declared.ProbeResult.TheVariants.{Unserved, Ready, Unready}
 use Rattle.host_boot.specs.declared.Host.{Host}
 use Rattle.identify.specs.declared.DiskInfo.{DiskInfo}
 use Rattle.identify.specs.declared.wanted.Wanted.{Wanted}
 use Rattle.port_boot.specs.States.{ShowsOwnDisk}
-use Rattle.request_queue.specs.Entries.{Held, asks_of, unanswered_of, IsAccepted, IsInOrder}
+use Rattle.request_queue.specs.Entries.{Held, asks_of, unanswered_entries, IsAccepted, BookIsInOrder}
 use Rattle.request_queue.specs.Machine.{IsBook}
-use Rattle.slots.specs.Uses.{Uses as PortSlots, use_at, with_use}
-use Rattle.slots.specs.declared.Use.{Use as SlotUse}
+use Rattle.slots.specs.Uses.{PortSlots, use_at, with_use}
+use Rattle.slots.specs.declared.SlotUse.{SlotUse}
 use Rattle.driver_history.specs.Holds.{Runs, mode_of}
-use Rattle.request_queue.specs.declared.Entry.{Entry}
+use Rattle.request_queue.specs.declared.PendingRequest.{PendingRequest}
 
 -- The device behind the adapter; the grants; by frame its owner and the request that it is lent to; by port the disk
--- that is wanted, what it was found to be, which disk it was ready with when it was last mended, or its adapter last
--- reset, how it takes commands, what its slots are used for, and what is still lent to requests of it that were
+-- that is wanted, what it was found to be, which disk it was ready with when its error was last handled, or its adapter
+-- last reset, how it takes commands, what its slots are used for, and what is still lent to requests of it that were
 -- answered; the unanswered requests in order of acceptance, with what is lent to them; and the id that was handed out
 -- last, or 0.
-pub record Server : Type 0 where
+pub record ServerState : Type 0 where
   pub device : Device
   pub grants : List GrantRow
   pub table : Table
   pub wanted : List Wanted
-  pub ports : List Found
+  pub ports : List ProbeResult
   pub remembered : List (Option DiskInfo)
-  pub modes : List Mode
+  pub modes : List QueueMode
   pub slots : List PortSlots
   pub kept : List (List Lending)
   pub book : List Held
@@ -62,13 +62,13 @@ pub record Server : Type 0 where
 -- ---- its ports, to clients
 
 -- it has the port
-abbrev pub is_served : Found → Bool
+abbrev pub is_served : ProbeResult → Bool
 is_served Unserved = false
 is_served (Ready info) = true
 is_served (Unready state) = true
 
 -- the port's state; one that it lacks is absent
-abbrev pub state_of : Found → PortState
+abbrev pub state_of : ProbeResult → PortState
 state_of Unserved = Absent
 state_of (Ready info) = ReadyState
 state_of (Unready state) = state
@@ -78,66 +78,66 @@ abbrev pub remembered_at : List (Option DiskInfo) → ℕ → Option DiskInfo
 remembered_at remembered port = slice_index_or remembered port None
 
 -- the disk that a port is ready with, or was last ready with, which is the remembered one; none, if it never was
-abbrev pub disk_of : Found → Option DiskInfo → Option DiskInfo
-disk_of (Ready info) remembered = Some info
-disk_of _ remembered = remembered
+abbrev pub last_disk_of : ProbeResult → Option DiskInfo → Option DiskInfo
+last_disk_of (Ready info) remembered = Some info
+last_disk_of _ remembered = remembered
 
 -- that disk's serial number, and its size in sectors
-abbrev pub serial_of : Option DiskInfo → List ℕ
-serial_of None = []
-serial_of (Some info) = info.serial
+abbrev pub last_serial_of : Option DiskInfo → List ℕ
+last_serial_of None = []
+last_serial_of (Some info) = info.serial
 
-abbrev pub sectors_of : Option DiskInfo → ℕ
-sectors_of None = 0
-sectors_of (Some info) = info.sectors
+abbrev pub last_sectors_of : Option DiskInfo → ℕ
+last_sectors_of None = 0
+last_sectors_of (Some info) = info.sectors
 
 -- whether its disk trims, which is known of a ready port alone
-abbrev pub trims_of : Found → Bool
-trims_of (Ready info) = info.trim
-trims_of _ = false
+abbrev pub last_trims_of : ProbeResult → Bool
+last_trims_of (Ready info) = info.trim
+last_trims_of _ = false
 
 -- commands are plain, and one slot of a port is used
-abbrev pub plain_mode : Mode
+abbrev pub plain_mode : QueueMode
 plain_mode = record { queued = false; usable = 1 }
 
 -- how the port takes commands; one that there isn't takes plain ones
-abbrev pub mode_at : List Mode → ℕ → Mode
+abbrev pub mode_at : List QueueMode → ℕ → QueueMode
 mode_at modes port = slice_index_or modes port plain_mode
 
 -- how a port that was found so takes commands, by an adapter of these abilities (CAP): a ready one as adapter and disk
 -- both can, another one at a time
-abbrev pub mode_found : ℕ → Found → Mode
+abbrev pub mode_found : ℕ → ProbeResult → QueueMode
 mode_found cap (Ready info) = mode_of cap info
 mode_found cap _ = plain_mode
 
 -- the port's mode
-abbrev pub mode_in : Server → Port → Mode
+abbrev pub mode_in : ServerState → Port → QueueMode
 mode_in s port = mode_at s.modes port.0
 
 -- the disk that the port is ready with, or was last ready with
-abbrev pub disk_in : Server → Port → Option DiskInfo
-disk_in s port = disk_of (found_of s.ports port.0) (remembered_at s.remembered port.0)
+abbrev pub disk_in : ServerState → Port → Option DiskInfo
+disk_in s port = last_disk_of (probe_result_of s.ports port.0) (remembered_at s.remembered port.0)
 
-abbrev pub ports_of : Server → Ports
+abbrev pub ports_of : ServerState → Ports
 ports_of s = record {
-  served = λ port. is_served (found_of s.ports port.0);
-  state = λ port. state_of (found_of s.ports port.0);
-  serial = λ port. serial_of (disk_in s port);
-  sectors = λ port. sectors_of (disk_in s port);
-  trims = λ port. trims_of (found_of s.ports port.0);
+  served = λ port. is_served (probe_result_of s.ports port.0);
+  state = λ port. state_of (probe_result_of s.ports port.0);
+  serial = λ port. last_serial_of (disk_in s port);
+  sectors = λ port. last_sectors_of (disk_in s port);
+  trims = λ port. last_trims_of (probe_result_of s.ports port.0);
   mode = mode_in s;
 }
 
 -- what a request meets
-abbrev pub situation_of : Server → Situation
-situation_of s = record {
+abbrev pub server_situation : ServerState → Situation
+server_situation s = record {
   rows = s.grants;
   owner = owner_of s.table;
   lent = lent_to s.table;
   state = (ports_of s).state;
   sectors = (ports_of s).sectors;
   trims = (ports_of s).trims;
-  unanswered = λ client. unanswered_of s.book client.0;
+  unanswered = λ client. unanswered_entries s.book client.0;
   next = s.last + 1;
 }
 
@@ -160,18 +160,19 @@ abbrev pub with_slot : List PortSlots → ℕ → ℕ → Option SlotUse → Lis
 with_slot slots port slot used = slice_set slots port (with_use (slice_index_or slots port no_slots) slot used)
 
 -- it serves its request, or is free
-abbrev pub use_of : Option SlotUse → Use
+abbrev pub use_of : Option SlotUse → SlotState
 use_of None = Free
 use_of (Some used) = Serves used.id
 
 -- A slot is used as the server has it, unless its port is dead: there an engine was awaited in vain, or the adapter
 -- isn't on, so that what was in the slot may be there still, and nobody asks for it until the adapter is reset.
-abbrev pub IsUsedAs : Found → Option SlotUse → Use → Type 0
+abbrev pub IsUsedAs : ProbeResult → Option SlotUse → SlotState → Type 0
 IsUsedAs found used u = found ≢ Unready Dead → u ≡ use_of used
 
 -- each slot of each port is used so
-abbrev pub AreUsesOf : Server → Uses → Type 0
-AreUsesOf s uses = (port slot : ℕ) → IsUsedAs (found_of s.ports port) (used_for s.slots port slot) (uses port slot)
+abbrev pub AreUsesOf : ServerState → SlotStates → Type 0
+AreUsesOf s uses = (port slot : ℕ)
+    → IsUsedAs (probe_result_of s.ports port) (used_for s.slots port slot) (uses port slot)
 
 -- the loans of the port that are kept
 abbrev pub kept_at : List (List Lending) → ℕ → List Lending
@@ -186,8 +187,8 @@ abbrev pub AreOfTwo : Lending → Lending → Type 0
 AreOfTwo a b = a.request ≢ b.request
 
 -- The machine's kept requests are those whose loans the server keeps, one loan each, on dead ports alone.
-pub record AreKept (found : List Found) (kept : List (List Lending)) (requests : List Pending) : Type 0 where
-  pub dead : (e : Pending) → Contains requests e → found_of found e.request.port.0 ≡ Unready Dead
+pub record AreKept (found : List ProbeResult) (kept : List (List Lending)) (requests : List Pending) : Type 0 where
+  pub dead : (e : Pending) → Contains requests e → probe_result_of found e.request.port.0 ≡ Unready Dead
   pub loan : (e : Pending) → Contains requests e → (loan : Lending) × Contains (kept_at kept e.request.port.0) loan
       × IsLoanOf loan e
   pub whose : (port : ℕ) (loan : Lending) → Contains (kept_at kept port) loan
@@ -197,12 +198,12 @@ pub record AreKept (found : List Found) (kept : List (List Lending)) (requests :
 -- The machine agrees with what the server knows of its device, where only a dead port's requests may have been taken
 -- from their slots; and it has the server's book, the requests whose loans it keeps, its grants, its owners, its loans
 -- and its next id.
-pub record IsMachineOf (s : Server) (m : Machine) : Type 0 where
-  pub uses : Uses
+pub record IsMachineOf (s : ServerState) (m : Machine) : Type 0 where
+  pub uses : SlotStates
   pub used : AreUsesOf s uses
   pub parked : ℕ → List RequestId
-  pub unparked : (port : ℕ) → found_of s.ports port ≢ Unready Dead → parked port ≡ []
-  pub knows : Knows m (known uses parked s.device)
+  pub unparked : (port : ℕ) → probe_result_of s.ports port ≢ Unready Dead → parked port ≡ []
+  pub knows : DriverRelation m (known uses parked s.device)
   pub book : IsBook s.book m.book
   pub kept : AreKept s.ports s.kept m.kept
   pub rows : m.rows ≡ s.grants
@@ -224,23 +225,24 @@ OwnsClientFrames table size = (frame : Frame) (client : ClientId) → owner_of t
 -- What stands behind each port, as it was found; a ready one runs, has a disk in if it shows one, and doesn't wait for
 -- READ LOG EXT, and where a queued command halted it a queued one is taken; and one with a disk that isn't served shows
 -- a device, or has none in.
-pub record IsPortOf (wanted : List Wanted) (found : List Found) (port : ℕ) (d : Device) : Type 0 where
-  pub behind : StillStandsBehind (wanted_of wanted port) (found_of found port) port d
-  pub runs : state_of (found_of found port) ≡ ReadyState → Runs port d
-  pub shown : FoundBadDisk (state_of (found_of found port)) → HasDeviceOrNone (d.port port)
-  pub own : state_of (found_of found port) ≡ ReadyState → ShowsOwnDisk (d.port port)
-  pub halts : state_of (found_of found port) ≡ ReadyState → HaltsAsTaken (d.port port)
+pub record IsPortOf (wanted : List Wanted) (found : List ProbeResult) (port : ℕ) (d : Device) : Type 0 where
+  pub behind : StillStandsBehind (wanted_of wanted port) (probe_result_of found port) port d
+  pub runs : state_of (probe_result_of found port) ≡ ReadyState → Runs port d
+  pub shown : FoundBadDisk (state_of (probe_result_of found port)) → HasDeviceOrNone (d.port port)
+  pub own : state_of (probe_result_of found port) ≡ ReadyState → ShowsOwnDisk (d.port port)
+  pub halts : state_of (probe_result_of found port) ≡ ReadyState → HaltsAsTaken (d.port port)
 
 -- how many slots of a port may be used: those of its mode, if it is ready
-abbrev pub usable_of : Found → Mode → ℕ
+abbrev pub usable_of : ProbeResult → QueueMode → ℕ
 usable_of (Ready info) mode = mode.usable
 usable_of _ mode = 0
 
 -- The port may use so many of its 32 slots, and uses no other.
-pub record HasSlots (found : List Found) (modes : List Mode) (slots : List PortSlots) (port : ℕ) : Type 0 where
+pub record HasSlots (found : List ProbeResult) (modes : List QueueMode) (slots : List PortSlots)
+    (port : ℕ) : Type 0 where
   pub places : length (slots_at slots port).places ≡ 32
   pub usable : (slots_at slots port).usable ≡ (mode_at modes port).usable
-  pub unused : (slot : ℕ) → usable_of (found_of found port) (mode_at modes port) ≤ slot
+  pub unused : (slot : ℕ) → usable_of (probe_result_of found port) (mode_at modes port) ≤ slot
       → used_for slots port slot ≡ None
 
 -- header and table of a slot of a port that runs say a command that is queued, or one that isn't
@@ -255,7 +257,7 @@ abbrev pub StandsAlone : List PortSlots → ℕ → ℕ → Type 0
 StandsAlone slots port slot = (slot ≡ 0) × ((other : ℕ) → other ≢ 0 → used_for slots port other ≡ None)
 
 -- a request has no mark just while its grant is there
-abbrev pub TellsGrant : List GrantRow → Entry → Type 0
+abbrev pub TellsGrant : List GrantRow → PendingRequest → Type 0
 TellsGrant rows r = (r.revoked ≡ false) ↔ HasRow r.client r.grant rows
 
 -- so it is of each, and one that waits has none
@@ -269,17 +271,17 @@ pub record HasTrueMark (rows : List GrantRow) (e : Held) : Type 0 where
 -- slots that they may, for queued commands or for plain ones, of which each is alone in slot 0; grants are as a
 -- configuration may give them; requests are as they were accepted, in order, with marks that tell of their grants, and
 -- of ready ports; and some machine that a history leads to stands for the server.
-pub record IsKept (s : Server) : Type 0 where
+pub record InCallInvariant (s : ServerState) : Type 0 where
   pub on : IsOn s.device
   pub room : DRIVER_BYTES ≤ s.device.size
-  pub there : (port : ℕ) → is_served (found_of s.ports port) ≡ true → HasPort s.device port
+  pub there : (port : ℕ) → is_served (probe_result_of s.ports port) ≡ true → HasPort s.device port
   pub behind : (port : ℕ) → port < 4 → IsPortOf s.wanted s.ports port s.device
   pub four : length s.slots ≡ 4
   pub four_modes : length s.modes ≡ 4
   pub four_remembered : length s.remembered ≡ 4
   pub four_kept : length s.kept ≡ 4
   pub few_kept : (port : ℕ) → length (kept_at s.kept port) ≤ 32
-  pub modes : (port : ℕ) → port < 4 → mode_at s.modes port ≡ mode_found s.device.cap (found_of s.ports port)
+  pub modes : (port : ℕ) → port < 4 → mode_at s.modes port ≡ mode_found s.device.cap (probe_result_of s.ports port)
   pub slots : (port : ℕ) → port < 4 → HasSlots s.ports s.modes s.slots port
   pub kinds : (port : Port) (slot : ℕ) (used : SlotUse) (e : Held) → used_for s.slots port.0 slot ≡ Some used
       → Contains s.book e → e.entry.id ≡ used.id → used.queued ≡ not (is_plain (mode_in s port) e.entry.op)
@@ -290,23 +292,23 @@ pub record IsKept (s : Server) : Type 0 where
   pub rows : All IsRow s.grants
   pub owners : OwnsClientFrames s.table s.device.size
   pub accepted : All (IsAccepted s.table) s.book
-  pub ordered : IsInOrder s.book
+  pub ordered : BookIsInOrder s.book
   pub marked : All (HasTrueMark s.grants) s.book
   pub handed_out : All (λ e. e.entry.id.0 ≤ s.last) s.book
-  pub ready : All (λ e. state_of (found_of s.ports e.entry.port.0) ≡ ReadyState) s.book
+  pub ready : All (λ e. state_of (probe_result_of s.ports e.entry.port.0) ≡ ReadyState) s.book
   pub machine : Machine
-  pub reached : IsReached machine
+  pub reached : IsReachable machine
   pub stands : IsMachineOf s machine
 
 -- Between calls each request is issued that is due.
-pub record IsSettled (s : Server) : Type 0 where
-  pub kept : IsKept s
+pub record SettledInvariant (s : ServerState) : Type 0 where
+  pub kept : InCallInvariant s
   pub issued : (port : Port) → NoneDue (mode_in s port) (asks_of s.book) port
 
 -- A server as it is made: what was found and wanted of four ports, of which it remembers nothing else, at most 64
 -- grants that differ in name, owners that are clients 1 to 8, no frame lent, nothing asked or kept, and no id handed
 -- out.
-pub record IsNewServer (host : Host) (s : Server) : Type 0 where
+pub record IsNewServer (host : Host) (s : ServerState) : Type 0 where
   pub ports : s.ports ≡ host.ports
   pub four : length host.ports ≡ 4
   pub four_remembered : length s.remembered ≡ 4
@@ -324,7 +326,7 @@ pub record IsNewServer (host : Host) (s : Server) : Type 0 where
   pub four_slots : length s.slots ≡ 4
   pub four_modes : length s.modes ≡ 4
   pub places : (port : ℕ) → port < 4 → length (slots_at s.slots port).places ≡ 32
-  pub modes : (port : ℕ) → port < 4 → mode_at s.modes port ≡ mode_found s.device.cap (found_of s.ports port)
+  pub modes : (port : ℕ) → port < 4 → mode_at s.modes port ≡ mode_found s.device.cap (probe_result_of s.ports port)
   pub usable : (port : ℕ) → port < 4 → (slots_at s.slots port).usable ≡ (mode_at s.modes port).usable
   pub unused : (port slot : ℕ) → used_for s.slots port slot ≡ None
   pub book : s.book ≡ []

@@ -9,48 +9,48 @@ use Rattle.adapter.specs.Device.{Device}
 use Rattle.adapter.specs.declared.access.DeviceStep.{DeviceStep}
 use Rattle.adapter.specs.declared.command.Operation.TheVariants.{ReadLog}
 use Rattle.adapter.specs.declared.tape.Fault as tape_fault
-use Rattle.agreement.specs.Agrees.{port_at}
-use Rattle.agreement.specs.Driven.{IsOf, SendsNone}
-use Rattle.agreement.specs.Driver.{IsBacked}
-use Rattle.block_machine.specs.Events.{Ask, AllLawful, AllMay, AnswersEnded, Belong, FindsAnother, HadDisk, IsDevices, IssuesLast, Moment, NoneKeepsIssue, Served, Service, Tells, Tick, UnplugsAll}
+use Rattle.refinement.specs.Relation.{port_at}
+use Rattle.refinement.specs.Driven.{IsOf, SendsNone}
+use Rattle.refinement.specs.Driver.{IsBacked}
+use Rattle.block_machine.specs.Events.{Ask, AllLawful, AllMay, AnswersEnded, Belong, FindsAnother, HadDisk, IsByDevice, IssuesLast, AbstractState, NoneKeepsIssue, Served, Service, Tells, Tick, UnplugsAll}
 use Rattle.block_machine.specs.Due.{of_port}
-use Rattle.block_machine.specs.Histories.{Happening, Instant, IsReached}
+use Rattle.block_machine.specs.Histories.{Happening, JointState, IsReachable}
 use Rattle.block_machine.specs.Left.{after}
-use Rattle.block_machine.specs.Ports.{Evidence, Fault, IsInterrupted, IsServiced, Ports, SameDisk, SamePort}
+use Rattle.block_machine.specs.Ports.{Evidence, RequestFault, IsInterrupted, IsServiced, Ports, SameDisk, SamePort}
 use Rattle.block_machine.specs.State.{Machine, Pending}
 use Rattle.block_machine.specs.Steps.{Step, Again, Answer, Issue}
 use Rattle.driver_history.specs.Heeding.{AllGrounded}
 use Rattle.driver_history.specs.Evidence.{IsEvidencedOf}
 use Rattle.error_recovery.specs.Evidence.{BringsLog, HasFailed}
 use Rattle.error_log.specs.Log.{TellsError}
-use Rattle.driver_history.specs.Histories.{FindsDone, IsIssuedOn, IssuesDue, LosesNoTrouble, RunsWellAnew, TiesPort}
+use Rattle.driver_history.specs.Histories.{FindsDone, IsIssuedOn, IssuesDue, LosesNoPortError, RunsWellAnew, PortCorresponds}
 use Rattle.driver_history.specs.Holds.{NoneWaits}
 use Rattle.driver_history.specs.Trace.{IsDriversOwn, ResetsLink}
 use Rattle.driver_history.specs.Parts.{EndsLinked}
-use Rattle.host_boot.specs.Taken.{found_of}
-use Rattle.host_boot.specs.declared.Found.{Found}
-use Rattle.host_boot.specs.declared.Found.TheVariants.{Ready, Unready, Unserved}
+use Rattle.host_boot.specs.Taken.{probe_result_of}
+use Rattle.host_boot.specs.declared.ProbeResult.{ProbeResult}
+use Rattle.host_boot.specs.declared.ProbeResult.TheVariants.{Ready, Unready, Unserved}
 use Rattle.request_queue.specs.Entries.{Held, IsOverdue, aged, asks_of}
-use Rattle.port_look.specs.declared.Trouble.TheVariants.{Hung}
-use Rattle.server_history.specs.Mended.{MendsPort}
-use Rattle.server_history.specs.Tried.{TriesPort}
+use Rattle.port_events.specs.declared.PortError.TheVariants.{TimedOut}
+use Rattle.server_history.specs.ErrorHandling.{HandlesPortError}
+use Rattle.server_history.specs.Probing.{ProbesPort}
 use Rattle.server_history.specs.Served.{AnswersTurn, HasTurn}
-use Rattle.server_history.specs.Server.{Server, IsMachineOf, IsSettled, mode_at, mode_in, ports_of, remembered_at, slots_at, state_of, used_for}
-use Rattle.slots.specs.declared.Use.{Use as SlotUse}
+use Rattle.server_history.specs.Server.{ServerState, IsMachineOf, SettledInvariant, mode_at, mode_in, ports_of, remembered_at, slots_at, state_of, used_for}
+use Rattle.slots.specs.declared.SlotUse.{SlotUse}
 
 -- the moment and the instant at which a machine stands for the server
-abbrev pub moment_of : Server → Machine → Moment
-moment_of s m = record { machine = m; ports = ports_of s }
+abbrev pub server_moment : ServerState → Machine → AbstractState
+server_moment s m = record { machine = m; ports = ports_of s }
 
-abbrev pub instant_of : Server → Machine → Instant Device
-instant_of s m = record { device = s.device; moment = moment_of s m }
+abbrev pub server_instant : ServerState → Machine → JointState Device
+server_instant s m = record { device = s.device; moment = server_moment s m }
 
 -- the step is the device's own, or the server's with a request of such a port
 abbrev pub IsStepOf : (Port → Type 0) → Step → Type 0
 IsStepOf Such (Issue mode e) = Such e.request.port
 IsStepOf Such (Again e) = Such e.request.port
 IsStepOf Such (Answer e outcome) = Such e.request.port
-IsStepOf Such step = IsDevices step
+IsStepOf Such step = IsByDevice step
 
 -- of this port
 abbrev pub IsOfTurn : Port → Step → Type 0
@@ -68,7 +68,7 @@ pub record NamesOnly (port : Port) (evidence : Evidence) : Type 0 where
 -- A fault of the port stood on the tape since ST was set before the turn, at a moment of it before PxCMD was written;
 -- and status and error are its own, where it is of this slot's plain command, or are what the log's last page tells of
 -- this slot's queued one.
-abbrev pub IsOfCommand : Bool → Port → List Access → Device → Device → ℕ → Fault → Type 0
+abbrev pub IsOfCommand : Bool → Port → List Access → Device → Device → ℕ → RequestFault → Type 0
 IsOfCommand false port accesses old new slot told =
     (fault : tape_fault.Fault) × HasFailed port accesses old new fault × (fault.slot.0 ≡ slot)
     × (fault.status ≡ told.status) × (fault.error ≡ told.error)
@@ -78,30 +78,31 @@ IsOfCommand true port accesses old new slot told =
 
 -- The fault that is told is of a request that had a slot of the port when the turn began. (Where the log's page told
 -- it, the port doesn't end dead.)
-pub record TellsFault (port : Port) (accesses : List Access) (old new : Server) (told : Fault) : Type 0 where
+pub record TellsFault (port : Port) (accesses : List Access) (old new : ServerState)
+    (told : RequestFault) : Type 0 where
   pub slot : ℕ
   pub used : SlotUse
   pub served : used_for old.slots port.0 slot ≡ Some used
   pub id_is : used.id ≡ told.id
   pub its : IsOfCommand used.queued port accesses old.device new.device slot told
-  pub lives : used.queued ≡ true → state_of (found_of new.ports port.0) ≢ Dead
+  pub lives : used.queued ≡ true → state_of (probe_result_of new.ports port.0) ≢ Dead
 
 -- ---- a turn
 
--- A port's turn: in a service a ready port is served, and another one tried; in a tick a ready one is restarted, or
+-- A port's turn: in a service a ready port is served, and another one probed; in a tick a ready one is restarted, or
 -- rests.
 pub data Turn : Type 0 where
-  InService InTry InRestart AtRest : Turn
+  InService InProbe InRestart AtRest : Turn
 
 -- the call that the turn is a part of
 abbrev pub call_of : Turn → Ask DeviceStep
 call_of InService = Service
-call_of InTry = Service
+call_of InProbe = Service
 call_of InRestart = Tick
 call_of AtRest = Tick
 
 -- a turn, as though it were a call of its own
-abbrev pub turn_of : Turn → List Reply → Server → Evidence → List Step → Happening Device DeviceStep
+abbrev pub turn_of : Turn → List Reply → ServerState → Evidence → List Step → Happening Device DeviceStep
 turn_of turn replies new evidence steps = record {
   event =
       record { ask = call_of turn; said = Served replies; evidence = evidence; steps = steps; ports = ports_of new };
@@ -109,28 +110,29 @@ turn_of turn replies new evidence steps = record {
 }
 
 -- What a call does of a port's trouble: none is lost unless the port was stopped, and then it runs well anew.
-pub record HeedsTrouble (port : Port) (accesses : List Access) (old : Instant Device) (evidence : Evidence)
+pub record HeedsPortErrors (port : Port) (accesses : List Access) (old : JointState Device) (evidence : Evidence)
     (ports : Ports) (new : Device) : Type 0 where
-  pub trouble : LosesNoTrouble evidence old ports new port
+  pub port_error : LosesNoPortError evidence old ports new port
   pub well : RunsWellAnew evidence accesses old ports new port
 
--- As such a call it has done of its port what a service does of one; where it tried a port that showed X, and no disk
+-- As such a call it has done of its port what a service does of one; where it probed a port that showed X, and no disk
 -- came, no link is due at its end (EndsLinked); and where it restarts the port it has done what a call does of trouble.
-abbrev pub TiesTurn : Turn → Port → List Reply → List Access → Server → Server → Machine → Evidence → List Step → Type 0
-TiesTurn InService port replies accesses old new m evidence steps =
-    TiesPort (instant_of old m) (turn_of InService replies new evidence steps) accesses port
-TiesTurn InRestart port replies accesses old new m evidence steps =
-    HeedsTrouble port accesses (instant_of old m) evidence (ports_of new) new.device
-TiesTurn InTry port replies accesses old new m evidence steps =
-    TiesPort (instant_of old m) (turn_of InTry replies new evidence steps) accesses port
-    × EndsLinked port (instant_of old m) (ports_of new) new.device
-TiesTurn AtRest port replies accesses old new m evidence steps = Unit {0}
+abbrev pub TurnCorresponds : Turn → Port → List Reply → List Access → ServerState → ServerState → Machine → Evidence
+    → List Step → Type 0
+TurnCorresponds InService port replies accesses old new m evidence steps =
+    PortCorresponds (server_instant old m) (turn_of InService replies new evidence steps) accesses port
+TurnCorresponds InRestart port replies accesses old new m evidence steps =
+    HeedsPortErrors port accesses (server_instant old m) evidence (ports_of new) new.device
+TurnCorresponds InProbe port replies accesses old new m evidence steps =
+    PortCorresponds (server_instant old m) (turn_of InProbe replies new evidence steps) accesses port
+    × EndsLinked port (server_instant old m) (ports_of new) new.device
+TurnCorresponds AtRest port replies accesses old new m evidence steps = Unit {0}
 
 -- What was done was found by a reading of the masks, in which the bits of each slot that wasn't used when the turn
 -- began were clear. (The bytes of such a slot may say still the command of a request that has ended.)
-pub record FindsTurn (port : Port) (accesses : List Access) (old : Server) (m : Machine)
+pub record FindsTurn (port : Port) (accesses : List Access) (old : ServerState) (m : Machine)
     (steps : List Step) : Type 0 where
-  pub done : FindsDone port accesses (instant_of old m) steps
+  pub done : FindsDone port accesses (server_instant old m) steps
   pub unused : (slot : ℕ) → slot < 32 → used_for old.slots port.0 slot ≡ None → (bit done.ci slot ≡ false)
       × (bit done.sact slot ≡ false)
 
@@ -138,22 +140,23 @@ pub record FindsTurn (port : Port) (accesses : List Access) (old : Server) (m : 
 -- booted anew, unless it got stuck. What had ended is answered; the port was stopped, or got stuck; and none of its
 -- requests keeps its issue. Unplugged is told only where the port is neither dead nor ready with its disk; and it shows
 -- a disk only where one was in.
-pub record RestartsPort (port : Port) (accesses : List Access) (old new : Server) (m : Machine) (evidence : Evidence)
+pub record RestartsPort (port : Port) (accesses : List Access) (old new : ServerState) (m : Machine)
+    (evidence : Evidence)
     (steps : List Step) : Type 0 where
   pub finds : FindsTurn port accesses old m steps
-  pub boots : (state_of (found_of new.ports port.0) ≡ Dead) ⊎ ResetsLink port accesses
+  pub boots : (state_of (probe_result_of new.ports port.0) ≡ Dead) ⊎ ResetsLink port accesses
   pub ended : AnswersEnded m steps port
   pub interrupts : IsInterrupted evidence port
   pub anew : NoneKeepsIssue steps (after m steps) port
   pub another : FindsAnother steps (ports_of old) (ports_of new)
-  pub disk : HadDisk (moment_of old m) steps (moment_of new (after m steps)) port
+  pub disk : HadDisk (server_moment old m) steps (server_moment new (after m steps)) port
 
--- What a turn owes besides. In a service requests wait again, are aborted, or told a fault, on ports alone that failed;
--- of a port that isn't ready no fault is told, and no loss. A restart owes what it does, and tells no fault. Where a
--- port rests nothing is done.
-abbrev pub OwesTurn : Turn → Port → List Access → Server → Server → Machine → Evidence → List Step → Type 0
+-- What a turn owes besides. In a service requests wait again, are aborted, told Revoked or a fault, on ports alone that
+-- failed; of a port that isn't ready no fault is told, and no loss. A restart owes what it does, and tells no fault.
+-- Where a port rests nothing is done.
+abbrev pub OwesTurn : Turn → Port → List Access → ServerState → ServerState → Machine → Evidence → List Step → Type 0
 OwesTurn InService port accesses old new m evidence steps = AllGrounded evidence steps
-OwesTurn InTry port accesses old new m evidence steps = AllGrounded evidence steps × (evidence.faults ≡ [])
+OwesTurn InProbe port accesses old new m evidence steps = AllGrounded evidence steps × (evidence.faults ≡ [])
     × (evidence.lost ≡ [])
 OwesTurn InRestart port accesses old new m evidence steps = RestartsPort port accesses old new m evidence steps
     × (evidence.faults ≡ [])
@@ -163,8 +166,8 @@ OwesTurn AtRest port accesses old new m evidence steps = (accesses ≡ []) × (s
 -- What a turn that made these accesses and said these replies has made of the machine: its steps may come, and lead to
 -- a machine that stands for the new server; the tape backs them; and they are the device's own, or of requests of the
 -- port. Its evidence names the port alone, and is backed by the device. Of what its call owes and claims it owes and
--- claims what the block machine asks; and it has done what a call does of a port.
-pub record MakesTurn (turn : Turn) (port : Port) (replies : List Reply) (accesses : List Access) (old new : Server)
+-- claims what a history asks; and it has done what a call does of a port.
+pub record MakesTurn (turn : Turn) (port : Port) (replies : List Reply) (accesses : List Access) (old new : ServerState)
     (m : Machine) : Type 0 where
   pub steps : List Step
   pub evidence : Evidence
@@ -175,29 +178,30 @@ pub record MakesTurn (turn : Turn) (port : Port) (replies : List Reply) (accesse
   pub belong : Belong (call_of turn) (ports_of new) steps
   pub last : IssuesLast steps
   pub names : NamesOnly port evidence
-  pub lawful : AllLawful (moment_of old m) evidence (ports_of new) steps
+  pub lawful : AllLawful (server_moment old m) evidence (ports_of new) steps
   pub owes : OwesTurn turn port accesses old new m evidence steps
   pub tells : Tells steps replies
   pub unplugs : UnplugsAll steps (after m steps)
   pub becomes : IsServiced (ports_of old) evidence (ports_of new) port
   pub disk : SamePort (ports_of old) (ports_of new) port
-      ⊎ HadDisk (moment_of old m) steps (moment_of new (after m steps)) port
+      ⊎ HadDisk (server_moment old m) steps (server_moment new (after m steps)) port
   pub keeps : SameDisk (ports_of old) (ports_of new) port ⊎ NoneWaits (after m steps) port
   pub issues : (ports_of new).state port ≡ ReadyState → IssuesDue (mode_in new port) steps (after m steps) port
-  pub evidenced : IsEvidencedOf (call_of turn) (Served replies) accesses (instant_of old m) (ports_of new) new.device
+  pub evidenced : IsEvidencedOf (call_of turn) (Served replies) accesses (server_instant old m)
+      (ports_of new) new.device
       evidence port
-  pub faults : (told : Fault) → Contains evidence.faults told → TellsFault port accesses old new told
-  pub ties : TiesTurn turn port replies accesses old new m evidence steps
+  pub faults : (told : RequestFault) → Contains evidence.faults told → TellsFault port accesses old new told
+  pub ties : TurnCorresponds turn port replies accesses old new m evidence steps
   pub finds : turn ≡ InService → (e : Pending) → IsIssuedOn port m e → FindsTurn port accesses old m steps
 
 -- what a turn of the port leaves of the server: its grants, the disks that are wanted, the id that was handed out last,
 -- and what it has of other ports and their requests (the machine that stands for it has the owners, and the loans that
 -- are kept)
-pub record LeavesOthers (port : Port) (old new : Server) : Type 0 where
+pub record LeavesOthers (port : Port) (old new : ServerState) : Type 0 where
   pub grants : new.grants ≡ old.grants
   pub wanted : new.wanted ≡ old.wanted
   pub last : new.last ≡ old.last
-  pub found : (q : ℕ) → q ≢ port.0 → found_of new.ports q ≡ found_of old.ports q
+  pub found : (q : ℕ) → q ≢ port.0 → probe_result_of new.ports q ≡ probe_result_of old.ports q
   pub remembered : (q : ℕ) → q ≢ port.0 → remembered_at new.remembered q ≡ remembered_at old.remembered q
   pub modes : (q : ℕ) → q ≢ port.0 → mode_at new.modes q ≡ mode_at old.modes q
   pub slots : (q : ℕ) → q ≢ port.0 → slots_at new.slots q ≡ slots_at old.slots q
@@ -206,70 +210,75 @@ pub record LeavesOthers (port : Port) (old new : Server) : Type 0 where
 -- A port's turn, in which these replies were given: its accesses are of the port, and those of memory in the driver's
 -- frames; it leaves the other ports, of which each that isn't dead is sent no page of the log; and from each machine
 -- that stands for the old server it makes one that stands for the new.
-pub record HasPart (turn : Turn) (port : Port) (replies : List Reply) (old new : Server) : Type 0 where
+pub record HasPart (turn : Turn) (port : Port) (replies : List Reply) (old new : ServerState) : Type 0 where
   pub accesses : List Access
   pub does : DoesAll accesses old.device new.device
   pub of : All (IsOf port) accesses
   pub own : All IsDriversOwn accesses
   pub others : LeavesOthers port old new
-  pub silent : (q : ℕ) → q ≢ port.0 → state_of (found_of old.ports q) ≢ Dead → SendsNone q ReadLog old.device new.device
-  pub makes : (m : Machine) → IsReached m → IsMachineOf old m → MakesTurn turn port replies accesses old new m
+  pub silent : (q : ℕ) → q ≢ port.0 → state_of (probe_result_of old.ports q) ≢ Dead
+      → SendsNone q ReadLog old.device new.device
+  pub makes : (m : Machine) → IsReachable m → IsMachineOf old m → MakesTurn turn port replies accesses old new m
 
--- The port was mended, where a look told of trouble; else those of its requests were answered that were found done.
-abbrev pub DoesTurn : Port → List Reply → Server → Server → Type 0
+-- The port's error was handled, where a look told of one; else those of its requests were answered that were found
+-- done.
+abbrev pub DoesTurn : Port → List Reply → ServerState → ServerState → Type 0
 DoesTurn port replies old new =
     ((turn : HasTurn port (slots_at old.slots port.0) replies old.device new.device)
     × AnswersTurn port replies old new turn)
-    ⊎ ((mends : MendsPort port replies old new) × (mends.settled.mended.trouble ≢ Hung))
+    ⊎ ((handling : HandlesPortError port replies old new) × (handling.settled.error_handled.port_error ≢ TimedOut))
 
 -- What serving a port does: the port has its turn, which is a part of a service.
-pub record ServesPort (port : Port) (replies : List Reply) (old new : Server) : Type 0 where
+pub record ServesPort (port : Port) (replies : List Reply) (old new : ServerState) : Type 0 where
   pub does : DoesTurn port replies old new
   pub part : HasPart InService port replies old new
 
--- What serving a port that isn't ready does: it is looked at, and tried where it may have a disk, which is a part of a
+-- What serving a port that isn't ready does: it is looked at, and probed where it may have a disk, which is a part of a
 -- service.
-pub record TriesUnready (port : Port) (old new : Server) : Type 0 where
-  pub does : TriesPort port old new
-  pub part : HasPart InTry port [] old new
+pub record ProbesUnready (port : Port) (old new : ServerState) : Type 0 where
+  pub does : ProbesPort port old new
+  pub part : HasPart InProbe port [] old new
 
 -- Ports that were found ready have such turns, and other ones that are served have theirs, one after another; the first
 -- of these ports has this number.
-abbrev pub TakeTurns : (Port → List Reply → Server → Server → Type 0) → (Port → Server → Server → Type 0) → ℕ
-    → List Found → List Reply → Server → Server → Type 0
+abbrev pub TakeTurns : (Port → List Reply → ServerState → ServerState → Type 0)
+    → (Port → ServerState → ServerState → Type 0) → ℕ
+    → List ProbeResult → List Reply → ServerState → ServerState → Type 0
 TakeTurns Such Other port [] replies old new = (replies ≡ []) × (new ≡ old)
 TakeTurns Such Other port (Ready info ∷ rest) replies old new =
-    (mid : Server) × (its later : List Reply) × (replies ≡ its ++ later)
-    × IsSettled mid × Such (port_at port) its old mid × TakeTurns Such Other (port + 1) rest later mid new
+    (mid : ServerState) × (its later : List Reply) × (replies ≡ its ++ later)
+    × SettledInvariant mid × Such (port_at port) its old mid × TakeTurns Such Other (port + 1) rest later mid new
 TakeTurns Such Other port (Unready state ∷ rest) replies old new =
-    (mid : Server) × IsSettled mid × Other (port_at port) old mid × TakeTurns Such Other (port + 1) rest replies mid new
+    (mid : ServerState) × SettledInvariant mid × Other (port_at port) old mid
+    × TakeTurns Such Other (port + 1) rest replies mid new
 TakeTurns Such Other port (Unserved ∷ rest) replies old new = TakeTurns Such Other (port + 1) rest replies old new
 
 -- so they are served
-abbrev pub ServePorts : ℕ → List Found → List Reply → Server → Server → Type 0
-ServePorts port found replies old new = TakeTurns ServesPort TriesUnready port found replies old new
+abbrev pub ServePorts : ℕ → List ProbeResult → List Reply → ServerState → ServerState → Type 0
+ServePorts port found replies old new = TakeTurns ServesPort ProbesUnready port found replies old new
 
 -- ---- a tick
 
 -- the port is ready
-abbrev pub is_ready : Found → Bool
+abbrev pub is_ready : ProbeResult → Bool
 is_ready (Ready info) = true
 is_ready found = false
 
 -- the server, with each issued request of a ready port a tick older
-abbrev pub a_tick_older : Server → Server
-a_tick_older s = record s { book = aged (λ port. is_ready (found_of s.ports port.0)) s.book }
+abbrev pub a_tick_older : ServerState → ServerState
+a_tick_older s = record s { book = aged (λ port. is_ready (probe_result_of s.ports port.0)) s.book }
 
--- A ready port's turn in a tick, where the book was this when requests had got older: the port was mended, where one
+-- A ready port's turn in a tick, where the book was this when requests had got older: its error was handled, where one
 -- was overdue; else it rests.
-abbrev pub TicksPort : List Held → Port → List Reply → Server → Server → Type 0
+abbrev pub TicksPort : List Held → Port → List Reply → ServerState → ServerState → Type 0
 TicksPort book port replies old new =
-    (IsOverdue port book × (mends : MendsPort port replies old new) × (mends.settled.mended.trouble ≡ Hung)
+    (IsOverdue port book × (handling : HandlesPortError port replies old new)
+    × (handling.settled.error_handled.port_error ≡ TimedOut)
     × HasPart InRestart port replies old new)
     ⊎ ((IsOverdue port book → ⊥) × (replies ≡ []) × (new ≡ old))
 
 -- What a tick does: requests get older, and then each ready port has its turn, in rising number; nothing is done of
 -- another one.
-abbrev pub Ticks : List Reply → Server → Server → Type 0
+abbrev pub Ticks : List Reply → ServerState → ServerState → Type 0
 Ticks replies old new = TakeTurns (TicksPort (a_tick_older old).book) (λ port one other. other ≡ one) 0 old.ports
     replies (a_tick_older old) new

@@ -3,42 +3,44 @@ ghost use Rattle.std.specs.Prelude.{List, Some};
 ghost use Rattle.ata_types.specs.declared.request.Reply.{Reply};
 ghost use Rattle.block_machine.specs.Events.{Reset, WasReset};
 ghost use Rattle.server_history.specs.Ended.{ResetLaws};
-ghost use Rattle.server_history.specs.Histories.{Adds};
+ghost use Rattle.server_history.specs.Histories.{ExtendsSettled};
 ghost use Rattle.server_history.specs.Resets.{IsTakenAgain, IssuePorts, MaySettle, ResetsServer, SettlePorts};
-ghost use Rattle.server_history.specs.Server.{IsKept, IsSettled, Server};
-ghost use Rattle.server_history.specs.Stalled.{KeepsBooks};
+ghost use Rattle.server_history.specs.Server.{InCallInvariant, SettledInvariant, ServerState};
+ghost use Rattle.server_history.specs.Stalled.{BookInvariant};
 
-use super::lawful::the_laws_below_hold;
-use agreement::laws::releasing_agrees;
-use block_machine::laws::lent_frame_is_its_own;
-use host_boot::laws::what_was_taken_over_may_be_served;
+use super::lawful::law_below;
+use block_machine::laws::law_lent_frame_is_its_own;
+use host_boot::laws::law_what_was_taken_over_may_be_served;
+use refinement::laws::law_releasing_agrees;
 
 /// What the laws of a reset rest on.
-fn reset_laws_hold()
+fn law_resets()
     ensures { ResetLaws }
 {
-    the_laws_below_hold();
-    what_was_taken_over_may_be_served();
-    lent_frame_is_its_own();
-    releasing_agrees();
+    law_below();
+    law_what_was_taken_over_may_be_served();
+    law_lent_frame_is_its_own();
+    law_releasing_agrees();
 }
 
-/// A server goes on once its adapter was taken over again and its requests met their fates; and once what is due was
+/// A server goes on once its adapter was taken over again and its requests were resolved; and once what is due was
 /// issued, nothing is due.
-pub fn a_reset_server_goes_on()
-    ensures settle { (s taken : Server) → KeepsBooks s → IsTakenAgain s taken → MaySettle taken }
-    ensures kept { (s taken settled : Server) (replies : List Reply) → KeepsBooks s → IsTakenAgain s taken
-        → SettlePorts 0 taken.ports replies taken settled → IsKept settled }
-    ensures settled { (s taken settled new : Server) (replies : List Reply) → KeepsBooks s → IsTakenAgain s taken
-        → SettlePorts 0 taken.ports replies taken settled → IssuePorts 0 taken.ports settled new → IsSettled new }
+pub fn law_a_reset_server_goes_on()
+    ensures settle { (s taken : ServerState) → BookInvariant s → IsTakenAgain s taken → MaySettle taken }
+    ensures kept { (s taken settled : ServerState) (replies : List Reply) → BookInvariant s → IsTakenAgain s taken
+        → SettlePorts 0 taken.ports replies taken settled → InCallInvariant settled }
+    ensures settled { (s taken settled new : ServerState) (replies : List Reply) → BookInvariant s
+        → IsTakenAgain s taken
+        → SettlePorts 0 taken.ports replies taken settled → IssuePorts 0 taken.ports settled new
+        → SettledInvariant new }
 {
-    reset_laws_hold();
+    law_resets();
 }
 
 /// A reset that ends adds an event.
-pub fn resets_add()
-    ensures { (s new : Server) (replies : List Reply) → KeepsBooks s → ResetsServer replies s new
-        → Adds s new Reset (WasReset (Some replies)) }
+pub fn law_resets_add()
+    ensures { (s new : ServerState) (replies : List Reply) → BookInvariant s → ResetsServer replies s new
+        → ExtendsSettled s new Reset (WasReset (Some replies)) }
 {
-    reset_laws_hold();
+    law_resets();
 }

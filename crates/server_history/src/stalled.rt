@@ -9,79 +9,81 @@ ghost use Rattle.block_machine.specs.Events.{Reset, RevokeOf, Served, Service, T
 ghost use Rattle.block_machine.specs.Refusals.{IsAcceptable};
 ghost use Rattle.dma_frames.specs.Loan.{Lending};
 ghost use Rattle.request_queue.specs.Entries.{Held};
-ghost use Rattle.server_history.specs.Histories.{AddsStalled};
+ghost use Rattle.server_history.specs.Histories.{ExtendsStuck};
 ghost use Rattle.server_history.specs.Revoked.{RevokesGrant};
 ghost use Rattle.server_history.specs.Resets.{MaySettle, SettlePorts, SettlesPort};
-ghost use Rattle.server_history.specs.Server.{AreOfTwo, IsKept, IsLentOut, Server, kept_at, situation_of};
-ghost use Rattle.server_history.specs.Stalled.{GetsStuck, KeepsBooks, IsStalled};
+ghost use Rattle.server_history.specs.Server.{AreOfTwo, InCallInvariant, IsLentOut, ServerState, kept_at, server_situation};
+ghost use Rattle.server_history.specs.Stalled.{ResetGetsStuck, BookInvariant, StuckInvariant};
 
-use super::lawful::{living_laws_hold, the_laws_below_hold};
+use super::lawful::{law_below, law_living};
 
 /// What holds of a server at each moment of a call holds of its book, whether or not its adapter is on.
-pub fn a_server_is_booked()
-    ensures kept { (s : Server) → IsKept s → KeepsBooks s }
-    ensures settle { (s : Server) → KeepsBooks s → MaySettle s }
+pub fn law_a_server_is_booked()
+    ensures kept { (s : ServerState) → InCallInvariant s → BookInvariant s }
+    ensures settle { (s : ServerState) → BookInvariant s → MaySettle s }
 {
-    the_laws_below_hold();
+    law_below();
 }
 
 /// What is kept may be given back, whether or not the adapter is on: the frames of each kept loan are lent to its
 /// request, which isn't unanswered, and of which there is no other loan.
-pub fn booked_loans_are_lent()
-    ensures lent { (s : Server) (port : ℕ) → KeepsBooks s → All (IsLentOut s.table) (kept_at s.kept port) }
-    ensures two { (s : Server) (port : ℕ) → KeepsBooks s → AllPairs AreOfTwo (kept_at s.kept port) }
-    ensures one { (s : Server) (port other : ℕ) (a b : Lending) → KeepsBooks s → Contains (kept_at s.kept port) a
+pub fn law_booked_loans_are_lent()
+    ensures lent { (s : ServerState) (port : ℕ) → BookInvariant s → All (IsLentOut s.table) (kept_at s.kept port) }
+    ensures two { (s : ServerState) (port : ℕ) → BookInvariant s → AllPairs AreOfTwo (kept_at s.kept port) }
+    ensures one { (s : ServerState) (port other : ℕ) (a b : Lending) → BookInvariant s
+        → Contains (kept_at s.kept port) a
         → Contains (kept_at s.kept other) b → a.request ≡ b.request → (port ≡ other) × (a ≡ b) }
-    ensures answered { (s : Server) (port : ℕ) (loan : Lending) (e : Held) → KeepsBooks s
+    ensures answered { (s : ServerState) (port : ℕ) (loan : Lending) (e : Held) → BookInvariant s
         → Contains (kept_at s.kept port) loan → Contains s.book e → e.entry.id ≢ loan.request }
 {
-    living_laws_hold();
+    law_living();
 }
 
-/// The requests of one port meet their fates, and those of the others may still.
-pub fn settling_goes_on()
-    ensures { (s new : Server) (port : Port) (replies : List Reply) → port.0 < 4 → MaySettle s
+/// The requests of one port are resolved, and those of the others may still.
+pub fn law_settling_goes_on()
+    ensures { (s new : ServerState) (port : Port) (replies : List Reply) → port.0 < 4 → MaySettle s
         → SettlesPort port replies s new → MaySettle new }
 {
-    the_laws_below_hold();
+    law_below();
 }
 
 /// A reset that gets stuck adds an event, whether or not the last one did.
-pub fn stuck_resets_add()
-    ensures { (s new : Server) → KeepsBooks s → GetsStuck s new → AddsStalled s new Reset (WasReset None) }
+pub fn law_stuck_resets_add()
+    ensures { (s new : ServerState) → BookInvariant s → ResetGetsStuck s new
+        → ExtendsStuck s new Reset (WasReset None) }
 {
-    the_laws_below_hold();
+    law_below();
 }
 
 /// No request is acceptable while no port is ready.
-pub fn stalled_servers_admit_none()
-    ensures { (s : Server) (r : Request) → IsStalled s → IsAcceptable (situation_of s) r → ⊥ }
+pub fn law_stalled_servers_admit_none()
+    ensures { (s : ServerState) (r : Request) → StuckInvariant s → IsAcceptable (server_situation s) r → ⊥ }
 {
-    the_laws_below_hold();
+    law_below();
 }
 
 /// A tick adds an event, and nothing changes: no port is ready, so no request is issued that could get older.
-pub fn stalled_ticks_add()
-    ensures { (s : Server) → IsStalled s → AddsStalled s s Tick (Served []) }
+pub fn law_stalled_ticks_add()
+    ensures { (s : ServerState) → StuckInvariant s → ExtendsStuck s s Tick (Served []) }
 {
-    the_laws_below_hold();
+    law_below();
 }
 
 /// A client's grant that is revoked adds an event: the requests that waited under it are answered, and nothing is
 /// accessed.
-pub fn stalled_revocations_add()
-    ensures { (s new : Server) (client : ClientId) (number : ℕ) (replies : List Reply) → IsStalled s
+pub fn law_stalled_revocations_add()
+    ensures { (s new : ServerState) (client : ClientId) (number : ℕ) (replies : List Reply) → StuckInvariant s
         → RevokesGrant client number replies s new
-        → AddsStalled s new (RevokeOf client number) (WasRevoked (Some replies)) }
+        → ExtendsStuck s new (RevokeOf client number) (WasRevoked (Some replies)) }
 {
-    the_laws_below_hold();
+    law_below();
 }
 
 /// A service adds an event: the requests of each dead port are told that it is dead, port by port, and nothing is
 /// accessed.
-pub fn stalled_services_add()
-    ensures { (s new : Server) (replies : List Reply) → IsStalled s → SettlePorts 0 s.ports replies s new
-        → AddsStalled s new Service (Served replies) }
+pub fn law_stalled_services_add()
+    ensures { (s new : ServerState) (replies : List Reply) → StuckInvariant s → SettlePorts 0 s.ports replies s new
+        → ExtendsStuck s new Service (Served replies) }
 {
-    the_laws_below_hold();
+    law_below();
 }

@@ -7,26 +7,26 @@ use Rattle.std.proofs.lemmas.Bool.{cases_eq, cases_lt, true≢false}
 use Rattle.std.proofs.Math.Nat.{div-le_self, div-lt_iff_lt-mul}
 use Rattle.std.proofs.lemmas.Nat.{pow_pos, shr-shr}
 use Rattle.std.proofs.lemmas.Nat.Bits.{bit_at-lt, bit_at-trailing_zeros, bit_at_above, bit_at_and}
-use Rattle.slots.specs.Uses.{IsEarliestOf, IsMask}
-use Rattle.slots.specs.declared.Use.{Use}
+use Rattle.slots.specs.Uses.{HasLeastIdOf, IsMask}
+use Rattle.slots.specs.declared.SlotUse.{SlotUse}
 
 -- no place below this one is used and has its bit set
-abbrev pub NoneBelow : List (Option Use) → ℕ → ℕ → Type 0
+abbrev pub NoneBelow : List (Option SlotUse) → ℕ → ℕ → Type 0
 NoneBelow places mask below = (place : ℕ) → place < below → bit_at mask place ≡ 1 → get_or places place None ≡ None
 
 -- this place is used, for this id, and has its bit set, and no other one below has an earlier id
-pub record IsLeastBelow (places : List (Option Use)) (mask below place id : ℕ) : Type 0 where
+pub record IsLeastBelow (places : List (Option SlotUse)) (mask below place id : ℕ) : Type 0 where
   pub here : place < below
   pub marked : bit_at mask place ≡ 1
-  pub used : Use
+  pub used : SlotUse
   pub taken : get_or places place None ≡ Some used
   pub id_is : used.id.0 ≡ id
-  pub least : (other : ℕ) (its : Use) → other < below → bit_at mask other ≡ 1 → get_or places other None ≡ Some its → id ≤ its.id.0
+  pub least : (other : ℕ) (its : SlotUse) → other < below → bit_at mask other ≡ 1 → get_or places other None ≡ Some its → id ≤ its.id.0
 
 -- what was found below a place
-abbrev pub Found : List (Option Use) → ℕ → ℕ → Option ℕ → ℕ → Type 0
-Found places mask below None least = NoneBelow places mask below
-Found places mask below (Some place) least = IsLeastBelow places mask below place least
+abbrev pub ProbeResult : List (Option SlotUse) → ℕ → ℕ → Option ℕ → ℕ → Type 0
+ProbeResult places mask below None least = NoneBelow places mask below
+ProbeResult places mask below (Some place) least = IsLeastBelow places mask below place least
 
 -- the id isn't earlier than what was found: nothing was found that it would be earlier than, or the least id is as early
 abbrev pub IsNoEarlier : Option ℕ → ℕ → ℕ → Type 0
@@ -34,11 +34,11 @@ IsNoEarlier None least id = ⊥
 IsNoEarlier (Some place) least id = least ≤ id
 
 -- the id that a place is used for
-abbrev id_in : Option Use → ℕ
+abbrev id_in : Option SlotUse → ℕ
 id_in None = 0
 id_in (Some used) = used.id.0
 
-pub same_id : (place : Option Use) (a b : Use) → place ≡ Some a → place ≡ Some b → a.id.0 ≡ b.id.0
+pub same_id : (place : Option SlotUse) (a b : SlotUse) → place ≡ Some a → place ≡ Some b → a.id.0 ≡ b.id.0
 same_id place a b is_a is_b = ap id_in (sym is_a ∙ is_b)
 
 -- it is earlier where nothing was found, or where it is less than what was found
@@ -52,7 +52,7 @@ pub no_earlier : (found : Option ℕ) (none : Bool) (id least : ℕ) → is_some
 no_earlier None none id least is some more = absurd (true≢false (sym (is ∙ ap not some)))
 no_earlier (Some place) none id least is some more = more
 
-module _ (places : List (Option Use)) (mask at : ℕ) where
+module _ (places : List (Option SlotUse)) (mask at : ℕ) where
   -- what is so of the place, and of those below it
   one_more : (P : ℕ → Type 0) → P at → (place : ℕ) → place < at + 1 → (place < at → P place) → P place
   one_more P here place lt below = ⊎_elim
@@ -61,11 +61,11 @@ module _ (places : List (Option Use)) (mask at : ℕ) where
       (cases_eq place at)
 
   -- A place that isn't used, or has no bit set, or has no earlier id, changes nothing.
-  pub passed : (found : Option ℕ) (least : ℕ) → Found places mask at found least
-      → ((used : Use) → bit_at mask at ≡ 1 → get_or places at None ≡ Some used → IsNoEarlier found least used.id.0) → Found places mask (at + 1) found least
+  pub passed : (found : Option ℕ) (least : ℕ) → ProbeResult places mask at found least
+      → ((used : SlotUse) → bit_at mask at ≡ 1 → get_or places at None ≡ Some used → IsNoEarlier found least used.id.0) → ProbeResult places mask (at + 1) found least
   passed None least none blocks = λ place lt. one_more (λ k. bit_at mask k ≡ 1 → get_or places k None ≡ None) (λ marked. by (get_or places at None) refl marked) place lt (none place)
     where
-      by : (u : Option Use) → get_or places at None ≡ u → bit_at mask at ≡ 1 → get_or places at None ≡ None
+      by : (u : Option SlotUse) → get_or places at None ≡ u → bit_at mask at ≡ 1 → get_or places at None ≡ None
       by None is marked = is
       by (Some used) is marked = absurd (blocks used marked is)
   passed (Some place) least so_far blocks = record {
@@ -78,8 +78,8 @@ module _ (places : List (Option Use)) (mask at : ℕ) where
   }
 
   -- A place with an earlier id is the one with the least, from then on.
-  pub taken : (found : Option ℕ) (least : ℕ) → Found places mask at found least → (used : Use) → bit_at mask at ≡ 1 → get_or places at None ≡ Some used
-      → ((place : ℕ) → found ≡ Some place → used.id.0 < least) → Found places mask (at + 1) (Some at) used.id.0
+  pub taken : (found : Option ℕ) (least : ℕ) → ProbeResult places mask at found least → (used : SlotUse) → bit_at mask at ≡ 1 → get_or places at None ≡ Some used
+      → ((place : ℕ) → found ≡ Some place → used.id.0 < least) → ProbeResult places mask (at + 1) (Some at) used.id.0
   taken found least so_far used marked is earlier = record {
     here = omega arith;
     marked = marked;
@@ -89,10 +89,10 @@ module _ (places : List (Option Use)) (mask at : ℕ) where
     least = λ other its lt. one_more (λ k. bit_at mask k ≡ 1 → get_or places k None ≡ Some its → used.id.0 ≤ its.id.0) (λ m its_is. own its its_is) other lt (others found so_far earlier other its);
   }
     where
-      own : (its : Use) → get_or places at None ≡ Some its → used.id.0 ≤ its.id.0
+      own : (its : SlotUse) → get_or places at None ≡ Some its → used.id.0 ≤ its.id.0
       own its its_is = let e = same_id _ used its is its_is in omega (arith, e)
 
-      others : (found : Option ℕ) → Found places mask at found least → ((place : ℕ) → found ≡ Some place → used.id.0 < least) → (other : ℕ) (its : Use) → other < at → bit_at mask other ≡ 1
+      others : (found : Option ℕ) → ProbeResult places mask at found least → ((place : ℕ) → found ≡ Some place → used.id.0 < least) → (other : ℕ) (its : SlotUse) → other < at → bit_at mask other ≡ 1
           → get_or places other None ≡ Some its → used.id.0 ≤ its.id.0
       others None none e other its lt m its_is = absurd (differ (sym (none other lt m) ∙ its_is))
         where
@@ -102,7 +102,7 @@ module _ (places : List (Option Use)) (mask at : ℕ) where
 
   -- Where no later place has its bit set, what was found is all.
   module _ (small : at ≤ 32) (above : (k : ℕ) → at ≤ k → k < 32 → bit_at mask k ≡ 1 → ⊥) where
-    pub all_found : (found : Option ℕ) (least : ℕ) → Found places mask at found least → IfSome found (λ place. IsEarliestOf places mask place)
+    pub all_found : (found : Option ℕ) (least : ℕ) → ProbeResult places mask at found least → IfSome found (λ place. HasLeastIdOf places mask place)
     all_found None least none = tt
     all_found (Some place) least so_far = record {
       small = let h = so_far.here in omega (arith, h, small);
@@ -115,7 +115,7 @@ module _ (places : List (Option Use)) (mask at : ℕ) where
           (cases_lt other at);
     }
 
-    pub none_found : (found : Option ℕ) (least : ℕ) → Found places mask at found least → IfNone found ((place : ℕ) → place < 32 → bit_at mask place ≡ 1 → get_or places place None ≡ None)
+    pub none_found : (found : Option ℕ) (least : ℕ) → ProbeResult places mask at found least → IfNone found ((place : ℕ) → place < 32 → bit_at mask place ≡ 1 → get_or places place None ≡ None)
     none_found (Some place) least so_far = tt
     none_found None least none = λ place lt m. ⊎_elim
         (λ (low : place < at). none place low m)
@@ -168,7 +168,7 @@ next mask from fits some = record {
     lowest = bit_at-trailing_zeros w32 left (omega (arith, some)) (let f = fewer in omega (arith, f, fits))
 
 -- no place in between has its bit set, so that what was found is found up to there
-pub skipped : (places : List (Option Use)) (mask from place : ℕ) → IsNext mask from place → (found : Option ℕ) (least : ℕ) → Found places mask from found least → Found places mask place found least
+pub skipped : (places : List (Option SlotUse)) (mask from place : ℕ) → IsNext mask from place → (found : Option ℕ) (least : ℕ) → ProbeResult places mask from found least → ProbeResult places mask place found least
 skipped places mask from place is None least none = λ k lt marked. ⊎_elim
     (λ (low : k < from). none k low marked)
     (λ (high : from ≤ k). let zero = is.none k high lt in absurd (omega (arith, zero, marked)))
@@ -195,8 +195,8 @@ both a b k one =
     let y = bit_at-lt b k in
     (omega (arith, one, is, x, y), omega (arith, one, is, x, y))
 
-module _ (places : List (Option Use)) (mask marks : ℕ) (are : IsMask places marks) where
-  pub of_taken : (place : ℕ) → IsEarliestOf places (bit_and mask marks) place → IsEarliestOf places mask place
+module _ (places : List (Option SlotUse)) (mask marks : ℕ) (are : IsMask places marks) where
+  pub of_taken : (place : ℕ) → HasLeastIdOf places (bit_and mask marks) place → HasLeastIdOf places mask place
   of_taken place is = record {
     small = is.small;
     marked = (both mask marks place is.marked).0;
@@ -205,7 +205,7 @@ module _ (places : List (Option Use)) (mask marks : ℕ) (are : IsMask places ma
     least = λ other its lt marked its_is. is.least other its lt (one other marked (in_mask other its lt its_is)) its_is;
   }
     where
-      in_mask : (other : ℕ) (its : Use) → other < 32 → get_or places other None ≡ Some its → bit_at marks other ≡ 1
+      in_mask : (other : ℕ) (its : SlotUse) → other < 32 → get_or places other None ≡ Some its → bit_at marks other ≡ 1
       in_mask other its lt its_is = (are other lt).1 (subst IsSome (sym its_is) refl)
 
       one : (k : ℕ) → bit_at mask k ≡ 1 → bit_at marks k ≡ 1 → bit_at (bit_and mask marks) k ≡ 1
@@ -215,7 +215,7 @@ module _ (places : List (Option Use)) (mask marks : ℕ) (are : IsMask places ma
       → (place : ℕ) → place < 32 → bit_at mask place ≡ 1 → get_or places place None ≡ None
   none_of_taken none place lt marked = by (get_or places place None) refl
     where
-      by : (used : Option Use) → get_or places place None ≡ used → get_or places place None ≡ None
+      by : (used : Option SlotUse) → get_or places place None ≡ used → get_or places place None ≡ None
       by None is = is
       by (Some its) is =
           let m = (are place lt).1 (subst IsSome (sym is) refl) in

@@ -5,7 +5,7 @@
 #![tactic(auto)]
 
 ghost use Rattle.std.specs.Prelude.{◌≡◌, ◌↔◌, ℕ, ◌<◌, ◌≤◌, length, IfSome, IfNone, Some, None, IsSome, true, slice_index_or};
-ghost use Rattle.slots.specs.Uses.{IsEarliest, IsEarliestOf, IsTaken, IsLowestFree, use_at, with_use};
+ghost use Rattle.slots.specs.Uses.{HasLeastId, HasLeastIdOf, IsTaken, IsLowestFree, use_at, with_use};
 ghost use Rattle.std.specs.Int.{bit_at};
 
 use ata_types::{RequestId, SLOTS, Slot};
@@ -13,7 +13,7 @@ use std::marker::Model;
 
 /// What a slot is used for: the command of this request.
 #[derive(Clone, Copy, Debug, Default, PartialEq, Eq)]
-pub struct Use {
+pub struct SlotUse {
     pub id: RequestId,
     /// Whether its command is queued.
     pub queued: bool,
@@ -23,16 +23,16 @@ pub struct Use {
 #[derive(Drop)]
 pub struct Slots {
     usable: u8,
-    places: [Option<Use>; SLOTS],
+    places: [Option<SlotUse>; SLOTS],
     /// The places that are used, by bit.
     taken: u32,
 }
 
 impl Model for Slots {
     ghost use Rattle.std.specs.Prelude.{◌≡◌, ◌≤◌, length};
-    ghost use Rattle.slots.specs.Uses.{IsMask, Uses};
+    ghost use Rattle.slots.specs.Uses.{IsMask, PortSlots};
 
-    ghost Value = { Uses };
+    ghost Value = { PortSlots };
 
     ghost view = { λ s. record { usable = s.usable; places = s.places } };
 
@@ -65,13 +65,13 @@ impl Slots {
         let Some(place) = lowest_free(&self.places, self.usable) else {
             return None;
         };
-        self.places[place as usize] = Some(Use { id, queued });
+        self.places[place as usize] = Some(SlotUse { id, queued });
         self.taken |= 1u32 << place;
         Some(Slot(place))
     }
 
     /// Frees a slot, and tells what it was used for.
-    pub fn free(&mut self, slot: Slot) -> Option<Use>
+    pub fn free(&mut self, slot: Slot) -> Option<SlotUse>
         requires { slot.0 < 32 }
         ensures was { result ≡ use_at self.old slot.0 }
         ensures freed { self.new ≡ with_use self.old slot.0 None }
@@ -83,7 +83,7 @@ impl Slots {
     }
 
     /// What a slot is used for; `None` where it is free.
-    pub fn used_for(&self, slot: Slot) -> Option<Use>
+    pub fn used_for(&self, slot: Slot) -> Option<SlotUse>
         ensures { result ≡ use_at self.now slot.0 }
     {
         match self.places.get(slot.0 as usize) {
@@ -102,7 +102,7 @@ impl Slots {
     /// Of the slots that are taken and have their bits set here, the one whose request has the least id. `None` where
     /// there is none.
     pub fn earliest(&self, mask: u32) -> Option<Slot>
-        ensures found { IfSome result (λ slot. IsEarliest self.now mask slot.0) }
+        ensures found { IfSome result (λ slot. HasLeastId self.now mask slot.0) }
         ensures none { IfNone result ((slot : ℕ) → slot < 32 → bit_at mask slot ≡ 1 → use_at self.now slot ≡ None) }
     {
         let place = earliest_of(&self.places, mask & self.taken)?;
@@ -118,14 +118,14 @@ impl Slots {
     }
 }
 
-fn no_uses() -> [Option<Use>; SLOTS]
+fn no_uses() -> [Option<SlotUse>; SLOTS]
     ensures { (slot : ℕ) → slice_index_or result slot None ≡ None }
 {
     [None; SLOTS]
 }
 
 /// The lowest free place below `usable`.
-fn lowest_free(places: &[Option<Use>], usable: u8) -> Option<u8>
+fn lowest_free(places: &[Option<SlotUse>], usable: u8) -> Option<u8>
     requires { usable ≤ length places.now }
     ensures found { IfSome result (λ s. (s < usable) × (slice_index_or places.now s None ≡ None)
         × ((k : ℕ) → k < s → IsSome (slice_index_or places.now k None))) }
@@ -140,9 +140,9 @@ fn lowest_free(places: &[Option<Use>], usable: u8) -> Option<u8>
 }
 
 /// Of the places that are used and have their bits set, the one with the least id.
-fn earliest_of(places: &[Option<Use>], mask: u32) -> Option<u8>
+fn earliest_of(places: &[Option<SlotUse>], mask: u32) -> Option<u8>
     requires { length places.now ≡ 32 }
-    ensures found { IfSome result (λ place. IsEarliestOf places.now mask place) }
+    ensures found { IfSome result (λ place. HasLeastIdOf places.now mask place) }
     ensures none { IfNone result ((place : ℕ) → place < 32 → bit_at mask place ≡ 1
         → slice_index_or places.now place None ≡ None) }
 {

@@ -1,7 +1,7 @@
 // Which requests the block machine has due, and what a disk holds in the end.
 use arrayvec::ArrayVec;
 use ata_types::{Op, Port, Range, RequestId, Sector};
-use block_machine::{Mode, Unanswered};
+use block_machine::{QueueMode, Unanswered};
 use machine_rules::{Filled, Happened, due_list, left};
 use std::process::Abort;
 
@@ -153,7 +153,7 @@ fn unanswered(entry: &InBook) -> Unanswered {
 }
 
 /// The ids of the due requests.
-fn due_ids(rt: &impl Abort, mode: Mode, entries: &[InBook]) -> ArrayVec<u64, 128> {
+fn due_ids(rt: &impl Abort, mode: QueueMode, entries: &[InBook]) -> ArrayVec<u64, 128> {
     let mut book: ArrayVec<Unanswered, 128> = ArrayVec::new();
     for entry in entries {
         assert!(rt; book.try_push(unanswered(entry)).is_ok());
@@ -168,7 +168,7 @@ fn due_ids(rt: &impl Abort, mode: Mode, entries: &[InBook]) -> ArrayVec<u64, 128
 #[test]
 fn due_requests_are_told(rt: HostRuntime) {
     for (name, queued, usable, book, want) in DUE {
-        let mode = Mode {
+        let mode = QueueMode {
             queued: *queued,
             usable: *usable,
         };

@@ -3,23 +3,23 @@ ghost use Rattle.std.specs.Prelude.{◌≡◌, ◌<◌, ◌≤◌, ◌+◌, [], 
 ghost use Rattle.request_queue.specs.Entries.{IsFresh};
 
 use ata_types::{ClientId, Op, Port, Range, RequestId, Sector};
-use block_machine::Mode;
+use block_machine::QueueMode;
 use dma_frames::FrameTable;
-use request_queue::{Book, DueIds, Entry};
+use request_queue::{Book, DueIds, PendingRequest};
 use std::process::Abort;
 use std::test::Fail;
 
 /// The request with this id, 1 to 128: sixteen of a client after those of the one before, and the ports in turn. Of
 /// four that follow one another on a port the first two are a write and a read of the same sectors, and the others two
 /// reads of the same.
-fn request(id: u64) -> Entry
+fn request(id: u64) -> PendingRequest
     requires { (1 ≤ id) × (id ≤ 128) }
     ensures id { result.id.0 ≡ id }
     ensures fresh { IsFresh result }
     ensures client { (1 ≤ result.client.0) × (result.client.0 ≤ 8) }
 {
     let turn = (id - 1) / 4;
-    Entry {
+    PendingRequest {
         id: RequestId(id),
         client: ClientId(((id - 1) / 16) as u8 + 1),
         grant: 0,
@@ -59,7 +59,7 @@ fn is_due(turn: usize, usable: usize) -> bool
 
 /// Whether those are due that should be, on each of the ports.
 fn due_as_wanted(book: &Book, usable: u8) -> bool {
-    let mode = Mode {
+    let mode = QueueMode {
         queued: true,
         usable: usable.min(32),
     };

@@ -4,8 +4,8 @@ ghost use Rattle.std.specs.Prelude.{◌≡◌, ◌+◌, ◌*◌, IfErr, IfOk, le
 use super::Server;
 use adapter::Adapter;
 use ata_types::{ClientId, FRAME_BYTES, Frame, MemFault};
-use server_history::laws::{client_bytes_add, open_bytes_are_free, refusals_add};
-use server_history::stalled::a_server_is_booked;
+use server_history::laws::{law_client_bytes_add, law_open_bytes_are_free, law_refusals_add};
+use server_history::stalled::law_a_server_is_booked;
 
 impl<A: Adapter> Server<A> {
     ghost use Rattle.adapter.specs.Counted.{MakesAtMost};
@@ -14,7 +14,7 @@ impl<A: Adapter> Server<A> {
     ghost use Rattle.block_server.specs.Calls.{LoadsFrame, StoresFrame};
     ghost use Rattle.block_server.specs.View.{server_of};
     ghost use Rattle.dma_frames.specs.Table.{lent_to, owner_of};
-    ghost use Rattle.server_history.specs.Histories.{AddsEvent, load_said, store_said};
+    ghost use Rattle.server_history.specs.Histories.{ExtendsHistory, load_said, store_said};
 
     /// Where in memory so many bytes of a client's own frame begin, from an offset in bytes on. The first that applies
     /// of `FrameForeign`, `FrameLent` and `OutsideFrame` is told.
@@ -54,14 +54,14 @@ impl<A: Adapter> Server<A> {
         bytes: &[u8],
     ) -> Result<(), MemFault>
         ensures stores { StoresFrame A.device self.old self.new client frame offset bytes.now result }
-        ensures adds { AddsEvent (server_of A.device self.old) (server_of A.device self.new)
+        ensures adds { ExtendsHistory (server_of A.device self.old) (server_of A.device self.new)
             (StoreAt client frame offset bytes.now) (store_said result) }
         ensures cost { MakesAtMost 1 (A.access_count self.old.adapter) (A.access_count self.new.adapter) }
     {
-        refusals_add();
-        a_server_is_booked();
-        open_bytes_are_free();
-        client_bytes_add();
+        law_refusals_add();
+        law_a_server_is_booked();
+        law_open_bytes_are_free();
+        law_client_bytes_add();
         let address = self.open(client, frame, offset, bytes.len())?;
         self.adapter.store(address, bytes);
         Ok(())
@@ -76,14 +76,14 @@ impl<A: Adapter> Server<A> {
         out: &mut [u8],
     ) -> Result<(), MemFault>
         ensures loads { LoadsFrame A.device self.old self.new client frame offset out.old out.new result }
-        ensures adds { AddsEvent (server_of A.device self.old) (server_of A.device self.new)
+        ensures adds { ExtendsHistory (server_of A.device self.old) (server_of A.device self.new)
             (LoadAt client frame offset (length out.old)) (load_said result out.new) }
         ensures cost { MakesAtMost 1 (A.access_count self.old.adapter) (A.access_count self.new.adapter) }
     {
-        refusals_add();
-        a_server_is_booked();
-        open_bytes_are_free();
-        client_bytes_add();
+        law_refusals_add();
+        law_a_server_is_booked();
+        law_open_bytes_are_free();
+        law_client_bytes_add();
         let address = self.open(client, frame, offset, out.len())?;
         self.adapter.load(address, out);
         Ok(())

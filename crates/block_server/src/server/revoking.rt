@@ -2,20 +2,20 @@
 ghost use Rattle.std.specs.Prelude.{[], IfErr, IfOk, None, Ok, Err, Some};
 
 use super::Server;
-use crate::NoRow;
-use crate::fates::answer_waiting;
+use crate::NoSuchGrant;
+use crate::dispositions::answer_waiting;
 use crate::port::issue_where_ready;
 use adapter::Adapter;
 use ata_types::{ClientId, Replies};
-use request_queue::laws::{accepted_requests_stay, the_book_stays_in_order};
-use server_history::laws::{refusals_add, requests_keep, revocations_add};
-use server_history::stalled::{a_server_is_booked, stalled_revocations_add};
+use request_queue::laws::{law_accepted_requests_stay, law_the_book_stays_in_order};
+use server_history::laws::{law_refusals_add, law_requests_keep, law_revocations_add};
+use server_history::stalled::{law_a_server_is_booked, law_stalled_revocations_add};
 
 impl<A: Adapter> Server<A> {
     ghost use Rattle.block_machine.specs.Events.{RevokeOf, WasRevoked};
     ghost use Rattle.block_server.specs.Revoking.{Revokes, revoke_said};
     ghost use Rattle.block_server.specs.View.{server_of};
-    ghost use Rattle.server_history.specs.Histories.{AddsEvent};
+    ghost use Rattle.server_history.specs.Histories.{ExtendsHistory};
     ghost use Rattle.adapter.specs.Counted.{MakesAtMost};
     ghost use Rattle.block_server.specs.Costs.{MOST_OF_REVOKE};
 
@@ -28,16 +28,17 @@ impl<A: Adapter> Server<A> {
     /// | one that is issued | It goes on, with its frames. Where it would go again, or be `Aborted`, it is `Revoked`. |
     /// | the grant's port, if it is ready | What is due there by now is issued. Else no access is made. |
     ///
-    /// Which requests go again `service`, `tick` and `reset` say. The replies stand in order of acceptance. `NoRow` is
-    /// told where the client has no grant of this number: then nothing changes, and no access is made. No memory is
-    /// taken. (All of this is this project's own.)
-    pub fn revoke(&mut self, client: ClientId, number: u8) -> Result<Replies, NoRow>
+    /// Which requests go again `service`, `tick` and `reset` say. The replies stand in order of acceptance.
+    /// `NoSuchGrant` is told where the client has no grant of this number: then nothing changes, and no access is made.
+    /// No memory is taken. (All of this is this project's own.)
+    pub fn revoke(&mut self, client: ClientId, number: u8) -> Result<Replies, NoSuchGrant>
         ensures revoked { IfOk result (λ replies. Revokes A.device self.old self.new client number replies.items (Ok
             tt)) }
         ensures none { IfErr result (λ none. Revokes A.device self.old self.new client number [] (Err none)) }
-        ensures adds { IfOk result (λ replies. AddsEvent (server_of A.device self.old) (server_of A.device self.new)
+        ensures adds { IfOk result
+            (λ replies. ExtendsHistory (server_of A.device self.old) (server_of A.device self.new)
             (RevokeOf client number) (WasRevoked (Some replies.items))) }
-        ensures adds_none { IfErr result (λ none. AddsEvent (server_of A.device self.old)
+        ensures adds_none { IfErr result (λ none. ExtendsHistory (server_of A.device self.old)
             (server_of A.device self.new) (RevokeOf client number) (WasRevoked None)) }
         ensures cost { MakesAtMost MOST_OF_REVOKE (A.access_count self.old.adapter) (A.access_count self.new.adapter) }
     {
@@ -52,22 +53,23 @@ impl<A: Adapter> Server<A> {
         client: ClientId,
         number: u8,
         replies: &mut Replies,
-    ) -> Result<(), NoRow>
+    ) -> Result<(), NoSuchGrant>
         ensures revokes { Revokes A.device self.old self.new client number replies.new.items result }
-        ensures adds { AddsEvent (server_of A.device self.old) (server_of A.device self.new) (RevokeOf client number)
+        ensures adds { ExtendsHistory (server_of A.device self.old) (server_of A.device self.new)
+            (RevokeOf client number)
             (revoke_said result replies.new.items) }
         ensures cost { MakesAtMost MOST_OF_REVOKE (A.access_count self.old.adapter) (A.access_count self.new.adapter) }
     {
-        accepted_requests_stay();
-        the_book_stays_in_order();
-        a_server_is_booked();
-        requests_keep();
-        revocations_add();
-        stalled_revocations_add();
-        refusals_add();
+        law_accepted_requests_stay();
+        law_the_book_stays_in_order();
+        law_a_server_is_booked();
+        law_requests_keep();
+        law_revocations_add();
+        law_stalled_revocations_add();
+        law_refusals_add();
         replies.clear();
         let Some(row) = self.grants.revoke(client, number) else {
-            return Err(NoRow);
+            return Err(NoSuchGrant);
         };
         self.book.revoke(client, number);
         answer_waiting(&mut self.book, &mut self.table, client, number, replies);

@@ -7,12 +7,12 @@ use Rattle.adapter.specs.Access.{Stores}
 use Rattle.adapter.specs.Access.Access.{Storing}
 use Rattle.adapter.specs.Device.{Device}
 use Rattle.adapter.specs.Memory.{bytes_at}
-use Rattle.adapter.specs.Rules.{IsFree, Stays}
-use Rattle.adapter.specs.Spelling.{SpellsHeader}
-use Rattle.agreement.specs.Places.{list_of, table_of}
+use Rattle.adapter.specs.Rules.{IsFree, IsStable}
+use Rattle.adapter.specs.Encoding.{EncodesHeader}
+use Rattle.refinement.specs.Places.{list_of, table_of}
 use Rattle.command_table.specs.Written.{IsTableStore, IsUnused}
 use Rattle.command_table.proofs.Storing.{store_free, store_followed, store_on, store_size, store_there, store_agrees, stored_says}
-use Rattle.agreement.proofs.driver.Stretches.{followed_then}
+use Rattle.refinement.proofs.driver.Stretches.{followed_then}
 use Rattle.command_table.proofs.write_table.Goals as goal
 
 -- a number of the port and one of the slot stand for them
@@ -40,8 +40,8 @@ pub store_table-requires-clause-free : goal.store_table-requires-clause-free
 store_table-requires-clause-free g c =
     let r = c.requires in
     let n : ℕ = length c.args.prds.now in
-    let F : ℕ → ℕ → Type 0 = λ p s. Stays (IsFree (PORT_BYTES * p + TABLES + TABLE_BYTES * s) (TABLE_HEAD + PRD_BYTES * length c.args.prds.now)) (g.A.Adapter.device c.args.adapter.now) in
-    let Free : ℕ → Type 0 = λ k. Stays (IsFree (table_of c.args.port.0 c.args.slot.0) k) (g.A.Adapter.device c.args.adapter.now) in
+    let F : ℕ → ℕ → Type 0 = λ p s. IsStable (IsFree (PORT_BYTES * p + TABLES + TABLE_BYTES * s) (TABLE_HEAD + PRD_BYTES * length c.args.prds.now)) (g.A.Adapter.device c.args.adapter.now) in
+    let Free : ℕ → Type 0 = λ k. IsStable (IsFree (table_of c.args.port.0 c.args.slot.0) k) (g.A.Adapter.device c.args.adapter.now) in
     at_places F c.from-list.result c.from.result c.args.port.0 c.args.slot.0 (sym c.from-list.ensures) (sym c.from.ensures)
     (subst Free (length-replicate {A = ℕ} (TABLE_HEAD + PRD_BYTES * n) 0)
     (store_free r.may.agreed.0 _ c.args.port.0 c.args.slot.0 _ _ r.may.agreed.2 r.may.room r.may.small r.fits.small r.may.agreed.1 (table_room c.args.port.0 c.args.slot.0 n r.fits.few)))
@@ -53,7 +53,7 @@ store-requires g c =
     let here = table_bounds c.args.port.0 c.args.slot.0 (length c.args.prds.now) c.store_table.ensures.stores.bytes r.fits.few in
     let size = store_size c.args.port.0 c.args.slot.0 r.may.small r.fits.small _ _ _ _ here first in
     let room : DRIVER_BYTES ≤ (g.A.Adapter.device c.store_table.new.adapter).size = let had = r.may.room in omega (arith, size, had) in
-    let F : ℕ → ℕ → Type 0 = λ p s. Stays (IsFree (PORT_BYTES * p + 32 * s) (length c.header-head.result)) (g.A.Adapter.device c.store_table.new.adapter) in
+    let F : ℕ → ℕ → Type 0 = λ p s. IsStable (IsFree (PORT_BYTES * p + 32 * s) (length c.header-head.result)) (g.A.Adapter.device c.store_table.new.adapter) in
     at_places F c.from-list.result c.from-2.result c.args.port.0 c.args.slot.0 (sym c.from-list.ensures) (sym c.from-2.ensures)
     (store_free r.may.agreed.0 _ c.args.port.0 c.args.slot.0 _ _ (store_agrees c.args.port.0 c.args.slot.0 r.may.small r.fits.small _ _ _ _ here first r.may.on r.may.agreed.0 r.may.agreed.1 r.may.agreed.2) room r.may.small r.fits.small r.may.agreed.1
     (header_bounds c.args.port.0 c.args.slot.0 c.header-head.result c.header-head.ensures.says.size c.header-head.ensures.none_moved))
@@ -86,8 +86,8 @@ returns-clause-says g c =
     let second = header_stored _ _ _ _ _ _ _ c.from-list.ensures c.from-2.ensures c.store.ensures.does in
     let size = c.store_table.ensures.stores.table.size in
     let cut = length-take (TABLE_HEAD + PRD_BYTES * length c.args.prds.now) c.store_table.ensures.stores.bytes in
-    let H : ℕ → ℕ → Type 0 = λ p s. SpellsHeader c.header-head.result c.is_write.result (length c.args.prds.now) (PORT_BYTES * p + TABLES + TABLE_BYTES * s) in
-    let heads : SpellsHeader c.header-head.result c.is_write.result (length c.args.prds.now) (table_of c.args.port.0 c.args.slot.0) =
+    let H : ℕ → ℕ → Type 0 = λ p s. EncodesHeader c.header-head.result c.is_write.result (length c.args.prds.now) (PORT_BYTES * p + TABLES + TABLE_BYTES * s) in
+    let heads : EncodesHeader c.header-head.result c.is_write.result (length c.args.prds.now) (table_of c.args.port.0 c.args.slot.0) =
     at_places H c.args.port.0 c.args.slot.0 _ _ c.from-list.ensures c.from.ensures c.header-head.ensures.says in
     stored_says c.args.port.0 c.args.slot.0 r.may.small r.fits.small r.may.agreed.0 r.may.agreed.1 _ _ _ r.may.on r.may.agreed.2 c.args.prds.now c.store_table.ensures.stores.bytes c.header-head.result few size
     (omega (arith, cut, size, few)) first second c.is_write.result c.args.command.now c.is_write.ensures c.store_table.ensures.stores.table.fis c.store_table.ensures.stores.table.entries heads c.header-head.ensures.none_moved

@@ -1,7 +1,7 @@
 use Rattle.ata_types.specs.declared.memory.TheConstants.{DRIVER_BYTES, PORT_FRAMES, SCRATCH_FRAME}
 use Rattle.std.proofs.Common.{ℕ, List, [], ◌∷◌, ◌≡◌, ◌+◌, ◌*◌, ◌≤◌, refl, subst, sym, arith}
 use Rattle.adapter.specs.declared.command.Prd.{Prd}
-use Rattle.agreement.specs.Places.{scratch_of}
+use Rattle.refinement.specs.Places.{scratch_of}
 use Rattle.command_table.specs.Written.{IsTableFor}
 use Rattle.command_table.proofs.Storing.{block_followed, block_free, block_on, block_there, block_told, table_agrees, table_for_block, table_size, with_block}
 use Rattle.command_table.proofs.write_table_with_block.Goals as goal
@@ -14,7 +14,7 @@ pub store-requires : goal.store-requires
 store-requires g c =
     let r = c.requires in
     let had = r.may.room in
-    let size = table_size c.other_ports_are_left.ensures.adapter c.args.port.0 _ _ c.write_table.ensures.followed in
+    let size = table_size c.law_other_ports_are_left.ensures.adapter c.args.port.0 _ _ c.write_table.ensures.followed in
     let room : DRIVER_BYTES ≤ (g.A.Adapter.device c.write_table.new.adapter).size = omega (arith, size, had) in
     block_free r.may.agreed.0 _ c.args.port.0 _ c.args.block.now (table_agrees c.args.port.0 r.may.agreed.0 _ _ r.may.agreed.1 c.write_table.ensures.followed r.may.agreed.2) room r.may.small
     (at_scratch c.args.port.0 _ _ c.from.ensures c.from-2.ensures) c.told-block r.may.agreed.1

@@ -4,23 +4,23 @@ use Rattle.error_recovery.proofs.Finishing.{goes_again, goes_again_told, is_busy
 use Rattle.error_recovery.proofs.Whole.{quieted, told}
 use Rattle.error_recovery.proofs.finish_plain.Goals as goal
 
-pub returns-then-is_occupied-clause-recovers : goal.returns-then-is_occupied-clause-recovers
-returns-then-is_occupied-clause-recovers g c = λ old r.
-    let laws = c.laws_hold.ensures in
+pub returns-then-is_bsy_or_drq-clause-recovers : goal.returns-then-is_bsy_or_drq-clause-recovers
+returns-then-is_bsy_or_drq-clause-recovers g c = λ old r.
+    let laws = c.law_base.ensures in
     let port = c.args.quieted.stopped.port in
     let t = told laws port c.args.outstanding false _ _ old _ r (λ uses. uses) _ (quieted laws port c.args.outstanding false _ _ old _ r) in
-    is_busy laws port c.args.outstanding false _ _ old _ r c.fault_of-failed.result c.others-again.result c.args.quieted.stopped refl (sym c.is_occupied.ensures ∙ c.if-is_occupied.true) c.others-again.ensures
+    is_busy laws port c.args.outstanding false _ _ old _ r c.fault_of-failed.result c.others-again.result c.args.quieted.stopped refl (sym c.is_bsy_or_drq.ensures ∙ c.if-is_bsy_or_drq.true) c.others-again.ensures
     (rests_on_fault port c.args.outstanding c.args.quieted.fault.0 _ old _ t c.fault_of-failed.result c.fault_of-failed.ensures.named)
     (λ is. is_named c.args.outstanding c.fault_of-failed.result c.fault_of-failed.ensures.none) (λ on. absurd (false≢true on))
 
 pub go_on-requires : goal.go_on-requires
 go_on-requires g c =
     let r = c.requires.resumes in
-    record { may = may_go_on c.args.quieted.stopped.port c.args.outstanding false _ _ r.0 _ r.1 (sym c.is_occupied.ensures ∙ c.if-is_occupied.false) }
+    record { may = may_go_on c.args.quieted.stopped.port c.args.outstanding false _ _ r.0 _ r.1 (sym c.is_bsy_or_drq.ensures ∙ c.if-is_bsy_or_drq.false) }
 
 pub returns-clause-recovers : goal.returns-clause-recovers
 returns-clause-recovers g c = λ old r.
-    let laws = c.laws_hold.ensures in
+    let laws = c.law_base.ensures in
     let port = c.args.quieted.stopped.port in
     let s = c.go_on.ensures.goes in
     let t = goes_again_told laws port c.args.outstanding false _ _ old _ r _ s in

@@ -1,4 +1,4 @@
-use Rattle.adapter.specs.Spelling.{AreZero}
+use Rattle.adapter.specs.Encoding.{AreZero}
 use Rattle.fis.proofs.are_zero.Given as goal
 
 abbrev pub invariant-loop-place : goal.invariant-loop-place

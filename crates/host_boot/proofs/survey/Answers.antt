@@ -7,24 +7,24 @@ use Rattle.host_boot.proofs.survey.Goals as goal
 use Rattle.host_boot.proofs.Stretching.{by_one, by_then}
 
 pub read-implemented-requires : goal.read-implemented-requires
-read-implemented-requires g c = cap_on c.laws_hold.ensures _ _ _ c.requires.on c.read.ensures.does
+read-implemented-requires g c = cap_on c.law_base.ensures _ _ _ c.requires.on c.read.ensures.does
 
 pub returns-clause-on : goal.returns-clause-on
-returns-clause-on g c = pi_on c.laws_hold.ensures _ _ _ (cap_on c.laws_hold.ensures _ _ _ c.requires.on c.read.ensures.does) c.read-implemented.ensures.does
+returns-clause-on g c = pi_on c.law_base.ensures _ _ _ (cap_on c.law_base.ensures _ _ _ c.requires.on c.read.ensures.does) c.read-implemented.ensures.does
 
 pub returns-clause-leaves : goal.returns-clause-leaves
 returns-clause-leaves g c = λ port.
-    c.laws_hold.ensures.leaves_more _ _ _ (cap_leaves c.laws_hold.ensures _ c.requires.on.no_reset port _ _ c.read.ensures.does)
-    (pi_leaves c.laws_hold.ensures _ (cap_on c.laws_hold.ensures _ _ _ c.requires.on c.read.ensures.does).no_reset port _ _ c.read-implemented.ensures.does)
+    c.law_base.ensures.leaves_more _ _ _ (cap_leaves c.law_base.ensures _ c.requires.on.no_reset port _ _ c.read.ensures.does)
+    (pi_leaves c.law_base.ensures _ (cap_on c.law_base.ensures _ _ _ c.requires.on c.read.ensures.does).no_reset port _ _ c.read-implemented.ensures.does)
 
 pub returns-clause-followed : goal.returns-clause-followed
-returns-clause-followed g c = hosted_then c.laws_hold.ensures _ _ _ (cap_followed c.laws_hold.ensures _ _ _ c.read.ensures.does) (pi_followed c.laws_hold.ensures _ _ _ c.read-implemented.ensures.does)
+returns-clause-followed g c = hosted_then c.law_base.ensures _ _ _ (cap_followed c.law_base.ensures _ _ _ c.read.ensures.does) (pi_followed c.law_base.ensures _ _ _ c.read-implemented.ensures.does)
 
 pub returns-clause-capable : goal.returns-clause-capable
-returns-clause-capable g c = cap_is c.laws_hold.ensures _ _ _ _ _ c.read.ensures.does c.read-implemented.ensures.does
+returns-clause-capable g c = cap_is c.law_base.ensures _ _ _ _ _ c.read.ensures.does c.read-implemented.ensures.does
 
 pub returns-clause-there : goal.returns-clause-there
 returns-clause-there g c = pi_is _ _ _ c.read-implemented.ensures.does
 
 pub returns-clause-surveys : goal.returns-clause-surveys
-returns-clause-surveys g c = by_then c.laws_hold.ensures (by_one IsSurvey (Reading Cap c.read.result) _ _ tt c.read.ensures.does) (by_one IsSurvey (Reading Pi c.read-implemented.result) _ _ tt c.read-implemented.ensures.does)
+returns-clause-surveys g c = by_then c.law_base.ensures (by_one IsSurvey (Reading Cap c.read.result) _ _ tt c.read.ensures.does) (by_one IsSurvey (Reading Pi c.read-implemented.result) _ _ tt c.read-implemented.ensures.does)

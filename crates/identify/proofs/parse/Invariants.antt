@@ -1,8 +1,8 @@
 use Rattle.std.proofs.Common.{◌≤◌}
 use Rattle.identify.specs.declared.Unfit.{Unfit}
-use Rattle.identify.specs.Page.{Applies, number_of}
+use Rattle.identify.specs.Page.{UnfitApplies, unfit_number}
 use Rattle.identify.proofs.parse.Given as goal
 
 -- no fault that was looked for applies
 abbrev pub invariant-loop-fault : goal.invariant-loop-fault
-invariant-loop-fault l = (g : Unfit) → number_of g ≤ l.fault-index → Applies l.page g → ⊥
+invariant-loop-fault l = (g : Unfit) → unfit_number g ≤ l.fault-index → UnfitApplies l.page g → ⊥

@@ -6,4 +6,4 @@ use Rattle.ncq.proofs.arm.Goals as goal
 
 pub write-requires : goal.write-requires
 write-requires g c =
-    c.writing_is_permitted.ensures.rules (Px c.args.port Sact) c.args.own _ (λ (q : Port) (e : Px c.args.port Sact ≡ Px q Ci). absurd cc) (c.requires.on, c.requires.there, c.requires.started)
+    c.law_writing_is_permitted.ensures.rules (Px c.args.port Sact) c.args.own _ (λ (q : Port) (e : Px c.args.port Sact ≡ Px q Ci). absurd cc) (c.requires.on, c.requires.there, c.requires.started)

@@ -2,7 +2,7 @@ use Rattle.std.proofs.Common.{ℕ, ◌≡◌, ◌≢◌, ◌^◌, ◌<◌, ◌==
 use Rattle.std.proofs.lemmas.Bool.{cases_lt}
 use Rattle.std.proofs.lemmas.Nat.Bits.{bit_at-zero, bit_at_above}
 use Rattle.hba_regs.specs.Bits.{bit}
-use Rattle.agreement.specs.Driven.{IsBitOf}
+use Rattle.refinement.specs.Driven.{IsBitOf}
 use Rattle.ncq.proofs.bit_of.Goals as goal
 
 -- a bit that was set in no other bits

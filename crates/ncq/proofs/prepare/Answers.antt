@@ -1,5 +1,5 @@
 use Rattle.std.proofs.Common.{◌≡◌, ap, ◌∙◌, arith, subst, sym}
-use Rattle.adapter.specs.Says.{pieces}
+use Rattle.adapter.specs.Decoding.{pieces}
 use Rattle.adapter.specs.declared.command.Prd.{Prd}
 use Rattle.command_table.specs.Places.{places_of}
 use Rattle.command_table.specs.Written.{IsTableFor}
@@ -9,10 +9,10 @@ use Rattle.ncq.proofs.Telling.{kind_of, never_trim, no_block, stored_for, table_
 use Rattle.ncq.proofs.prepare.Goals as goal
 
 pub arm-requires-clause-there : goal.arm-requires-clause-there
-arm-requires-clause-there g c = (c.stores_leave_the_port.ensures c.args.port c.args.slot.0 _ _ c.requires.may.on c.requires.may.there c.requires.may.may c.write_table.ensures.followed).0
+arm-requires-clause-there g c = (c.law_stores_leave_the_port.ensures c.args.port c.args.slot.0 _ _ c.requires.may.on c.requires.may.there c.requires.may.may c.write_table.ensures.followed).0
 
 pub arm-requires-clause-started : goal.arm-requires-clause-started
-arm-requires-clause-started g c = (c.stores_leave_the_port.ensures c.args.port c.args.slot.0 _ _ c.requires.may.on c.requires.may.there c.requires.may.may c.write_table.ensures.followed).1.started
+arm-requires-clause-started g c = (c.law_stores_leave_the_port.ensures c.args.port c.args.slot.0 _ _ c.requires.may.on c.requires.may.there c.requires.may.may c.write_table.ensures.followed).1.started
 
 pub returns-clause-armed : goal.returns-clause-armed
 returns-clause-armed g c =

@@ -8,5 +8,5 @@ returns-in-Some c =
     let ports = c.args.ports.now in
     let port = c.in-Some.port.now in
     let there : (i : ℕ) × (i < length ports) × (get_or ports i port ≡ port) × (port.number ≡ c.args.number) = search rules in
-    subst (IsWantedIn ports c.args.number) (sym c.disk_of.ensures)
+    subst (IsWantedIn ports c.args.number) (sym c.wanted_disk.ensures)
     (wanted_at ports c.args.number there.0 port c.requires.once there.1 there.2 there.3)

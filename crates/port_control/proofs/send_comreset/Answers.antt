@@ -3,22 +3,22 @@ use Rattle.port_control.proofs.Resetting.{sctl_may, ending_may, reset_followed, 
 use Rattle.port_control.proofs.send_comreset.Goals as goal
 
 pub write-requires : goal.write-requires
-write-requires g c = sctl_may c.laws_hold.ensures c.args.port 1 _ c.requires.usable c.requires.receives (inr refl)
+write-requires g c = sctl_may c.law_base.ensures c.args.port 1 _ c.requires.usable c.requires.receives (inr refl)
 
 pub write-requires-2 : goal.write-requires-2
-write-requires-2 g c = ending_may c.laws_hold.ensures _ _ _ c.requires.usable c.requires.receives c.write.ensures.does
+write-requires-2 g c = ending_may c.law_base.ensures _ _ _ c.requires.usable c.requires.receives c.write.ensures.does
 
 pub returns-clause-followed : goal.returns-clause-followed
-returns-clause-followed g c = reset_followed c.laws_hold.ensures _ _ _ c.requires.usable c.requires.receives c.write.ensures.does _ c.write-2.ensures.does
+returns-clause-followed g c = reset_followed c.law_base.ensures _ _ _ c.requires.usable c.requires.receives c.write.ensures.does _ c.write-2.ensures.does
 
 pub returns-clause-receives : goal.returns-clause-receives
-returns-clause-receives g c = reset_receives c.laws_hold.ensures _ _ _ c.requires.usable c.requires.receives c.write.ensures.does _ c.write-2.ensures.does
+returns-clause-receives g c = reset_receives c.law_base.ensures _ _ _ c.requires.usable c.requires.receives c.write.ensures.does _ c.write-2.ensures.does
 
 pub returns-clause-reset : goal.returns-clause-reset
-returns-clause-reset g c = was_reset c.laws_hold.ensures _ _ _ c.requires.usable c.requires.receives c.write.ensures.does _ c.write-2.ensures.does
+returns-clause-reset g c = was_reset c.law_base.ensures _ _ _ c.requires.usable c.requires.receives c.write.ensures.does _ c.write-2.ensures.does
 
 pub returns-clause-coming : goal.returns-clause-coming
-returns-clause-coming g c = reset_coming c.laws_hold.ensures _ _ _ c.requires.usable c.requires.receives c.write.ensures.does _ c.write-2.ensures.does
+returns-clause-coming g c = reset_coming c.law_base.ensures _ _ _ c.requires.usable c.requires.receives c.write.ensures.does _ c.write-2.ensures.does
 
 pub returns-clause-awaited : goal.returns-clause-awaited
-returns-clause-awaited g c = reset_awaited c.laws_hold.ensures _ _ _ c.requires.usable c.requires.receives c.write.ensures.does _ c.write-2.ensures.does
+returns-clause-awaited g c = reset_awaited c.law_base.ensures _ _ _ c.requires.usable c.requires.receives c.write.ensures.does _ c.write-2.ensures.does

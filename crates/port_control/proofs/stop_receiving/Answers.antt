@@ -6,15 +6,15 @@ use Rattle.port_control.proofs.stop_receiving.Goals as goal
 use Rattle.port_control.specs.Laws.RegisterSet.{Commanding}
 
 pub write-requires : goal.write-requires
-write-requires g c = empty_may c.laws_hold.ensures _ _ _ _ _ c.requires.usable c.read.ensures.does c.requires.stopped c.without_receive.ensures.cleared c.without_receive.ensures.others
+write-requires g c = empty_may c.law_base.ensures _ _ _ _ _ c.requires.usable c.read.ensures.does c.requires.stopped c.without_receive.ensures.cleared c.without_receive.ensures.others
 
 pub loop-reading-init : goal.loop-reading-init
 loop-reading-init g c = record {
-  known = let b = empty_begins c.laws_hold.ensures _ _ _ _ _ c.requires.usable c.read.ensures.does c.requires.stopped c.without_receive.ensures.cleared c.without_receive.ensures.others _ c.write.ensures.does in
+  known = let b = empty_begins c.law_base.ensures _ _ _ _ _ c.requires.usable c.read.ensures.does c.requires.stopped c.without_receive.ensures.cleared c.without_receive.ensures.others _ c.write.ensures.does in
       record {
         told = b.0;
         has = record {
-          usable = usable_after c.laws_hold.ensures Commanding c.args.port _ _ c.requires.usable b.0.followed;
+          usable = usable_after c.law_base.ensures Commanding c.args.port _ _ c.requires.usable b.0.followed;
           stopped = b.1;
           fre = b.2;
           bases = b.3;
@@ -27,30 +27,30 @@ loop-reading-init g c = record {
 }
 
 pub returns-then-not-receive_running-clause-stops : goal.returns-then-not-receive_running-clause-stops
-returns-then-not-receive_running-clause-stops g c = λ _. empties_told c.laws_hold.ensures _ _ _ _ _ _ c.loop-reading.invariant.known c.read-in-loop-reading.ensures.does (sym c.receive_running.ensures ∙ c.if-not-receive_running.true)
+returns-then-not-receive_running-clause-stops g c = λ _. empties_told c.law_base.ensures _ _ _ _ _ _ c.loop-reading.invariant.known c.read-in-loop-reading.ensures.does (sym c.receive_running.ensures ∙ c.if-not-receive_running.true)
 
 pub returns-then-not-receive_running-clause-stopped : goal.returns-then-not-receive_running-clause-stopped
-returns-then-not-receive_running-clause-stopped g c = (empties c.laws_hold.ensures _ _ _ _ _ _ c.loop-reading.invariant.known c.read-in-loop-reading.ensures.does).stopped
+returns-then-not-receive_running-clause-stopped g c = (empties c.law_base.ensures _ _ _ _ _ _ c.loop-reading.invariant.known c.read-in-loop-reading.ensures.does).stopped
 
 pub returns-then-not-receive_running-clause-fre : goal.returns-then-not-receive_running-clause-fre
-returns-then-not-receive_running-clause-fre g c = (empties c.laws_hold.ensures _ _ _ _ _ _ c.loop-reading.invariant.known c.read-in-loop-reading.ensures.does).fre
+returns-then-not-receive_running-clause-fre g c = (empties c.law_base.ensures _ _ _ _ _ _ c.loop-reading.invariant.known c.read-in-loop-reading.ensures.does).fre
 
 pub returns-then-not-receive_running-clause-bases : goal.returns-then-not-receive_running-clause-bases
-returns-then-not-receive_running-clause-bases g c = (empties c.laws_hold.ensures _ _ _ _ _ _ c.loop-reading.invariant.known c.read-in-loop-reading.ensures.does).bases
+returns-then-not-receive_running-clause-bases g c = (empties c.law_base.ensures _ _ _ _ _ _ c.loop-reading.invariant.known c.read-in-loop-reading.ensures.does).bases
 
 pub returns-then-not-receive_running-clause-same : goal.returns-then-not-receive_running-clause-same
-returns-then-not-receive_running-clause-same g c = (empties c.laws_hold.ensures _ _ _ _ _ _ c.loop-reading.invariant.known c.read-in-loop-reading.ensures.does).same
+returns-then-not-receive_running-clause-same g c = (empties c.law_base.ensures _ _ _ _ _ _ c.loop-reading.invariant.known c.read-in-loop-reading.ensures.does).same
 
 pub returns-then-not-receive_running-clause-fallen : goal.returns-then-not-receive_running-clause-fallen
-returns-then-not-receive_running-clause-fallen g c = λ _. emptied c.laws_hold.ensures _ _ _ _ _ _ c.loop-reading.invariant.known c.read-in-loop-reading.ensures.does (sym c.receive_running.ensures ∙ c.if-not-receive_running.true)
+returns-then-not-receive_running-clause-fallen g c = λ _. emptied c.law_base.ensures _ _ _ _ _ _ c.loop-reading.invariant.known c.read-in-loop-reading.ensures.does (sym c.receive_running.ensures ∙ c.if-not-receive_running.true)
 
 pub loop-reading-preserved : goal.loop-reading-preserved
 loop-reading-preserved g c = record {
-  known = empties_still c.laws_hold.ensures _ _ _ _ _ _ c.loop-reading.invariant.known c.read-in-loop-reading.ensures.does (omega arith) (sym c.receive_running.ensures ∙ c.if-not-receive_running.false);
+  known = empties_still c.law_base.ensures _ _ _ _ _ _ c.loop-reading.invariant.known c.read-in-loop-reading.ensures.does (omega arith) (sym c.receive_running.ensures ∙ c.if-not-receive_running.false);
   cost = omega arith;
 }
 
 pub returns-clause-sticks : goal.returns-clause-sticks
 returns-clause-sticks g c = λ _.
     let all : c.loop-reading._reading ≡ READINGS = omega arith in
-    told_awaits c.laws_hold.ensures 4 14 c.args.port _ all _ _ c.loop-reading.invariant.known.told
+    told_awaits c.law_base.ensures 4 14 c.args.port _ all _ _ c.loop-reading.invariant.known.told

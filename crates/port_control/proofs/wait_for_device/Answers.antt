@@ -5,38 +5,38 @@ use Rattle.port_control.proofs.Looking.{missing_followed, device_seen, device_up
 use Rattle.port_control.specs.Ports.{HasLink, ReadsWithout}
 use Rattle.port_control.proofs.wait_for_device.Goals as goal
 use Rattle.port_control.specs.Laws.RegisterSet.{Clearing}
-use Rattle.port_control.specs.Laws.Stretch.{Controlling}
+use Rattle.port_control.specs.Laws.Fragment.{Controlling}
 
 pub loop-reading-init : goal.loop-reading-init
 loop-reading-init g c = record {
   known = record {
-    followed = (c.laws_hold.ensures.stretches.none (Controlling Clearing c.args.port) _).followed;
+    followed = (c.law_base.ensures.fragments.none (Controlling Clearing c.args.port) _).followed;
     usable = c.requires.usable;
     on = c.requires.usable;
     det = c.requires.det;
     low = omega arith;
     high = λ h. absurd (omega (arith, h));
     far = λ h. absurd (omega (arith, h));
-    misses = without_none c.laws_hold.ensures c.args.port Ssts HasLink _;
+    misses = without_none c.law_base.ensures c.args.port Ssts HasLink _;
   };
   cost = omega arith;
 }
 
 pub returns-then-detection-eq-DEVICE_WITH_LINK-clause-followed : goal.returns-then-detection-eq-DEVICE_WITH_LINK-clause-followed
-returns-then-detection-eq-DEVICE_WITH_LINK-clause-followed g c = missing_followed c.laws_hold.ensures _ _ _ _ _ _ c.loop-reading.invariant.known c.read.ensures.does
+returns-then-detection-eq-DEVICE_WITH_LINK-clause-followed g c = missing_followed c.law_base.ensures _ _ _ _ _ _ c.loop-reading.invariant.known c.read.ensures.does
 
 pub returns-then-detection-eq-DEVICE_WITH_LINK-clause-saw : goal.returns-then-detection-eq-DEVICE_WITH_LINK-clause-saw
-returns-then-detection-eq-DEVICE_WITH_LINK-clause-saw g c = λ _. device_seen c.laws_hold.ensures _ _ _ _ _ _ c.loop-reading.invariant.known c.read.ensures.does (omega arith)
+returns-then-detection-eq-DEVICE_WITH_LINK-clause-saw g c = λ _. device_seen c.law_base.ensures _ _ _ _ _ _ c.loop-reading.invariant.known c.read.ensures.does (omega arith)
 
 pub returns-then-detection-eq-DEVICE_WITH_LINK-clause-up : goal.returns-then-detection-eq-DEVICE_WITH_LINK-clause-up
-returns-then-detection-eq-DEVICE_WITH_LINK-clause-up g c = λ _. device_up c.laws_hold.ensures _ _ _ _ _ _ c.loop-reading.invariant.known c.read.ensures.does (omega arith)
+returns-then-detection-eq-DEVICE_WITH_LINK-clause-up g c = λ _. device_up c.law_base.ensures _ _ _ _ _ _ c.loop-reading.invariant.known c.read.ensures.does (omega arith)
 
 pub returns-then-detection-eq-DEVICE_WITH_LINK-clause-sees : goal.returns-then-detection-eq-DEVICE_WITH_LINK-clause-sees
-returns-then-detection-eq-DEVICE_WITH_LINK-clause-sees g c = λ _. sees_device c.laws_hold.ensures _ _ _ _ _ _ c.loop-reading.invariant.known c.read.ensures.does (omega arith) (omega arith)
+returns-then-detection-eq-DEVICE_WITH_LINK-clause-sees g c = λ _. sees_device c.law_base.ensures _ _ _ _ _ _ c.loop-reading.invariant.known c.read.ensures.does (omega arith) (omega arith)
 
 pub loop-reading-preserved : goal.loop-reading-preserved
 loop-reading-preserved g c = record {
-  known = missing_still c.laws_hold.ensures _ _ _ _ _ _ c.loop-reading.invariant.known c.read.ensures.does (omega arith) (λ three. absurd (omega arith));
+  known = missing_still c.law_base.ensures _ _ _ _ _ _ c.loop-reading.invariant.known c.read.ensures.does (omega arith) (λ three. absurd (omega arith));
   cost = omega arith;
 }
 

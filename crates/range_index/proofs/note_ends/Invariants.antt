@@ -1,6 +1,6 @@
 use Rattle.std.proofs.Common.{ℕ, ◌≡◌, ◌<◌, ◌≤◌, get_or, length}
 use Rattle.std.specs.Prelude.{vec_capacity, vec_len}
-use Rattle.range_index.specs.declared.Entry.{Entry}
+use Rattle.range_index.specs.declared.IndexEntry.{IndexEntry}
 use Rattle.range_index.specs.Items.{IsGreatestEnd}
 use Rattle.range_index.specs.Index.{items_of}
 use Rattle.range_index.proofs.note_ends.Given as goal
@@ -11,6 +11,6 @@ invariant-loop-place l = record {
   many : length l.entries.items ≡ length l.fn.entries.items;
   room : vec_capacity l.entries ≡ vec_capacity l.fn.entries;
   items : items_of l.entries.items ≡ items_of l.fn.entries.items;
-  ends : (k : ℕ) (d : Entry) → k < l.place → IsGreatestEnd (items_of l.fn.entries.items) k (get_or l.entries.items k d).greatest_end;
-  later : (k : ℕ) (d : Entry) → l.place ≤ k → get_or l.entries.items k d ≡ get_or l.fn.entries.items k d;
+  ends : (k : ℕ) (d : IndexEntry) → k < l.place → IsGreatestEnd (items_of l.fn.entries.items) k (get_or l.entries.items k d).greatest_end;
+  later : (k : ℕ) (d : IndexEntry) → l.place ≤ k → get_or l.entries.items k d ≡ get_or l.fn.entries.items k d;
 }

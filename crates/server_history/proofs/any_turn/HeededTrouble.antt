@@ -14,23 +14,23 @@ use Rattle.adapter.specs.Access.Access.{Reading, Writing, Loading, Storing}
 use Rattle.adapter.specs.Device.{Device}
 use Rattle.adapter.specs.Rules.{IsOn}
 use Rattle.adapter.specs.declared.tape.Entry.{Entry}
-use Rattle.agreement.specs.Driven.{IsDrivenBy, IsOf}
-use Rattle.agreement.specs.Errors.{IsFatalOf}
-use Rattle.agreement.specs.Facts.{IsFaultOf, ShowsNoTrouble}
-use Rattle.agreement.specs.Links.{IsPlugging, SparesRegister}
-use Rattle.agreement.proofs.driver.Stretches.{by_then}
+use Rattle.refinement.specs.Driven.{IsDrivenBy, IsOf}
+use Rattle.refinement.specs.Errors.{IsFatalOf}
+use Rattle.refinement.specs.Facts.{IsFaultOf, ShowsNoTrouble}
+use Rattle.refinement.specs.Links.{IsPlugging, SparesRegister}
+use Rattle.refinement.proofs.driver.Stretches.{by_then}
 use Rattle.server_history.proofs.state.DrivenAccesses.{by_none, driven_as}
-use Rattle.block_machine.specs.Histories.{Instant}
+use Rattle.block_machine.specs.Histories.{JointState}
 use Rattle.block_machine.specs.Ports.{Evidence, Ports}
 use Rattle.driver_history.specs.Evidence.{Gains, ShowsChange, ShowsFailure}
-use Rattle.driver_history.specs.Histories.{LosesNoTrouble}
+use Rattle.driver_history.specs.Histories.{LosesNoPortError}
 use Rattle.error_recovery.specs.Evidence.{GainsRunning, ShowsFatal}
 use Rattle.ncq.specs.Masks.{IsFinding}
 use Rattle.ncq.specs.Tasks.{IsIssuing}
-use Rattle.port_look.specs.Looks.{IsLooking}
-use Rattle.port_look.specs.Services.{IsOrdinary}
-use Rattle.port_look.specs.declared.Look.TheVariants.{Undisturbed as Calm}
-use Rattle.slots.specs.Uses.{Uses as PortSlots}
+use Rattle.port_events.specs.Looks.{IsLooking}
+use Rattle.port_events.specs.Services.{IsOrdinary}
+use Rattle.port_events.specs.declared.PortEvent.TheVariants.{NoEvent}
+use Rattle.slots.specs.Uses.{PortSlots}
 use Rattle.server_history.specs.Below.{LawsBelow}
 use Rattle.server_history.specs.Served.{ChecksUsed, HasNone, HasTurn, IssuesIn}
 use Rattle.server_history.proofs.state.TurnAccesses.{none_or_some}
@@ -76,9 +76,9 @@ issuing_ordinary : (port : Port) (access : Access) → IssuesIn port access → 
 issuing_ordinary port access here = (issues_serve port access here, issuing_spares port here.0 access here.2)
 
 module _ (laws : LawsBelow) where
-  module _ (port : Port) (slots : PortSlots) (replies : List Reply) (old : Instant Device) (new : Device) (turn : HasTurn port slots replies old.device new) (on : IsOn old.device) where
+  module _ (port : Port) (slots : PortSlots) (replies : List Reply) (old : JointState Device) (new : Device) (turn : HasTurn port slots replies old.device new) (on : IsOn old.device) where
     -- what comes after a look that told nothing
-    pub later_driven : turn.look ≡ Calm → IsDrivenBy (IsOrdinary port) turn.seen new
+    pub later_driven : turn.look ≡ NoEvent → IsDrivenBy (IsOrdinary port) turn.seen new
     later_driven calm = ⊎_elim
         (λ (none : HasNone c.mask). subst (IsDrivenBy (IsOrdinary port) turn.seen) (sym (c.idle none).1) (by_none (IsOrdinary port) turn.seen))
         (λ some.
@@ -93,7 +93,7 @@ module _ (laws : LawsBelow) where
     seen_on : IsOn turn.seen
     seen_on = laws.of_on port old.device turn.seen on (driven_as (IsLooking port) (IsOf port) old.device turn.seen (laws.looking.looking_of port) (laws.looking.looks_driven port turn.look old.device turn.seen turn.looks))
 
-    module _ (calm : turn.look ≡ Calm) where
+    module _ (calm : turn.look ≡ NoEvent) where
       -- it showed no trouble, then
       pub shown_none : ShowsNoTrouble (old.device.port port.0)
       shown_none = (laws.looking.looks_calm port turn.look old.device turn.seen on turn.looks calm).0
@@ -136,10 +136,10 @@ module _ (laws : LawsBelow) where
       never_changed (inl n) = false≢true (sym shown_none.serr_n ∙ n)
       never_changed (inr x) = false≢true (sym shown_none.serr_x ∙ x)
 
-      pub trouble_shown : (evidence : Evidence) (ports : Ports) → LosesNoTrouble evidence old ports new port
+      pub trouble_shown : (evidence : Evidence) (ports : Ports) → LosesNoPortError evidence old ports new port
       trouble_shown evidence ports = record {
-        errors = λ ready trouble. inr (⊎_elim (λ shows. absurd (never_failed shows)) (λ gains. ⊎_elim (λ g. inr (fault_shown g)) (λ g. inl (fatal_shown g)) gains) trouble);
-        changes = λ tended trouble. inr (⊎_elim (λ shows. absurd (never_changed shows)) (λ g. inl (disk_shown g)) trouble);
+        errors = λ ready port_error. inr (⊎_elim (λ shows. absurd (never_failed shows)) (λ gains. ⊎_elim (λ g. inr (fault_shown g)) (λ g. inl (fatal_shown g)) gains) port_error);
+        changes = λ tended port_error. inr (⊎_elim (λ shows. absurd (never_changed shows)) (λ g. inl (disk_shown g)) port_error);
         fault = λ ready g. fault_shown (gained_running (IsFaultOf port.0) port.0 old.device new g);
         fatal = λ ready g. fatal_shown (gained_running (IsFatalOf port.0) port.0 old.device new g);
         disk = λ ready g. disk_shown (gained_running (IsPlugging port.0) port.0 old.device new g);

@@ -13,16 +13,16 @@ use Rattle.ata_types.specs.declared.PortState.TheVariants.{Absent, Dead, Foreign
 use Rattle.ata_types.specs.declared.request.Outcome.{Outcome}
 use Rattle.ata_types.specs.declared.request.Outcome.TheVariants.{Aborted, DeviceError, Ok, PortDead, Revoked, Unplugged}
 use Rattle.ata_types.specs.declared.request.Reply.{Reply}
-use Rattle.agreement.specs.Agrees.{port_at}
-use Rattle.block_machine.specs.Events.{IsLawful, IsToldBefore, Moment, Tells, WasIssued, answers_of, reply_of}
-use Rattle.block_machine.specs.Ports.{Evidence, Fault, IsServiced, Ports, SameDisk, SamePort}
+use Rattle.refinement.specs.Relation.{port_at}
+use Rattle.block_machine.specs.Events.{IsLawful, IsToldBefore, AbstractState, Tells, WasIssued, answers_of, reply_of}
+use Rattle.block_machine.specs.Ports.{Evidence, RequestFault, IsServiced, Ports, SameDisk, SamePort}
 use Rattle.block_machine.specs.State.{Pending}
 use Rattle.block_machine.specs.Steps.{Step, Answer}
-use Rattle.host_boot.specs.Taken.{found_of}
-use Rattle.host_boot.specs.declared.Found.{Found}
+use Rattle.host_boot.specs.Taken.{probe_result_of}
+use Rattle.host_boot.specs.declared.ProbeResult.{ProbeResult}
 use Rattle.driver_history.specs.Parts.{NamesAlike}
 use Rattle.server_history.specs.Turns.{NamesOnly}
-use Rattle.server_history.specs.Server.{Server, disk_in, disk_of, is_served, mode_in, ports_of, remembered_at, sectors_of, serial_of, state_of, trims_of}
+use Rattle.server_history.specs.Server.{ServerState, disk_in, last_disk_of, is_served, mode_in, ports_of, remembered_at, last_sectors_of, last_serial_of, state_of, last_trims_of}
 use Rattle.server_history.proofs.state.FirstMembers.{nowhere}
 
 -- ---- answers of lists of steps
@@ -170,8 +170,8 @@ alike_then Such port not one other n = record {
 }
 
 -- answers are lawful in a call with more evidence, where so much of ports and of the call's beginning is as in the part
-pub lawful_lift : (old new : Moment) (evidence other : Evidence) (ports later : Ports) (e : Pending) (o : Outcome)
-    → (WasIssued old.machine e.request.id → WasIssued new.machine e.request.id) → ((told : Fault) → Contains evidence.faults told → Contains other.faults told)
+pub lawful_lift : (old new : AbstractState) (evidence other : Evidence) (ports later : Ports) (e : Pending) (o : Outcome)
+    → (WasIssued old.machine e.request.id → WasIssued new.machine e.request.id) → ((told : RequestFault) → Contains evidence.faults told → Contains other.faults told)
     → (Contains evidence.lost e.request.port → Contains other.lost e.request.port) → (Contains evidence.stopped e.request.port → Contains other.stopped e.request.port)
     → later.state e.request.port ≡ ports.state e.request.port → (SameDisk old.ports ports e.request.port → SameDisk new.ports later e.request.port)
     → IsLawful old evidence ports e o → IsLawful new other later e o
@@ -186,11 +186,11 @@ lawful_lift old new evidence other ports later e Revoked was faults lost stopped
 -- ---- ports that are what they were
 
 -- all that clients see of the port is as it was
-pub same_at : (one other : Server) (q : Port) → found_of other.ports q.0 ≡ found_of one.ports q.0 → remembered_at other.remembered q.0 ≡ remembered_at one.remembered q.0 → mode_in other q ≡ mode_in one q
+pub same_at : (one other : ServerState) (q : Port) → probe_result_of other.ports q.0 ≡ probe_result_of one.ports q.0 → remembered_at other.remembered q.0 ≡ remembered_at one.remembered q.0 → mode_in other q ≡ mode_in one q
     → SamePort (ports_of one) (ports_of other) q
 same_at one other q found remembered mode =
-    let disk : disk_in other q ≡ disk_in one q = ap (λ (f : Found). disk_of f (remembered_at other.remembered q.0)) found ∙ ap (disk_of (found_of one.ports q.0)) remembered in
-    (ap is_served found, ap state_of found, ap serial_of disk, ap sectors_of disk, ap trims_of found, mode)
+    let disk : disk_in other q ≡ disk_in one q = ap (λ (f : ProbeResult). last_disk_of f (remembered_at other.remembered q.0)) found ∙ ap (last_disk_of (probe_result_of one.ports q.0)) remembered in
+    (ap is_served found, ap state_of found, ap last_serial_of disk, ap last_sectors_of disk, ap last_trims_of found, mode)
 
 pub same_then : (a b c : Ports) (q : Port) → SamePort a b q → SamePort b c q → SamePort a c q
 same_then a b c q x y = (y.0 ∙ x.0, y.1 ∙ x.1, y.2 ∙ x.2, y.3 ∙ x.3, y.4 ∙ x.4, y.5 ∙ x.5)

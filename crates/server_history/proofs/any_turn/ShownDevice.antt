@@ -10,25 +10,25 @@ use Rattle.hba_regs.specs.declared.reg.Reg.TheVariants as reg
 use Rattle.hba_regs.specs.declared.reg.Reg.TheVariants.{Ghc, Px}
 use Rattle.adapter.specs.Access.{Access, Does, DoesAll}
 use Rattle.adapter.specs.Access.Access.{Reading, Writing}
-use Rattle.adapter.specs.Device.{Device, PortState}
+use Rattle.adapter.specs.Device.{Device, DevicePort}
 use Rattle.adapter.specs.Rules.{IsOn}
 use Rattle.adapter.specs.declared.tape.Entry.{Entry}
 use Rattle.adapter.specs.declared.tape.Entry.TheVariants as entry
-use Rattle.agreement.specs.Driven.{Grows}
-use Rattle.agreement.specs.Driver.{IsBacked}
-use Rattle.agreement.specs.Errors.{IsComing, NoneComes}
-use Rattle.agreement.specs.Links.{IsPlugging, PlugsNone, SparesRegister}
-use Rattle.agreement.proofs.driver.Stretches.{written_ghc}
+use Rattle.refinement.specs.Driven.{Grows}
+use Rattle.refinement.specs.Driver.{IsBacked}
+use Rattle.refinement.specs.Errors.{IsComing, NoneComes}
+use Rattle.refinement.specs.Links.{IsPlugging, PlugsNone, SparesRegister}
+use Rattle.refinement.proofs.driver.Stretches.{written_ghc}
 use Rattle.block_machine.specs.Events.{changes_disk}
 use Rattle.block_machine.specs.State.{Machine}
 use Rattle.block_machine.specs.Steps.{Step}
-use Rattle.port_look.specs.Looks.{LooksAt}
-use Rattle.port_look.specs.declared.Look.{Look}
+use Rattle.port_events.specs.Looks.{LooksAt}
+use Rattle.port_events.specs.declared.PortEvent.{PortEvent}
 use Rattle.server_history.specs.Below.{LawsBelow}
 use Rattle.server_history.proofs.any_turn.ShownTrouble.{grows_over}
-use Rattle.server_history.specs.Server.{Server, IsMachineOf}
+use Rattle.server_history.specs.Server.{ServerState, IsMachineOf}
 use Rattle.server_history.proofs.any_turn.ToldTrouble.{one_or_none, shows_link}
-use Rattle.port_look.specs.declared.Look.TheVariants.{Lost}
+use Rattle.port_events.specs.declared.PortEvent.TheVariants.{LinkChanged}
 
 -- ---- disks that come
 
@@ -59,10 +59,10 @@ none_comes port old new none = record {
 }
 
 -- where none comes, this goes on
-StaysSo : (PortState → Type 0) → Port → Device → Device → Type 0
+StaysSo : (DevicePort → Type 0) → Port → Device → Device → Type 0
 StaysSo P port old new = Grows old new × (NoneComes port.0 old new → P (old.port port.0) → P (new.port port.0))
 
-module _ (laws : LawsBelow) (port : Port) (P : PortState → Type 0) (one : (access : Access) (old new : Device) → NoneComes port.0 old new → Does access old new → P (old.port port.0) → P (new.port port.0)) where
+module _ (laws : LawsBelow) (port : Port) (P : DevicePort → Type 0) (one : (access : Access) (old new : Device) → NoneComes port.0 old new → Does access old new → P (old.port port.0) → P (new.port port.0)) where
   so_over : (access : Access) (old new : Device) → Does access old new → StaysSo P port old new
   unfolding StaysSo
   so_over access old new does = (laws.looks.tape.access_grows access old new does, λ none so. one access old new none does so)
@@ -84,7 +84,7 @@ module _ (laws : LawsBelow) (port : Port) (P : PortState → Type 0) (one : (acc
   stays_so accesses old new does = (so_all accesses old new does).1
 
 module _ (laws : LawsBelow) (port : Port) where
-  module _ (old seen : Device) (look : Look) (l : LooksAt port look old seen) (on : IsOn old) (not_lost : look ≢ Lost) where
+  module _ (old seen : Device) (look : PortEvent) (l : LooksAt port look old seen) (on : IsOn old) (not_lost : look ≢ LinkChanged) where
     on_over : (access : Access) (a b : Device) → SparesRegister Ghc access → Does access a b → IsOn a → IsOn b
     on_over access a b spares does here = laws.looks.access_on access a b here (written_ghc access spares) does
 
@@ -112,7 +112,7 @@ module _ (laws : LawsBelow) (port : Port) where
 
 -- Steps that the device backs, from the beginning of the turn to any moment after one at which a disk is in: the machine had a disk in the port before them, or one of them takes
 -- its disk out or puts one in.
-pub had_disk : (laws : LawsBelow) (port : Port) (s : Server) (seen new : Device) (m : Machine) (accesses : List Access) → DoesAll accesses s.device seen → (seen.port port.0).present ≡ true
+pub had_disk : (laws : LawsBelow) (port : Port) (s : ServerState) (seen new : Device) (m : Machine) (accesses : List Access) → DoesAll accesses s.device seen → (seen.port port.0).present ≡ true
     → IsMachineOf s m → Grows seen new → (steps : List Step) → IsBacked s.device new m steps → (m.present port ≡ true) ⊎ (list_any (changes_disk port) steps ≡ true)
 had_disk laws port s seen new m accesses does own is later steps backed = ⊎_elim
     (λ was. inl ((is.knows.agrees.disk port.0).present ∙ was))

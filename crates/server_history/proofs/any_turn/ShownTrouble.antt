@@ -11,13 +11,13 @@ use Rattle.hba_regs.specs.declared.reg.PortReg.TheVariants.{Cmd, Is, Sctl, Serr}
 use Rattle.hba_regs.specs.declared.reg.Reg.TheVariants.{Ghc, Px}
 use Rattle.adapter.specs.Access.{Access, Does, DoesAll}
 use Rattle.adapter.specs.Access.Access.{Writing}
-use Rattle.adapter.specs.Device.{Device, PortState}
+use Rattle.adapter.specs.Device.{Device, DevicePort}
 use Rattle.adapter.specs.Rules.{IsOn}
 use Rattle.adapter.specs.declared.tape.Entry.{Entry}
-use Rattle.agreement.specs.Driven.{Grows}
-use Rattle.agreement.specs.Errors.{IsFatalOf, NoneFails, NoneFatal}
-use Rattle.agreement.specs.Facts.{IsFaultOf}
-use Rattle.agreement.specs.Links.{IsPlugging, PlugsNone, SparesRegister}
+use Rattle.refinement.specs.Driven.{Grows}
+use Rattle.refinement.specs.Errors.{IsFatalOf, NoneFails, NoneFatal}
+use Rattle.refinement.specs.Facts.{IsFaultOf}
+use Rattle.refinement.specs.Links.{IsPlugging, PlugsNone, SparesRegister}
 use Rattle.error_recovery.specs.Evidence.{GainsRunning, ShowsFatal, ShowsTrouble}
 use Rattle.server_history.specs.Below.{LawsBelow}
 
@@ -101,7 +101,7 @@ stays_on access spares v is = absurd (subst (SparesRegister Ghc) is spares refl)
 abbrev pub LeavesTrouble : Port → Access → Type 0
 LeavesTrouble port access = SparesRegister (Px port Is) access × SparesRegister (Px port Serr) access × SparesRegister (Px port Cmd) access × SparesRegister (Px port Sctl) access × StaysOn access
 
-abbrev ShowsNoFatal : PortState → Type 0
+abbrev ShowsNoFatal : DevicePort → Type 0
 ShowsNoFatal p = (place : ℕ) → 27 ≤ place → place ≤ 29 → p.is place ≡ false
 
 -- what isn't shown hasn't come
@@ -118,7 +118,7 @@ set_unless true not = refl
 set_unless false not = absurd (not refl)
 
 -- one of the three bits is set, unless all are clear
-pub fatal_unless : (p : PortState) → (ShowsNoFatal p → ⊥) → ShowsFatal p
+pub fatal_unless : (p : DevicePort) → (ShowsNoFatal p → ⊥) → ShowsFatal p
 fatal_unless p not = by (p.is 27) (p.is 28) (p.is 29) refl refl refl
   where
     by : (a b c : Bool) → p.is 27 ≡ a → p.is 28 ≡ b → p.is 29 ≡ c → ShowsFatal p
@@ -160,10 +160,10 @@ module _ (laws : LawsBelow) (port : Port) where
             let e = laws.looks.access_unfailed port access old mid on.no_reset kind.0 does l.0 in (e.0, laws.looks.tape.fails_more port.0 old mid new e.1 l.1);
         fatal = λ clear.
             let l = later.fatal clear in
-            let e = laws.trouble.shows_fatal port access old mid on.no_reset kind.0 does l.0 in (e.0, laws.looks.tape.fatal_more port.0 old mid new e.1 l.1);
+            let e = laws.port_error.shows_fatal port access old mid on.no_reset kind.0 does l.0 in (e.0, laws.looks.tape.fatal_more port.0 old mid new e.1 l.1);
         disk = λ clear.
             let l = later.disk clear in
-            let e = laws.trouble.shows_disk port access old mid on.no_reset kind.1 does l.0 in (e.0, laws.looks.tape.plugs_more port.0 old mid new e.1 l.1);
+            let e = laws.port_error.shows_disk port access old mid on.no_reset kind.1 does l.0 in (e.0, laws.looks.tape.plugs_more port.0 old mid new e.1 l.1);
         same = later.same ∙ ((laws.looks.access_controls port access old mid on.no_reset does).command kind.2).2;
       }
 

@@ -14,22 +14,22 @@ use Rattle.adapter.specs.Device.{Device}
 use Rattle.adapter.specs.Rules.{IsOn}
 use Rattle.adapter.specs.declared.tape.Entry.{Entry}
 use Rattle.adapter.specs.declared.tape.Entry.TheVariants as entry
-use Rattle.agreement.specs.Driven.{Grows}
-use Rattle.agreement.specs.Errors.{IsFatalOf, NoneComes}
-use Rattle.agreement.specs.Facts.{IsFaultOf}
-use Rattle.agreement.specs.Links.{IsPlugging, SparesRegister}
+use Rattle.refinement.specs.Driven.{Grows}
+use Rattle.refinement.specs.Errors.{IsFatalOf, NoneComes}
+use Rattle.refinement.specs.Facts.{IsFaultOf}
+use Rattle.refinement.specs.Links.{IsPlugging, SparesRegister}
 use Rattle.server_history.proofs.state.ListMembers.{contains_there}
 use Rattle.driver_history.specs.Evidence.{Gains, ShowsChange, ShowsFailure}
 use Rattle.error_recovery.specs.Evidence.{ShowsFatal}
 use Rattle.error_recovery.specs.declared.Recovered.{Recovered}
 use Rattle.port_boot.specs.States.{RunsOn}
-use Rattle.port_look.specs.Looks.{LooksAt, look_of}
-use Rattle.port_look.specs.declared.Look.{Look}
-use Rattle.port_look.specs.declared.Look.TheVariants.{Broken, Failed, Lost, Undisturbed}
+use Rattle.port_events.specs.Looks.{LooksAt, look_of}
+use Rattle.port_events.specs.declared.PortEvent.{PortEvent}
+use Rattle.port_events.specs.declared.PortEvent.TheVariants.{BusError, TaskFileError, LinkChanged, NoEvent}
 use Rattle.server_history.specs.Below.{LawsBelow}
-use Rattle.server_history.specs.Mended.{EndsGivenUp, TellsMending}
-use Rattle.port_look.specs.declared.Trouble.{Trouble}
-use Rattle.port_look.specs.declared.Trouble.TheVariants as kinds
+use Rattle.server_history.specs.ErrorHandling.{EndsStopped, TellsErrorHandling}
+use Rattle.port_events.specs.declared.PortError.{PortError}
+use Rattle.port_events.specs.declared.PortError.TheVariants as kinds
 use Rattle.server_history.proofs.state.CallEvidence.{fatal_shows}
 use Rattle.server_history.proofs.state.FirstMembers.{first_here}
 
@@ -86,23 +86,23 @@ gains_more Such old mid new grows g = record {
 -- ---- kinds of trouble
 
 -- no command is named, and the port doesn't run, unless a command had failed
-pub given_up : (trouble : Trouble) (port : Port) (outstanding : ℕ) (queued : Bool) (result : Recovered) (accesses : List Access) (old new : Device)
-    → TellsMending trouble port outstanding queued result accesses old new → trouble ≢ kinds.Failed → EndsGivenUp result
-given_up kinds.Failed port outstanding queued result accesses old new t other = absurd (other refl)
-given_up kinds.Broken port outstanding queued result accesses old new t other = t
-given_up kinds.Lost port outstanding queued result accesses old new t other = t
-given_up kinds.Hung port outstanding queued result accesses old new t other = t
+pub given_up : (port_error : PortError) (port : Port) (outstanding : ℕ) (queued : Bool) (result : Recovered) (accesses : List Access) (old new : Device)
+    → TellsErrorHandling port_error port outstanding queued result accesses old new → port_error ≢ kinds.TaskFileError → EndsStopped result
+given_up kinds.TaskFileError port outstanding queued result accesses old new t other = absurd (other refl)
+given_up kinds.BusError port outstanding queued result accesses old new t other = t
+given_up kinds.LinkChanged port outstanding queued result accesses old new t other = t
+given_up kinds.TimedOut port outstanding queued result accesses old new t other = t
 
-pub lost_or_not : (trouble : Trouble) → (trouble ≡ kinds.Lost) ⊎ (trouble ≢ kinds.Lost)
-lost_or_not kinds.Lost = inl refl
-lost_or_not kinds.Failed = inr (λ e. let z : kinds.Failed ≡ kinds.Lost = e in absurd cc)
-lost_or_not kinds.Broken = inr (λ e. let z : kinds.Broken ≡ kinds.Lost = e in absurd cc)
-lost_or_not kinds.Hung = inr (λ e. let z : kinds.Hung ≡ kinds.Lost = e in absurd cc)
+pub lost_or_not : (port_error : PortError) → (port_error ≡ kinds.LinkChanged) ⊎ (port_error ≢ kinds.LinkChanged)
+lost_or_not kinds.LinkChanged = inl refl
+lost_or_not kinds.TaskFileError = inr (λ e. let z : kinds.TaskFileError ≡ kinds.LinkChanged = e in absurd cc)
+lost_or_not kinds.BusError = inr (λ e. let z : kinds.BusError ≡ kinds.LinkChanged = e in absurd cc)
+lost_or_not kinds.TimedOut = inr (λ e. let z : kinds.TimedOut ≡ kinds.LinkChanged = e in absurd cc)
 
 -- ---- what a look saw
 
-module _ (laws : LawsBelow) (port : Port) (look : Look) (old seen : Device) (l : LooksAt port look old seen) (on : IsOn old) where
-  its : (told : Look) → look ≡ told → look_of l.causes l.status ≡ told
+module _ (laws : LawsBelow) (port : Port) (look : PortEvent) (old seen : Device) (l : LooksAt port look old seen) (on : IsOn old) where
+  its : (told : PortEvent) → look ≡ told → look_of l.causes l.status ≡ told
   its told is = sym l.tells ∙ is
 
   -- a bit that was set when the turn began
@@ -128,10 +128,10 @@ module _ (laws : LawsBelow) (port : Port) (look : Look) (old seen : Device) (l :
 
   -- ---- a command had failed
 
-  module _ (failed : look ≡ Failed) where
+  module _ (failed : look ≡ TaskFileError) where
     -- TFES, and no fatal error
     told : (bit l.causes 30 ≡ true) × ((place : ℕ) → 27 ≤ place → place ≤ 29 → bit l.causes place ≡ false)
-    told = let t = laws.looking.looks_failed l.causes l.status (its Failed failed) in (t.0, t.3)
+    told = let t = laws.looking.looks_failed l.causes l.status (its TaskFileError failed) in (t.0, t.3)
 
     -- no fatal error was shown when the turn began
     pub no_fatal : ShowsFatal (old.port port.0) → ⊥
@@ -155,11 +155,11 @@ module _ (laws : LawsBelow) (port : Port) (look : Look) (old seen : Device) (l :
 
   -- ---- the link or the host's bus had failed
 
-  module _ (broken : look ≡ Broken) where
+  module _ (broken : look ≡ BusError) where
     -- one of those three was shown then, or a fatal error came before PxIS was read
     pub fatal_shown : (new : Device) → Grows l.seen new → ShowsFatal (old.port port.0) ⊎ Gains (IsFatalOf port.0) old new
     fatal_shown new later = ⊎_elim (at 28 (omega arith) (omega arith) refl refl) (λ more. ⊎_elim (at 29 (omega arith) (omega arith) refl refl) (at 27 (omega arith) (omega arith) refl refl) more)
-        (laws.looking.looks_broken l.causes l.status (its Broken broken)).0
+        (laws.looking.looks_broken l.causes l.status (its BusError broken)).0
       where
         at : (place : ℕ) → 27 ≤ place → place ≤ 29 → is_cause place ≡ true → shown_interrupt (l.seen.port port.0) place ≡ (l.seen.port port.0).is place → bit l.causes place ≡ true
             → ShowsFatal (old.port port.0) ⊎ Gains (IsFatalOf port.0) old new
@@ -173,7 +173,7 @@ module _ (laws : LawsBelow) (port : Port) (look : Look) (old seen : Device) (l :
 
   -- ---- no loss
 
-  module _ (not_lost : look ≢ Lost) where
+  module _ (not_lost : look ≢ LinkChanged) where
     -- the link told of no change when the turn began
     pub no_change : ShowsChange (old.port port.0) → ⊥
     no_change change = not_lost (laws.looking.looks_changed port look old seen on l change)
@@ -184,17 +184,17 @@ module _ (laws : LawsBelow) (port : Port) (look : Look) (old seen : Device) (l :
         not_lost (laws.looking.looks_unlinked port look old seen on l missing undue (laws.looks.tape.comes_parts port.0 old seen new looked.0 later.0 looked.1 later.1 none).0)
 
   -- where it told of no loss, a device showed
-  pub shows_link : look ≢ Lost → l.status % 16 ≡ 3
+  pub shows_link : look ≢ LinkChanged → l.status % 16 ≡ 3
   shows_link not_lost = by look refl
     where
-      by : (told : Look) → look ≡ told → l.status % 16 ≡ 3
-      by Failed is = (laws.looking.looks_failed l.causes l.status (its Failed is)).4
-      by Broken is = (laws.looking.looks_broken l.causes l.status (its Broken is)).3
-      by Undisturbed is = (laws.looking.looks_undisturbed l.causes l.status (its Undisturbed is)).1
-      by Lost is = absurd (not_lost is)
+      by : (told : PortEvent) → look ≡ told → l.status % 16 ≡ 3
+      by TaskFileError is = (laws.looking.looks_failed l.causes l.status (its TaskFileError is)).4
+      by BusError is = (laws.looking.looks_broken l.causes l.status (its BusError is)).3
+      by NoEvent is = (laws.looking.looks_undisturbed l.causes l.status (its NoEvent is)).1
+      by LinkChanged is = absurd (not_lost is)
 
   -- and a failure was shown when the turn began, or came
-  pub errors_shown : (look ≡ Failed) ⊎ (look ≡ Broken) → (new : Device) → Grows l.seen new → ShowsFailure (old.port port.0) ⊎ (Gains (IsFaultOf port.0) old new ⊎ Gains (IsFatalOf port.0) old new)
+  pub errors_shown : (look ≡ TaskFileError) ⊎ (look ≡ BusError) → (new : Device) → Grows l.seen new → ShowsFailure (old.port port.0) ⊎ (Gains (IsFaultOf port.0) old new ⊎ Gains (IsFatalOf port.0) old new)
   errors_shown error new later = ⊎_elim
       (λ failed. ⊎_elim (λ is. inl (inr is)) (λ came. inr (inl came)) (fault_shown failed new later))
       (λ broken. ⊎_elim (λ is. inl (inl is)) (λ came. inr (inr came)) (fatal_shown broken new later))
@@ -203,11 +203,11 @@ module _ (laws : LawsBelow) (port : Port) (look : Look) (old seen : Device) (l :
   -- ---- a loss
 
   -- it was there to tell when the turn began, or a disk went or came
-  pub loss_shown : look ≡ Lost → (old.port port.0).link_due ≡ false → (new : Device) → Grows seen new → ShowsChange (old.port port.0) ⊎ (((old.port port.0).ssts_det ≢ 3) ⊎ Gains (IsPlugging port.0) old new)
+  pub loss_shown : look ≡ LinkChanged → (old.port port.0).link_due ≡ false → (new : Device) → Grows seen new → ShowsChange (old.port port.0) ⊎ (((old.port port.0).ssts_det ≢ 3) ⊎ Gains (IsPlugging port.0) old new)
   loss_shown lost undue new later = ⊎_elim
       (λ change. inl change)
       (λ more. inr (⊎_elim (λ out. inl out) (λ some. inr (⊎_elim
       (λ found. gains_more (IsPlugging port.0) old seen new later (record { gained = looked.0; tape = looked.1; entry = found.0; here = found.1; is = found.2 }))
       (λ none. absurd (some (record { gained = looked.0; tape = looked.1; none = none })))
       (one_or_none (IsPlugging port.0) (is_plugging port.0) looked.0))) more))
-      (laws.looking.looks_loss port old seen on (subst (λ (told : Look). LooksAt port told old seen) lost l) undue)
+      (laws.looking.looks_loss port old seen on (subst (λ (told : PortEvent). LooksAt port told old seen) lost l) undue)

@@ -7,13 +7,13 @@ use Rattle.std.proofs.lemmas.List.Sums.{sum_by-cons}
 use Rattle.ata_types.specs.declared.Port.{Port}
 use Rattle.ata_types.specs.declared.request.Outcome.{Outcome}
 use Rattle.ata_types.specs.declared.request.RequestId.{RequestId}
-use Rattle.agreement.specs.Spares.{SparesBook}
-use Rattle.agreement.proofs.driver.OwnSteps.{without_into}
-use Rattle.block_machine.specs.Events.{AllMay, IsDevices, IsIssuedIn, handles, issues_it}
-use Rattle.block_machine.specs.Histories.{IsReached}
+use Rattle.refinement.specs.Spares.{SparesBook}
+use Rattle.refinement.proofs.driver.OwnSteps.{without_into}
+use Rattle.block_machine.specs.Events.{AllMay, IsByDevice, IsIssuedIn, handles, issues_it}
+use Rattle.block_machine.specs.Histories.{IsReachable}
 use Rattle.block_machine.specs.Left.{after}
 use Rattle.block_machine.specs.State.{Machine, Pending}
-use Rattle.block_machine.specs.Steps.{Step, Again, Answer, Issue, after_step, at, issue, requeued}
+use Rattle.block_machine.specs.Steps.{Step, Again, Answer, Issue, after_step, at, newly_issued, requeued}
 use Rattle.server_history.proofs.state.ListMembers.{at_cases, contains_cases, into_map, map_in, without_in}
 use Rattle.server_history.specs.Turns.{IsOfTurn}
 use Rattle.server_history.proofs.state.DeviceSteps.{not_handled}
@@ -58,13 +58,13 @@ changed_request id change keeps e = ⊎_elim (λ q. ap (λ (x : Pending). x.requ
 module _ (laws : LawsBelow) (port : Port) (m : Machine) where
   -- ---- who stood before
 
-  device_before : (step : Step) (before : List Step) → IsDevices step → (z : Pending) → Contains (after m (step ∷ before)).book z → (x : Pending) × Contains (after m before).book x × IsSame x z
+  device_before : (step : Step) (before : List Step) → IsByDevice step → (z : Pending) → Contains (after m (step ∷ before)).book z → (x : Pending) × Contains (after m before).book x × IsSame x z
   device_before step before is z here =
       let spares : SparesBook (after m before) (after_step (after m before) step) = laws.basic.spares (after m before) (step ∷ []) (tt, is) in
       let l = laws.basic.found_before (after m before).book (after m (step ∷ before)).book z spares.book here in
       (l.0, l.1, record { request = l.2.request; issued = l.2.issued; ended = l.2.ended })
 
-  device_later : (step : Step) (before : List Step) → IsDevices step → (y : Pending) → Contains (after m before).book y → (x : Pending) × Contains (after m (step ∷ before)).book x × IsSame y x
+  device_later : (step : Step) (before : List Step) → IsByDevice step → (y : Pending) → Contains (after m before).book y → (x : Pending) × Contains (after m (step ∷ before)).book x × IsSame y x
   device_later step before is y here =
       let spares : SparesBook (after m before) (after_step (after m before) step) = laws.basic.spares (after m before) (step ∷ []) (tt, is) in
       let l = laws.basic.found_later (after m before).book (after m (step ∷ before)).book y spares.book here in
@@ -82,7 +82,7 @@ module _ (laws : LawsBelow) (port : Port) (m : Machine) where
   pub stood : (steps : List Step) → All (IsOfTurn port) steps → (z : Pending) → Contains (after m steps).book z → StandsIn m.book z
   stood [] own z here = record { was = z; here = here; request = refl }
   stood (Issue mode e ∷ steps) own z here =
-      stood_more m.book (after m steps).book z (stood steps (All-tail (IsOfTurn port) (Issue mode e) steps own)) (changed_before e.request.id issue (λ x. refl) (after m steps).book z here)
+      stood_more m.book (after m steps).book z (stood steps (All-tail (IsOfTurn port) (Issue mode e) steps own)) (changed_before e.request.id newly_issued (λ x. refl) (after m steps).book z here)
   stood (Again e ∷ steps) own z here =
       stood_more m.book (after m steps).book z (stood steps (All-tail (IsOfTurn port) (Again e) steps own)) (changed_before e.request.id requeued (λ x. refl) (after m steps).book z here)
   stood (Answer e o ∷ steps) own z here = stood steps (All-tail (IsOfTurn port) (Answer e o) steps own) z (without_in e.request.id (after m steps).book z here).0
@@ -93,7 +93,7 @@ module _ (laws : LawsBelow) (port : Port) (m : Machine) where
 
   -- ---- requests of other ports
 
-  module _ (reached : IsReached m) where
+  module _ (reached : IsReachable m) where
     -- a request of the port, and one of another, differ in their ids
     apart : (steps : List Step) → AllMay m steps → (e y : Pending) → Contains (after m steps).book e → Contains (after m steps).book y → e.request.port ≡ port → y.request.port ≢ port → y.request.id.0 ≢ e.request.id.0
     apart steps may e y here there own other same =
@@ -119,7 +119,7 @@ module _ (laws : LawsBelow) (port : Port) (m : Machine) where
     pub others_left : (steps : List Step) → All (IsOfTurn port) steps → AllMay m steps → (y : Pending) → Contains m.book y → y.request.port ≢ port → LaterIn (after m steps).book y
     others_left [] own may y here other = (y, here, same_as y)
     others_left (Issue mode e ∷ steps) own may y here other =
-        changed_left steps e issue may.0 may.1.0 (All-head (IsOfTurn port) (Issue mode e) steps own) y other (others_left steps (All-tail (IsOfTurn port) (Issue mode e) steps own) may.0 y here other)
+        changed_left steps e newly_issued may.0 may.1.0 (All-head (IsOfTurn port) (Issue mode e) steps own) y other (others_left steps (All-tail (IsOfTurn port) (Issue mode e) steps own) may.0 y here other)
     others_left (Again e ∷ steps) own may y here other =
         changed_left steps e requeued may.0 may.1.0 (All-head (IsOfTurn port) (Again e) steps own) y other (others_left steps (All-tail (IsOfTurn port) (Again e) steps own) may.0 y here other)
     others_left (Answer e o ∷ steps) own may y here other =
@@ -142,7 +142,7 @@ module _ (laws : LawsBelow) (port : Port) (m : Machine) where
     pub others_were : (steps : List Step) → All (IsOfTurn port) steps → AllMay m steps → (z : Pending) → Contains (after m steps).book z → z.request.port ≢ port → BeforeIn m.book z
     others_were [] own may z here other = (z, here, same_as z)
     others_were (Issue mode e ∷ steps) own may z here other =
-        others_were steps (All-tail (IsOfTurn port) (Issue mode e) steps own) may.0 z (changed_were steps e issue (λ x. refl) may.0 may.1.0 (All-head (IsOfTurn port) (Issue mode e) steps own) z other here) other
+        others_were steps (All-tail (IsOfTurn port) (Issue mode e) steps own) may.0 z (changed_were steps e newly_issued (λ x. refl) may.0 may.1.0 (All-head (IsOfTurn port) (Issue mode e) steps own) z other here) other
     others_were (Again e ∷ steps) own may z here other =
         others_were steps (All-tail (IsOfTurn port) (Again e) steps own) may.0 z (changed_were steps e requeued (λ x. refl) may.0 may.1.0 (All-head (IsOfTurn port) (Again e) steps own) z other here) other
     others_were (Answer e o ∷ steps) own may z here other = others_were steps (All-tail (IsOfTurn port) (Answer e o) steps own) may.0 z (without_in e.request.id (after m steps).book z here).0 other

@@ -8,9 +8,9 @@ use Rattle.ata_types.specs.declared.request.Outcome.{Outcome}
 use Rattle.ata_types.specs.declared.request.Outcome.TheVariants.{Ok, DeviceError, Aborted, Unplugged, PortDead, Revoked}
 use Rattle.ata_types.specs.declared.request.RequestId.{RequestId}
 use Rattle.adapter.specs.declared.access.DeviceStep.{DeviceStep}
-use Rattle.agreement.specs.Agrees.{port_at}
-use Rattle.block_machine.specs.Events.{Ask, Moment, AllLawful, AllMay, Belong, IsIssuedIn, IsLawful, IssuesLast, UnplugsAll, changes_disk}
-use Rattle.block_machine.specs.Histories.{IsReached}
+use Rattle.refinement.specs.Relation.{port_at}
+use Rattle.block_machine.specs.Events.{Ask, AbstractState, AllLawful, AllMay, Belong, IsIssuedIn, IsLawful, IssuesLast, UnplugsAll, changes_disk}
+use Rattle.block_machine.specs.Histories.{IsReachable}
 use Rattle.block_machine.specs.Left.{after}
 use Rattle.block_machine.specs.Ports.{Evidence, Ports}
 use Rattle.block_machine.specs.State.{Machine, Pending}
@@ -45,14 +45,14 @@ pub belong_join : (ask : Ask DeviceStep) (ports : Ports) (late early : List Step
 belong_join ask ports [] early a b = b
 belong_join ask ports (step ∷ late) early a b = (belong_join ask ports late early a.0 b, a.1)
 
-pub lawful_join : (old : Moment) (evidence : Evidence) (ports : Ports) (late early : List Step) → AllLawful old evidence ports late → AllLawful old evidence ports early → AllLawful old evidence ports (late ++ early)
+pub lawful_join : (old : AbstractState) (evidence : Evidence) (ports : Ports) (late early : List Step) → AllLawful old evidence ports late → AllLawful old evidence ports early → AllLawful old evidence ports (late ++ early)
 lawful_join old evidence ports [] early a b = b
 lawful_join old evidence ports (Answer e o ∷ late) early a b = (lawful_join old evidence ports late early a.0 b, a.1)
 lawful_join old evidence ports (Again e ∷ late) early a b = (lawful_join old evidence ports late early a.0 b, a.1)
 lawful_join old evidence ports (step ∷ late) early a b = lawful_join old evidence ports late early a b
 
 -- answers are lawful in another call where each of them is
-pub lawful_on : (old new : Moment) (evidence other : Evidence) (ports later : Ports) (steps : List Step)
+pub lawful_on : (old new : AbstractState) (evidence other : Evidence) (ports later : Ports) (steps : List Step)
     → ((e : Pending) (o : Outcome) → Contains steps (Answer e o) → IsLawful old evidence ports e o → IsLawful new other later e o)
     → ((e : Pending) → Contains steps (Again e) → Contains evidence.stopped e.request.port → Contains other.stopped e.request.port)
     → AllLawful old evidence ports steps → AllLawful new other later steps
@@ -119,7 +119,7 @@ present_before m q (step ∷ steps) is = present_before m q steps is
 
 -- Steps of a call in which ports below this number had their turns: the server's are of requests of those, so that each request of another port is as
 -- it was when the call began; and each that is unanswered was so then.
-pub record AreTurns (old : Moment) (n : ℕ) (steps : List Step) : Type 0 where
+pub record AreTurns (old : AbstractState) (n : ℕ) (steps : List Step) : Type 0 where
   pub may : AllMay old.machine steps
   pub last : IssuesLast steps
   pub below : All (IsStepOf (λ q. q.0 < n)) steps
@@ -128,7 +128,7 @@ pub record AreTurns (old : Moment) (n : ℕ) (steps : List Step) : Type 0 where
   pub further : (e : Pending) → Contains old.machine.book e → n ≤ e.request.port.0 → (x : Pending) × Contains (after old.machine steps).book x × IsSame e x
   pub origin : (x : Pending) → Contains (after old.machine steps).book x → n ≤ x.request.port.0 → (e : Pending) × Contains old.machine.book e × IsSame e x
 
-module _ (laws : LawsBelow) (old : Moment) (reached : IsReached old.machine) where
+module _ (laws : LawsBelow) (old : AbstractState) (reached : IsReachable old.machine) where
   pub no_turns : AreTurns old 0 []
   no_turns = record {
     may = tt;
@@ -153,7 +153,7 @@ module _ (laws : LawsBelow) (old : Moment) (reached : IsReached old.machine) whe
   }
 
   module _ (n : ℕ) (base late : List Step) (x : AreTurns old n base) (own : All (IsOfTurn (port_at n)) late) (may : AllMay (after old.machine base) late) (last : IssuesLast late) where
-    m_reached : IsReached (after old.machine base)
+    m_reached : IsReachable (after old.machine base)
     m_reached = laws.basic.reached old.machine base reached x.may
 
     one_of : (e y : Pending) → Contains old.machine.book e → Contains old.machine.book y → e.request.id.0 ≡ y.request.id.0 → e ≡ y

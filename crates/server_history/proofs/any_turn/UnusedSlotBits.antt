@@ -3,24 +3,24 @@ use Rattle.std.proofs.Common.{ℕ, ◌≡◌, ◌<◌, false, None, subst}
 use Rattle.ata_types.specs.declared.PortState.TheVariants.{Ready as ReadyState}
 use Rattle.hba_regs.specs.Bits.{bit}
 use Rattle.adapter.specs.Device.{Device}
-use Rattle.agreement.specs.Agrees.{port_at}
-use Rattle.agreement.specs.Driven.{IsDrivenBy}
-use Rattle.agreement.specs.Slots.{IsFree, IsServed, Use}
+use Rattle.refinement.specs.Relation.{port_at}
+use Rattle.refinement.specs.Driven.{IsDrivenBy}
+use Rattle.refinement.specs.Slots.{IsEmptySlot, RelatesSlot, SlotState}
 use Rattle.block_machine.specs.State.{Machine}
-use Rattle.host_boot.specs.Taken.{found_of}
+use Rattle.host_boot.specs.Taken.{probe_result_of}
 use Rattle.ncq.specs.Masks.{ReadsDone}
-use Rattle.port_look.specs.Looks.{IsLooking}
+use Rattle.port_events.specs.Looks.{IsLooking}
 use Rattle.server_history.specs.Below.{LawsBelow}
-use Rattle.server_history.specs.Server.{Server, IsMachineOf, state_of, used_for}
+use Rattle.server_history.specs.Server.{ServerState, IsMachineOf, state_of, used_for}
 use Rattle.server_history.proofs.plain_calls.Looks.{both_clear}
 use Rattle.server_history.proofs.state.TransferAccesses.{both_read}
 use Rattle.server_history.proofs.state.PortSlots.{free_unused}
 
 -- the port was looked at, and then the masks were read
-pub unused_clear : LawsBelow → (c : Server) (m : Machine) (n : ℕ) → IsMachineOf c m → state_of (found_of c.ports n) ≡ ReadyState → (seen read : Device) → IsDrivenBy (IsLooking (port_at n)) c.device seen
+pub unused_clear : LawsBelow → (c : ServerState) (m : Machine) (n : ℕ) → IsMachineOf c m → state_of (probe_result_of c.ports n) ≡ ReadyState → (seen read : Device) → IsDrivenBy (IsLooking (port_at n)) c.device seen
     → (mask done : ℕ) → (k : ReadsDone (port_at n) mask done seen read) → (slot : ℕ) → slot < 32 → used_for c.slots n slot ≡ None → (bit k.issued slot ≡ false) × (bit k.active slot ≡ false)
 unused_clear laws c m n stands ready seen read looks mask done k slot small unused =
     let masks = both_read (port_at n) mask done seen read k in
-    let free : IsFree (c.device.port n) slot =
-    subst (λ (u : Use). IsServed m c.device.memory c.device.tape (c.device.port n) n slot u) (free_unused c m n stands ready slot unused) (stands.knows.agrees.slot n slot) in
+    let free : IsEmptySlot (c.device.port n) slot =
+    subst (λ (u : SlotState). RelatesSlot m c.device.memory c.device.tape (c.device.port n) n slot u) (free_unused c m n stands ready slot unused) (stands.knows.agrees.slot n slot) in
     both_clear laws (port_at n) slot k.issued k.active c.device seen masks.0 read small looks masks.1 masks.2 (record { issued = free.issued; free = free.free }) free.unarmed

@@ -4,58 +4,58 @@ use Rattle.std.specs.Prelude.{count_by}
 use Rattle.std.proofs.lemmas.List.{get_or-set_other, get_or-set_same, length-set}
 use Rattle.std.proofs.lemmas.List.Elements.{All-weaker}
 use Rattle.std.proofs.lemmas.Bool.{cases_eq}
-use Rattle.agreement.specs.Agrees.{port_at}
+use Rattle.refinement.specs.Relation.{port_at}
 use Rattle.ata_types.specs.declared.Port.{Port}
 use Rattle.ata_types.specs.declared.PortState.TheVariants.{Absent, Ready as ReadyState}
 use Rattle.ata_types.specs.declared.request.Reply.{Reply}
-use Rattle.host_boot.specs.Taken.{StillStandsBehind, found_of, wanted_of}
-use Rattle.host_boot.specs.declared.Found.{Found}
-use Rattle.host_boot.specs.declared.Found.TheVariants.{Ready, Unready, Unserved}
+use Rattle.host_boot.specs.Taken.{StillStandsBehind, probe_result_of, wanted_of}
+use Rattle.host_boot.specs.declared.ProbeResult.{ProbeResult}
+use Rattle.host_boot.specs.declared.ProbeResult.TheVariants.{Ready, Unready, Unserved}
 use Rattle.request_queue.specs.Entries.{Held}
-use Rattle.request_queue.specs.Fates.{fate_of}
+use Rattle.request_queue.specs.Dispositions.{disposition_of}
 use Rattle.server_history.specs.Below.{LawsBelow}
-use Rattle.server_history.specs.Mended.{holdings_of, requests_of}
+use Rattle.server_history.specs.ErrorHandling.{holdings_of, requests_of}
 use Rattle.server_history.specs.Resets.{MaySettle, SettlesPort, with_holdings, SettlePorts}
-use Rattle.server_history.specs.Server.{Server, IsKept, is_served, kept_at, state_of, used_for}
-use Rattle.server_history.specs.Stalled.{KeepsBooks}
+use Rattle.server_history.specs.Server.{ServerState, InCallInvariant, is_served, kept_at, state_of, used_for}
+use Rattle.server_history.specs.Stalled.{BookInvariant}
 use Rattle.server_history.proofs.state.IssueCounts.{places}
 use Rattle.server_history.proofs.any_turn.JoinedParts.{ready_or_not}
 use Rattle.server_history.proofs.state.LoanCounts.{issued_of}
-use Rattle.server_history.proofs.fates.MetFates.{nobody}
-use Rattle.server_history.proofs.fates.FittingFates.{fits_each}
-use Rattle.server_history.proofs.fates.RemainingBook.{IsLeft, fated, its_requests}
+use Rattle.server_history.proofs.dispositions.MetFates.{nobody}
+use Rattle.server_history.proofs.dispositions.FittingFates.{fits_each}
+use Rattle.server_history.proofs.dispositions.RemainingBook.{IsLeft, fated, its_requests}
 use Rattle.server_history.proofs.state.PortSlots.{of_ready, used_or_not, used_ready}
 use Rattle.server_history.proofs.state.ServerInstant.{served_is}
 
 -- a ready port is served
-pub ready_served : (found : Found) → state_of found ≡ ReadyState → is_served found ≡ true
+pub ready_served : (found : ProbeResult) → state_of found ≡ ReadyState → is_served found ≡ true
 ready_served Unserved ready = let z : Absent ≡ ReadyState = ready in absurd cc
 ready_served (Ready info) ready = refl
 ready_served (Unready state) ready = refl
 
-module _ (laws : LawsBelow) (s : Server) (k : IsKept s) where
+module _ (laws : LawsBelow) (s : ServerState) (k : InCallInvariant s) where
   -- of a port that isn't ready nobody is issued
-  none_issued : (port : Port) → state_of (found_of s.ports port.0) ≢ ReadyState → issued_of port s.book ≡ 0
+  none_issued : (port : Port) → state_of (probe_result_of s.ports port.0) ≢ ReadyState → issued_of port s.book ≡ 0
   none_issued port other = ap (count_by (λ (e : Held). e.entry.issued)) (nobody (requests_of port s.book) (λ e here.
       let w = (its_requests port s k.ordered k.accepted).here e here in
-      other (ap (λ (q : Port). state_of (found_of s.ports q.0)) (sym w.1) ∙ of_ready s k e w.0)))
+      other (ap (λ (q : Port). state_of (probe_result_of s.ports q.0)) (sym w.1) ∙ of_ready s k e w.0)))
 
   have_places : (port : Port) → length (kept_at s.kept port.0) + issued_of port s.book ≤ 32
   have_places port = ⊎_elim
-      (λ (ready : state_of (found_of s.ports port.0) ≡ ReadyState).
+      (λ (ready : state_of (probe_result_of s.ports port.0) ≡ ReadyState).
       let p = places laws s port k ready in
       let none = ap length p.0 in
       let few = p.1 in
       omega (arith, none, few))
-      (λ (other : state_of (found_of s.ports port.0) ≢ ReadyState). let few = k.few_kept port.0 in let none = none_issued port other in omega (arith, few, none))
-      (ready_or_not (state_of (found_of s.ports port.0)))
+      (λ (other : state_of (probe_result_of s.ports port.0) ≢ ReadyState). let few = k.few_kept port.0 in let none = none_issued port other in omega (arith, few, none))
+      (ready_or_not (state_of (probe_result_of s.ports port.0)))
 
-  pub booked : KeepsBooks s
+  pub booked : BookInvariant s
   booked = record {
     room = k.room;
-    served = λ port low. served_is (wanted_of s.wanted port) (found_of s.ports port) port s.device (k.behind port low).behind;
+    served = λ port low. served_is (wanted_of s.wanted port) (probe_result_of s.ports port) port s.device (k.behind port low).behind;
     few = λ port its. (k.there port its).0;
-    idle = λ port low unserved. (subst (λ (f : Found). StillStandsBehind (wanted_of s.wanted port) f port s.device) unserved (k.behind port low).behind).1;
+    idle = λ port low unserved. (subst (λ (f : ProbeResult). StillStandsBehind (wanted_of s.wanted port) f port s.device) unserved (k.behind port low).behind).1;
     unused = λ port slot unserved. ⊎_elim
         (λ u. let z : Absent ≡ ReadyState = sym (ap state_of unserved) ∙ used_ready s port slot u.0 k u.1 in absurd cc)
         (λ (none : used_for s.slots port slot ≡ None). none)
@@ -71,21 +71,21 @@ module _ (laws : LawsBelow) (s : Server) (k : IsKept s) where
     ordered = k.ordered;
     marked = k.marked;
     handed_out = k.handed_out;
-    asked = All-weaker (λ (e : Held). state_of (found_of s.ports e.entry.port.0) ≡ ReadyState) (λ (e : Held). is_served (found_of s.ports e.entry.port.0) ≡ true)
-        (λ e ready. ready_served (found_of s.ports e.entry.port.0) ready) s.book k.ready;
+    asked = All-weaker (λ (e : Held). state_of (probe_result_of s.ports e.entry.port.0) ≡ ReadyState) (λ (e : Held). is_served (probe_result_of s.ports e.entry.port.0) ≡ true)
+        (λ e ready. ready_served (probe_result_of s.ports e.entry.port.0) ready) s.book k.ready;
     machine = k.machine;
     reached = k.reached;
     stands = k.stands;
   }
 
 -- so its requests may meet their fates
-pub may_settle : (s : Server) → KeepsBooks s → MaySettle s
+pub may_settle : (s : ServerState) → BookInvariant s → MaySettle s
 may_settle s b = record { four_kept = b.four_kept; ordered = b.ordered; accepted = b.accepted; places = b.places }
 
 -- and those of the other ports may still, once those of one port met theirs
-module _ (laws : LawsBelow) (s new : Server) (port : Port) (replies : List Reply) (low : port.0 < 4) (may : MaySettle s) (settles : SettlesPort port replies s new) where
-  pub left : IsLeft port (fate_of None settles.prospect) (requests_of port s.book) (holdings_of port s) settles.now
-  left = fated laws port (fate_of None settles.prospect) (requests_of port s.book) (fits_each None settles.prospect (requests_of port s.book)) replies (holdings_of port s) settles.now (its_requests port s may.ordered may.accepted) settles.meets
+module _ (laws : LawsBelow) (s new : ServerState) (port : Port) (replies : List Reply) (low : port.0 < 4) (may : MaySettle s) (settles : SettlesPort port replies s new) where
+  pub left : IsLeft port (disposition_of None settles.revalidation) (requests_of port s.book) (holdings_of port s) settles.now
+  left = fated laws port (disposition_of None settles.revalidation) (requests_of port s.book) (fits_each None settles.revalidation (requests_of port s.book)) replies (holdings_of port s) settles.now (its_requests port s may.ordered may.accepted) settles.meets
 
   pub kept_same : kept_at (with_holdings port settles.now s).kept port.0 ≡ settles.now.kept
   kept_same = get_or-set_same s.kept port.0 settles.now.kept [] (let four = may.four_kept in omega (arith, four, low))
@@ -111,7 +111,7 @@ module _ (laws : LawsBelow) (s new : Server) (port : Port) (replies : List Reply
   })
 
 -- and so on, port by port
-pub all_settle_on : LawsBelow → (found : List Found) (n : ℕ) → n + length found ≤ 4 → (replies : List Reply) (old new : Server) → SettlePorts n found replies old new → MaySettle old → MaySettle new
+pub all_settle_on : LawsBelow → (found : List ProbeResult) (n : ℕ) → n + length found ≤ 4 → (replies : List Reply) (old new : ServerState) → SettlePorts n found replies old new → MaySettle old → MaySettle new
 all_settle_on laws [] n few replies old new (none, same) may = subst MaySettle (sym same) may
 all_settle_on laws (found ∷ rest) n few replies old new (mid, its, later, split, one, more) may =
     all_settle_on laws rest (n + 1) (omega (arith, few)) later mid new more (settles_on laws old mid (port_at n) its (omega (arith, few)) may one)

@@ -22,11 +22,11 @@ use Rattle.adapter.specs.Idle.{IsIdlePort}
 use Rattle.adapter.specs.Rules.{IsOn}
 use Rattle.adapter.specs.Steps.{Steps}
 use Rattle.adapter.specs.declared.access.DeviceStep.{DeviceStep}
-use Rattle.agreement.specs.Driven.{known}
-use Rattle.agreement.specs.Links.{SameAdapter}
-use Rattle.agreement.proofs.driver.AddedSteps.{device_adds}
-use Rattle.block_machine.specs.Events.{AllMay, AnswersTick, Device as Told, IsHung, LoadAt, Moment, RevokeOf, Served, Shown, State, Stepped, StoreAt, Submit, Submitted, Tick, WasRevoked}
-use Rattle.block_machine.specs.Histories.{Happening, Instant, now}
+use Rattle.refinement.specs.Driven.{known}
+use Rattle.refinement.specs.Links.{SameAdapter}
+use Rattle.refinement.proofs.driver.AddedSteps.{device_adds}
+use Rattle.block_machine.specs.Events.{AllMay, AnswersTick, Device as Told, HasTimedOut, LoadAt, AbstractState, RevokeOf, Served, Shown, State, Stepped, StoreAt, Submit, Submitted, Tick, WasRevoked}
+use Rattle.block_machine.specs.Histories.{Happening, JointState, now}
 use Rattle.block_machine.specs.Left.{after}
 use Rattle.block_machine.specs.Ports.{Ports}
 use Rattle.block_machine.specs.Refusals.{IsAcceptable, IsFirstMemFault, IsFirstRefusal, IsOpen}
@@ -37,9 +37,9 @@ use Rattle.server_history.proofs.state.ListMembers.{contains_cases}
 use Rattle.dma_frames.specs.Table.{lent_to, owner_of}
 use Rattle.driver_history.specs.Trace.{IsServing, LeavesEngine}
 use Rattle.server_history.specs.Below.{LawsBelow}
-use Rattle.server_history.specs.Histories.{AddsEvent, AddsStalled, Leads, load_said, store_said}
-use Rattle.server_history.specs.Server.{Server, IsMachineOf, ports_of, situation_of}
-use Rattle.server_history.specs.Stalled.{KeepsBooks, IsStalled}
+use Rattle.server_history.specs.Histories.{ExtendsHistory, ExtendsStuck, LeadsToServer, load_said, store_said}
+use Rattle.server_history.specs.Server.{ServerState, IsMachineOf, ports_of, server_situation}
+use Rattle.server_history.specs.Stalled.{BookInvariant, StuckInvariant}
 use Rattle.server_history.proofs.plain_calls.RefusalsAndBytes.{GoesTo, device_event, load_ends, load_event, load_refused_event, revoke_refused_event, state_event, store_ends, store_event, store_refused_event, submit_refused_event, undone_event}
 use Rattle.server_history.proofs.state.HistorySteps.{lead_by, machine_on, ports_same}
 use Rattle.server_history.proofs.state.FirstMembers.{nowhere}
@@ -59,20 +59,20 @@ none_older (e ∷ book) = ap₂ (λ (x : Pending) (xs : List Pending). x ∷ xs)
 never_here : (step : Step) (ready : Port → Bool) → (step ≡ Age ready → ⊥) → Contains (Age ready ∷ []) step → ⊥
 never_here step ready other here = ⊎_elim other (nowhere step) (contains_cases (Age ready) [] step here)
 
-module _ (laws : LawsBelow) (s : Server) (t : IsStalled s) where
-  abbrev b : KeepsBooks s
+module _ (laws : LawsBelow) (s : ServerState) (t : StuckInvariant s) where
+  abbrev b : BookInvariant s
   b = t.booked
 
   -- ---- the server with another device
 
-  pub goes : (new : Device) → IsStalled (record s { device = new }) → GoesTo s new
+  pub goes : (new : Device) → StuckInvariant (record s { device = new }) → GoesTo s new
   goes new then_is = record {
     holds = holds_off (record s { device = new }) then_is.booked then_is.dead then_is.off;
-    trouble = λ m are port. never_troubled s t.dead (told_by s.device m.ports) (record { device = s.device; moment = m }) (ports_of s) new port are (never_ready s t.dead port.0);
+    port_error = λ m are port. never_troubled s t.dead (told_by s.device m.ports) (record { device = s.device; moment = m }) (ports_of s) new port are (never_ready s t.dead port.0);
   }
 
   then_stalled : (new : Device) → SameAdapter s.device new → ((port : ℕ) → IsIdlePort (s.device.port port) → IsIdlePort (new.port port)) → (IsOn new → ⊥)
-      → (steps : List Step) → AllMay b.machine steps → IsMachineOf (record s { device = new }) (after b.machine steps) → IsStalled (record s { device = new })
+      → (steps : List Step) → AllMay b.machine steps → IsMachineOf (record s { device = new }) (after b.machine steps) → StuckInvariant (record s { device = new })
   then_stalled new same idle off steps may is = record {
     booked = booked_on s new b same idle (after b.machine steps) (laws.basic.reached b.machine steps b.reached may) is;
     off = off;
@@ -84,52 +84,52 @@ module _ (laws : LawsBelow) (s : Server) (t : IsStalled s) where
   never_on : (new : Device) → Steps s.device new → IsOn new → ⊥
   never_on new moves on = t.off (laws.basic.was_on s.device new moves on)
 
-  moved : (new : Device) → Steps s.device new → IsStalled (record s { device = new })
+  moved : (new : Device) → Steps s.device new → StuckInvariant (record s { device = new })
   moved new moves =
       let x = (device_adds (known b.stands.uses b.stands.parked s.device) new moves).adds b.machine b.reached b.stands.knows in
       then_stalled new (steps_same laws s.device new moves) (steps_idle laws s.device new moves) (never_on new moves) x.0 x.1 (machine_on laws s new b.machine x.0 b.stands x.3.only x.2)
 
-  pub stalled_device : (new : Device) (step : DeviceStep) → Asked step s.device new → Steps s.device new → AddsStalled s (record s { device = new }) (Told step) (Stepped true)
+  pub stalled_device : (new : Device) (step : DeviceStep) → Asked step s.device new → Steps s.device new → ExtendsStuck s (record s { device = new }) (Told step) (Stepped true)
   stalled_device new step asked moves = record { stalled = moved new moves; adds = device_event laws s new (goes new (moved new moves)) step asked moves }
 
   -- ---- calls that do nothing
 
-  pub stalled_undone : (step : DeviceStep) → AddsEvent s s (Told step) (Stepped false)
+  pub stalled_undone : (step : DeviceStep) → ExtendsHistory s s (Told step) (Stepped false)
   stalled_undone step = undone_event laws s (goes s.device t) step
 
-  pub stalled_state : (port : Port) → AddsEvent s s (State port) (Shown ((ports_of s).state port))
+  pub stalled_state : (port : Port) → ExtendsHistory s s (State port) (Shown ((ports_of s).state port))
   stalled_state port = state_event laws s (goes s.device t) port
 
   pub stalled_store_refused : (client : ClientId) (frame : Frame) (offset : ℕ) (bytes : List ℕ) (fault : MemFault)
-      → IsFirstMemFault (owner_of s.table) (lent_to s.table) client frame offset (length bytes) fault → AddsEvent s s (StoreAt client frame offset bytes) (store_said (Err fault))
+      → IsFirstMemFault (owner_of s.table) (lent_to s.table) client frame offset (length bytes) fault → ExtendsHistory s s (StoreAt client frame offset bytes) (store_said (Err fault))
   stalled_store_refused = store_refused_event laws s (goes s.device t)
 
   pub stalled_load_refused : (client : ClientId) (frame : Frame) (offset count : ℕ) (bytes : List ℕ) (fault : MemFault)
-      → IsFirstMemFault (owner_of s.table) (lent_to s.table) client frame offset count fault → AddsEvent s s (LoadAt client frame offset count) (load_said (Err fault) bytes)
+      → IsFirstMemFault (owner_of s.table) (lent_to s.table) client frame offset count fault → ExtendsHistory s s (LoadAt client frame offset count) (load_said (Err fault) bytes)
   stalled_load_refused = load_refused_event laws s (goes s.device t)
 
-  pub stalled_revoke_refused : (client : ClientId) (number : ℕ) → (HasRow client number s.grants → ⊥) → AddsEvent s s (RevokeOf client number) (WasRevoked None)
+  pub stalled_revoke_refused : (client : ClientId) (number : ℕ) → (HasRow client number s.grants → ⊥) → ExtendsHistory s s (RevokeOf client number) (WasRevoked None)
   stalled_revoke_refused client number none = revoke_refused_event laws s (goes s.device t) client number none (λ m at port ready. absurd (never_ready s t.dead port.0 ready))
 
-  pub stalled_submit : (r : Request) (refusal : Refusal) → IsFirstRefusal (situation_of s) r refusal → AddsEvent s s (Submit r) (Submitted (Err refusal))
+  pub stalled_submit : (r : Request) (refusal : Refusal) → IsFirstRefusal (server_situation s) r refusal → ExtendsHistory s s (Submit r) (Submitted (Err refusal))
   stalled_submit r refusal is = submit_refused_event laws s (goes s.device t) r refusal is (λ m at port ready. absurd (never_ready s t.dead port.0 ready))
 
   -- a request that has a grant is of a port that isn't ready
-  pub none_acceptable : (r : Request) → IsAcceptable (situation_of s) r → ⊥
+  pub none_acceptable : (r : Request) → IsAcceptable (server_situation s) r → ⊥
   none_acceptable r fine = fine (refused.Rule NoGrant) (λ row named. fine (refused.PortNotReady ((ports_of s).state row.port)) (never_ready s t.dead row.port.0, (row, named, refl)))
 
   -- ---- clients' bytes
 
   module _ (new : Device) (client : ClientId) (frame : Frame) (offset : ℕ) (bytes : List ℕ) (opens : IsOpen (owner_of s.table) (lent_to s.table) client frame offset (length bytes)) where
-    loaded : Loads (4096 * frame.0 + offset) bytes s.device new → IsStalled (record s { device = new })
+    loaded : Loads (4096 * frame.0 + offset) bytes s.device new → StuckInvariant (record s { device = new })
     loaded loads =
         let x = load_ends laws s new client frame offset bytes opens loads b.machine b.reached b.stands in
         then_stalled new (steps_same laws s.device new loads.steps) (steps_idle laws s.device new loads.steps) (never_on new loads.steps) (Load client frame offset bytes ∷ x.0.steps) x.0.may x.1
 
-    load_adds : Loads (4096 * frame.0 + offset) bytes s.device new → AddsStalled s (record s { device = new }) (LoadAt client frame offset (length bytes)) (load_said (Ok tt) bytes)
+    load_adds : Loads (4096 * frame.0 + offset) bytes s.device new → ExtendsStuck s (record s { device = new }) (LoadAt client frame offset (length bytes)) (load_said (Ok tt) bytes)
     load_adds loads = record { stalled = loaded loads; adds = load_event laws s new (goes new (loaded loads)) client frame offset bytes opens loads }
 
-    stored : Stores (4096 * frame.0 + offset) bytes s.device new → IsStalled (record s { device = new })
+    stored : Stores (4096 * frame.0 + offset) bytes s.device new → StuckInvariant (record s { device = new })
     stored stores =
         let x = store_ends laws s new client frame offset bytes opens stores b.machine b.reached b.stands in
         then_stalled new same (access_idle laws (Storing (4096 * frame.0 + offset) bytes) tt s.device new stores) off (Store client frame offset bytes ∷ x.0.steps) x.0.may x.1
@@ -140,21 +140,21 @@ module _ (laws : LawsBelow) (s : Server) (t : IsStalled s) where
         off : IsOn new → ⊥
         off on = let then_on = subst IsOn stores.effect on in never_on stores.mid stores.steps (record { ae = then_on.ae; no_reset = then_on.no_reset })
 
-    pub stalled_store : Stores (4096 * frame.0 + offset) bytes s.device new → AddsStalled s (record s { device = new }) (StoreAt client frame offset bytes) (store_said (Ok tt))
+    pub stalled_store : Stores (4096 * frame.0 + offset) bytes s.device new → ExtendsStuck s (record s { device = new }) (StoreAt client frame offset bytes) (store_said (Ok tt))
     stalled_store stores = record { stalled = stored stores; adds = store_event laws s new (goes new (stored stores)) client frame offset bytes opens stores }
 
   -- of so many bytes
   pub stalled_load : (new : Device) (client : ClientId) (frame : Frame) (offset count : ℕ) (bytes : List ℕ) → length bytes ≡ count
       → IsOpen (owner_of s.table) (lent_to s.table) client frame offset count → Loads (4096 * frame.0 + offset) bytes s.device new
-      → AddsStalled s (record s { device = new }) (LoadAt client frame offset count) (load_said (Ok tt) bytes)
+      → ExtendsStuck s (record s { device = new }) (LoadAt client frame offset count) (load_said (Ok tt) bytes)
   stalled_load new client frame offset count bytes long opens loads =
       let here : IsOpen (owner_of s.table) (lent_to s.table) client frame offset (length bytes) = subst (λ (n : ℕ). IsOpen (owner_of s.table) (lent_to s.table) client frame offset n) (sym long) opens in
-      subst (λ (n : ℕ). AddsStalled s (record s { device = new }) (LoadAt client frame offset n) (load_said (Ok tt) bytes)) long (load_adds new client frame offset bytes here loads)
+      subst (λ (n : ℕ). ExtendsStuck s (record s { device = new }) (LoadAt client frame offset n) (load_said (Ok tt) bytes)) long (load_adds new client frame offset bytes here loads)
 
   -- ---- a tick
 
-  module _ (first : Instant Device) (past : List (Happening Device DeviceStep)) (leads : Leads first past s) where
-    abbrev old : Moment
+  module _ (first : JointState Device) (past : List (Happening Device DeviceStep)) (leads : LeadsToServer first past s) where
+    abbrev old : AbstractState
     old = (now first past).moment
 
     abbrev ages : List Step
@@ -163,7 +163,7 @@ module _ (laws : LawsBelow) (s : Server) (t : IsStalled s) where
     was_never : (port : Port) → old.ports.state port ≢ ReadyState
     was_never port ready = never_ready s t.dead port.0 (ap (λ (p : Ports). p.state port) (sym leads.stands.ports_are) ∙ ready)
 
-    not_hung : (port : Port) → IsHung old port → ⊥
+    not_hung : (port : Port) → HasTimedOut old port → ⊥
     not_hung port hung = was_never port hung.ready
 
     none_answered : (e : Pending) (o : Outcome) → Contains ages (Answer e o) → ⊥
@@ -189,25 +189,25 @@ module _ (laws : LawsBelow) (s : Server) (t : IsStalled s) where
       emptied = λ port ready. absurd (was_never port ready);
     }
 
-    ticked : (h : Happening Device DeviceStep) × (h.event.ask ≡ Tick) × (h.event.said ≡ Served []) × Leads first (h ∷ past) s
+    ticked : (h : Happening Device DeviceStep) × (h.event.ask ≡ Tick) × (h.event.said ≡ Served []) × LeadsToServer first (h ∷ past) s
     ticked = lead_by laws first past s s Tick (Served []) ages refl refl leads (holds_off s b t.dead t.off) (tt, tt) (tt, inr tt) (tt, λ id h i. false≢true h) tt
         answers
         tt
         []
-        (refl, All-nil (IsServing (IsHung old)))
+        (refl, All-nil (IsServing (HasTimedOut old)))
         (λ port. All-nil (LeavesEngine port))
         (λ port ready. absurd (never_ready s t.dead port.0 ready))
         (λ port. record {
           finds = λ hung. absurd (not_hung port hung);
           faults = tt;
-          tries = tt;
+          probes = tt;
           boots = λ hung. absurd (not_hung port hung);
-          trouble = never_troubled s t.dead (told_by s.device old.ports) (record { device = s.device; moment = old }) (ports_of s) s.device port leads.stands.ports_are (never_ready s t.dead port.0);
+          port_error = never_troubled s t.dead (told_by s.device old.ports) (record { device = s.device; moment = old }) (ports_of s) s.device port leads.stands.ports_are (never_ready s t.dead port.0);
           well = λ i. absurd (uninterrupted s.device old.ports port i);
           heeds = tt;
         })
         (laws.backed_own s.device old.machine (Age (λ port. false)) (λ none. none))
         (subst (λ (book : List Pending). IsMachineOf s (record (old.machine) { book = book })) (sym (none_older old.machine.book)) leads.stands.machine)
 
-  pub stalled_tick : AddsStalled s s Tick (Served [])
+  pub stalled_tick : ExtendsStuck s s Tick (Served [])
   stalled_tick = record { stalled = t; adds = ticked }

@@ -17,25 +17,25 @@ use Rattle.adapter.specs.Device.{Device}
 use Rattle.adapter.specs.Idle.{IsIdlePort}
 use Rattle.adapter.specs.Rules.{IsOn}
 use Rattle.adapter.specs.Steps.{Steps}
-use Rattle.agreement.specs.Links.{SameAdapter}
-use Rattle.block_machine.specs.Histories.{Instant, IsReached}
+use Rattle.refinement.specs.Links.{SameAdapter}
+use Rattle.block_machine.specs.Histories.{JointState, IsReachable}
 use Rattle.block_machine.specs.Left.{IsRow}
 use Rattle.block_machine.specs.Ports.{AreFit, Evidence, Ports}
 use Rattle.block_machine.specs.State.{Machine}
-use Rattle.driver_history.specs.Histories.{LosesNoTrouble, TendsPort}
-use Rattle.agreement.specs.Acts.{InSlots}
+use Rattle.driver_history.specs.Histories.{LosesNoPortError, TendsPort}
+use Rattle.refinement.specs.Acts.{InSlots}
 use Rattle.driver_history.specs.Holds.{HoldsOf, HoldsWith, NoneWaits}
 use Rattle.dma_frames.specs.Loan.{Lending}
 use Rattle.dma_frames.specs.Table.{Table}
-use Rattle.host_boot.specs.Taken.{found_of, wanted_of}
-use Rattle.host_boot.specs.declared.Found.{Found}
-use Rattle.host_boot.specs.declared.Found.TheVariants.{Ready, Unready, Unserved}
-use Rattle.request_queue.specs.Entries.{Held, IsAccepted, IsInOrder}
+use Rattle.host_boot.specs.Taken.{probe_result_of, wanted_of}
+use Rattle.host_boot.specs.declared.ProbeResult.{ProbeResult}
+use Rattle.host_boot.specs.declared.ProbeResult.TheVariants.{Ready, Unready, Unserved}
+use Rattle.request_queue.specs.Entries.{Held, IsAccepted, BookIsInOrder}
 use Rattle.request_queue.specs.Machine.{IsEntry}
 use Rattle.server_history.specs.Below.{LawsBelow}
-use Rattle.server_history.specs.Mended.{requests_of}
-use Rattle.server_history.specs.Server.{HasTrueMark, Server, IsMachineOf, is_served, kept_at, ports_of, state_of, use_of}
-use Rattle.server_history.specs.Stalled.{AreDead, KeepsBooks}
+use Rattle.server_history.specs.ErrorHandling.{requests_of}
+use Rattle.server_history.specs.Server.{HasTrueMark, ServerState, IsMachineOf, is_served, kept_at, ports_of, state_of, use_of}
+use Rattle.server_history.specs.Stalled.{AreDead, BookInvariant}
 use Rattle.server_history.proofs.state.HistorySteps.{IsHolding}
 use Rattle.server_history.proofs.state.PortSlots.{none_kept}
 use Rattle.server_history.proofs.state.PairedLists.{at_right}
@@ -43,16 +43,16 @@ use Rattle.server_history.proofs.state.PairedLists.{at_right}
 -- ---- ports
 
 -- a port that is dead if it is served
-pub dead_if_served : (found : Found) → (is_served found ≡ true → found ≡ Unready Dead) → (found ≡ Unserved) ⊎ (found ≡ Unready Dead)
+pub dead_if_served : (found : ProbeResult) → (is_served found ≡ true → found ≡ Unready Dead) → (found ≡ Unserved) ⊎ (found ≡ Unready Dead)
 dead_if_served Unserved dead = inl refl
 dead_if_served (Ready info) dead = inr (dead refl)
 dead_if_served (Unready state) dead = inr (dead refl)
 
-module _ (s : Server) (dead : AreDead s.ports) where
-  pub either : (port : ℕ) → (found_of s.ports port ≡ Unserved) ⊎ (found_of s.ports port ≡ Unready Dead)
-  either port = dead_if_served (found_of s.ports port) (dead port)
+module _ (s : ServerState) (dead : AreDead s.ports) where
+  pub either : (port : ℕ) → (probe_result_of s.ports port ≡ Unserved) ⊎ (probe_result_of s.ports port ≡ Unready Dead)
+  either port = dead_if_served (probe_result_of s.ports port) (dead port)
 
-  pub never_ready : (port : ℕ) → state_of (found_of s.ports port) ≢ ReadyState
+  pub never_ready : (port : ℕ) → state_of (probe_result_of s.ports port) ≢ ReadyState
   never_ready port ready = ⊎_elim
       (λ unserved. let z : Absent ≡ ReadyState = sym (ap state_of unserved) ∙ ready in cc)
       (λ is. let z : Dead ≡ ReadyState = sym (ap state_of is) ∙ ready in cc)
@@ -62,8 +62,8 @@ module _ (s : Server) (dead : AreDead s.ports) where
   never_tended port tends = tends.1 (ap state_of (dead port.0 tends.0))
 
   -- so no trouble of it can be lost
-  pub never_troubled : (evidence : Evidence) (old : Instant Device) (ports : Ports) (new : Device) (port : Port) → old.moment.ports ≡ ports_of s → ports.state port ≢ ReadyState
-      → LosesNoTrouble evidence old ports new port
+  pub never_troubled : (evidence : Evidence) (old : JointState Device) (ports : Ports) (new : Device) (port : Port) → old.moment.ports ≡ ports_of s → ports.state port ≢ ReadyState
+      → LosesNoPortError evidence old ports new port
   never_troubled evidence old ports new port were now = record {
     errors = λ ready. absurd (never_ready port.0 (ap (λ (p : Ports). p.state port) (sym were) ∙ ready));
     changes = λ tends. absurd (never_tended port (subst (λ (p : Ports). TendsPort p port) were tends));
@@ -72,7 +72,7 @@ module _ (s : Server) (dead : AreDead s.ports) where
     disk = λ ready. absurd (now ready);
   }
 
-  pub dead_fit : ((port : ℕ) → is_served (found_of s.ports port) ≡ true → port < 4) → AreFit (ports_of s)
+  pub dead_fit : ((port : ℕ) → is_served (probe_result_of s.ports port) ≡ true → port < 4) → AreFit (ports_of s)
   dead_fit few = record {
     few = λ port its. few port.0 its;
     absent = λ port other. ⊎_elim (λ unserved. ap state_of unserved) (λ is. absurd (false≢true (sym other ∙ ap is_served is))) (either port.0);
@@ -85,25 +85,25 @@ module _ (s : Server) (dead : AreDead s.ports) where
 
 -- ---- an instant
 
-module _ (s : Server) (b : KeepsBooks s) (dead : AreDead s.ports) (off : IsOn s.device → ⊥) (m : Machine) (is : IsMachineOf s m) where
+module _ (s : ServerState) (b : BookInvariant s) (dead : AreDead s.ports) (off : IsOn s.device → ⊥) (m : Machine) (is : IsMachineOf s m) where
   abbrev slots : InSlots
   slots = record { uses = is.uses; parked = is.parked }
 
-  abbrev instant : Instant Device
+  abbrev instant : JointState Device
   instant = record { device = s.device; moment = record { machine = m; ports = ports_of s } }
 
-  abbrev HoldsAs : Port → Found → Type 0
+  abbrev HoldsAs : Port → ProbeResult → Type 0
   HoldsAs port f = HoldsOf (wanted_of s.wanted port.0) slots instant port (is_served f) (state_of f)
 
-  nobody_waits : (port : Port) → found_of s.ports port.0 ≡ Unserved → NoneWaits m port
+  nobody_waits : (port : Port) → probe_result_of s.ports port.0 ≡ Unserved → NoneWaits m port
   nobody_waits port unserved e here own =
       let a = at_right IsEntry s.book m.book is.book e here in
-      let its = All-contains (λ (x : Held). is_served (found_of s.ports x.entry.port.0) ≡ true) s.book a.0 b.asked a.1 in
-      false≢true (sym (ap is_served unserved) ∙ ap (λ (q : Port). is_served (found_of s.ports q.0)) (sym own ∙ a.2.port) ∙ its)
+      let its = All-contains (λ (x : Held). is_served (probe_result_of s.ports x.entry.port.0) ≡ true) s.book a.0 b.asked a.1 in
+      false≢true (sym (ap is_served unserved) ∙ ap (λ (q : Port). is_served (probe_result_of s.ports q.0)) (sym own ∙ a.2.port) ∙ its)
 
-  of_unserved : (port : Port) → port.0 < 4 → found_of s.ports port.0 ≡ Unserved → HoldsAs port (found_of s.ports port.0)
+  of_unserved : (port : Port) → port.0 < 4 → probe_result_of s.ports port.0 ≡ Unserved → HoldsAs port (probe_result_of s.ports port.0)
   of_unserved port low unserved =
-      let alive : found_of s.ports port.0 ≢ Unready Dead = λ is_dead. let z : Unserved ≡ Unready Dead = sym unserved ∙ is_dead in cc in
+      let alive : probe_result_of s.ports port.0 ≢ Unready Dead = λ is_dead. let z : Unserved ≡ Unready Dead = sym unserved ∙ is_dead in cc in
       subst (HoldsAs port) (sym unserved) (record {
         absent = ap state_of unserved;
         idle = b.idle port.0 low unserved;
@@ -112,7 +112,7 @@ module _ (s : Server) (b : KeepsBooks s) (dead : AreDead s.ports) (off : IsOn s.
         kept = none_kept s m port is alive;
       })
 
-  of_dead : (port : Port) → found_of s.ports port.0 ≡ Unready Dead → HoldsAs port (found_of s.ports port.0)
+  of_dead : (port : Port) → probe_result_of s.ports port.0 ≡ Unready Dead → HoldsAs port (probe_result_of s.ports port.0)
   of_dead port is_dead = subst (HoldsAs port) (sym is_dead) (record { why = inr off; waits = λ on. absurd (off on) })
 
   holds_with_off : HoldsWith s.wanted slots instant
@@ -123,7 +123,7 @@ module _ (s : Server) (b : KeepsBooks s) (dead : AreDead s.ports) (off : IsOn s.
     port = λ port low. ⊎_elim (of_unserved port low) (of_dead port) (either s dead port.0);
   }
 
-pub holds_off : (s : Server) → KeepsBooks s → AreDead s.ports → (IsOn s.device → ⊥) → IsHolding s
+pub holds_off : (s : ServerState) → BookInvariant s → AreDead s.ports → (IsOn s.device → ⊥) → IsHolding s
 holds_off s b dead off m reached is = (slots s b dead off m is, holds_with_off s b dead off m is)
 
 -- ---- what accesses leave
@@ -168,8 +168,8 @@ module _ (laws : LawsBelow) where
 
 -- ---- the server with another device
 
-pub booked_on : (s : Server) (new : Device) → KeepsBooks s → SameAdapter s.device new → ((port : ℕ) → IsIdlePort (s.device.port port) → IsIdlePort (new.port port))
-    → (m : Machine) → IsReached m → IsMachineOf (record s { device = new }) m → KeepsBooks (record s { device = new })
+pub booked_on : (s : ServerState) (new : Device) → BookInvariant s → SameAdapter s.device new → ((port : ℕ) → IsIdlePort (s.device.port port) → IsIdlePort (new.port port))
+    → (m : Machine) → IsReachable m → IsMachineOf (record s { device = new }) m → BookInvariant (record s { device = new })
 booked_on s new b same idle m reached is = record {
   room = subst (λ (n : ℕ). DRIVER_BYTES ≤ n) (sym same.size) b.room;
   served = λ port low.
@@ -197,10 +197,10 @@ booked_on s new b same idle m reached is = record {
 
 -- ---- the server with other requests
 
-pub booked_then : (s : Server) (grants : List GrantRow) (table : Table) (kept : List (List Lending)) (book : List Held) → KeepsBooks s → All IsRow grants → table.owners ≡ s.table.owners → length kept ≡ 4
-    → ((port : Port) → length (kept_at kept port.0) + count_by (λ (e : Held). e.entry.issued) (requests_of port book) ≤ 32) → All (IsAccepted table) book → IsInOrder book → All (HasTrueMark grants) book
-    → All (λ e. e.entry.id.0 ≤ s.last) book → All (λ e. is_served (found_of s.ports e.entry.port.0) ≡ true) book → (m : Machine) → IsReached m → IsMachineOf (record s { grants = grants; table = table; kept = kept; book = book }) m
-    → KeepsBooks (record s { grants = grants; table = table; kept = kept; book = book })
+pub booked_then : (s : ServerState) (grants : List GrantRow) (table : Table) (kept : List (List Lending)) (book : List Held) → BookInvariant s → All IsRow grants → table.owners ≡ s.table.owners → length kept ≡ 4
+    → ((port : Port) → length (kept_at kept port.0) + count_by (λ (e : Held). e.entry.issued) (requests_of port book) ≤ 32) → All (IsAccepted table) book → BookIsInOrder book → All (HasTrueMark grants) book
+    → All (λ e. e.entry.id.0 ≤ s.last) book → All (λ e. is_served (probe_result_of s.ports e.entry.port.0) ≡ true) book → (m : Machine) → IsReachable m → IsMachineOf (record s { grants = grants; table = table; kept = kept; book = book }) m
+    → BookInvariant (record s { grants = grants; table = table; kept = kept; book = book })
 booked_then s grants table kept book b rows owners four places accepted ordered marked handed_out asked m reached is = record {
   room = b.room;
   served = b.served;

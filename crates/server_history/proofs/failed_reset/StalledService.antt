@@ -11,31 +11,31 @@ use Rattle.ata_types.specs.declared.request.Frame.{Frame}
 use Rattle.ata_types.specs.declared.request.Outcome.TheVariants as outcome
 use Rattle.ata_types.specs.declared.request.Reply.{Reply}
 use Rattle.ata_types.specs.declared.request.RequestId.{RequestId}
-use Rattle.agreement.specs.Agrees.{port_at}
-use Rattle.agreement.specs.Driven.{known}
-use Rattle.agreement.specs.Driver.{HasNoSlot, IsBacked, Known}
-use Rattle.block_machine.specs.Events.{AllMay, AnswersService, Moment, Served, Service}
-use Rattle.block_machine.specs.Histories.{IsReached, Happening, Instant, now}
+use Rattle.refinement.specs.Relation.{port_at}
+use Rattle.refinement.specs.Driven.{known}
+use Rattle.refinement.specs.Driver.{HasNoSlot, IsBacked, DriverState}
+use Rattle.block_machine.specs.Events.{AllMay, AnswersService, AbstractState, Served, Service}
+use Rattle.block_machine.specs.Histories.{IsReachable, Happening, JointState, now}
 use Rattle.block_machine.specs.Left.{after}
 use Rattle.block_machine.specs.State.{Machine, Pending}
 use Rattle.block_machine.specs.Steps.{Step, Again, Answer}
 use Rattle.dma_frames.specs.Loan.{Lending}
 use Rattle.dma_frames.specs.Table.{Table}
-use Rattle.host_boot.specs.Taken.{found_of}
-use Rattle.host_boot.specs.declared.Found.{Found}
-use Rattle.host_boot.specs.declared.Found.TheVariants.{Ready, Unready, Unserved}
+use Rattle.host_boot.specs.Taken.{probe_result_of}
+use Rattle.host_boot.specs.declared.ProbeResult.{ProbeResult}
+use Rattle.host_boot.specs.declared.ProbeResult.TheVariants.{Ready, Unready, Unserved}
 use Rattle.identify.specs.declared.DiskInfo.{DiskInfo}
 use Rattle.request_queue.specs.Entries.{Held, IsAccepted, is_of}
-use Rattle.request_queue.specs.Fates.{fate_of, fate_on, Holdings, MeetFates}
+use Rattle.request_queue.specs.Dispositions.{disposition_of, disposition_on, Holdings, AreResolved}
 use Rattle.request_queue.specs.Machine.{IsEntry}
-use Rattle.request_queue.specs.declared.Entry.{Entry}
-use Rattle.request_queue.specs.declared.fate.Fate.{Fate}
-use Rattle.request_queue.specs.declared.fate.Fate.TheVariants.{Ends, GoesAgain}
-use Rattle.request_queue.specs.declared.fate.Prospect.{Prospect}
-use Rattle.request_queue.specs.declared.fate.Prospect.TheVariants.{SameDisk, DiskLost, Dead as NoEnd}
-use Rattle.server_history.specs.Histories.{AddsStalled, Leads}
+use Rattle.request_queue.specs.declared.PendingRequest.{PendingRequest}
+use Rattle.request_queue.specs.declared.disposition.Disposition.{Disposition}
+use Rattle.request_queue.specs.declared.disposition.Disposition.TheVariants.{Complete, Requeue}
+use Rattle.request_queue.specs.declared.disposition.Revalidation.{Revalidation}
+use Rattle.request_queue.specs.declared.disposition.Revalidation.TheVariants.{SameDisk, DiskLost, Dead as NoEnd}
+use Rattle.server_history.specs.Histories.{ExtendsStuck, LeadsToServer}
 use Rattle.block_machine.specs.Ports.{IsServiced, Ports, SamePort}
-use Rattle.driver_history.specs.Histories.{IsUnfitOrForeign, TendsPort, TriesDisk}
+use Rattle.driver_history.specs.Histories.{IsUnfitOrForeign, TendsPort, ProbesDisk}
 use Rattle.driver_history.specs.Trace.{IsServing, LeavesEngine}
 use Rattle.server_history.proofs.state.HistorySteps.{lead_by, ports_same}
 use Rattle.server_history.proofs.healthy_turn.CallPart.{none_last}
@@ -45,21 +45,21 @@ use Rattle.adapter.specs.Device.{Device}
 use Rattle.std.proofs.lemmas.List.{set_past}
 use Rattle.server_history.proofs.recovery_turn.ReplacedPort.{is_listed}
 use Rattle.server_history.specs.Below.{LawsBelow}
-use Rattle.server_history.specs.Fates.{DecidesOn, MayMeet, MeetsInMachine, keeps_fate, loans_of}
-use Rattle.server_history.specs.Mended.{holdings_of, requests_of}
-use Rattle.server_history.specs.Resets.{IsProspectAnew, MaySettle, SettlePorts, SettlesPort, with_holdings}
-use Rattle.server_history.specs.Server.{AreKept, Server, IsMachineOf, is_served, kept_at, ports_of, state_of, HasTrueMark}
-use Rattle.server_history.specs.Stalled.{KeepsBooks, IsStalled}
+use Rattle.server_history.specs.Dispositions.{DecidesOn, MayMeet, MeetsInMachine, keeps_fate, loans_of}
+use Rattle.server_history.specs.ErrorHandling.{holdings_of, requests_of}
+use Rattle.server_history.specs.Resets.{IsResetRevalidation, MaySettle, SettlePorts, SettlesPort, with_holdings}
+use Rattle.server_history.specs.Server.{AreKept, ServerState, IsMachineOf, is_served, kept_at, ports_of, state_of, HasTrueMark}
+use Rattle.server_history.specs.Stalled.{BookInvariant, StuckInvariant}
 use Rattle.server_history.proofs.failed_reset.ServerBook.{kept_other, kept_same, left, may_settle, settles_on}
 use Rattle.server_history.proofs.failed_reset.DeadPortSteps.{IsDeath, death_lawful, deaths_grounded, deaths_unplug_none}
 use Rattle.server_history.proofs.state.AnswerSteps.{IsAnswerOf, answers_belong, answers_issue_none, answers_lawful, answer_told}
 use Rattle.server_history.proofs.recovery_turn.MendedMachine.{deciding_leaves, fates_owners}
 use Rattle.server_history.proofs.any_turn.JoinedParts.{AreToldBelow, told_then}
-use Rattle.server_history.proofs.fates.MoreKeptLoans.{more_kept}
+use Rattle.server_history.proofs.dispositions.MoreKeptLoans.{more_kept}
 use Rattle.server_history.proofs.state.FirstMembers.{nowhere}
-use Rattle.server_history.proofs.fates.FittingFates.{fits_each, kept_dead_alone}
-use Rattle.server_history.proofs.fates.MetFates.{loans_in, meet, nobody, none_parked}
-use Rattle.server_history.proofs.fates.RemainingBook.{WasIn, its_requests, marked_from, was_itself, was_more}
+use Rattle.server_history.proofs.dispositions.FittingFates.{fits_each, kept_dead_alone}
+use Rattle.server_history.proofs.dispositions.MetFates.{loans_in, meet, nobody, none_parked}
+use Rattle.server_history.proofs.dispositions.RemainingBook.{WasIn, its_requests, marked_from, was_itself, was_more}
 use Rattle.server_history.proofs.failed_reset.StalledInstant.{booked_then, either, holds_off, never_ready, never_troubled}
 use Rattle.server_history.proofs.state.PairedLists.{at_left, at_right}
 use Rattle.server_history.proofs.state.RevokedMarks.{tells_of}
@@ -67,25 +67,25 @@ use Rattle.server_history.proofs.state.ListMembers.{in_filter}
 
 -- ---- what a dead port's requests may expect
 
-dead_prospect : (was : Option DiskInfo) (found : Found) (prospect : Prospect) → IsProspectAnew was found prospect → found ≡ Unready Dead → prospect ≡ NoEnd
+dead_prospect : (was : Option DiskInfo) (found : ProbeResult) (revalidation : Revalidation) → IsResetRevalidation was found revalidation → found ≡ Unready Dead → revalidation ≡ NoEnd
 dead_prospect was found SameDisk (before, info, _, is, _) dead = let z : Ready info ≡ Unready Dead = sym is ∙ dead in absurd cc
 dead_prospect was found DiskLost x dead = absurd (x.0 dead)
 dead_prospect was found NoEnd x dead = refl
 
 -- a port that isn't dead has another prospect
-other_prospect : (was : Option DiskInfo) (found : Found) (prospect : Prospect) → IsProspectAnew was found prospect → found ≢ Unready Dead → prospect ≢ NoEnd
-other_prospect was found prospect expects alive is = alive (subst (IsProspectAnew was found) is expects)
+other_prospect : (was : Option DiskInfo) (found : ProbeResult) (revalidation : Revalidation) → IsResetRevalidation was found revalidation → found ≢ Unready Dead → revalidation ≢ NoEnd
+other_prospect was found revalidation expects alive is = alive (subst (IsResetRevalidation was found) is expects)
 
-module _ (laws : LawsBelow) (s : Server) (t : IsStalled s) where
-  abbrev b : KeepsBooks s
+module _ (laws : LawsBelow) (s : ServerState) (t : StuckInvariant s) where
+  abbrev b : BookInvariant s
   b = t.booked
 
   -- the server, with these holdings of all ports
-  abbrev with_all : Table → List (List Lending) → List Held → Server
+  abbrev with_all : Table → List (List Lending) → List Held → ServerState
   with_all table kept book = record s { table = table; kept = kept; book = book }
 
   -- Requests of ports below this number were told by these steps, and so it came to this server, by these replies.
-  record HaveEnded (m : Machine) (n : ℕ) (c : Server) (replies : List Reply) : Type 0 where
+  record HaveEnded (m : Machine) (n : ℕ) (c : ServerState) (replies : List Reply) : Type 0 where
     steps : List Step
     may : AllMay m steps
     stands : IsMachineOf c (after m steps)
@@ -114,19 +114,19 @@ module _ (laws : LawsBelow) (s : Server) (t : IsStalled s) where
   }
 
   -- a request is of a served port
-  served_one : (e : Held) → Contains s.book e → is_served (found_of s.ports e.entry.port.0) ≡ true
-  served_one e here = All-contains (λ (x : Held). is_served (found_of s.ports x.entry.port.0) ≡ true) s.book e b.asked here
+  served_one : (e : Held) → Contains s.book e → is_served (probe_result_of s.ports e.entry.port.0) ≡ true
+  served_one e here = All-contains (λ (x : Held). is_served (probe_result_of s.ports x.entry.port.0) ≡ true) s.book e b.asked here
 
-  module _ (m : Machine) (reached : IsReached m) (n : ℕ) (low : n < 4) (table : Table) (kept : List (List Lending)) (book : List Held) (before its : List Reply) (mid : Server)
+  module _ (m : Machine) (reached : IsReachable m) (n : ℕ) (low : n < 4) (table : Table) (kept : List (List Lending)) (book : List Held) (before its : List Reply) (mid : ServerState)
       (p : HaveEnded m n (with_all table kept book) before) (one : SettlesPort (port_at n) its (with_all table kept book) mid) where
-    abbrev c : Server
+    abbrev c : ServerState
     c = with_all table kept book
 
-    abbrev new : Server
+    abbrev new : ServerState
     new = with_holdings (port_at n) one.now c
 
-    abbrev fate : Entry → Fate
-    fate = fate_of None one.prospect
+    abbrev disposition : PendingRequest → Disposition
+    disposition = disposition_of None one.revalidation
 
     abbrev requests : List Held
     requests = requests_of (port_at n) book
@@ -134,35 +134,35 @@ module _ (laws : LawsBelow) (s : Server) (t : IsStalled s) where
     abbrev w : Machine
     w = after m p.steps
 
-    w_reached : IsReached w
+    w_reached : IsReachable w
     w_reached = laws.basic.reached m p.steps reached p.may
 
-    abbrev k : Known
+    abbrev k : DriverState
     k = known p.stands.uses p.stands.parked s.device
 
     of_its : (e : Held) → Contains requests e → Contains book e × (e.entry.port ≡ port_at n)
     of_its = (its_requests (port_at n) c p.settle.ordered p.settle.accepted).here
 
     -- a port that isn't served has none
-    none_unserved : found_of s.ports n ≡ Unserved → (e : Held) → Contains book e → e.entry.port.0 ≡ n → ⊥
+    none_unserved : probe_result_of s.ports n ≡ Unserved → (e : Held) → Contains book e → e.entry.port.0 ≡ n → ⊥
     none_unserved unserved e here own =
         let x = p.from e here in
-        false≢true (sym (ap is_served unserved) ∙ ap (λ (q : ℕ). is_served (found_of s.ports q)) (sym own ∙ ap (λ (q : Port). q.0) x.port) ∙ served_one x.was x.there)
+        false≢true (sym (ap is_served unserved) ∙ ap (λ (q : ℕ). is_served (probe_result_of s.ports q)) (sym own ∙ ap (λ (q : Port). q.0) x.port) ∙ served_one x.was x.there)
 
-    ends_dead : found_of s.ports n ≡ Unready Dead → (e : Entry) → fate e ≡ Ends outcome.PortDead
-    ends_dead dead e = ap (λ (x : Prospect). fate_on x e) (dead_prospect _ (found_of s.ports n) one.prospect one.expects dead)
+    ends_dead : probe_result_of s.ports n ≡ Unready Dead → (e : PendingRequest) → disposition e ≡ Complete outcome.PortDead
+    ends_dead dead e = ap (λ (x : Revalidation). disposition_on x e) (dead_prospect _ (probe_result_of s.ports n) one.revalidation one.expects dead)
 
-    keeps_issued : found_of s.ports n ≡ Unready Dead → (e : Entry) → keeps_fate (fate e) e ≡ e.issued
-    keeps_issued dead e = ap (λ (f : Fate). keeps_fate f e) (ends_dead dead e)
+    keeps_issued : probe_result_of s.ports n ≡ Unready Dead → (e : PendingRequest) → keeps_fate (disposition e) e ≡ e.issued
+    keeps_issued dead e = ap (λ (f : Disposition). keeps_fate f e) (ends_dead dead e)
 
     -- on a port that isn't served no loan is kept
-    quiet : found_of s.ports n ≢ Unready Dead → (e : Entry) → keeps_fate (fate e) e ≡ false
-    quiet alive e = kept_dead_alone None one.prospect e (other_prospect _ (found_of s.ports n) one.prospect one.expects alive)
+    quiet : probe_result_of s.ports n ≢ Unready Dead → (e : PendingRequest) → keeps_fate (disposition e) e ≡ false
+    quiet alive e = kept_dead_alone None one.revalidation e (other_prospect _ (probe_result_of s.ports n) one.revalidation one.expects alive)
 
-    not_dead : found_of s.ports n ≡ Unserved → found_of s.ports n ≢ Unready Dead
+    not_dead : probe_result_of s.ports n ≡ Unserved → probe_result_of s.ports n ≢ Unready Dead
     not_dead unserved dead = let z : Unserved ≡ Unready Dead = sym unserved ∙ dead in cc
 
-    unserved : (e : Held) → Contains requests e → keeps_fate (fate e.entry) e.entry ≡ false → HasNoSlot p.stands.uses e.entry.id
+    unserved : (e : Held) → Contains requests e → keeps_fate (disposition e.entry) e.entry ≡ false → HasNoSlot p.stands.uses e.entry.id
     unserved e here never = ⊎_elim
         (λ none. absurd (none_unserved none e (of_its e here).0 (ap (λ (q : Port). q.0) (of_its e here).1)))
         (λ dead.
@@ -171,7 +171,7 @@ module _ (laws : LawsBelow) (s : Server) (t : IsStalled s) where
         subst (HasNoSlot p.stands.uses) x.2.id (laws.slots.waiting p.stands.uses w s.device w_reached p.stands.knows.agrees x.0 x.1 waits))
         (either s t.dead n)
 
-    may_meet : MayMeet (port_at n) fate requests (holdings_of (port_at n) c) k w
+    may_meet : MayMeet (port_at n) disposition requests (holdings_of (port_at n) c) k w
     may_meet = record {
       reached = w_reached;
       knows = p.stands.knows;
@@ -185,16 +185,16 @@ module _ (laws : LawsBelow) (s : Server) (t : IsStalled s) where
       unserved = unserved;
     }
 
-    met : MeetsInMachine (port_at n) fate requests its (holdings_of (port_at n) c) one.now k w
-    met = meet laws (port_at n) fate requests (fits_each None one.prospect requests) its (holdings_of (port_at n) c) one.now k w may_meet one.meets
+    met : MeetsInMachine (port_at n) disposition requests its (holdings_of (port_at n) c) one.now k w
+    met = meet laws (port_at n) disposition requests (fits_each None one.revalidation requests) its (holdings_of (port_at n) c) one.now k w may_meet one.meets
 
     abbrev z : Machine
     z = after w met.steps
 
     -- who was parked of a port that isn't dead is decided on
-    none_left : found_of s.ports n ≢ Unready Dead → met.parked n ≡ []
+    none_left : probe_result_of s.ports n ≢ Unready Dead → met.parked n ≡ []
     none_left alive =
-        none_parked (port_at n) fate requests (fits_each None one.prospect requests) its (holdings_of (port_at n) c) one.now k w met (quiet alive)
+        none_parked (port_at n) disposition requests (fits_each None one.revalidation requests) its (holdings_of (port_at n) c) one.now k w met (quiet alive)
         (λ id here. absurd (nowhere id (subst (λ (ids : List RequestId). Contains ids id) (p.stands.unparked n alive) here)))
 
     -- ---- its steps
@@ -204,13 +204,13 @@ module _ (laws : LawsBelow) (s : Server) (t : IsStalled s) where
         (λ free. absurd (let x = met.answered e o here in none_unserved free x.0 (of_its x.0 x.1).0 (ap (λ (q : Port). q.0) (of_its x.0 x.1).1)))
         (λ dead.
         let x = met.answered e o here in
-        let same : Ends outcome.PortDead ≡ Ends o = sym (ends_dead dead x.0.entry) ∙ x.3 in
+        let same : Complete outcome.PortDead ≡ Complete o = sym (ends_dead dead x.0.entry) ∙ x.3 in
         let is : outcome.PortDead ≡ o = cc in
-        (sym is, ap (λ (q : Port). state_of (found_of s.ports q.0)) own ∙ ap state_of dead))
+        (sym is, ap (λ (q : Port). state_of (probe_result_of s.ports q.0)) own ∙ ap state_of dead))
         (either s t.dead n)
     its_death (Again e) here own = absurd (⊎_elim
         (λ free. let x = met.again e here in none_unserved free x.0 (of_its x.0 x.1).0 (ap (λ (q : Port). q.0) (of_its x.0 x.1).1))
-        (λ dead. let x = met.again e here in let same : Ends outcome.PortDead ≡ GoesAgain = sym (ends_dead dead x.0.entry) ∙ x.3 in cc)
+        (λ dead. let x = met.again e here in let same : Complete outcome.PortDead ≡ Requeue = sym (ends_dead dead x.0.entry) ∙ x.3 in cc)
         (either s t.dead n))
     its_death step here own = absurd own
 
@@ -219,7 +219,7 @@ module _ (laws : LawsBelow) (s : Server) (t : IsStalled s) where
 
     -- ---- the machine
 
-    dies : (e : Pending) → Contains met.held e → (e.request.port ≡ port_at n) × (found_of s.ports n ≡ Unready Dead)
+    dies : (e : Pending) → Contains met.held e → (e.request.port ≡ port_at n) × (probe_result_of s.ports n ≡ Unready Dead)
     dies e here =
         let x = met.whose e here in (
           x.2.port ∙ (of_its x.0 x.1).1,
@@ -247,7 +247,7 @@ module _ (laws : LawsBelow) (s : Server) (t : IsStalled s) where
     leaves = deciding_leaves (port_at n) w met.steps met.own
 
     owners_then : one.now.table.owners ≡ table.owners
-    owners_then = fates_owners fate requests its (holdings_of (port_at n) c) one.now one.meets
+    owners_then = fates_owners disposition requests its (holdings_of (port_at n) c) one.now one.meets
 
     stands_then : IsMachineOf new z
     stands_then = record {
@@ -255,7 +255,7 @@ module _ (laws : LawsBelow) (s : Server) (t : IsStalled s) where
       used = p.stands.used;
       parked = met.parked;
       unparked = λ q alive. ⊎_elim
-          (λ (same : q ≡ n). ap met.parked same ∙ none_left (λ dead. alive (ap (found_of s.ports) same ∙ dead)))
+          (λ (same : q ≡ n). ap met.parked same ∙ none_left (λ dead. alive (ap (probe_result_of s.ports) same ∙ dead)))
           (λ (other : q ≢ n). met.others q other ∙ p.stands.unparked q alive)
           (cases_eq q n);
       knows = met.knows;
@@ -293,7 +293,7 @@ module _ (laws : LawsBelow) (s : Server) (t : IsStalled s) where
         (cases_eq q.0 n)
 
     has_ended : HaveEnded m (n + 1) mid (before ++ its)
-    has_ended = subst (λ (x : Server). HaveEnded m (n + 1) x (before ++ its)) (sym one.server) (record {
+    has_ended = subst (λ (x : ServerState). HaveEnded m (n + 1) x (before ++ its)) (sym one.server) (record {
       steps = met.steps ++ p.steps;
       may = laws.basic.may m met.steps p.steps p.may met.may;
       stands = subst (IsMachineOf new) (sym (laws.basic.joined m met.steps p.steps)) stands_then;
@@ -308,9 +308,9 @@ module _ (laws : LawsBelow) (s : Server) (t : IsStalled s) where
     })
 
   -- a port beyond the four has no request, and no loan is kept of it: it ends as it is
-  module _ (m : Machine) (n : ℕ) (high : 4 ≤ n) (table : Table) (kept : List (List Lending)) (book : List Held) (before its : List Reply) (mid : Server)
+  module _ (m : Machine) (n : ℕ) (high : 4 ≤ n) (table : Table) (kept : List (List Lending)) (book : List Held) (before its : List Reply) (mid : ServerState)
       (p : HaveEnded m n (with_all table kept book) before) (one : SettlesPort (port_at n) its (with_all table kept book) mid) where
-    abbrev here : Server
+    abbrev here : ServerState
     here = with_all table kept book
 
     none_beyond : (e : Held) → Contains book e → e.entry.port.0 ≢ n
@@ -321,7 +321,7 @@ module _ (laws : LawsBelow) (s : Server) (t : IsStalled s) where
         omega (arith, high, low, same, own)
 
     meets_none : (its ≡ []) × (one.now ≡ holdings_of (port_at n) here)
-    meets_none = subst (λ (list : List Held). MeetFates (fate_of None one.prospect) list its (holdings_of (port_at n) here) one.now)
+    meets_none = subst (λ (list : List Held). AreResolved (disposition_of None one.revalidation) list its (holdings_of (port_at n) here) one.now)
         (nobody (requests_of (port_at n) book) (λ e there.
         let x = (its_requests (port_at n) here p.settle.ordered p.settle.accepted).here e there in
         none_beyond e x.0 (ap (λ (q : Port). q.0) x.1)))
@@ -336,7 +336,7 @@ module _ (laws : LawsBelow) (s : Server) (t : IsStalled s) where
     beyond_ended =
         subst (λ (r : List Reply). HaveEnded m (n + 1) mid (before ++ r)) (sym meets_none.0)
         (subst (HaveEnded m (n + 1) mid) (sym (append-nil before))
-        (subst (λ (x : Server). HaveEnded m (n + 1) x before) (sym same_then) (record {
+        (subst (λ (x : ServerState). HaveEnded m (n + 1) x before) (sym same_then) (record {
           steps = p.steps;
           may = p.may;
           stands = p.stands;
@@ -361,21 +361,21 @@ module _ (laws : LawsBelow) (s : Server) (t : IsStalled s) where
 
   -- ---- one after another
 
-  next : (m : Machine) → IsReached m → (n : ℕ) (c mid : Server) (before its : List Reply) → HaveEnded m n c before → SettlesPort (port_at n) its c mid → HaveEnded m (n + 1) mid (before ++ its)
+  next : (m : Machine) → IsReachable m → (n : ℕ) (c mid : ServerState) (before its : List Reply) → HaveEnded m n c before → SettlesPort (port_at n) its c mid → HaveEnded m (n + 1) mid (before ++ its)
   next m reached n c mid before its p one =
-      let from_all : HaveEnded m n (with_all c.table c.kept c.book) before = subst (λ (x : Server). HaveEnded m n x before) p.settings p in
-      let settles : SettlesPort (port_at n) its (with_all c.table c.kept c.book) mid = subst (λ (x : Server). SettlesPort (port_at n) its x mid) p.settings one in
+      let from_all : HaveEnded m n (with_all c.table c.kept c.book) before = subst (λ (x : ServerState). HaveEnded m n x before) p.settings p in
+      let settles : SettlesPort (port_at n) its (with_all c.table c.kept c.book) mid = subst (λ (x : ServerState). SettlesPort (port_at n) its x mid) p.settings one in
       ⊎_elim
       (λ (low : n < 4). has_ended m reached n low c.table c.kept c.book before its mid from_all settles)
       (λ (high : 4 ≤ n). beyond_ended m n high c.table c.kept c.book before its mid from_all settles)
       (cases_lt n 4)
 
-  go : (m : Machine) → IsReached m → (rest : List Found) (n : ℕ) (c new : Server) (before replies : List Reply) → SettlePorts n rest replies c new → HaveEnded m n c before
+  go : (m : Machine) → IsReachable m → (rest : List ProbeResult) (n : ℕ) (c new : ServerState) (before replies : List Reply) → SettlePorts n rest replies c new → HaveEnded m n c before
       → HaveEnded m (n + length rest) new (before ++ replies)
   go m reached [] n c new before replies (none, same) p =
       subst (λ (r : List Reply). HaveEnded m (n + 0) new (before ++ r)) (sym none)
       (subst (HaveEnded m (n + 0) new) (sym (append-nil before))
-      (subst (λ (x : Server). HaveEnded m (n + 0) x before) (sym same) (let is : n ≡ n + 0 = omega arith in subst (λ (i : ℕ). HaveEnded m i c before) is p)))
+      (subst (λ (x : ServerState). HaveEnded m (n + 0) x before) (sym same) (let is : n ≡ n + 0 = omega arith in subst (λ (i : ℕ). HaveEnded m i c before) is p)))
   go m reached (found ∷ rest) n c new before replies (mid, its, later, split, one, more) p =
       subst (λ (r : List Reply). HaveEnded m (n + length (found ∷ rest)) new (before ++ r)) (sym split)
       (subst (HaveEnded m (n + length (found ∷ rest)) new) (append_assoc before its later)
@@ -385,12 +385,12 @@ module _ (laws : LawsBelow) (s : Server) (t : IsStalled s) where
 
   -- ---- the whole
 
-  module _ (new : Server) (replies : List Reply) (settles : SettlePorts 0 s.ports replies s new) where
-    ended : (m : Machine) → IsReached m → IsMachineOf s m → HaveEnded m (length s.ports) new replies
+  module _ (new : ServerState) (replies : List Reply) (settles : SettlePorts 0 s.ports replies s new) where
+    ended : (m : Machine) → IsReachable m → IsMachineOf s m → HaveEnded m (length s.ports) new replies
     ended m reached is = let none : 0 + length s.ports ≡ length s.ports = omega arith in subst (λ (i : ℕ). HaveEnded m i new replies) none (go m reached s.ports 0 s new [] replies settles (begin m is))
 
     -- the server then
-    abbrev n : Server
+    abbrev n : ServerState
     n = with_all new.table new.kept new.book
 
     same_server : new ≡ n
@@ -400,36 +400,36 @@ module _ (laws : LawsBelow) (s : Server) (t : IsStalled s) where
     nobody_left : (m : Machine) → HaveEnded m (length s.ports) new replies → (e : Held) → Contains new.book e → ⊥
     nobody_left m x e here =
         let w = x.from e here in
-        x.emptied e.entry.port (is_listed s.ports e.entry.port.0 (ap (λ (q : Port). is_served (found_of s.ports q.0)) w.port ∙ served_one w.was w.there)) e here refl
+        x.emptied e.entry.port (is_listed s.ports e.entry.port.0 (ap (λ (q : Port). is_served (probe_result_of s.ports q.0)) w.port ∙ served_one w.was w.there)) e here refl
 
     nothing_left : (P : Held → Type 0) → All P new.book
     nothing_left P = All-weaker (Contains new.book) P (λ e here. absurd (nobody_left b.machine (ended b.machine b.reached b.stands) e here)) new.book (All-contains_itself new.book)
 
-    stalled_then : IsStalled n
+    stalled_then : StuckInvariant n
     stalled_then =
         let x = ended b.machine b.reached b.stands in
         record {
           booked = booked_then s s.grants new.table new.kept new.book b b.rows x.owners x.settle.four_kept x.settle.places (nothing_left (IsAccepted new.table)) x.settle.ordered (nothing_left (HasTrueMark s.grants))
-              (nothing_left (λ e. e.entry.id.0 ≤ s.last)) (nothing_left (λ e. is_served (found_of s.ports e.entry.port.0) ≡ true)) (after b.machine x.steps) (laws.basic.reached b.machine x.steps b.reached x.may)
-              (subst (λ (y : Server). IsMachineOf y (after b.machine x.steps)) same_server x.stands);
+              (nothing_left (λ e. e.entry.id.0 ≤ s.last)) (nothing_left (λ e. is_served (probe_result_of s.ports e.entry.port.0) ≡ true)) (after b.machine x.steps) (laws.basic.reached b.machine x.steps b.reached x.may)
+              (subst (λ (y : ServerState). IsMachineOf y (after b.machine x.steps)) same_server x.stands);
           off = t.off;
           dead = t.dead;
         }
 
     -- ---- the event
 
-    module _ (first : Instant Device) (past : List (Happening Device DeviceStep)) (leads : Leads first past s) where
-      abbrev old : Moment
+    module _ (first : JointState Device) (past : List (Happening Device DeviceStep)) (leads : LeadsToServer first past s) where
+      abbrev old : AbstractState
       old = (now first past).moment
 
-      reached_old : IsReached old.machine
+      reached_old : IsReachable old.machine
       reached_old = laws.basic.history_reached s.wanted first past leads.history
 
       x : HaveEnded old.machine (length s.ports) new replies
       x = ended old.machine reached_old leads.stands.machine
 
       stands : IsMachineOf n (after old.machine x.steps)
-      stands = subst (λ (y : Server). IsMachineOf y (after old.machine x.steps)) same_server x.stands
+      stands = subst (λ (y : ServerState). IsMachineOf y (after old.machine x.steps)) same_server x.stands
 
       same_ports : (port : Port) → SamePort old.ports (ports_of s) port
       same_ports = ports_same old.ports (ports_of s) leads.stands.ports_are
@@ -467,8 +467,8 @@ module _ (laws : LawsBelow) (s : Server) (t : IsStalled s) where
       }
 
       -- what isn't dead isn't served, so that no disk is tried
-      tries : (port : Port) → old.ports.served port ≡ true → TriesDisk [] (record { device = s.device; moment = old }) (ports_of s) s.device port
-      tries port its = record {
+      probes : (port : Port) → old.ports.served port ≡ true → ProbesDisk [] (record { device = s.device; moment = old }) (ports_of s) s.device port
+      probes port its = record {
         shown = λ absent. absurd (let y : Dead ≡ Absent = sym (is_dead port its) ∙ absent in cc);
         absent = λ absent. absurd (let y : Dead ≡ Absent = sym (is_dead port its) ∙ absent in cc);
         missing = λ bad. absurd (not_bad port its bad);
@@ -482,7 +482,7 @@ module _ (laws : LawsBelow) (s : Server) (t : IsStalled s) where
           not_bad port its (inl foreign) = let y : Dead ≡ Foreign = sym (is_dead port its) ∙ foreign in cc
           not_bad port its (inr (cause, unfit)) = let y : Dead ≡ Unfit cause = sym (is_dead port its) ∙ unfit in cc
 
-      event : (h : Happening Device DeviceStep) × (h.event.ask ≡ Service) × (h.event.said ≡ Served replies) × Leads first (h ∷ past) n
+      event : (h : Happening Device DeviceStep) × (h.event.ask ≡ Service) × (h.event.said ≡ Served replies) × LeadsToServer first (h ∷ past) n
       event = lead_by laws first past s n Service (Served replies) x.steps refl refl leads (holds_off n stalled_then.booked t.dead t.off)
           x.may (answers_belong (IsDeath (ports_of s)) Service (ports_of s) (λ e o death. tt) x.steps x.deaths) (none_last x.steps (λ id. answers_issue_none (IsDeath (ports_of s)) id x.steps x.deaths))
           (answers_lawful (IsDeath (ports_of s)) old no_evidence (ports_of s) (death_lawful (ports_of s) old no_evidence) x.steps x.deaths)
@@ -495,14 +495,14 @@ module _ (laws : LawsBelow) (s : Server) (t : IsStalled s) where
           (λ port. record {
             finds = λ ready. absurd (was_never port ready);
             faults = λ alone. absurd (was_never port alone.ready);
-            tries = λ its none. tries port its;
+            probes = λ its none. probes port its;
             boots = ((λ ready. absurd (was_never port ready)), inl (same_ports port));
-            trouble = never_troubled s t.dead (told_by s.device old.ports) (record { device = s.device; moment = old }) (ports_of s) s.device port leads.stands.ports_are (never_ready s t.dead port.0);
+            port_error = never_troubled s t.dead (told_by s.device old.ports) (record { device = s.device; moment = old }) (ports_of s) s.device port leads.stands.ports_are (never_ready s t.dead port.0);
             well = λ i. absurd (uninterrupted s.device old.ports port i);
             heeds = λ ready. absurd (was_never port ready);
           })
           x.backed
           stands
 
-    pub stalled_service : AddsStalled s new Service (Served replies)
-    stalled_service = subst (λ (y : Server). AddsStalled s y Service (Served replies)) (sym same_server) (record { stalled = stalled_then; adds = event })
+    pub stalled_service : ExtendsStuck s new Service (Served replies)
+    stalled_service = subst (λ (y : ServerState). ExtendsStuck s y Service (Served replies)) (sym same_server) (record { stalled = stalled_then; adds = event })

@@ -12,29 +12,29 @@ use Rattle.adapter.specs.Access.Access.{Loading, Reading, Storing, Writing}
 use Rattle.adapter.specs.Device.{Device}
 use Rattle.adapter.specs.Rules.{IsOn}
 use Rattle.adapter.specs.declared.access.DeviceStep.{DeviceStep}
-use Rattle.agreement.specs.Driver.{IsBacked}
-use Rattle.agreement.proofs.driver.Stretches.{followed_adds}
+use Rattle.refinement.specs.Driver.{IsBacked}
+use Rattle.refinement.proofs.driver.Stretches.{followed_adds}
 use Rattle.block_machine.specs.Events.{AllDevices, AllMay, Reset, WasReset}
-use Rattle.block_machine.specs.Histories.{Happening, Instant, IsReached, now}
+use Rattle.block_machine.specs.Histories.{Happening, JointState, IsReachable, now}
 use Rattle.block_machine.specs.Left.{after}
-use Rattle.block_machine.specs.Ports.{AreFit, Evidence, Fault, IsStuck, Ports, SameDisk}
+use Rattle.block_machine.specs.Ports.{AreFit, Evidence, RequestFault, IsStuck, Ports, SameDisk}
 use Rattle.block_machine.specs.State.{Machine}
 use Rattle.block_machine.specs.Steps.{Step}
 use Rattle.driver_history.specs.Evidence.{IsEvidencedOf}
-use Rattle.driver_history.specs.Histories.{Begins, Ties, TiesPort}
+use Rattle.driver_history.specs.Histories.{Begins, CallCorresponds, PortCorresponds}
 use Rattle.driver_history.specs.Trace.{LeavesEngine}
 use Rattle.driver_history.proofs.Instants.{history_fit, ready_low}
 use Rattle.host_boot.specs.Resets.{IsOfReset}
-use Rattle.host_boot.specs.Taken.{found_of}
-use Rattle.host_boot.specs.declared.Found.{Found}
-use Rattle.host_boot.specs.declared.Found.TheVariants.{Ready, Unready, Unserved}
+use Rattle.host_boot.specs.Taken.{probe_result_of}
+use Rattle.host_boot.specs.declared.ProbeResult.{ProbeResult}
+use Rattle.host_boot.specs.declared.ProbeResult.TheVariants.{Ready, Unready, Unserved}
 use Rattle.identify.specs.declared.DiskInfo.{DiskInfo}
 use Rattle.std.specs.Prelude.{Option}
 use Rattle.request_queue.specs.Entries.{Held}
 use Rattle.server_history.specs.Below.{LawsBelow}
-use Rattle.server_history.specs.Histories.{AddsStalled, Leads}
-use Rattle.server_history.specs.Server.{Server, IsMachineOf, disk_in, disk_of, is_served, ports_of, remembered_at, sectors_of, serial_of, state_of, use_of}
-use Rattle.server_history.specs.Stalled.{AreDead, GetsStuck, KeepsBooks, IsStalled, stuck_found}
+use Rattle.server_history.specs.Histories.{ExtendsStuck, LeadsToServer}
+use Rattle.server_history.specs.Server.{ServerState, IsMachineOf, disk_in, last_disk_of, is_served, ports_of, remembered_at, last_sectors_of, last_serial_of, state_of, use_of}
+use Rattle.server_history.specs.Stalled.{AreDead, ResetGetsStuck, BookInvariant, StuckInvariant, stuck_found}
 use Rattle.server_history.proofs.state.DeviceSteps.{devices_belong, devices_last, devices_lawful}
 use Rattle.server_history.proofs.state.HistorySteps.{happening_with, lead_with, machine_on, with_device}
 use Rattle.server_history.proofs.state.FirstMembers.{nowhere}
@@ -64,50 +64,50 @@ leaves_engine port (Storing at bytes) its = absurd its
 -- ---- ports that got stuck
 
 -- it is served as it was
-stuck_served : (f : Found) → is_served (stuck_found f) ≡ is_served f
+stuck_served : (f : ProbeResult) → is_served (stuck_found f) ≡ is_served f
 stuck_served Unserved = refl
 stuck_served (Ready info) = refl
 stuck_served (Unready state) = refl
 
-stuck_dead : (f : Found) → is_served (stuck_found f) ≡ true → stuck_found f ≡ Unready Dead
+stuck_dead : (f : ProbeResult) → is_served (stuck_found f) ≡ true → stuck_found f ≡ Unready Dead
 stuck_dead Unserved its = absurd (false≢true its)
 stuck_dead (Ready info) its = refl
 stuck_dead (Unready state) its = refl
 
-stuck_unserved : (f : Found) → stuck_found f ≡ Unserved → f ≡ Unserved
+stuck_unserved : (f : ProbeResult) → stuck_found f ≡ Unserved → f ≡ Unserved
 stuck_unserved Unserved is = refl
 stuck_unserved (Ready info) is = let z : Unready Dead ≡ Unserved = is in absurd cc
 stuck_unserved (Unready state) is = let z : Unready Dead ≡ Unserved = is in absurd cc
 
 -- of it nothing but the last disk is known
-stuck_disk : (f : Found) (last : Option DiskInfo) → disk_of (stuck_found f) last ≡ last
+stuck_disk : (f : ProbeResult) (last : Option DiskInfo) → last_disk_of (stuck_found f) last ≡ last
 stuck_disk Unserved last = refl
 stuck_disk (Ready info) last = refl
 stuck_disk (Unready state) last = refl
 
-module _ (laws : LawsBelow) (s new : Server) (b : KeepsBooks s) (g : GetsStuck s new) where
+module _ (laws : LawsBelow) (s new : ServerState) (b : BookInvariant s) (g : ResetGetsStuck s new) where
   -- the server then
-  abbrev n : Server
+  abbrev n : ServerState
   n = record s { device = new.device; ports = new.ports; remembered = new.remembered; modes = new.modes; slots = new.slots }
 
   abbrev its_accesses : List Access
   its_accesses = g.stays.followed.driven.accesses
 
   dead : AreDead new.ports
-  dead port its = g.found port ∙ stuck_dead (found_of s.ports port) (sym (ap is_served (g.found port)) ∙ its)
+  dead port its = g.found port ∙ stuck_dead (probe_result_of s.ports port) (sym (ap is_served (g.found port)) ∙ its)
 
-  served_same : (port : ℕ) → is_served (found_of new.ports port) ≡ is_served (found_of s.ports port)
-  served_same port = ap is_served (g.found port) ∙ stuck_served (found_of s.ports port)
+  served_same : (port : ℕ) → is_served (probe_result_of new.ports port) ≡ is_served (probe_result_of s.ports port)
+  served_same port = ap is_served (g.found port) ∙ stuck_served (probe_result_of s.ports port)
 
-  was_unserved : (port : ℕ) → found_of new.ports port ≡ Unserved → found_of s.ports port ≡ Unserved
-  was_unserved port is = stuck_unserved (found_of s.ports port) (sym (g.found port) ∙ is)
+  was_unserved : (port : ℕ) → probe_result_of new.ports port ≡ Unserved → probe_result_of s.ports port ≡ Unserved
+  was_unserved port is = stuck_unserved (probe_result_of s.ports port) (sym (g.found port) ∙ is)
 
-  alive_unserved : (port : ℕ) → found_of new.ports port ≢ Unready Dead → found_of s.ports port ≡ Unserved
-  alive_unserved port alive = ⊎_elim (was_unserved port) (λ is. absurd (alive is)) (dead_if_served (found_of new.ports port) (dead port))
+  alive_unserved : (port : ℕ) → probe_result_of new.ports port ≢ Unready Dead → probe_result_of s.ports port ≡ Unserved
+  alive_unserved port alive = ⊎_elim (was_unserved port) (λ is. absurd (alive is)) (dead_if_served (probe_result_of new.ports port) (dead port))
 
   disk_same : (port : Port) → disk_in n port ≡ disk_in s port
   disk_same port =
-      ap (λ (f : Found). disk_of f (remembered_at new.remembered port.0)) (g.found port.0) ∙ stuck_disk (found_of s.ports port.0) (remembered_at new.remembered port.0) ∙ g.remembered port.0
+      ap (λ (f : ProbeResult). last_disk_of f (remembered_at new.remembered port.0)) (g.found port.0) ∙ stuck_disk (probe_result_of s.ports port.0) (remembered_at new.remembered port.0) ∙ g.remembered port.0
 
   off : IsOn new.device → ⊥
   off on = false≢true (sym on.no_reset ∙ g.stays.pending)
@@ -136,7 +136,7 @@ module _ (laws : LawsBelow) (s new : Server) (b : KeepsBooks s) (g : GetsStuck s
     next = is.next;
   }
     where
-      unserved_alive : (port : ℕ) → found_of s.ports port ≡ Unserved → found_of s.ports port ≢ Unready Dead
+      unserved_alive : (port : ℕ) → probe_result_of s.ports port ≡ Unserved → probe_result_of s.ports port ≢ Unready Dead
       unserved_alive port unserved is_dead = let z : Unserved ≡ Unready Dead = sym unserved ∙ is_dead in cc
 
   -- What the reset makes of a machine that stands for the server: the device's steps lead to one that stands for the server then.
@@ -147,12 +147,12 @@ module _ (laws : LawsBelow) (s new : Server) (b : KeepsBooks s) (g : GetsStuck s
     backed : IsBacked s.device new.device m steps
     with_device_alone : IsMachineOf (record s { device = new.device }) (after m steps)
 
-  follows : (m : Machine) → IsReached m → IsMachineOf s m → Follows m
+  follows : (m : Machine) → IsReachable m → IsMachineOf s m → Follows m
   follows m reached is =
       let x = (followed_adds g.stays.followed is.uses is.parked tt).adds m reached is.knows in
       record { steps = x.0; only = x.3.only; may = x.1; backed = x.3.backed; with_device_alone = machine_on laws s new.device m x.0 is x.3.only x.2 }
 
-  booked_then : (m : Machine) → IsReached m → IsMachineOf (record s { device = new.device }) m → KeepsBooks n
+  booked_then : (m : Machine) → IsReachable m → IsMachineOf (record s { device = new.device }) m → BookInvariant n
   booked_then m reached is =
       let on = booked_on s new.device b g.stays.same
       (λ port idle. accesses_idle laws its_accesses (All-weaker IsOfReset LeavesPorts leaves_ports its_accesses g.stays.followed.driven.only) s.device new.device g.stays.followed.driven.all port idle)
@@ -174,14 +174,14 @@ module _ (laws : LawsBelow) (s new : Server) (b : KeepsBooks s) (g : GetsStuck s
         ordered = on.ordered;
         marked = on.marked;
         handed_out = on.handed_out;
-        asked = All-weaker (λ (e : Held). is_served (found_of s.ports e.entry.port.0) ≡ true) (λ (e : Held). is_served (found_of new.ports e.entry.port.0) ≡ true)
+        asked = All-weaker (λ (e : Held). is_served (probe_result_of s.ports e.entry.port.0) ≡ true) (λ (e : Held). is_served (probe_result_of new.ports e.entry.port.0) ≡ true)
             (λ e its. served_same e.entry.port.0 ∙ its) s.book b.asked;
         machine = m;
         reached = reached;
         stands = stands_then m is;
       }
 
-  stalled : IsStalled n
+  stalled : StuckInvariant n
   stalled =
       let f = follows b.machine b.reached b.stands in
       record { booked = booked_then (after b.machine f.steps) (laws.basic.reached b.machine f.steps b.reached f.may) f.with_device_alone; off = off; dead = dead }
@@ -189,36 +189,36 @@ module _ (laws : LawsBelow) (s new : Server) (b : KeepsBooks s) (g : GetsStuck s
   -- ---- the event
 
   abbrev its_served : Port → Bool
-  its_served port = is_served (found_of s.ports port.0)
+  its_served port = is_served (probe_result_of s.ports port.0)
 
   -- each served port got stuck
   abbrev stuck_told : Ports → Evidence
   stuck_told ports = record (told_by s.device ports) { stuck = chosen its_served four }
 
-  stuck_named : (port : Port) → is_served (found_of s.ports port.0) ≡ true → Contains (chosen its_served four) port
+  stuck_named : (port : Port) → is_served (probe_result_of s.ports port.0) ≡ true → Contains (chosen its_served four) port
   stuck_named port its = is_chosen its_served four port (in_four port (b.few port.0 its)) its
 
-  module _ (first : Instant Device) (past : List (Happening Device DeviceStep)) (leads : Leads first past s) where
-    abbrev old : Instant Device
+  module _ (first : JointState Device) (past : List (Happening Device DeviceStep)) (leads : LeadsToServer first past s) where
+    abbrev old : JointState Device
     old = now first past
 
-    abbrev began : Instant Device
+    abbrev began : JointState Device
     began = with_device s.device old
 
     ports_are : old.moment.ports ≡ ports_of s
     ports_are = leads.stands.ports_are
 
     fit : AreFit old.moment.ports
-    fit = history_fit (Begins s.wanted) (Ties s.wanted) first past leads.history
+    fit = history_fit (Begins s.wanted) (CallCorresponds s.wanted) first past leads.history
 
     evidence : Evidence
     evidence = stuck_told old.moment.ports
 
-    was_served : (port : Port) → old.moment.ports.served port ≡ true → is_served (found_of s.ports port.0) ≡ true
+    was_served : (port : Port) → old.moment.ports.served port ≡ true → is_served (probe_result_of s.ports port.0) ≡ true
     was_served port its = ap (λ (p : Ports). p.served port) (sym ports_are) ∙ its
 
     same_disk : (port : Port) → SameDisk old.moment.ports (ports_of n) port
-    same_disk port = subst (λ (p : Ports). SameDisk p (ports_of n) port) (sym ports_are) (ap serial_of (disk_same port), ap sectors_of (disk_same port))
+    same_disk port = subst (λ (p : Ports). SameDisk p (ports_of n) port) (sym ports_are) (ap last_serial_of (disk_same port), ap last_sectors_of (disk_same port))
 
     gets_stuck : (port : Port) → IsStuck old.moment.ports evidence (ports_of n) port
     unfolding evidence
@@ -246,18 +246,18 @@ module _ (laws : LawsBelow) (s new : Server) (b : KeepsBooks s) (g : GetsStuck s
           stuck_only = λ here. inr (tt, ap (λ (p : Ports). p.served port) ports_are ∙ chosen_is its_served four port here);
         }
 
-    no_fault : (told : Fault) → Contains evidence.faults told → ⊥
+    no_fault : (told : RequestFault) → Contains evidence.faults told → ⊥
     unfolding evidence
     no_fault told here = nowhere told here
 
-    part : (steps : List Step) (port : Port) → TiesPort began (happening_with evidence new.device Reset (WasReset None) steps (ports_of n)) its_accesses port
+    part : (steps : List Step) (port : Port) → PortCorresponds began (happening_with evidence new.device Reset (WasReset None) steps (ports_of n)) its_accesses port
     unfolding evidence
     part steps port = record {
       finds = tt;
       faults = tt;
-      tries = tt;
+      probes = tt;
       boots = tt;
-      trouble = record {
+      port_error = record {
         errors = λ ready shown. inl (inr (stuck_named port (was_served port (ready_low old port fit ready).0)));
         changes = λ tends shown. inl (inr (stuck_named port (was_served port tends.0)));
         fault = λ ready. absurd (never_ready n dead port.0 ready);
@@ -268,7 +268,7 @@ module _ (laws : LawsBelow) (s new : Server) (b : KeepsBooks s) (g : GetsStuck s
       heeds = tt;
     }
 
-    event : (h : Happening Device DeviceStep) × (h.event.ask ≡ Reset) × (h.event.said ≡ WasReset None) × Leads first (h ∷ past) n
+    event : (h : Happening Device DeviceStep) × (h.event.ask ≡ Reset) × (h.event.said ≡ WasReset None) × LeadsToServer first (h ∷ past) n
     event =
         let f = follows old.moment.machine (laws.basic.history_reached s.wanted first past leads.history) leads.stands.machine in
         lead_with laws first past s n Reset (WasReset None) evidence f.steps refl leads (holds_off n stalled.booked dead off) (dead_fit n dead stalled.booked.few)
@@ -284,5 +284,5 @@ module _ (laws : LawsBelow) (s new : Server) (b : KeepsBooks s) (g : GetsStuck s
         f.backed
         (stands_then (after old.moment.machine f.steps) f.with_device_alone)
 
-  pub stuck_adds : AddsStalled s new Reset (WasReset None)
-  stuck_adds = subst (λ (x : Server). AddsStalled s x Reset (WasReset None)) (sym g.server) (record { stalled = stalled; adds = event })
+  pub stuck_adds : ExtendsStuck s new Reset (WasReset None)
+  stuck_adds = subst (λ (x : ServerState). ExtendsStuck s x Reset (WasReset None)) (sym g.server) (record { stalled = stalled; adds = event })

@@ -7,37 +7,37 @@ use Rattle.ata_types.specs.declared.PortState.TheVariants.{Ready}
 use Rattle.ata_types.specs.declared.request.Outcome.TheVariants.{Ok}
 use Rattle.ata_types.specs.declared.request.Reply.{Reply}
 use Rattle.adapter.specs.Device.{Device}
-use Rattle.agreement.specs.Driver.{IsBacked}
+use Rattle.refinement.specs.Driver.{IsBacked}
 use Rattle.block_machine.specs.Due.{IsDue, NoneDue, of_port}
-use Rattle.block_machine.specs.declared.due.Mode.{Mode}
+use Rattle.block_machine.specs.declared.due.QueueMode.{QueueMode}
 use Rattle.block_machine.specs.Events.{AllMay}
-use Rattle.block_machine.specs.Histories.{IsReached}
+use Rattle.block_machine.specs.Histories.{IsReachable}
 use Rattle.block_machine.specs.Left.{after}
 use Rattle.block_machine.specs.State.{Machine, Pending}
 use Rattle.block_machine.specs.Steps.{Step, Answer}
 use Rattle.server_history.proofs.state.ListMembers.{into_map}
-use Rattle.host_boot.specs.Taken.{found_of}
-use Rattle.host_boot.specs.declared.Found.{Found}
-use Rattle.request_queue.specs.Entries.{Held, IsInOrder, asks, asks_of, due_ids}
+use Rattle.host_boot.specs.Taken.{probe_result_of}
+use Rattle.host_boot.specs.declared.ProbeResult.{ProbeResult}
+use Rattle.request_queue.specs.Entries.{Held, BookIsInOrder, asks, asks_of, due_ids}
 use Rattle.server_history.specs.Below.{LawsBelow}
 use Rattle.server_history.specs.Served.{AnswersDone, AnswersEach, AnswersOne, AnswersTurn, HasEnded, HasTurn, SameSettings, answers_in}
-use Rattle.server_history.specs.Server.{Server, IsKept, IsMachineOf, IsSettled, mode_in, no_slots, slots_at, state_of}
+use Rattle.server_history.specs.Server.{ServerState, InCallInvariant, IsMachineOf, SettledInvariant, mode_in, no_slots, slots_at, state_of}
 use Rattle.server_history.proofs.healthy_turn.OneAnswer.{IsAnswer, answer_kept, answer_one}
 use Rattle.server_history.proofs.plain_calls.IssueRounds.{each_apart, each_settings, each_slots, settled}
 use Rattle.dma_frames.specs.Table.{Table}
 use Rattle.server_history.proofs.state.PortSlots.{AreOver}
 
 -- an answer leaves the requests of other ports
-answer_apart : LawsBelow → (port : Port) (e : Held) (old new : Server) → IsInOrder old.book → AnswersOne port e old new → (other : Port) → other ≢ port → of_port other (asks_of new.book) ≡ of_port other (asks_of old.book)
+answer_apart : LawsBelow → (port : Port) (e : Held) (old new : ServerState) → BookIsInOrder old.book → AnswersOne port e old new → (other : Port) → other ≢ port → of_port other (asks_of new.book) ≡ of_port other (asks_of old.book)
 answer_apart laws port e old new order one other ne =
-    ap (of_port other) (ap (λ (n : Server). asks_of n.book) one.server ∙ laws.asks_answered old.book e.entry.id)
+    ap (of_port other) (ap (λ (n : ServerState). asks_of n.book) one.server ∙ laws.asks_answered old.book e.entry.id)
     ∙ laws.answered_apart other (asks_of old.book) (asks e.entry) (laws.asked old.book order) (into_map (λ (y : Held). asks y.entry) old.book e one.here) (λ same. ne (sym same ∙ one.port_is))
 
-answer_order : LawsBelow → (port : Port) (e : Held) (old new : Server) → IsInOrder old.book → AnswersOne port e old new → IsInOrder new.book
-answer_order laws port e old new order one = subst (λ (n : Server). IsInOrder n.book) (sym one.server) (laws.fewer old.book e.entry.id order)
+answer_order : LawsBelow → (port : Port) (e : Held) (old new : ServerState) → BookIsInOrder old.book → AnswersOne port e old new → BookIsInOrder new.book
+answer_order laws port e old new order one = subst (λ (n : ServerState). BookIsInOrder n.book) (sym one.server) (laws.fewer old.book e.entry.id order)
 
 -- These requests are answered by a machine's steps, after which the machine stands for the new server.
-pub record AreAnswered (port : Port) (requests : List Held) (old new : Server) (m : Machine) : Type 0 where
+pub record AreAnswered (port : Port) (requests : List Held) (old new : ServerState) (m : Machine) : Type 0 where
   pub ended : List Pending
   pub each : AllZip (HasEnded port) requests ended
   pub may : AllMay m (answers_in ended)
@@ -45,48 +45,48 @@ pub record AreAnswered (port : Port) (requests : List Held) (old new : Server) (
   pub stands : IsMachineOf new (after m (answers_in ended))
 
 module _ (laws : LawsBelow) (port : Port) (done : ℕ) where
-  pub answers_apart : (requests : List Held) (old new : Server) → IsInOrder old.book → AnswersEach port done requests old new → (other : Port) → other ≢ port
+  pub answers_apart : (requests : List Held) (old new : ServerState) → BookIsInOrder old.book → AnswersEach port done requests old new → (other : Port) → other ≢ port
       → of_port other (asks_of new.book) ≡ of_port other (asks_of old.book)
-  answers_apart [] old new order none other ne = ap (λ (n : Server). of_port other (asks_of n.book)) none
+  answers_apart [] old new order none other ne = ap (λ (n : ServerState). of_port other (asks_of n.book)) none
   answers_apart (e ∷ requests) old new order (mid, one, its, more) other ne =
       answers_apart requests mid new (answer_order laws port e old mid order one) more other ne ∙ answer_apart laws port e old mid order one other ne
 
-  pub answers_order : (requests : List Held) (old new : Server) → IsInOrder old.book → AnswersEach port done requests old new → IsInOrder new.book
-  answers_order [] old new order none = subst (λ (n : Server). IsInOrder n.book) (sym none) order
+  pub answers_order : (requests : List Held) (old new : ServerState) → BookIsInOrder old.book → AnswersEach port done requests old new → BookIsInOrder new.book
+  answers_order [] old new order none = subst (λ (n : ServerState). BookIsInOrder n.book) (sym none) order
   answers_order (e ∷ requests) old new order (mid, one, its, more) = answers_order requests mid new (answer_order laws port e old mid order one) more
 
   -- but for the loans, the slots and the book, the server is as it was
-  pub answers_settings : (requests : List Held) (old new : Server) → AnswersEach port done requests old new → new ≡ record old { table = new.table; slots = new.slots; book = new.book }
-  answers_settings [] old new none = none ∙ ap (λ (n : Server). record old { table = n.table; slots = n.slots; book = n.book }) (sym none)
+  pub answers_settings : (requests : List Held) (old new : ServerState) → AnswersEach port done requests old new → new ≡ record old { table = new.table; slots = new.slots; book = new.book }
+  answers_settings [] old new none = none ∙ ap (λ (n : ServerState). record old { table = n.table; slots = n.slots; book = n.book }) (sym none)
   answers_settings (e ∷ requests) old new (mid, one, its, more) =
-      answers_settings requests mid new more ∙ ap (λ (n : Server). record n { table = new.table; slots = new.slots; book = new.book }) one.server
+      answers_settings requests mid new more ∙ ap (λ (n : ServerState). record n { table = new.table; slots = new.slots; book = new.book }) one.server
 
   -- and the slots of other ports as they were
-  pub answers_slots : (requests : List Held) (old new : Server) → AnswersEach port done requests old new → (other : ℕ) → other ≢ port.0 → slots_at new.slots other ≡ slots_at old.slots other
-  answers_slots [] old new none other ne = ap (λ (n : Server). slots_at n.slots other) none
+  pub answers_slots : (requests : List Held) (old new : ServerState) → AnswersEach port done requests old new → (other : ℕ) → other ≢ port.0 → slots_at new.slots other ≡ slots_at old.slots other
+  answers_slots [] old new none other ne = ap (λ (n : ServerState). slots_at n.slots other) none
   answers_slots (e ∷ requests) old new (mid, one, its, more) other ne =
-      answers_slots requests mid new more other ne ∙ ap (λ (n : Server). slots_at n.slots other) one.server ∙ get_or-set_other old.slots port.0 other _ no_slots ne
+      answers_slots requests mid new more other ne ∙ ap (λ (n : ServerState). slots_at n.slots other) one.server ∙ get_or-set_other old.slots port.0 other _ no_slots ne
 
   -- what is over and ready stays so
-  pub over_on : (e : Held) (old mid : Server) → AnswersOne port e old mid → AreOver port done old.device → AreOver port done mid.device
-  over_on e old mid one over = subst (AreOver port done) (sym (ap (λ (n : Server). n.device) one.server)) over
+  pub over_on : (e : Held) (old mid : ServerState) → AnswersOne port e old mid → AreOver port done old.device → AreOver port done mid.device
+  over_on e old mid one over = subst (AreOver port done) (sym (ap (λ (n : ServerState). n.device) one.server)) over
 
-  pub ready_on : (e : Held) (old mid : Server) → AnswersOne port e old mid → state_of (found_of old.ports port.0) ≡ Ready → state_of (found_of mid.ports port.0) ≡ Ready
-  ready_on e old mid one ready = subst (λ (found : List Found). state_of (found_of found port.0) ≡ Ready) (sym (ap (λ (n : Server). n.ports) one.server)) ready
+  pub ready_on : (e : Held) (old mid : ServerState) → AnswersOne port e old mid → state_of (probe_result_of old.ports port.0) ≡ Ready → state_of (probe_result_of mid.ports port.0) ≡ Ready
+  ready_on e old mid one ready = subst (λ (found : List ProbeResult). state_of (probe_result_of found port.0) ≡ Ready) (sym (ap (λ (n : ServerState). n.ports) one.server)) ready
 
-  pub answers_kept : (requests : List Held) (old new : Server) → IsKept old → state_of (found_of old.ports port.0) ≡ Ready → AreOver port done old.device → AnswersEach port done requests old new → IsKept new
-  answers_kept [] old new k ready over none = subst IsKept (sym none) k
+  pub answers_kept : (requests : List Held) (old new : ServerState) → InCallInvariant old → state_of (probe_result_of old.ports port.0) ≡ Ready → AreOver port done old.device → AnswersEach port done requests old new → InCallInvariant new
+  answers_kept [] old new k ready over none = subst InCallInvariant (sym none) k
   answers_kept (e ∷ requests) old new k ready over (mid, one, its, more) =
       answers_kept requests mid new (answer_kept laws old mid port e k ready one (over one.slot one.small its)) (ready_on e old mid one ready) (over_on e old mid one over) more
 
-  pub each_answered : (requests : List Held) (old new : Server) → IsKept old → state_of (found_of old.ports port.0) ≡ Ready → AreOver port done old.device → AnswersEach port done requests old new
-      → (m : Machine) → IsReached m → IsMachineOf old m → AreAnswered port requests old new m
+  pub each_answered : (requests : List Held) (old new : ServerState) → InCallInvariant old → state_of (probe_result_of old.ports port.0) ≡ Ready → AreOver port done old.device → AnswersEach port done requests old new
+      → (m : Machine) → IsReachable m → IsMachineOf old m → AreAnswered port requests old new m
   each_answered [] old new k ready over none m reached is = record {
     ended = [];
     each = tt;
     may = tt;
-    backed = subst (λ (n : Server). IsBacked old.device n.device m []) (sym none) (laws.backed_none old.device m);
-    stands = subst (λ (n : Server). IsMachineOf n m) (sym none) is;
+    backed = subst (λ (n : ServerState). IsBacked old.device n.device m []) (sym none) (laws.backed_none old.device m);
+    stands = subst (λ (n : ServerState). IsMachineOf n m) (sym none) is;
   }
   each_answered (e ∷ requests) old new k ready over (mid, one, its, more) m reached is =
       let y : IsAnswer port e old mid m = answer_one laws old mid port e k ready one (over one.slot one.small its) m reached is in
@@ -98,47 +98,47 @@ module _ (laws : LawsBelow) (port : Port) (done : ℕ) where
         each = (y.has, z.each);
         may = laws.basic.may m (answers_in z.ended) first (tt, (y.here, tt)) z.may;
         backed = laws.backed_parts old.device mid.device new.device m first (answers_in z.ended)
-            (subst (λ (d : Device). IsBacked old.device d m first) (sym (ap (λ (n : Server). n.device) one.server)) (laws.backed_own old.device m (Answer y.done Ok) (λ none. none))) z.backed;
+            (subst (λ (d : Device). IsBacked old.device d m first) (sym (ap (λ (n : ServerState). n.device) one.server)) (laws.backed_own old.device m (Answer y.done Ok) (λ none. none))) z.backed;
         stands = subst (IsMachineOf new) (sym (laws.basic.joined m (answers_in z.ended) first)) z.stands;
       }
 
-  pub answers_settle : (replies : List Reply) (s new : Server) → IsSettled s → state_of (found_of s.ports port.0) ≡ Ready → AreOver port done s.device → AnswersDone port done replies s new → IsSettled new
+  pub answers_settle : (replies : List Reply) (s new : ServerState) → SettledInvariant s → state_of (probe_result_of s.ports port.0) ≡ Ready → AreOver port done s.device → AnswersDone port done replies s new → SettledInvariant new
   answers_settle replies s new t ready over a = settled laws port a.mid new (answers_kept a.requests s a.mid t.kept ready over a.each) none_other a.issued
     where
       none_other : (other : Port) → other ≢ port → NoneDue (mode_in a.mid other) (asks_of a.mid.book) other
       none_other other ne r own due =
-          let mode_is : mode_in a.mid other ≡ mode_in s other = ap (λ (n : Server). mode_in n other) (answers_settings a.requests s a.mid a.each) in
-          let here : IsDue (mode_in s other) (asks_of a.mid.book) r = subst (λ (mode : Mode). IsDue mode (asks_of a.mid.book) r) mode_is due in
+          let mode_is : mode_in a.mid other ≡ mode_in s other = ap (λ (n : ServerState). mode_in n other) (answers_settings a.requests s a.mid a.each) in
+          let here : IsDue (mode_in s other) (asks_of a.mid.book) r = subst (λ (mode : QueueMode). IsDue mode (asks_of a.mid.book) r) mode_is due in
           t.issued other r own ((laws.same_due (mode_in s other) other (asks_of a.mid.book) (asks_of s.book) r (answers_apart a.requests s a.mid t.kept.ordered a.each other ne) own).0 here)
 
 -- ---- a port's turn
 
 -- what a turn leaves of the server
-pub turn_settings : LawsBelow → (port : Port) (replies : List Reply) (old new : Server) (turn : HasTurn port (slots_at old.slots port.0) replies old.device new.device) → AnswersTurn port replies old new turn
+pub turn_settings : LawsBelow → (port : Port) (replies : List Reply) (old new : ServerState) (turn : HasTurn port (slots_at old.slots port.0) replies old.device new.device) → AnswersTurn port replies old new turn
     → SameSettings old new
-turn_settings laws port replies old new turn (inl (none, is)) = is ∙ ap (λ (n : Server). record old { device = n.device; table = n.table; slots = n.slots; book = n.book }) (sym is)
+turn_settings laws port replies old new turn (inl (none, is)) = is ∙ ap (λ (n : ServerState). record old { device = n.device; table = n.table; slots = n.slots; book = n.book }) (sym is)
 turn_settings laws port replies old new turn (inr (calm, some, a)) =
     let c = (turn.calm calm).checks some in
     each_settings laws port (due_ids (mode_in a.mid port) port (asks_of a.mid.book)) a.mid new a.issued
-    ∙ ap (λ (n : Server). record n { device = new.device; slots = new.slots; book = new.book }) (answers_settings laws port c.done a.requests (record old { device = c.read }) a.mid a.each)
+    ∙ ap (λ (n : ServerState). record n { device = new.device; slots = new.slots; book = new.book }) (answers_settings laws port c.done a.requests (record old { device = c.read }) a.mid a.each)
     ∙ ap (λ (table : Table). record old { device = new.device; table = table; slots = new.slots; book = new.book }) (sym table_is)
   where
     table_is : new.table ≡ a.mid.table
-    table_is = ap (λ (n : Server). n.table) (each_settings laws port (due_ids (mode_in a.mid port) port (asks_of a.mid.book)) a.mid new a.issued)
+    table_is = ap (λ (n : ServerState). n.table) (each_settings laws port (due_ids (mode_in a.mid port) port (asks_of a.mid.book)) a.mid new a.issued)
 
 -- and of the requests of another port
-pub turn_apart : LawsBelow → (port : Port) (replies : List Reply) (old new : Server) (turn : HasTurn port (slots_at old.slots port.0) replies old.device new.device) → IsInOrder old.book
+pub turn_apart : LawsBelow → (port : Port) (replies : List Reply) (old new : ServerState) (turn : HasTurn port (slots_at old.slots port.0) replies old.device new.device) → BookIsInOrder old.book
     → AnswersTurn port replies old new turn → (other : Port) → other ≢ port → of_port other (asks_of new.book) ≡ of_port other (asks_of old.book)
-turn_apart laws port replies old new turn order (inl (none, is)) other ne = ap (λ (n : Server). of_port other (asks_of n.book)) is
+turn_apart laws port replies old new turn order (inl (none, is)) other ne = ap (λ (n : ServerState). of_port other (asks_of n.book)) is
 turn_apart laws port replies old new turn order (inr (calm, some, a)) other ne =
     let c = (turn.calm calm).checks some in
     each_apart laws port (due_ids (mode_in a.mid port) port (asks_of a.mid.book)) a.mid new (answers_order laws port c.done a.requests (record old { device = c.read }) a.mid order a.each) a.issued other ne
     ∙ answers_apart laws port c.done a.requests (record old { device = c.read }) a.mid order a.each other ne
 
 -- and of the slots of another port
-pub turn_slots : LawsBelow → (port : Port) (replies : List Reply) (old new : Server) (turn : HasTurn port (slots_at old.slots port.0) replies old.device new.device) → AnswersTurn port replies old new turn
+pub turn_slots : LawsBelow → (port : Port) (replies : List Reply) (old new : ServerState) (turn : HasTurn port (slots_at old.slots port.0) replies old.device new.device) → AnswersTurn port replies old new turn
     → (other : ℕ) → other ≢ port.0 → slots_at new.slots other ≡ slots_at old.slots other
-turn_slots laws port replies old new turn (inl (none, is)) other ne = ap (λ (n : Server). slots_at n.slots other) is
+turn_slots laws port replies old new turn (inl (none, is)) other ne = ap (λ (n : ServerState). slots_at n.slots other) is
 turn_slots laws port replies old new turn (inr (calm, some, a)) other ne =
     let c = (turn.calm calm).checks some in
     each_slots laws port (due_ids (mode_in a.mid port) port (asks_of a.mid.book)) a.mid new a.issued other ne

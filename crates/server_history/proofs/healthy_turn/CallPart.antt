@@ -15,26 +15,26 @@ use Rattle.ata_types.specs.declared.request.Reply.{Reply}
 use Rattle.ata_types.specs.declared.request.RequestId.{RequestId}
 use Rattle.adapter.specs.declared.access.DeviceStep.{DeviceStep}
 use Rattle.adapter.specs.declared.command.Operation.TheVariants.{ReadLog}
-use Rattle.agreement.specs.Driven.{SendsNone}
-use Rattle.agreement.specs.Driver.{IsBacked}
-use Rattle.block_machine.specs.Events.{AllDevices, AllLawful, AllMay, Belong, IsDevices, IsLawful, IssuesLast, IsToldBefore, Moment, Served, Service, Tells, answers_of, issues_it}
-use Rattle.block_machine.specs.Histories.{IsReached}
+use Rattle.refinement.specs.Driven.{SendsNone}
+use Rattle.refinement.specs.Driver.{IsBacked}
+use Rattle.block_machine.specs.Events.{AllDevices, AllLawful, AllMay, Belong, IsByDevice, IsLawful, IssuesLast, IsToldBefore, AbstractState, Served, Service, Tells, answers_of, issues_it}
+use Rattle.block_machine.specs.Histories.{IsReachable}
 use Rattle.block_machine.specs.Left.{after}
 use Rattle.block_machine.specs.Ports.{Evidence, IsServiced, Ports, SamePort}
 use Rattle.block_machine.specs.State.{Machine, Pending}
 use Rattle.block_machine.specs.Steps.{Step, Again, Answer, Issue}
-use Rattle.block_machine.specs.declared.due.Mode.{Mode}
+use Rattle.block_machine.specs.declared.due.QueueMode.{QueueMode}
 use Rattle.driver_history.specs.Heeding.{AllGrounded}
 use Rattle.driver_history.specs.Evidence.{IsEvidencedOf}
 use Rattle.driver_history.specs.Histories.{IssuesDue}
-use Rattle.host_boot.specs.Taken.{found_of}
-use Rattle.port_look.specs.declared.Look.TheVariants.{Undisturbed as Calm}
+use Rattle.host_boot.specs.Taken.{probe_result_of}
+use Rattle.port_events.specs.declared.PortEvent.TheVariants.{NoEvent}
 use Rattle.request_queue.specs.Entries.{Held, IsEarlier}
-use Rattle.slots.specs.declared.Use.{Use as SlotUse}
+use Rattle.slots.specs.declared.SlotUse.{SlotUse}
 use Rattle.server_history.specs.Below.{LawsBelow}
 use Rattle.server_history.specs.Served.{AnswersBy, AnswersTurn, HasEnded, HasTurn, IsAnsweredIn, IssuesOnly, SameSettings, answers_in}
-use Rattle.server_history.specs.Server.{Server, IsMachineOf, IsSettled, mode_in, ports_of, remembered_at, slots_at, state_of, used_for}
-use Rattle.server_history.specs.Turns.{InService, ServesPort, IsOfTurn, LeavesOthers, MakesTurn, NamesOnly, instant_of, moment_of}
+use Rattle.server_history.specs.Server.{ServerState, IsMachineOf, SettledInvariant, mode_in, ports_of, remembered_at, slots_at, state_of, used_for}
+use Rattle.server_history.specs.Turns.{InService, ServesPort, IsOfTurn, LeavesOthers, MakesTurn, NamesOnly, server_instant, server_moment}
 use Rattle.server_history.proofs.state.AnswerSteps.{answered_in, ended_stood, issuing_answers, may_parts, no_answer, no_answer_issuing, told_so, with_ok}
 use Rattle.server_history.proofs.state.TurnAccesses.{TurnList, turn_list}
 use Rattle.server_history.proofs.healthy_turn.AnswersAndIssues.{turn_apart, turn_settings, turn_slots}
@@ -45,7 +45,7 @@ use Rattle.server_history.proofs.state.CallEvidence.{no_evidence}
 use Rattle.server_history.proofs.state.FirstMembers.{nowhere}
 
 -- What such a turn adds to a machine that stands for the server.
-pub record AddsTurn (port : Port) (replies : List Reply) (old new : Server) (m : Machine) : Type 0 where
+pub record AddsTurn (port : Port) (replies : List Reply) (old new : ServerState) (m : Machine) : Type 0 where
   pub steps : List Step
   pub may : AllMay m steps
   pub stands : IsMachineOf new (after m steps)
@@ -57,7 +57,7 @@ pub record AddsTurn (port : Port) (replies : List Reply) (old new : Server) (m :
 -- ---- its steps
 
 -- the device's steps
-pub devices_all : (P : List Step → Type 0) → ((step : Step) (base : List Step) → IsDevices step → P base → P (step ∷ base)) → P [] → (steps : List Step) → AllDevices steps → P steps
+pub devices_all : (P : List Step → Type 0) → ((step : Step) (base : List Step) → IsByDevice step → P base → P (step ∷ base)) → P [] → (steps : List Step) → AllDevices steps → P steps
 devices_all P device none [] only = none
 devices_all P device none (step ∷ steps) only = device step steps only.1 (devices_all P device none steps only.0)
 
@@ -69,32 +69,32 @@ answers_all P (e ∷ ended) early answer start =
     (answers_all P ended (Answer e Ok ∷ early) (λ x base here. answer x base (Contains-append_right (e ∷ []) ended x here)) (answer e early (Contains-get_or (e ∷ ended) 0 e (omega arith)) start))
 
 -- then those that issue
-pub issues_all : (P : List Step → Type 0) (mode : Mode) (port : Port) → ((step : Step) (base : List Step) → IsDevices step → P base → P (step ∷ base))
+pub issues_all : (P : List Step → Type 0) (mode : QueueMode) (port : Port) → ((step : Step) (base : List Step) → IsByDevice step → P base → P (step ∷ base))
     → ((e : Pending) (base : List Step) → e.request.port ≡ port → P base → P (Issue mode e ∷ base)) → (late early : List Step) → IssuesOnly mode port late → P early → P (late ++ early)
 issues_all P mode port device issue [] early only start = start
 issues_all P mode port device issue (Issue its e ∷ late) early only start =
-    subst (λ (m : Mode). P (Issue m e ∷ (late ++ early))) (sym only.0) (issue e (late ++ early) only.1 (issues_all P mode port device issue late early only.2 start))
+    subst (λ (m : QueueMode). P (Issue m e ∷ (late ++ early))) (sym only.0) (issue e (late ++ early) only.1 (issues_all P mode port device issue late early only.2 start))
 issues_all P mode port device issue (step ∷ late) early only start = device step (late ++ early) only.0 (issues_all P mode port device issue late early only.1 start)
 
 -- what holds of such steps
-of_turn : (P : List Step → Type 0) (mode : Mode) (port : Port) (replies : List Reply) (steps : List Step) (b : AnswersBy mode port replies steps) → P []
-    → ((step : Step) (base : List Step) → IsDevices step → P base → P (step ∷ base)) → ((e : Pending) (base : List Step) → Contains b.ended e → P base → P (Answer e Ok ∷ base))
+of_turn : (P : List Step → Type 0) (mode : QueueMode) (port : Port) (replies : List Reply) (steps : List Step) (b : AnswersBy mode port replies steps) → P []
+    → ((step : Step) (base : List Step) → IsByDevice step → P base → P (step ∷ base)) → ((e : Pending) (base : List Step) → Contains b.ended e → P base → P (Answer e Ok ∷ base))
     → ((e : Pending) (base : List Step) → e.request.port ≡ port → P base → P (Issue mode e ∷ base)) → P steps
 of_turn P mode port replies steps b none device answer issue =
     subst P (sym b.steps_are) (issues_all P mode port device issue b.later (answers_in b.ended ++ b.before) b.last (answers_all P b.ended b.before answer (devices_all P device none b.before b.first)))
 
-pub device_own : (port : Port) (step : Step) → IsDevices step → IsOfTurn port step
+pub device_own : (port : Port) (step : Step) → IsByDevice step → IsOfTurn port step
 device_own port (Issue mode e) is = absurd is
 device_own port (Again e) is = absurd is
 device_own port (Answer e o) is = absurd is
 device_own port step is = is
 
-device_lawful : (old : Moment) (evidence : Evidence) (ports : Ports) (step : Step) (base : List Step) → IsDevices step → AllLawful old evidence ports base → AllLawful old evidence ports (step ∷ base)
+device_lawful : (old : AbstractState) (evidence : Evidence) (ports : Ports) (step : Step) (base : List Step) → IsByDevice step → AllLawful old evidence ports base → AllLawful old evidence ports (step ∷ base)
 device_lawful old evidence ports (Again e) base is l = absurd is
 device_lawful old evidence ports (Answer e o) base is l = absurd is
 device_lawful old evidence ports step base is l = l
 
-pub device_grounded : (evidence : Evidence) (step : Step) (base : List Step) → IsDevices step → AllGrounded evidence base → AllGrounded evidence (step ∷ base)
+pub device_grounded : (evidence : Evidence) (step : Step) (base : List Step) → IsByDevice step → AllGrounded evidence base → AllGrounded evidence (step ∷ base)
 device_grounded evidence (Again e) base is g = absurd is
 device_grounded evidence (Answer e o) base is g = absurd is
 device_grounded evidence step base is g = g
@@ -150,7 +150,7 @@ told_ordered port (e ∷ requests) (p ∷ ended) each order =
 
 -- ---- the whole
 
-module _ (laws : LawsBelow) (port : Port) (replies : List Reply) (old new : Server) (t : IsSettled old) (ready : state_of (found_of old.ports port.0) ≡ ReadyState)
+module _ (laws : LawsBelow) (port : Port) (replies : List Reply) (old new : ServerState) (t : SettledInvariant old) (ready : state_of (probe_result_of old.ports port.0) ≡ ReadyState)
     (turn : HasTurn port (slots_at old.slots port.0) replies old.device new.device) (told : AnswersTurn port replies old new turn) where
   low : port.0 < 4
   low = (ready_found old port.0 t.kept ready).0
@@ -159,7 +159,7 @@ module _ (laws : LawsBelow) (port : Port) (replies : List Reply) (old new : Serv
   same = turn_settings laws port replies old new turn told
 
   ports_same : ports_of new ≡ ports_of old
-  ports_same = ap (λ (n : Server). ports_of n) same
+  ports_same = ap (λ (n : ServerState). ports_of n) same
 
   list : TurnList port (slots_at old.slots port.0) replies old.device new.device turn
   list = turn_list port laws low (slots_at old.slots port.0) replies old.device new.device turn
@@ -170,12 +170,12 @@ module _ (laws : LawsBelow) (port : Port) (replies : List Reply) (old new : Serv
 
   others : LeavesOthers port old new
   others = record {
-    grants = ap (λ (n : Server). n.grants) same;
-    wanted = ap (λ (n : Server). n.wanted) same;
-    last = ap (λ (n : Server). n.last) same;
-    found = λ q ne. ap (λ (n : Server). found_of n.ports q) same;
-    remembered = λ q ne. ap (λ (n : Server). remembered_at n.remembered q) same;
-    modes = λ q ne. ap (λ (n : Server). mode_in n (record { 0 = q })) same;
+    grants = ap (λ (n : ServerState). n.grants) same;
+    wanted = ap (λ (n : ServerState). n.wanted) same;
+    last = ap (λ (n : ServerState). n.last) same;
+    found = λ q ne. ap (λ (n : ServerState). probe_result_of n.ports q) same;
+    remembered = λ q ne. ap (λ (n : ServerState). remembered_at n.remembered q) same;
+    modes = λ q ne. ap (λ (n : ServerState). mode_in n (record { 0 = q })) same;
     slots = λ q ne. turn_slots laws port replies old new turn told q ne;
     book = λ q ne. turn_apart laws port replies old new turn t.kept.ordered told q ne;
   }
@@ -184,7 +184,7 @@ module _ (laws : LawsBelow) (port : Port) (replies : List Reply) (old new : Serv
   port_same = subst (λ (ports : Ports). SamePort (ports_of old) ports port) (sym ports_same) (refl, refl, refl, refl, refl, refl)
 
   mode_same : mode_in new port ≡ mode_in old port
-  mode_same = ap (λ (n : Server). mode_in n port) same
+  mode_same = ap (λ (n : ServerState). mode_in n port) same
 
   names : NamesOnly port its
   names = record {
@@ -196,20 +196,20 @@ module _ (laws : LawsBelow) (port : Port) (replies : List Reply) (old new : Serv
     stuck = All-nil (λ q. q ≡ port);
   }
 
-  module _ (m : Machine) (reached : IsReached m) (is : IsMachineOf old m) (x : AddsTurn port replies old new m)
-      (answered : turn.look ≡ Calm → (slot : ℕ) (used : SlotUse) → slot < 32 → used_for old.slots port.0 slot ≡ Some used
+  module _ (m : Machine) (reached : IsReachable m) (is : IsMachineOf old m) (x : AddsTurn port replies old new m)
+      (answered : turn.look ≡ NoEvent → (slot : ℕ) (used : SlotUse) → slot < 32 → used_for old.slots port.0 slot ≡ Some used
       → (old.device.port port.0).ci slot ≡ false → (old.device.port port.0).sact slot ≡ false → IsAnsweredIn used.id replies) where
-    abbrev mode : Mode
+    abbrev mode : QueueMode
     mode = mode_in old port
 
     abbrev b : AnswersBy mode port replies x.steps
     b = x.answers
 
-    abbrev began : Moment
-    began = moment_of old m
+    abbrev began : AbstractState
+    began = server_moment old m
 
     -- what holds of its steps
-    all_steps : (P : List Step → Type 0) → P [] → ((step : Step) (base : List Step) → IsDevices step → P base → P (step ∷ base)) → ((e : Pending) (base : List Step) → Contains b.ended e → P base → P (Answer e Ok ∷ base))
+    all_steps : (P : List Step → Type 0) → P [] → ((step : Step) (base : List Step) → IsByDevice step → P base → P (step ∷ base)) → ((e : Pending) (base : List Step) → Contains b.ended e → P base → P (Answer e Ok ∷ base))
         → ((e : Pending) (base : List Step) → e.request.port ≡ port → P base → P (Issue mode e ∷ base)) → P x.steps
     all_steps P none device answer issue = of_turn P mode port replies x.steps b none device answer issue
 
@@ -285,7 +285,7 @@ module _ (laws : LawsBelow) (port : Port) (replies : List Reply) (old new : Serv
     )
 
     -- no trouble was shown
-    evidenced : IsEvidencedOf Service (Served replies) list.driven.accesses (instant_of old m) (ports_of new) new.device its port
+    evidenced : IsEvidencedOf Service (Served replies) list.driven.accesses (server_instant old m) (ports_of new) new.device its port
     evidenced = record {
       lost = λ here. absurd (nowhere port here);
       gone_all = λ _ loss. absurd (never_lost laws port replies old new t ready turn list port_same m reached is x.steps x.may b answered loss);
@@ -317,17 +317,17 @@ module _ (laws : LawsBelow) (port : Port) (replies : List Reply) (old new : Serv
       becomes = becomes;
       disk = inl port_same;
       keeps = inl (port_same.2, port_same.3);
-      issues = λ _. subst (λ (kind : Mode). IssuesDue kind x.steps (after m x.steps) port) (sym mode_same) x.issues;
+      issues = λ _. subst (λ (kind : QueueMode). IssuesDue kind x.steps (after m x.steps) port) (sym mode_same) x.issues;
       evidenced = evidenced;
       faults = λ told here. absurd (nowhere told here);
       ties = ties laws port replies old new t ready turn list port_same m reached is x.steps x.may b answered x.backed;
       finds = λ _. finds laws port replies old new t ready turn list port_same m reached is x.steps x.may b answered;
     }
 
-  module _ (adds : (m : Machine) → IsReached m → IsMachineOf old m → AddsTurn port replies old new m)
-      (answered : turn.look ≡ Calm → (slot : ℕ) (used : SlotUse) → slot < 32 → used_for old.slots port.0 slot ≡ Some used
+  module _ (adds : (m : Machine) → IsReachable m → IsMachineOf old m → AddsTurn port replies old new m)
+      (answered : turn.look ≡ NoEvent → (slot : ℕ) (used : SlotUse) → slot < 32 → used_for old.slots port.0 slot ≡ Some used
       → (old.device.port port.0).ci slot ≡ false → (old.device.port port.0).sact slot ≡ false → IsAnsweredIn used.id replies)
-      (silent : (q : ℕ) → state_of (found_of old.ports q) ≢ Dead → SendsNone q ReadLog old.device new.device) where
+      (silent : (q : ℕ) → state_of (probe_result_of old.ports q) ≢ Dead → SendsNone q ReadLog old.device new.device) where
     pub serves : ServesPort port replies old new
     serves = record {
       does = inl (turn, told);

@@ -12,21 +12,21 @@ use Rattle.ata_types.specs.declared.request.Outcome.TheVariants as outcome
 use Rattle.ata_types.specs.declared.request.RequestId.{RequestId}
 use Rattle.adapter.specs.Device.{Device}
 use Rattle.adapter.proofs.Changed.{changed_each}
-use Rattle.block_machine.specs.Histories.{IsReached}
+use Rattle.block_machine.specs.Histories.{IsReachable}
 use Rattle.block_machine.specs.State.{Machine, Pending}
 use Rattle.block_machine.specs.Steps.{Answer, IsLiving, after_step, is_lent_to, unlend}
 use Rattle.block_machine.proofs.Lending.{lent_own}
 use Rattle.server_history.proofs.state.ListMembers.{contains_cases}
-use Rattle.agreement.specs.Driven.{known}
-use Rattle.agreement.specs.Driver.{Forgets, HasNoSlot, Known, parking}
-use Rattle.agreement.specs.Slots.{Free, Serves, Uses, put, IsDropped, IsEnded, IsOver, ServesRequest}
-use Rattle.agreement.proofs.device.AdapterOverAccesses.{same_refl}
+use Rattle.refinement.specs.Driven.{known}
+use Rattle.refinement.specs.Driver.{ForgetsRequest, HasNoSlot, DriverState, parking}
+use Rattle.refinement.specs.Slots.{Free, Serves, SlotStates, put, IsDropped, IsEnded, IsOver, ServesRequest}
+use Rattle.refinement.proofs.device.AdapterOverAccesses.{same_refl}
 use Rattle.dma_frames.specs.Table.{Table, lent_to, LendsOnly}
-use Rattle.host_boot.specs.Taken.{found_of}
-use Rattle.request_queue.specs.Entries.{Held, IsAccepted, without}
+use Rattle.host_boot.specs.Taken.{probe_result_of}
+use Rattle.request_queue.specs.Entries.{Held, IsAccepted, without_entry}
 use Rattle.request_queue.specs.Machine.{IsBook, IsEntry}
 use Rattle.server_history.specs.Served.{AnswersOne, HasEnded}
-use Rattle.server_history.specs.Server.{Server, IsKept, IsMachineOf, mode_at, slots_at, state_of, usable_of, with_slot, used_for, HasTrueMark}
+use Rattle.server_history.specs.Server.{ServerState, InCallInvariant, IsMachineOf, mode_at, slots_at, state_of, usable_of, with_slot, used_for, HasTrueMark}
 use Rattle.server_history.specs.Below.{LawsBelow}
 use Rattle.server_history.proofs.state.HistorySteps.{kept_then}
 use Rattle.server_history.proofs.state.PlacedSlots.{freed_was, placed_four, placed_has, placed_uses}
@@ -35,7 +35,7 @@ use Rattle.server_history.proofs.state.PortSlots.{IsServedBy, its_mode, used_low
 -- ---- loans
 
 -- the frames of the request given back, in the machine and in the table
-pub given_back : (m : Machine) (e : Held) (x : Pending) (old new : Table) → IsReached m → IsLiving m x → IsEntry e x → ((f : Frame) → m.lent f ≡ lent_to old f)
+pub given_back : (m : Machine) (e : Held) (x : Pending) (old new : Table) → IsReachable m → IsLiving m x → IsEntry e x → ((f : Frame) → m.lent f ≡ lent_to old f)
     → All (λ f. lent_to old f ≡ Some e.entry.id) e.frames → LendsOnly old new e.frames None → (f : Frame) → unlend x.request.id m.lent f ≡ lent_to new f
 given_back m e x old new reached lives entry same lent lends f = by (m.lent f) refl
   where
@@ -63,7 +63,7 @@ given_back m e x old new reached lives entry same lent lends f = by (m.lent f) r
             false≢true (sym q ∙ eq-eqb o.0 x.request.id.0 (ap (λ (i : RequestId). i.0) (sym w ∙ sym entry.id)))))
 
 -- what is parked last is forgotten
-forgets_one : (uses : Uses) (parked : ℕ → List RequestId) (d : Device) (port slot : ℕ) (id : RequestId) → Forgets id (parking (known uses parked d) port slot id).parked parked
+forgets_one : (uses : SlotStates) (parked : ℕ → List RequestId) (d : Device) (port slot : ℕ) (id : RequestId) → ForgetsRequest id (parking (known uses parked d) port slot id).parked parked
 forgets_one uses parked d port slot id =
     changed_each parked port (id ∷ parked port) (λ q ids. (other : RequestId) → Contains ids other → (other ≡ id → ⊥) → Contains (parked q) other)
     (λ other here ne. ⊎_elim (λ same. absurd (ne same)) (λ there. there) (contains_cases id (parked port) other here))
@@ -72,13 +72,13 @@ forgets_one uses parked d port slot id =
 -- ---- it is answered
 
 -- Its request is answered, by a machine's step, after which the machine stands for the new server.
-pub record IsAnswer (port : Port) (request : Held) (old new : Server) (m : Machine) : Type 0 where
+pub record IsAnswer (port : Port) (request : Held) (old new : ServerState) (m : Machine) : Type 0 where
   pub done : Pending
   pub here : Contains m.book done
   pub has : HasEnded port request done
   pub stands : IsMachineOf new (after_step m (Answer done outcome.Ok))
 
-module _ (laws : LawsBelow) (s new : Server) (port : Port) (e : Held) (k : IsKept s) (ready : state_of (found_of s.ports port.0) ≡ ReadyState)
+module _ (laws : LawsBelow) (s new : ServerState) (port : Port) (e : Held) (k : InCallInvariant s) (ready : state_of (probe_result_of s.ports port.0) ≡ ReadyState)
     (one : AnswersOne port e s new) (over : IsOver (s.device.port port.0) one.slot) where
   abbrev id : RequestId
   id = e.entry.id
@@ -87,8 +87,8 @@ module _ (laws : LawsBelow) (s new : Server) (port : Port) (e : Held) (k : IsKep
   slot = one.slot
 
   -- the server then
-  abbrev left : Server
-  left = record s { table = new.table; slots = with_slot s.slots port.0 slot None; book = without e.entry.id s.book }
+  abbrev left : ServerState
+  left = record s { table = new.table; slots = with_slot s.slots port.0 slot None; book = without_entry e.entry.id s.book }
 
   low : port.0 < 4
   low = (ready_found s port.0 k ready).0
@@ -99,7 +99,7 @@ module _ (laws : LawsBelow) (s new : Server) (port : Port) (e : Held) (k : IsKep
   was_accepted : IsAccepted s.table e
   was_accepted = All-contains (IsAccepted s.table) s.book e k.accepted one.here
 
-  module _ (m : Machine) (reached : IsReached m) (is : IsMachineOf s m) where
+  module _ (m : Machine) (reached : IsReachable m) (is : IsMachineOf s m) where
     serves : is.uses port.0 slot ≡ Serves id
     serves = serves_used s m port.0 is ready slot one.used one.served ∙ ap Serves one.id_is
 
@@ -128,14 +128,14 @@ module _ (laws : LawsBelow) (s new : Server) (port : Port) (e : Held) (k : IsKep
     abbrev answered : Machine
     answered = after_step m (Answer done outcome.Ok)
 
-    abbrev taken : Known
+    abbrev taken : DriverState
     taken = parking (known is.uses is.parked s.device) port.0 slot id
 
     no_slot : HasNoSlot taken.uses done.request.id
     no_slot = subst (HasNoSlot taken.uses) (sym x.id_is) (laws.slots.parked_frees (known is.uses is.parked s.device) port.0 slot id is.knows.agrees.apart serves)
 
-    forgets : Forgets done.request.id taken.parked is.parked
-    forgets = subst (λ (i : RequestId). Forgets i taken.parked is.parked) (sym x.id_is) (forgets_one is.uses is.parked s.device port.0 slot id)
+    forgets : ForgetsRequest done.request.id taken.parked is.parked
+    forgets = subst (λ (i : RequestId). ForgetsRequest i taken.parked is.parked) (sym x.id_is) (forgets_one is.uses is.parked s.device port.0 slot id)
 
     stands : IsMachineOf left answered
     stands = record {
@@ -144,7 +144,7 @@ module _ (laws : LawsBelow) (s new : Server) (port : Port) (e : Held) (k : IsKep
       parked = is.parked;
       unparked = is.unparked;
       knows = laws.slots.answered_agrees taken m done outcome.Ok is.parked reached (laws.slots.parked_agrees (known is.uses is.parked s.device) m is.knows port.0 slot over id serves) r.here refl no_slot forgets;
-      book = subst (λ (i : RequestId). IsBook (without i s.book) answered.book) x.id_is (laws.answers s.book m done outcome.Ok is.book);
+      book = subst (λ (i : RequestId). IsBook (without_entry i s.book) answered.book) x.id_is (laws.answers s.book m done outcome.Ok is.book);
       kept = is.kept;
       rows = is.rows;
       owner = λ f. is.owner f ∙ sym (ap (λ (owners : List (Option ClientId)). get_or owners f.0 None) one.lent.owners);
@@ -163,22 +163,22 @@ module _ (laws : LawsBelow) (s new : Server) (port : Port) (e : Held) (k : IsKep
         ended = ended.ended;
         touched = ended.touched;
       };
-      stands = subst (λ (n : Server). IsMachineOf n answered) (sym one.server) stands;
+      stands = subst (λ (n : ServerState). IsMachineOf n answered) (sym one.server) stands;
     }
 
   -- ---- what the server keeps
 
   -- what holds of each that is left
-  left_each : (P : Held → Type 0) → All P s.book → All P (without id s.book)
+  left_each : (P : Held → Type 0) → All P s.book → All P (without_entry id s.book)
   left_each P all i d small =
-      let y : Held = get_or (without id s.book) i d in
-      All-contains P s.book y all ((laws.left s.book id y).0 (i, small, get_or_default (without id s.book) i y d small)).0
+      let y : Held = get_or (without_entry id s.book) i d in
+      All-contains P s.book y all ((laws.left s.book id y).0 (i, small, get_or_default (without_entry id s.book) i y d small)).0
 
-  pub answer_kept : IsKept new
+  pub answer_kept : InCallInvariant new
   answer_kept =
       let a = answer_one k.machine k.reached k.stands in
-      subst IsKept (sym one.server)
-      (kept_then s s.device s.grants new.table (with_slot s.slots port.0 slot None) (without id s.book) s.last k k.rows
+      subst InCallInvariant (sym one.server)
+      (kept_then s s.device s.grants new.table (with_slot s.slots port.0 slot None) (without_entry id s.book) s.last k k.rows
       k.on (same_refl s.device) k.behind one.lent.owners
       (placed_four s.ports s.modes s.slots port.0 slot None k.four low slot_low few k.slots)
       (placed_has s.ports s.modes s.slots port.0 slot None k.four low slot_low few k.slots)
@@ -191,11 +191,11 @@ module _ (laws : LawsBelow) (s new : Server) (port : Port) (e : Held) (k : IsKep
       (laws.fewer s.book id k.ordered)
       (left_each (HasTrueMark s.grants) k.marked)
       (left_each (λ y. y.entry.id.0 ≤ s.last) k.handed_out)
-      (left_each (λ y. state_of (found_of s.ports y.entry.port.0) ≡ ReadyState) k.ready)
+      (left_each (λ y. state_of (probe_result_of s.ports y.entry.port.0) ≡ ReadyState) k.ready)
       (after_step k.machine (Answer a.done outcome.Ok)) (laws.basic.reached k.machine (Answer a.done outcome.Ok ∷ []) k.reached (tt, (a.here, tt)))
-      (subst (λ (n : Server). IsMachineOf n (after_step k.machine (Answer a.done outcome.Ok))) one.server a.stands))
+      (subst (λ (n : ServerState). IsMachineOf n (after_step k.machine (Answer a.done outcome.Ok))) one.server a.stands))
     where
-      slot_low : slot < usable_of (found_of s.ports port.0) (mode_at s.modes port.0)
+      slot_low : slot < usable_of (probe_result_of s.ports port.0) (mode_at s.modes port.0)
       slot_low = used_low s port.0 slot one.used k low one.served
 
       in_list : port.0 < length s.slots
@@ -211,5 +211,5 @@ module _ (laws : LawsBelow) (s new : Server) (port : Port) (e : Held) (k : IsKep
           (λ free. free)
           (used_or_not (used_for (with_slot s.slots port.0 slot None) q n))
 
-      few : usable_of (found_of s.ports port.0) (mode_at s.modes port.0) ≤ 32
+      few : usable_of (probe_result_of s.ports port.0) (mode_at s.modes port.0) ≤ 32
       few = let u = usable_ready s port.0 k ready in let f = (its_mode s port.0 k (ready_found s port.0 k ready).0).0.1 in omega (arith, u, f)

@@ -12,33 +12,33 @@ use Rattle.hba_regs.specs.Bits.{bit}
 use Rattle.adapter.specs.Commands.{is_queued}
 use Rattle.adapter.specs.Device.{Device}
 use Rattle.adapter.specs.declared.command.Operation.TheVariants.{ReadLog}
-use Rattle.agreement.specs.Driven.{AnyUse, IsDrivenBy, IsFollowed, SendsNone}
-use Rattle.agreement.specs.Driver.{IsBacked}
-use Rattle.agreement.specs.Slots.{IsOver, Serves, ServesRequest, Stage}
-use Rattle.agreement.proofs.driver.Stretches.{followed_as, followed_then, followed_adds}
+use Rattle.refinement.specs.Driven.{AnyUse, IsDrivenBy, IsSimulated, SendsNone}
+use Rattle.refinement.specs.Driver.{IsBacked}
+use Rattle.refinement.specs.Slots.{IsOver, Serves, ServesRequest, Stage}
+use Rattle.refinement.proofs.driver.Stretches.{followed_as, followed_then, followed_adds}
 use Rattle.server_history.proofs.state.DrivenAccesses.{by_none}
 use Rattle.block_machine.specs.Events.{AllDevices, AllMay, issues_it}
-use Rattle.block_machine.specs.Histories.{IsReached}
+use Rattle.block_machine.specs.Histories.{IsReachable}
 use Rattle.block_machine.specs.Left.{after}
 use Rattle.block_machine.specs.State.{Machine, Pending}
-use Rattle.block_machine.specs.declared.due.Mode.{Mode}
+use Rattle.block_machine.specs.declared.due.QueueMode.{QueueMode}
 use Rattle.block_machine.specs.Steps.{Step, Answer}
 use Rattle.server_history.proofs.state.ListMembers.{contains_cases, contains_there, into_map, map_in}
-use Rattle.host_boot.specs.Taken.{found_of}
-use Rattle.host_boot.specs.declared.Found.TheVariants.{Ready}
+use Rattle.host_boot.specs.Taken.{probe_result_of}
+use Rattle.host_boot.specs.declared.ProbeResult.TheVariants.{Ready}
 use Rattle.driver_history.specs.Histories.{IssuesDue}
 use Rattle.identify.specs.declared.DiskInfo.{DiskInfo}
 use Rattle.ncq.specs.Masks.{ReadsDone, IsFinding, SeesClear}
-use Rattle.port_look.specs.Looks.{IsLooking, LooksAt}
-use Rattle.port_look.specs.Services.{IsService}
-use Rattle.port_look.specs.declared.Look.TheVariants.{Undisturbed as Calm}
+use Rattle.port_events.specs.Looks.{IsLooking, LooksAt}
+use Rattle.port_events.specs.Services.{IsService}
+use Rattle.port_events.specs.declared.PortEvent.TheVariants.{NoEvent}
 use Rattle.request_queue.specs.Entries.{Held, asks_of, due_ids}
-use Rattle.slots.specs.Uses.{Uses as PortSlots}
-use Rattle.slots.specs.declared.Use.{Use as SlotUse}
+use Rattle.slots.specs.Uses.{PortSlots}
+use Rattle.slots.specs.declared.SlotUse.{SlotUse}
 use Rattle.server_history.specs.Below.{LawsBelow}
 use Rattle.server_history.specs.Served.{AnswersDone, AnswersEach, AnswersOne, HasNone, HasTurn, IsMaskOf, IssuesIn, IssuesOnly, IsAnsweredIn, answers_in, done_reply, is_used}
 use Rattle.server_history.specs.Turns.{ServesPort}
-use Rattle.server_history.specs.Server.{Server, IsKept, IsMachineOf, IsSettled, mode_in, slots_at, state_of, used_for, with_slot}
+use Rattle.server_history.specs.Server.{ServerState, InCallInvariant, IsMachineOf, SettledInvariant, mode_in, slots_at, state_of, used_for, with_slot}
 use Rattle.server_history.proofs.healthy_turn.OneAnswer.{answer_kept}
 use Rattle.server_history.proofs.state.DueRequests.{none_issued}
 use Rattle.server_history.proofs.state.TurnAccesses.{bit_zero}
@@ -56,10 +56,10 @@ use Rattle.server_history.proofs.state.PortSlots.{AreOver, ready_found, served_b
 use Rattle.server_history.proofs.state.FirstMembers.{nowhere, first_here}
 
 -- accesses of a look, and of finding a transfer done, serve ports
-pub looks_serve : LawsBelow → (port : Port) (old new : Device) → IsFollowed (IsLooking port) AnyUse old new → IsFollowed IsService AnyUse old new
+pub looks_serve : LawsBelow → (port : Port) (old new : Device) → IsSimulated (IsLooking port) AnyUse old new → IsSimulated IsService AnyUse old new
 looks_serve laws port old new followed = followed_as (IsLooking port) IsService AnyUse AnyUse old new (laws.looking.looking_service port) (λ uses any. any) followed
 
-pub finds_serve : LawsBelow → (port : Port) (mask done : ℕ) (old new : Device) → ReadsDone port mask done old new → IsFollowed IsService AnyUse old new
+pub finds_serve : LawsBelow → (port : Port) (mask done : ℕ) (old new : Device) → ReadsDone port mask done old new → IsSimulated IsService AnyUse old new
 finds_serve laws port mask done old new finds = followed_as (IsFinding port) IsService AnyUse AnyUse old new (finding_serves port) (λ uses any. any) (laws.finding_followed port mask done old new finds)
 
 -- answers issue nothing
@@ -68,15 +68,15 @@ answers_issue_none id [] = refl
 answers_issue_none id (e ∷ ended) = any_append (issues_it id) (answers_in ended) (Answer e Ok ∷ []) ∙ ap (λ (b : Bool). b || false) (answers_issue_none id ended)
 
 -- the steps of a stretch in which nobody is answered
-pub followed_steps : LawsBelow → (s : Server) (new : Device) → IsFollowed IsService AnyUse s.device new → (m : Machine) → IsReached m → IsMachineOf s m
+pub followed_steps : LawsBelow → (s : ServerState) (new : Device) → IsSimulated IsService AnyUse s.device new → (m : Machine) → IsReachable m → IsMachineOf s m
     → (steps : List Step) × AllMay m steps × IsMachineOf (record s { device = new }) (after m steps) × IsBacked s.device new m steps × AllDevices steps
 followed_steps laws s new followed m reached is =
     let x = (followed_adds followed is.uses is.parked tt).adds m reached is.knows in
     (x.0, x.1, machine_on laws s new m x.0 is x.3.only x.2, x.3.backed, x.3.only)
 
-nobody_answered : LawsBelow → (s : Server) (new : Device) (port : Port) → IsSettled s → state_of (found_of s.ports port.0) ≡ ReadyState → (turn : HasTurn port (slots_at s.slots port.0) [] s.device new) → IsFollowed IsService AnyUse s.device new
-    → ((q : ℕ) → state_of (found_of s.ports q) ≢ Dead → SendsNone q ReadLog s.device new)
-    → (turn.look ≡ Calm → (slot : ℕ) (used : SlotUse) → slot < 32 → used_for s.slots port.0 slot ≡ Some used → (s.device.port port.0).ci slot ≡ false → (s.device.port port.0).sact slot ≡ false → ⊥)
+nobody_answered : LawsBelow → (s : ServerState) (new : Device) (port : Port) → SettledInvariant s → state_of (probe_result_of s.ports port.0) ≡ ReadyState → (turn : HasTurn port (slots_at s.slots port.0) [] s.device new) → IsSimulated IsService AnyUse s.device new
+    → ((q : ℕ) → state_of (probe_result_of s.ports q) ≢ Dead → SendsNone q ReadLog s.device new)
+    → (turn.look ≡ NoEvent → (slot : ℕ) (used : SlotUse) → slot < 32 → used_for s.slots port.0 slot ≡ Some used → (s.device.port port.0).ci slot ≡ false → (s.device.port port.0).sact slot ≡ false → ⊥)
     → ServesPort port [] s (record s { device = new })
 nobody_answered laws s new port settled ready turn followed silent never =
     serves laws port [] s (record s { device = new }) settled ready turn (inl (refl, refl))
@@ -113,12 +113,12 @@ never_both false queued ci sact on a b c d = false≢true on
 never_both true true ci sact on a b c d = false≢true (sym d ∙ b)
 never_both true false ci sact on a b c d = false≢true (sym c ∙ a)
 
-module _ (s : Server) (port : Port) (k : IsKept s) (ready : state_of (found_of s.ports port.0) ≡ ReadyState) (slot : ℕ) where
+module _ (s : ServerState) (port : Port) (k : InCallInvariant s) (ready : state_of (probe_result_of s.ports port.0) ≡ ReadyState) (slot : ℕ) where
   -- where both bits of what is issued are clear, its command is over
   clear_over : (used : SlotUse) → used_for s.slots port.0 slot ≡ Some used → (s.device.port port.0).ci slot ≡ false → (s.device.port port.0).sact slot ≡ false → IsOver (s.device.port port.0) slot
   clear_over used its ci sact = by x.stage
     where
-      found : (port.0 < 4) × ((info : DiskInfo) × (found_of s.ports port.0 ≡ Ready info))
+      found : (port.0 < 4) × ((info : DiskInfo) × (probe_result_of s.ports port.0 ≡ Ready info))
       found = ready_found s port.0 k ready
 
       x : ServesRequest k.machine s.device.memory (s.device.port port.0) port.0 slot used.id
@@ -144,7 +144,7 @@ same_some : {X : Type 0} {a b : X} → Some a ≡ Some b → a ≡ b
 same_some is = cc
 
 -- an answer that frees a slot, or leaves it
-module _ (port : Port) (e : Held) (old mid : Server) (one : AnswersOne port e old mid) (k : IsKept old) (low : port.0 < 4) where
+module _ (port : Port) (e : Held) (old mid : ServerState) (one : AnswersOne port e old mid) (k : InCallInvariant old) (low : port.0 < 4) where
   in_list : port.0 < length old.slots
   in_list = let f = k.four in omega (arith, low, f)
 
@@ -152,7 +152,7 @@ module _ (port : Port) (e : Held) (old mid : Server) (one : AnswersOne port e ol
   in_places = let p = (k.slots port.0 low).places in let small = one.small in omega (arith, p, small)
 
   slots_are : mid.slots ≡ with_slot old.slots port.0 one.slot None
-  slots_are = ap (λ (n : Server). n.slots) one.server
+  slots_are = ap (λ (n : ServerState). n.slots) one.server
 
   -- what another slot is used for
   left_used : (slot : ℕ) → slot ≢ one.slot → used_for mid.slots port.0 slot ≡ used_for old.slots port.0 slot
@@ -163,11 +163,11 @@ module _ (port : Port) (e : Held) (old mid : Server) (one : AnswersOne port e ol
 
 module _ (laws : LawsBelow) (port : Port) (low : port.0 < 4) (done : ℕ) where
   -- each slot that was found done, and is free in the end, has its request among these
-  done_told : (requests : List Held) (old new : Server) → IsKept old → state_of (found_of old.ports port.0) ≡ ReadyState → AreOver port done old.device → AnswersEach port done requests old new
+  done_told : (requests : List Held) (old new : ServerState) → InCallInvariant old → state_of (probe_result_of old.ports port.0) ≡ ReadyState → AreOver port done old.device → AnswersEach port done requests old new
       → ((slot : ℕ) → slot < 32 → bit done slot ≡ true → used_for new.slots port.0 slot ≡ None) → (slot : ℕ) (used : SlotUse) → slot < 32 → bit done slot ≡ true → used_for old.slots port.0 slot ≡ Some used
       → (e : Held) × Contains requests e × (e.entry.id ≡ used.id)
   done_told [] old new k ready over none free slot used small is its =
-      let z : None ≡ Some used = sym (free slot small is) ∙ ap (λ (n : Server). used_for n.slots port.0 slot) none ∙ its in absurd cc
+      let z : None ≡ Some used = sym (free slot small is) ∙ ap (λ (n : ServerState). used_for n.slots port.0 slot) none ∙ its in absurd cc
   done_told (e ∷ requests) old new k ready over (mid, one, clear, more) free slot used small is its = ⊎_elim
       (λ (same : slot ≡ one.slot).
       let one_is : Some used ≡ Some one.used = sym its ∙ ap (used_for old.slots port.0) same ∙ one.served in
@@ -179,7 +179,7 @@ module _ (laws : LawsBelow) (port : Port) (low : port.0 < 4) (done : ℕ) where
       (cases_eq slot one.slot)
 
   -- and each of these has a slot that was found done
-  told_done : (requests : List Held) (old new : Server) → IsKept old → state_of (found_of old.ports port.0) ≡ ReadyState → AreOver port done old.device → AnswersEach port done requests old new
+  told_done : (requests : List Held) (old new : ServerState) → InCallInvariant old → state_of (probe_result_of old.ports port.0) ≡ ReadyState → AreOver port done old.device → AnswersEach port done requests old new
       → (e : Held) → Contains requests e → (slot : ℕ) × (slot < 32) × (bit done slot ≡ true) × ((used : SlotUse) × (used_for old.slots port.0 slot ≡ Some used) × (used.id ≡ e.entry.id))
   told_done [] old new k ready over none e here = absurd (nowhere e here)
   told_done (first ∷ requests) old new k ready over (mid, one, clear, more) e here = ⊎_elim
@@ -194,24 +194,24 @@ module _ (laws : LawsBelow) (port : Port) (low : port.0 < 4) (done : ℕ) where
 
 -- ---- the whole
 
-module _ (s : Server) (seen : Device) (port : Port) (t : IsSettled s) (ready : state_of (found_of s.ports port.0) ≡ ReadyState) (looks : IsFollowed (IsLooking port) AnyUse s.device seen) where
-  abbrev k : IsKept s
+module _ (s : ServerState) (seen : Device) (port : Port) (t : SettledInvariant s) (ready : state_of (probe_result_of s.ports port.0) ≡ ReadyState) (looks : IsSimulated (IsLooking port) AnyUse s.device seen) where
+  abbrev k : InCallInvariant s
   k = t.kept
 
   low : port.0 < 4
   low = (ready_found s port.0 k ready).0
 
   -- a look brings no page of the log but on dead ports
-  seen_silent : (q : ℕ) → state_of (found_of s.ports q) ≢ Dead → SendsNone q ReadLog s.device seen
+  seen_silent : (q : ℕ) → state_of (probe_result_of s.ports q) ≢ Dead → SendsNone q ReadLog s.device seen
   seen_silent q lives = looking_silent s seen port k looks q ReadLog refl (λ dead. lives (ap state_of dead))
 
-  module _ (l : LooksAt port Calm s.device seen) where
+  module _ (l : LooksAt port NoEvent s.device seen) where
     -- no slot is used
     pub idle : LawsBelow → IsMaskOf (slots_at s.slots port.0) 0 → ServesPort port [] s (record s { device = seen })
     idle laws its =
         nobody_answered laws s seen port t ready
         (record {
-          look = Calm;
+          look = NoEvent;
           seen = seen;
           looks = l;
           quiet = refl;
@@ -226,11 +226,11 @@ module _ (s : Server) (seen : Device) (port : Port) (t : IsSettled s) (ready : s
       asked : (slot : ℕ) (used : SlotUse) → slot < 32 → used_for s.slots port.0 slot ≡ Some used → bit mask slot ≡ true
       asked slot used small is = its slot small ∙ ap is_used is
 
-      seen_kept : IsKept (record s { device = seen })
+      seen_kept : InCallInvariant (record s { device = seen })
       seen_kept = looking_kept s seen port k ready laws looks
 
       -- nor does finding
-      found_silent : (new : Device) (done : ℕ) → ReadsDone port mask done seen new → (q : ℕ) → state_of (found_of s.ports q) ≢ Dead → SendsNone q ReadLog s.device new
+      found_silent : (new : Device) (done : ℕ) → ReadsDone port mask done seen new → (q : ℕ) → state_of (probe_result_of s.ports q) ≢ Dead → SendsNone q ReadLog s.device new
       found_silent new done reads q lives =
           silent_more q ReadLog s.device seen new (seen_silent q lives)
           (finding_silent (record s { device = seen }) new port seen_kept ready laws mask done reads q ReadLog refl (λ dead. lives (ap state_of dead)))
@@ -240,7 +240,7 @@ module _ (s : Server) (seen : Device) (port : Port) (t : IsSettled s) (ready : s
       unfinished new done reads sees none =
           nobody_answered laws s new port t ready
           (record {
-            look = Calm;
+            look = NoEvent;
             seen = seen;
             looks = l;
             quiet = refl;
@@ -265,34 +265,34 @@ module _ (s : Server) (seen : Device) (port : Port) (t : IsSettled s) (ready : s
           false≢true (sym (none slot small) ∙ sees slot small (asked slot used small is) c.0 c.1))
 
       -- what was found done was answered
-      module _ (new : Server) (found : Device) (done : ℕ) (replies : List Reply) (reads : ReadsDone port mask done seen found) (sees : SeesClear port mask done seen) (was_done : HasNone done → ⊥)
+      module _ (new : ServerState) (found : Device) (done : ℕ) (replies : List Reply) (reads : ReadsDone port mask done seen found) (sees : SeesClear port mask done seen) (was_done : HasNone done → ⊥)
           (a : AnswersDone port done replies (record s { device = found }) new) where
-        abbrev from : Server
+        abbrev from : ServerState
         from = record s { device = found }
 
-        served : IsFollowed IsService AnyUse s.device found
+        served : IsSimulated IsService AnyUse s.device found
         served = followed_then IsService AnyUse s.device seen found (looks_serve laws port s.device seen looks) (finds_serve laws port mask done seen found reads)
 
-        found_kept : IsKept from
+        found_kept : InCallInvariant from
         found_kept = finding_kept (record s { device = seen }) found port seen_kept ready laws mask done reads
 
         over : AreOver port done found
         over = found_over (record s { device = seen }) found port seen_kept ready laws mask done reads its
 
-        mid_kept : IsKept a.mid
+        mid_kept : InCallInvariant a.mid
         mid_kept = answers_kept laws port done a.requests from a.mid found_kept ready over a.each
 
         mid_device : a.mid.device ≡ found
-        mid_device = ap (λ (n : Server). n.device) (answers_settings laws port done a.requests from a.mid a.each)
+        mid_device = ap (λ (n : ServerState). n.device) (answers_settings laws port done a.requests from a.mid a.each)
 
         abbrev ids : List RequestId
         ids = due_ids (mode_in a.mid port) port (asks_of a.mid.book)
 
         -- it takes commands as it did
         mode_is : mode_in a.mid port ≡ mode_in s port
-        mode_is = ap (λ (n : Server). mode_in n port) (answers_settings laws port done a.requests from a.mid a.each)
+        mode_is = ap (λ (n : ServerState). mode_in n port) (answers_settings laws port done a.requests from a.mid a.each)
 
-        turn_adds : (m : Machine) → IsReached m → IsMachineOf s m → AddsTurn port replies s new m
+        turn_adds : (m : Machine) → IsReachable m → IsMachineOf s m → AddsTurn port replies s new m
         turn_adds m reached is = record {
           steps = z.steps ++ base;
           may = laws.basic.may m z.steps base base_may z.may;
@@ -308,10 +308,10 @@ module _ (s : Server) (seen : Device) (port : Port) (t : IsSettled s) (ready : s
             before = x.0;
             steps_are = refl;
             first = x.4;
-            last = subst (λ (mode : Mode). IssuesOnly mode port z.steps) mode_is z.only;
+            last = subst (λ (mode : QueueMode). IssuesOnly mode port z.steps) mode_is z.only;
           };
           last = last_on (mode_in a.mid port) port z.steps base z.only z.last (none_last base none_in_base) (λ id late early. false≢true (sym (none_in_base id) ∙ early));
-          issues = subst (λ (mode : Mode). IssuesDue mode (z.steps ++ base) (after m (z.steps ++ base)) port) mode_is (subst (λ (n : Machine). IssuesDue (mode_in a.mid port) (z.steps ++ base) n port) (sym (laws.basic.joined m z.steps base))
+          issues = subst (λ (mode : QueueMode). IssuesDue mode (z.steps ++ base) (after m (z.steps ++ base)) port) mode_is (subst (λ (n : Machine). IssuesDue (mode_in a.mid port) (z.steps ++ base) n port) (sym (laws.basic.joined m z.steps base))
               (dues_carried laws (mode_in a.mid port) z.steps (z.steps ++ base) (after (after m base) z.steps) (after (after m base) z.steps) port refl
               (λ u here own. sym (any_append (issues_it u.id) z.steps base ∙ ap (λ (b : Bool). list_any (issues_it u.id) z.steps || b) (none_in_base u.id) ∙ or_none (list_any (issues_it u.id) z.steps)))
               (dues laws port a.mid new mid_kept a.issued (after m base) z port (λ ne. absurd (ne refl)))));
@@ -320,7 +320,7 @@ module _ (s : Server) (seen : Device) (port : Port) (t : IsSettled s) (ready : s
             x : (steps : List Step) × AllMay m steps × IsMachineOf from (after m steps) × IsBacked s.device found m steps × AllDevices steps
             x = followed_steps laws s found served m reached is
 
-            reached_x : IsReached (after m x.0)
+            reached_x : IsReachable (after m x.0)
             reached_x = laws.basic.reached m x.0 reached x.1
 
             y : AreAnswered port a.requests from a.mid (after m x.0)
@@ -371,17 +371,17 @@ module _ (s : Server) (seen : Device) (port : Port) (t : IsSettled s) (ready : s
                 (serves_used s k.machine port.0 k.stands ready a x ax) (serves_used s k.machine port.0 k.stands ready b y by ∙ ap Serves (sym same))).1
 
         -- no page of the log comes in all that but on dead ports
-        whole_silent : (q : ℕ) → state_of (found_of s.ports q) ≢ Dead → SendsNone q ReadLog s.device new.device
+        whole_silent : (q : ℕ) → state_of (probe_result_of s.ports q) ≢ Dead → SendsNone q ReadLog s.device new.device
         whole_silent q lives =
             silent_more q ReadLog s.device found new.device (found_silent found done reads q lives)
             (subst (λ (d : Device). SendsNone q ReadLog d new.device) mid_device
-            (each_silent laws port ids a.mid new mid_kept a.issued q ReadLog refl (λ dead. lives (ap (λ (n : Server). state_of (found_of n.ports q)) (sym (answers_settings laws port done a.requests from a.mid a.each)) ∙ ap state_of dead))))
+            (each_silent laws port ids a.mid new mid_kept a.issued q ReadLog refl (λ dead. lives (ap (λ (n : ServerState). state_of (probe_result_of n.ports q)) (sym (answers_settings laws port done a.requests from a.mid a.each)) ∙ ap state_of dead))))
 
         pub finished : ServesPort port replies s new
         finished =
             serves laws port replies s new t ready
             (record {
-              look = Calm;
+              look = NoEvent;
               seen = seen;
               looks = l;
               quiet = refl;

@@ -15,31 +15,31 @@ use Rattle.hba_regs.specs.declared.reg.Reg.TheVariants.{Px}
 use Rattle.hba_regs.specs.declared.reg.PortReg.TheVariants.{Ci, Sact}
 use Rattle.adapter.specs.Access.{Reads}
 use Rattle.adapter.specs.Device.{Device}
-use Rattle.agreement.specs.Driven.{Grows, IsDrivenBy}
-use Rattle.agreement.specs.Driver.{IsBacked}
-use Rattle.agreement.specs.Slots.{IsFree, IsServed, Serves, ServesRequest, Stage, Use}
+use Rattle.refinement.specs.Driven.{Grows, IsDrivenBy}
+use Rattle.refinement.specs.Driver.{IsBacked}
+use Rattle.refinement.specs.Slots.{IsEmptySlot, RelatesSlot, Serves, ServesRequest, Stage, SlotState}
 use Rattle.block_machine.specs.Events.{AllMay, AnswersEnded, changes_disk}
-use Rattle.block_machine.specs.Histories.{IsReached}
+use Rattle.block_machine.specs.Histories.{IsReachable}
 use Rattle.block_machine.specs.Left.{after}
 use Rattle.block_machine.specs.Ports.{Evidence, IsInterrupted, SamePort}
 use Rattle.block_machine.specs.State.{Pending, Machine}
 use Rattle.block_machine.specs.Steps.{Step, Answer}
-use Rattle.block_machine.specs.declared.due.Mode.{Mode}
+use Rattle.block_machine.specs.declared.due.QueueMode.{QueueMode}
 use Rattle.server_history.proofs.state.ListMembers.{into_map, map_in}
 use Rattle.driver_history.specs.Heeding.{ServesReady, tells_fault}
 use Rattle.driver_history.specs.Evidence.{ShowsFailure, ShowsLoss}
 use Rattle.driver_history.specs.Histories.{FindsDone, IsUnfitOrForeign, IsAnsweredOk, IsIssuedOn}
 use Rattle.driver_history.specs.Trace.{ReadsMasks}
-use Rattle.host_boot.specs.Taken.{found_of}
-use Rattle.port_look.specs.Looks.{IsLooking}
-use Rattle.port_look.specs.declared.Look.TheVariants.{Lost, Undisturbed as Calm}
-use Rattle.slots.specs.declared.Use.{Use as SlotUse}
+use Rattle.host_boot.specs.Taken.{probe_result_of}
+use Rattle.port_events.specs.Looks.{IsLooking}
+use Rattle.port_events.specs.declared.PortEvent.TheVariants.{LinkChanged, NoEvent}
+use Rattle.slots.specs.declared.SlotUse.{SlotUse}
 use Rattle.server_history.specs.Below.{LawsBelow}
 use Rattle.server_history.specs.Served.{AnswersBy, Checks, HasEnded, HasTurn, IsAnsweredIn, IsMaskOf, answers_in, done_reply, is_used}
 use Rattle.server_history.proofs.any_turn.TurnSteps.{counts_none}
 use Rattle.server_history.proofs.any_turn.UnusedSlotBits.{unused_clear}
-use Rattle.server_history.specs.Turns.{FindsTurn, InService, TiesTurn, instant_of, moment_of}
-use Rattle.server_history.specs.Server.{Server, IsKept, IsMachineOf, IsSettled, mode_in, ports_of, slots_at, state_of, used_for}
+use Rattle.server_history.specs.Turns.{FindsTurn, InService, TurnCorresponds, server_instant, server_moment}
+use Rattle.server_history.specs.Server.{ServerState, InCallInvariant, IsMachineOf, SettledInvariant, mode_in, ports_of, slots_at, state_of, used_for}
 use Rattle.server_history.proofs.state.AnswerSteps.{answered_in, ended_stood, in_answered, may_parts, no_answer, no_answer_issuing}
 use Rattle.server_history.proofs.state.TurnAccesses.{TurnList, look_does, look_list}
 use Rattle.server_history.proofs.any_turn.ToldTrouble.{no_change, not_missing}
@@ -63,13 +63,13 @@ tells_none q (step ∷ steps) told = tells_none q steps (λ x o here. told x o (
 
 -- ---- a turn
 
-module _ (laws : LawsBelow) (port : Port) (replies : List Reply) (old new : Server) (t : IsSettled old) (ready : state_of (found_of old.ports port.0) ≡ ReadyState)
+module _ (laws : LawsBelow) (port : Port) (replies : List Reply) (old new : ServerState) (t : SettledInvariant old) (ready : state_of (probe_result_of old.ports port.0) ≡ ReadyState)
     (turn : HasTurn port (slots_at old.slots port.0) replies old.device new.device) (list : TurnList port (slots_at old.slots port.0) replies old.device new.device turn)
-    (same : SamePort (ports_of old) (ports_of new) port) (m : Machine) (reached : IsReached m) (at : IsMachineOf old m) (steps : List Step) (may : AllMay m steps)
+    (same : SamePort (ports_of old) (ports_of new) port) (m : Machine) (reached : IsReachable m) (at : IsMachineOf old m) (steps : List Step) (may : AllMay m steps)
     (b : AnswersBy (mode_in old port) port replies steps)
-    (answered : turn.look ≡ Calm → (slot : ℕ) (used : SlotUse) → slot < 32 → used_for old.slots port.0 slot ≡ Some used
+    (answered : turn.look ≡ NoEvent → (slot : ℕ) (used : SlotUse) → slot < 32 → used_for old.slots port.0 slot ≡ Some used
     → (old.device.port port.0).ci slot ≡ false → (old.device.port port.0).sact slot ≡ false → IsAnsweredIn used.id replies) where
-  abbrev kept : IsKept old
+  abbrev kept : InCallInvariant old
   kept = t.kept
 
   low : port.0 < 4
@@ -80,7 +80,7 @@ module _ (laws : LawsBelow) (port : Port) (replies : List Reply) (old new : Serv
   its = no_evidence
 
   -- how the port takes commands
-  abbrev takes : Mode
+  abbrev takes : QueueMode
   takes = mode_in old port
 
   one_of : (e y : Pending) → Contains m.book e → Contains m.book y → e.request.id.0 ≡ y.request.id.0 → e ≡ y
@@ -138,7 +138,7 @@ module _ (laws : LawsBelow) (port : Port) (replies : List Reply) (old new : Serv
           sym r.2.entry.id ∙ ap (λ q. q.id) ok.1 ∙ sym (has_slot e own).id_is,
         )
 
-  module _ (calm : turn.look ≡ Calm) where
+  module _ (calm : turn.look ≡ NoEvent) where
     -- a request that had ended is told
     ended_told : (e : Pending) → (own : IsIssuedOn port m e) → e.ended ≡ true → IsAnsweredIn (has_slot e own).used.id replies
     ended_told e own ended =
@@ -202,8 +202,8 @@ module _ (laws : LawsBelow) (port : Port) (replies : List Reply) (old new : Serv
               (λ none. none)
               (used_or_not (used_for old.slots port.0 slot))
 
-          free : IsFree (old.device.port port.0) slot
-          free = subst (λ (u : Use). IsServed m old.device.memory old.device.tape (old.device.port port.0) port.0 slot u) (free_unused old m port.0 at ready slot unused) (at.knows.agrees.slot port.0 slot)
+          free : IsEmptySlot (old.device.port port.0) slot
+          free = subst (λ (u : SlotState). RelatesSlot m old.device.memory old.device.tape (old.device.port port.0) port.0 slot u) (free_unused old m port.0 at ready slot unused) (at.knows.agrees.slot port.0 slot)
 
           has_ended : other.ended ≡ true
           has_ended = ap (λ (y : Pending). y.ended) (sym its_pending) ∙ by says.stage
@@ -227,7 +227,7 @@ module _ (laws : LawsBelow) (port : Port) (replies : List Reply) (old new : Serv
             (λ _. told_answered other own (ended_told other own has_ended)),
           )
 
-      finding : FindsDone port list.driven.accesses (instant_of old m) steps
+      finding : FindsDone port list.driven.accesses (server_instant old m) steps
       finding = record {
         ci = k.reads.issued;
         sact = k.reads.active;
@@ -252,13 +252,13 @@ module _ (laws : LawsBelow) (port : Port) (replies : List Reply) (old new : Serv
 
   -- no failure was shown
   pub unfailing : ShowsFailure (old.device.port port.0) → ⊥
-  unfailing = never_failed laws port (slots_at old.slots port.0) replies (instant_of old m) new.device turn kept.on turn.quiet
+  unfailing = never_failed laws port (slots_at old.slots port.0) replies (server_instant old m) new.device turn kept.on turn.quiet
 
-  not_lost : turn.look ≢ Lost
-  not_lost lost = let z : Calm ≡ Lost = sym turn.quiet ∙ lost in cc
+  not_lost : turn.look ≢ LinkChanged
+  not_lost lost = let z : NoEvent ≡ LinkChanged = sym turn.quiet ∙ lost in cc
 
   later : Grows turn.seen new.device
-  later = let over = later_driven laws port (slots_at old.slots port.0) replies (instant_of old m) new.device turn kept.on turn.quiet in grows_over laws over.accesses turn.seen new.device over.all
+  later = let over = later_driven laws port (slots_at old.slots port.0) replies (server_instant old m) new.device turn kept.on turn.quiet in grows_over laws over.accesses turn.seen new.device over.all
 
   -- nor was a loss
   pub never_lost : ShowsLoss port old.device new.device → ⊥
@@ -287,31 +287,31 @@ module _ (laws : LawsBelow) (port : Port) (replies : List Reply) (old new : Serv
         (laws.recovery.own_on port.0 accesses old.device turn.seen does ((kept.behind port.0 low).own ready) (shows_device laws port old.device turn.seen turn.look turn.looks kept.on not_lost))
         at later steps backed
 
-    serves_ready : ServesReady (moment_of old m) its steps (record { machine = after m steps; ports = ports_of new }) port
+    serves_ready : ServesReady (server_moment old m) its steps (record { machine = after m steps; ports = ports_of new }) port
     serves_ready = record {
       ended = heeded turn.quiet;
       emptied = λ gone. absurd (nowhere port gone);
       told = λ gone. absurd (nowhere port gone);
-      interrupts = λ trouble. absurd (⊎_elim (nowhere port) (nowhere port) trouble);
-      anew = λ trouble. absurd (⊎_elim (nowhere port) (nowhere port) trouble);
+      interrupts = λ port_error. absurd (⊎_elim (nowhere port) (nowhere port) port_error);
+      anew = λ port_error. absurd (⊎_elim (nowhere port) (nowhere port) port_error);
       single = let none = counts_none (tells_fault port) steps (tells_none port steps (λ e o here. (turn_ended e o here).1)) in omega (arith, none);
       fatal = λ here. absurd (nowhere port here);
       disk = λ shows. had;
       calm = inr (record { same = same; told = λ e o here own. inl (turn_ended e o here).1; uninterrupted = uninterrupted });
     }
 
-    pub ties : TiesTurn InService port replies list.driven.accesses old new m its steps
+    pub ties : TurnCorresponds InService port replies list.driven.accesses old new m its steps
     ties = record {
       finds = λ is e own. finding turn.quiet e own;
       faults = λ alone. absurd (unfailing (inr alone.shows.fault));
-      tries = λ served coming. record {
+      probes = λ served coming. record {
         shown = λ absent det. absurd (not_absent absent);
         absent = λ absent det fresh. absurd (not_absent absent);
         missing = λ bad. absurd (not_bad bad);
         changed = λ bad. absurd (not_bad bad);
       };
-      boots = (λ is trouble. absurd (⊎_elim (λ fatal. unfailing (inl fatal)) never_lost trouble), inl same);
-      trouble = trouble_shown laws port (slots_at old.slots port.0) replies (instant_of old m) new.device turn kept.on turn.quiet its (ports_of new);
+      boots = (λ is port_error. absurd (⊎_elim (λ fatal. unfailing (inl fatal)) never_lost port_error), inl same);
+      port_error = trouble_shown laws port (slots_at old.slots port.0) replies (server_instant old m) new.device turn kept.on turn.quiet its (ports_of new);
       well = λ i. absurd (uninterrupted i);
       heeds = λ is. serves_ready;
     }

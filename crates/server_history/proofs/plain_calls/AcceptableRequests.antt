@@ -21,24 +21,24 @@ use Rattle.ata_types.specs.declared.request.RequestId.{RequestId}
 use Rattle.adapter.specs.Device.{Device}
 use Rattle.block_machine.specs.Confined.{IsGranted, WasAccepted}
 use Rattle.block_machine.specs.Events as events
-use Rattle.block_machine.specs.Histories.{Instant, IsReached}
+use Rattle.block_machine.specs.Histories.{JointState, IsReachable}
 use Rattle.block_machine.specs.Refusals.{Situation, IsAcceptable}
-use Rattle.block_machine.specs.Rules.{DifferInName, IsCount, IsNamed, Names, frames_for}
+use Rattle.block_machine.specs.Rules.{DifferInName, IsAllowedCount, IsNamed, Names, frames_for}
 use Rattle.block_machine.specs.State as machine
 use Rattle.block_machine.specs.State.{Machine, block_of}
 use Rattle.block_machine.specs.Steps as steps
 use Rattle.block_machine.specs.Steps.{IsLiving, IsNew, Step, newly_accepted}
-use Rattle.block_machine.proofs.Accepts.{accepted_is_granted}
+use Rattle.block_machine.proofs.Accepts.{law_accepted_is_granted}
 use Rattle.block_machine.proofs.Configured.{rows_differ}
 use Rattle.block_machine.proofs.Limits.{owned}
 use Rattle.block_machine.proofs.RuleLemmas.{one_row}
 use Rattle.dma_frames.specs.Table.{Table, owner_of, lent_to, LendsOnly}
-use Rattle.host_boot.specs.Taken.{found_of}
-use Rattle.request_queue.specs.Entries.{IsAccepted, unanswered_of}
+use Rattle.host_boot.specs.Taken.{probe_result_of}
+use Rattle.request_queue.specs.Entries.{IsAccepted, unanswered_entries}
 use Rattle.request_queue.specs.Machine.{IsEntry}
 use Rattle.server_history.specs.Served.{accepted_as}
 use Rattle.block_machine.specs.Left.{IsRow, after}
-use Rattle.server_history.specs.Server.{Server, IsKept, IsMachineOf, ports_of, situation_of, state_of}
+use Rattle.server_history.specs.Server.{ServerState, InCallInvariant, IsMachineOf, ports_of, server_situation, state_of}
 use Rattle.server_history.specs.Basics.{LivingLaws}
 use Rattle.server_history.specs.Below.{LawsBelow}
 use Rattle.server_history.proofs.plain_calls.RefusalsAndBytes.{situation_is}
@@ -51,7 +51,7 @@ between n top twice = (
   ⊎_elim (λ (high : top < n). absurd (twice (λ c. let to = c.1 in omega (arith, high, to)))) (λ (low : n ≤ top). low) (cases_lt top n),
 )
 
-count_is : (op : Op) (n : ℕ) → ((IsCount op n → ⊥) → ⊥) → IsCount op n
+count_is : (op : Op) (n : ℕ) → ((IsAllowedCount op n → ⊥) → ⊥) → IsAllowedCount op n
 count_is Read n twice = between n MOST_REQUEST_SECTORS twice
 count_is Write n twice = between n MOST_REQUEST_SECTORS twice
 count_is Trim n twice = between n 4194240 twice
@@ -65,7 +65,7 @@ ready_is (Unfit n) twice = absurd (twice (λ e. cc))
 ready_is Dead twice = absurd (twice (λ e. cc))
 
 -- the rows of a machine that is reached differ in name
-names_differ : (m : Machine) → IsReached m → AllPairs DifferInName m.rows
+names_differ : (m : Machine) → IsReachable m → AllPairs DifferInName m.rows
 names_differ m reached =
     subst (λ (n : Machine). AllPairs DifferInName n.rows) (sym reached.is)
     (rows_differ reached.first reached.past reached.starts.rows)
@@ -81,7 +81,7 @@ was_granted laws start (step ∷ past) r (inl came) =
 was_granted laws start (step ∷ past) r (inr was) = was_granted laws start past r was
 
 -- so an unanswered request is on the port of the row that it names
-pub on_its_port : LivingLaws → (m : Machine) → IsReached m → (e : machine.Pending) → Contains m.book e → (row : GrantRow) → Contains m.rows row → Names e.request.asked.client e.request.asked.grant row
+pub on_its_port : LivingLaws → (m : Machine) → IsReachable m → (e : machine.Pending) → Contains m.book e → (row : GrantRow) → Contains m.rows row → Names e.request.asked.client e.request.asked.grant row
     → e.request.port ≡ row.port
 on_its_port laws m reached e here row there named =
     let was = laws.lived reached.first reached.past e reached.starts reached.legal (subst (λ (n : Machine). IsLiving n e) reached.is (inl here)) in
@@ -89,16 +89,16 @@ on_its_port laws m reached e here row there named =
     let at_start = (laws.shrunk reached.first reached.past).0 row (subst (λ (n : Machine). Contains n.rows row) reached.is there) in
     g.port ∙ ap (λ (x : GrantRow). x.port) (one_row reached.first.rows reached.starts.rows e.request.asked.client e.request.asked.grant g.row row g.named.0 g.named.1 at_start named)
 
-module _ (s : Server) (r : Request) (acc : IsAcceptable (situation_of s) r) (row : GrantRow) (named : IsNamed s.grants r row) (port : Port) (port_is : row.port ≡ port) where
+module _ (s : ServerState) (r : Request) (acc : IsAcceptable (server_situation s) r) (row : GrantRow) (named : IsNamed s.grants r row) (port : Port) (port_is : row.port ≡ port) where
   -- its port is ready
-  pub on_ready : state_of (found_of s.ports port.0) ≡ ReadyState
+  pub on_ready : state_of (probe_result_of s.ports port.0) ≡ ReadyState
   on_ready =
-      let at : state_of (found_of s.ports row.port.0) ≡ ReadyState = ready_is (state_of (found_of s.ports row.port.0)) (λ other. acc (PortNotReady (state_of (found_of s.ports row.port.0))) (other, (row, named, refl))) in
-      ap (λ (p : Port). state_of (found_of s.ports p.0)) (sym port_is) ∙ at
+      let at : state_of (probe_result_of s.ports row.port.0) ≡ ReadyState = ready_is (state_of (probe_result_of s.ports row.port.0)) (λ other. acc (PortNotReady (state_of (probe_result_of s.ports row.port.0))) (other, (row, named, refl))) in
+      ap (λ (p : Port). state_of (probe_result_of s.ports p.0)) (sym port_is) ∙ at
 
   -- its client has room
-  pub has_room : unanswered_of s.book r.client.0 < 16
-  has_room = ⊎_elim (λ (low : unanswered_of s.book r.client.0 < 16). low) (λ high. absurd (acc ClientFull high)) (cases_lt (unanswered_of s.book r.client.0) 16)
+  pub has_room : unanswered_entries s.book r.client.0 < 16
+  has_room = ⊎_elim (λ (low : unanswered_entries s.book r.client.0 < 16). low) (λ high. absurd (acc ClientFull high)) (cases_lt (unanswered_entries s.book r.client.0) 16)
 
   -- none of its frames is lent
   pub unlent : All (λ f. lent_to s.table f ≡ None) r.frames.items
@@ -119,8 +119,8 @@ module _ (s : Server) (r : Request) (acc : IsAcceptable (situation_of s) r) (row
     pub entry_in : (m : Machine) → IsEntry (accepted_as port r id) (newly_accepted (request_in m))
     entry_in m = record { id = refl; client = refl; grant = refl; port = refl; op = refl; range = refl; frames = refl; issued = refl; issues = refl; age = refl }
 
-    module _ (laws : LawsBelow) (m : Machine) (reached : IsReached m) (is : IsMachineOf s m) where
-      abbrev at : Instant Device
+    module _ (laws : LawsBelow) (m : Machine) (reached : IsReachable m) (is : IsMachineOf s m) where
+      abbrev at : JointState Device
       at = record { device = s.device; moment = record { machine = m; ports = ports_of s } }
 
       allowed : IsAcceptable (events.situation_of at.moment) r
@@ -140,9 +140,9 @@ module _ (s : Server) (r : Request) (acc : IsAcceptable (situation_of s) r) (row
 
     -- ---- it is as the book has it
 
-    module _ (laws : LawsBelow) (k : IsKept s) where
+    module _ (laws : LawsBelow) (k : InCallInvariant s) where
       granted : IsGranted k.machine.rows (request_in k.machine)
-      granted = accepted_is_granted k.machine (request_in k.machine) (is_new laws k.machine k.reached k.stands)
+      granted = law_accepted_is_granted k.machine (request_in k.machine) (is_new laws k.machine k.reached k.stands)
 
       there : Contains s.grants granted.row
       there = subst (λ (rows : List GrantRow). Contains rows granted.row) k.stands.rows granted.named.0
@@ -150,7 +150,7 @@ module _ (s : Server) (r : Request) (acc : IsAcceptable (situation_of s) r) (row
       row_is : IsRow granted.row
       row_is = All-contains IsRow s.grants granted.row k.rows there
 
-      count : IsCount r.op r.count
+      count : IsAllowedCount r.op r.count
       count = count_is r.op r.count (λ other. acc (Rule BadCount) other)
 
       -- a grant's sectors are below 2^48

@@ -16,7 +16,7 @@ use Rattle.adapter.specs.declared.access.DeviceStep.{DeviceStep}
 use Rattle.block_machine.specs.Due.{NoneDue, is_plain, of_port}
 use Rattle.block_machine.specs.Events as events
 use Rattle.block_machine.specs.Events.{Submit, Submitted, AllIssued, issues_it}
-use Rattle.block_machine.specs.Histories.{Instant, Happening, IsReached, now}
+use Rattle.block_machine.specs.Histories.{JointState, Happening, IsReachable, now}
 use Rattle.block_machine.specs.Left.{after}
 use Rattle.block_machine.specs.Ports.{SamePorts}
 use Rattle.block_machine.specs.Refusals.{Situation, IsAcceptable}
@@ -26,26 +26,26 @@ use Rattle.block_machine.specs.State.{Machine}
 use Rattle.block_machine.specs.Steps.{Step, Accept, IsNew, after_step, lend}
 use Rattle.block_machine.specs.declared.due.Unanswered.{Unanswered}
 use Rattle.server_history.proofs.state.ListMembers.{append_in, contains_there, some_in}
-use Rattle.agreement.specs.Driven.{IsDrivenBy, known}
-use Rattle.agreement.proofs.device.AdapterOverAccesses.{same_refl}
+use Rattle.refinement.specs.Driven.{IsDrivenBy, known}
+use Rattle.refinement.proofs.device.AdapterOverAccesses.{same_refl}
 use Rattle.dma_frames.specs.Table.{Table, lent_to, LendsOnly}
-use Rattle.host_boot.specs.Taken.{found_of}
-use Rattle.host_boot.specs.declared.Found.{Found}
+use Rattle.host_boot.specs.Taken.{probe_result_of}
+use Rattle.host_boot.specs.declared.ProbeResult.{ProbeResult}
 use Rattle.request_queue.specs.Entries.{Held, IsAccepted, IsEarlier, asks, asks_of, due_ids}
 use Rattle.driver_history.specs.Histories.{IssuesDue, IssuesOn}
 use Rattle.driver_history.specs.Trace.{ClearsNone, LeavesEngine}
-use Rattle.agreement.specs.Links.{SparesRegister}
+use Rattle.refinement.specs.Links.{SparesRegister}
 use Rattle.hba_regs.specs.declared.reg.Reg.TheVariants.{Ghc, Px}
 use Rattle.hba_regs.specs.declared.reg.PortReg.TheVariants.{Ci, Sact}
 use Rattle.hba_regs.specs.declared.reg.PortReg.TheVariants as register
 use Rattle.adapter.specs.Access.{Access}
 use Rattle.adapter.specs.Access.Access.{Loading, Reading, Storing, Writing}
 use Rattle.server_history.specs.Below.{LawsBelow}
-use Rattle.server_history.specs.Histories.{Adds, Leads}
+use Rattle.server_history.specs.Histories.{ExtendsSettled, LeadsToServer}
 use Rattle.server_history.specs.Served.{IssuesIn, Accepts, IssuesAll, accepted_as, accepting}
-use Rattle.server_history.specs.Server.{Server, IsKept, IsMachineOf, IsSettled, mode_in, ports_of, situation_of, state_of, used_for, HasTrueMark}
-use Rattle.slots.specs.declared.Use.{Use as SlotUse}
-use Rattle.block_machine.specs.declared.due.Mode.{Mode}
+use Rattle.server_history.specs.Server.{ServerState, InCallInvariant, IsMachineOf, SettledInvariant, mode_in, ports_of, server_situation, state_of, used_for, HasTrueMark}
+use Rattle.slots.specs.declared.SlotUse.{SlotUse}
+use Rattle.block_machine.specs.declared.due.QueueMode.{QueueMode}
 use Rattle.server_history.proofs.state.DueRequests.{none_due}
 use Rattle.server_history.proofs.plain_calls.RefusalsAndBytes.{reached, situation_is}
 use Rattle.server_history.proofs.state.TurnAccesses.{issuing_is, issuing_leaves}
@@ -108,15 +108,15 @@ own_longer q [] e other = cond-false (e.entry.port.0 == q.0) (asks e.entry ∷ [
 own_longer q (x ∷ book) e other =
     ap (λ (us : List Unanswered). cond (x.entry.port.0 == q.0) (asks x.entry ∷ us) us) (own_longer q book e other)
 
-module _ (laws : LawsBelow) (s : Server) (k : IsKept s) (r : Request) (acc : IsAcceptable (situation_of s) r) (row : GrantRow) (named : IsNamed s.grants r row) (port : Port) (port_is : row.port ≡ port)
+module _ (laws : LawsBelow) (s : ServerState) (k : InCallInvariant s) (r : Request) (acc : IsAcceptable (server_situation s) r) (row : GrantRow) (named : IsNamed s.grants r row) (port : Port) (port_is : row.port ≡ port)
     (id : RequestId) (id_is : id.0 ≡ s.last + 1) (table : Table) (lends : LendsOnly s.table table r.frames.items (Some id)) where
   abbrev e : Held
   e = accepted_as port r id
 
-  abbrev more : Server
+  abbrev more : ServerState
   more = accepting port r id table s
 
-  ready : state_of (found_of s.ports port.0) ≡ ReadyState
+  ready : state_of (probe_result_of s.ports port.0) ≡ ReadyState
   ready = on_ready s r acc row named port port_is
 
   its : IsAccepted table e
@@ -130,7 +130,7 @@ module _ (laws : LawsBelow) (s : Server) (k : IsKept s) (r : Request) (acc : IsA
       All-push (IsAccepted table) s.book e
       (laws.still_lent s.table table s.book r.frames.items (Some id) lends (unlent s r acc row named port port_is) k.accepted) its
 
-  module _ (m : Machine) (was : IsReached m) (is : IsMachineOf s m) where
+  module _ (m : Machine) (was : IsReachable m) (is : IsMachineOf s m) where
     abbrev request : machine.Accepted
     request = request_in s r acc row named port port_is id id_is m
 
@@ -140,7 +140,7 @@ module _ (laws : LawsBelow) (s : Server) (k : IsKept s) (r : Request) (acc : IsA
     abbrev next : Machine
     next = after_step m (Accept request)
 
-    reached_next : IsReached next
+    reached_next : IsReachable next
     reached_next = laws.basic.reached m (Accept request ∷ []) was (tt, fresh)
 
     stands_next : IsMachineOf more next
@@ -174,17 +174,17 @@ module _ (laws : LawsBelow) (s : Server) (k : IsKept s) (r : Request) (acc : IsA
   its_mark : HasTrueMark s.grants e
   its_mark = record { tells = (λ plain. (row, named.0, named.1), λ has. refl); waiting = λ waits. refl }
 
-  pub accept_kept : IsKept more
+  pub accept_kept : InCallInvariant more
   accept_kept = kept_then s s.device s.grants table s.slots (s.book ++ e ∷ []) (s.last + 1) k k.rows k.on (same_refl s.device) k.behind lends.owners k.four k.slots kinds_then k.commands k.alone accepted
       (laws.longer s.book e k.ordered earlier (refl, refl, refl, refl) its.client_from its.client_to (has_room s r acc row named port port_is))
       (All-push (HasTrueMark s.grants) s.book e k.marked its_mark)
       (All-push (λ (x : Held). x.entry.id.0 ≤ s.last + 1) s.book e (All-weaker (λ (x : Held). x.entry.id.0 ≤ s.last) (λ (x : Held). x.entry.id.0 ≤ s.last + 1) (λ x low. omega (arith, low)) s.book k.handed_out) (omega (arith, id_is)))
-      (All-push (λ (x : Held). state_of (found_of s.ports x.entry.port.0) ≡ ReadyState) s.book e k.ready ready)
+      (All-push (λ (x : Held). state_of (probe_result_of s.ports x.entry.port.0) ≡ ReadyState) s.book e k.ready ready)
       (next k.machine k.reached k.stands) (reached_next k.machine k.reached k.stands) (stands_next k.machine k.reached k.stands)
 
   -- ---- the event
 
-  module _ (none : (other : Port) → NoneDue (mode_in s other) (asks_of s.book) other) (new : Server) (issues : IssuesAll port more new) where
+  module _ (none : (other : Port) → NoneDue (mode_in s other) (asks_of s.book) other) (new : ServerState) (issues : IssuesAll port more new) where
     abbrev ids : List RequestId
     ids = due_ids (mode_in s port) port (asks_of more.book)
 
@@ -192,7 +192,7 @@ module _ (laws : LawsBelow) (s : Server) (k : IsKept s) (r : Request) (acc : IsA
     none_other other ne u own due =
         none other u own ((laws.same_due (mode_in s other) other (asks_of more.book) (asks_of s.book) u (own_longer other s.book e (λ same. ne (sym same))) own).0 due)
 
-    settles : IsSettled new
+    settles : SettledInvariant new
     settles = settled laws port more new accept_kept none_other issues
 
     same : new ≡ record more { device = new.device; slots = new.slots; book = new.book }
@@ -204,10 +204,10 @@ module _ (laws : LawsBelow) (s : Server) (k : IsKept s) (r : Request) (acc : IsA
     port_low : port.0 < 4
     port_low = (ready_found s port.0 k ready).0
 
-    pub event : (first : Instant Device) (past : List (Happening Device DeviceStep)) → Leads first past s
-        → (h : Happening Device DeviceStep) × (h.event.ask ≡ Submit r) × (h.event.said ≡ Submitted (Ok id)) × Leads first (h ∷ past) new
+    pub event : (first : JointState Device) (past : List (Happening Device DeviceStep)) → LeadsToServer first past s
+        → (h : Happening Device DeviceStep) × (h.event.ask ≡ Submit r) × (h.event.said ≡ Submitted (Ok id)) × LeadsToServer first (h ∷ past) new
     event first past leads =
-        lead_by laws first past s new (Submit r) (Submitted (Ok id)) (x.steps ++ early) (ap (λ (n : Server). n.wanted) same) (ap ports_of same) leads (holding new settles.kept)
+        lead_by laws first past s new (Submit r) (Submitted (Ok id)) (x.steps ++ early) (ap (λ (n : ServerState). n.wanted) same) (ap ports_of same) leads (holding new settles.kept)
         (laws.basic.may m x.steps early (tt, fresh m was is) x.may)
         (belong_on mode port {D = DeviceStep} (Submit r) (ports_of new) (λ p own. (its_ready p own, its_mode p own)) x.steps early x.only (tt, inr refl))
         (last_on mode port x.steps early x.only x.last (tt, λ other h i. false≢true h) (λ other i j. false≢true j))
@@ -218,17 +218,17 @@ module _ (laws : LawsBelow) (s : Server) (k : IsKept s) (r : Request) (acc : IsA
         (driven.all, (row, its_row, All-weaker (IssuesIn port) (IssuesOn row.port) (λ access here. subst (λ (p : Port). IssuesOn p access) (sym port_is) (issuing_is port port_low access here)) driven.accesses driven.only))
         (λ other. All-weaker (IssuesIn port) (LeavesEngine other) (issuing_leaves port other) driven.accesses driven.only)
         (λ other is_ready. due_now other)
-        (λ other. record { finds = tt; faults = tt; tries = tt; boots = tt; trouble = laws.calls.ordinary other (with_device s.device old) new.device driven.accesses (told_by s.device old.moment.ports) (ports_of new) k.on driven.all (All-weaker (IssuesIn port) (SparesRegister Ghc) (issuing_spares_host port) driven.accesses driven.only) (All-weaker (IssuesIn port) (ClearsNone other) (issuing_clears_none port other) driven.accesses driven.only); well = λ i. absurd (uninterrupted s.device old.moment.ports other i); heeds = uninterrupted s.device old.moment.ports other })
+        (λ other. record { finds = tt; faults = tt; probes = tt; boots = tt; port_error = laws.calls.ordinary other (with_device s.device old) new.device driven.accesses (told_by s.device old.moment.ports) (ports_of new) k.on driven.all (All-weaker (IssuesIn port) (SparesRegister Ghc) (issuing_spares_host port) driven.accesses driven.only) (All-weaker (IssuesIn port) (ClearsNone other) (issuing_clears_none port other) driven.accesses driven.only); well = λ i. absurd (uninterrupted s.device old.moment.ports other i); heeds = uninterrupted s.device old.moment.ports other })
         (laws.backed_parts s.device s.device new.device m early x.steps (laws.backed_own s.device m (Accept asked) (λ no. no)) x.backed)
         stands
       where
-        old : Instant Device
+        old : JointState Device
         old = now first past
 
         m : Machine
         m = old.moment.machine
 
-        was : IsReached m
+        was : IsReachable m
         was = reached laws first past s leads
 
         is : IsMachineOf s m
@@ -246,17 +246,17 @@ module _ (laws : LawsBelow) (s : Server) (k : IsKept s) (r : Request) (acc : IsA
         stands : IsMachineOf new (after m (x.steps ++ early))
         stands = subst (IsMachineOf new) (sym (laws.basic.joined m x.steps early)) x.stands
 
-        mode : Mode
+        mode : QueueMode
         mode = mode_in s port
 
         its_mode : (p : machine.Pending) → p.request.port ≡ port → (ports_of new).mode p.request.port ≡ mode
-        its_mode p own = ap (mode_in new) own ∙ ap (λ (n : Server). mode_in n port) same
+        its_mode p own = ap (mode_in new) own ∙ ap (λ (n : ServerState). mode_in n port) same
 
         ports_same_too : new.ports ≡ s.ports
-        ports_same_too = ap (λ (n : Server). n.ports) same
+        ports_same_too = ap (λ (n : ServerState). n.ports) same
 
         its_ready : (p : machine.Pending) → p.request.port ≡ port → (ports_of new).state p.request.port ≡ ReadyState
-        its_ready p own = ap (λ (q : Port). state_of (found_of new.ports q.0)) own ∙ ap (λ (found : List Found). state_of (found_of found port.0)) ports_same_too ∙ ready
+        its_ready p own = ap (λ (q : Port). state_of (probe_result_of new.ports q.0)) own ∙ ap (λ (found : List ProbeResult). state_of (probe_result_of found port.0)) ports_same_too ∙ ready
 
         allowed : IsAcceptable (events.situation_of old.moment) r
         allowed = subst (λ (y : Situation). IsAcceptable y r) (sym (situation_is laws s old leads.stands)) acc
@@ -271,17 +271,17 @@ module _ (laws : LawsBelow) (s : Server) (k : IsKept s) (r : Request) (acc : IsA
         all_issued other on = none_due new (after m (x.steps ++ early)) stands (mode_in new other) other (settles.issued other)
 
         mode_is : (other : Port) → mode_in new other ≡ mode_in s other
-        mode_is other = ap (λ (n : Server). mode_in n other) same
+        mode_is other = ap (λ (n : ServerState). mode_in n other) same
 
         due_now : (other : Port) → IssuesDue (mode_in new other) (x.steps ++ early) (after m (x.steps ++ early)) other
         due_now other =
-            subst (λ (takes : Mode). IssuesDue takes (x.steps ++ early) (after m (x.steps ++ early)) other) (sym (mode_is other))
+            subst (λ (takes : QueueMode). IssuesDue takes (x.steps ++ early) (after m (x.steps ++ early)) other) (sym (mode_is other))
             (subst (λ (n : Machine). IssuesDue (mode_in s other) (x.steps ++ early) n other) (sym (laws.basic.joined m x.steps early))
             (dues_carried laws (mode_in s other) x.steps (x.steps ++ early) (after (next m was is) x.steps) (after (next m was is) x.steps) other refl
             (λ u here own. sym (any_append (issues_it u.id) x.steps early ∙ or_none (list_any (issues_it u.id) x.steps)))
             (dues laws port more new accept_kept issues (next m was is) x other (none_other other))))
 
-pub acceptance : LawsBelow → (s new : Server) (port : Port) (r : Request) (id : RequestId) → IsSettled s → IsAcceptable (situation_of s) r → Accepts port r id s new → Adds s new (Submit r) (Submitted (Ok id))
+pub acceptance : LawsBelow → (s new : ServerState) (port : Port) (r : Request) (id : RequestId) → SettledInvariant s → IsAcceptable (server_situation s) r → Accepts port r id s new → ExtendsSettled s new (Submit r) (Submitted (Ok id))
 acceptance laws s new port r id k acc a = record {
   settled = settles laws s k.kept r acc a.row a.named port a.port_is id a.id_is a.table a.lent k.issued new a.issued;
   adds = event laws s k.kept r acc a.row a.named port a.port_is id a.id_is a.table a.lent k.issued new a.issued;

@@ -9,32 +9,32 @@ use Rattle.ata_types.specs.declared.Port.{Port}
 use Rattle.ata_types.specs.declared.request.RequestId.{RequestId}
 use Rattle.ata_types.specs.declared.PortState.TheVariants.{Dead}
 use Rattle.adapter.specs.declared.command.Operation.{Operation}
-use Rattle.agreement.specs.Driven.{IsDrivenBy, SendsNone}
-use Rattle.agreement.specs.Slots.{op_of}
-use Rattle.agreement.specs.Driver.{IsBacked}
+use Rattle.refinement.specs.Driven.{IsDrivenBy, SendsNone}
+use Rattle.refinement.specs.Slots.{op_of}
+use Rattle.refinement.specs.Driver.{IsBacked}
 use Rattle.server_history.proofs.state.DrivenAccesses.{by_none, driven_as}
-use Rattle.block_machine.specs.Due.{AreDueInTurn, IsDue, NoneDue, due_of, mark_issued, of_port, with_issued}
-use Rattle.block_machine.specs.Events.{Ask, Moment, AllDevices, AllLawful, AllMay, Belong, IsIssuedIn, IsServers, IssuesLast, accepts_of, handles, issues_it}
-use Rattle.block_machine.specs.Histories.{IsReached}
+use Rattle.block_machine.specs.Due.{AreAllDueInOrder, IsDue, NoneDue, due_of, mark_issued, of_port, with_issued}
+use Rattle.block_machine.specs.Events.{Ask, AbstractState, AllDevices, AllLawful, AllMay, Belong, IsIssuedIn, IsByServer, IssuesLast, accepts_of, handles, issues_it}
+use Rattle.block_machine.specs.Histories.{IsReachable}
 use Rattle.block_machine.specs.Left.{after}
 use Rattle.block_machine.specs.Ports.{Ports, Evidence}
 use Rattle.block_machine.specs.State.{Machine, Pending, unanswered}
 use Rattle.block_machine.specs.Steps.{Step, Accept, Again, Answer, Issue}
-use Rattle.block_machine.specs.declared.due.Mode.{Mode}
+use Rattle.block_machine.specs.declared.due.QueueMode.{QueueMode}
 use Rattle.block_machine.specs.declared.due.Unanswered.{Unanswered}
 use Rattle.server_history.proofs.state.ListMembers.{contains_cases, contains_here, contains_there, into_map, map_in}
 use Rattle.driver_history.specs.Histories.{IssuesDue, unissued}
 use Rattle.ncq.specs.Tasks.{IsIssuing}
-use Rattle.request_queue.specs.Entries.{Held, IsInOrder, IsWaiting, asks, asks_of, at, due_ids, has_id, issue}
+use Rattle.request_queue.specs.Entries.{Held, BookIsInOrder, IsWaiting, asks, asks_of, at_entry, due_ids, has_id, issue}
 use Rattle.server_history.specs.Below.{LawsBelow}
 use Rattle.server_history.specs.Served.{IssuesAll, IssuesIn, IssuesEach, IssuesOne, IssuesOnly}
-use Rattle.server_history.specs.Server.{Server, IsKept, IsMachineOf, IsSettled, mode_at, mode_in, no_slots, slots_at}
+use Rattle.server_history.specs.Server.{ServerState, InCallInvariant, IsMachineOf, SettledInvariant, mode_at, mode_in, no_slots, slots_at}
 use Rattle.server_history.proofs.state.DueRequests.{same_book}
 use Rattle.server_history.proofs.state.DeviceSteps.{devices_last, not_handled}
 use Rattle.server_history.proofs.plain_calls.OneIssue.{IsIssue, issue_kept, issue_one, issue_silent}
 use Rattle.server_history.proofs.state.SilentOperations.{silent_more, silent_none}
-use Rattle.host_boot.specs.Taken.{found_of}
-use Rattle.host_boot.specs.declared.Found.TheVariants.{Unready}
+use Rattle.host_boot.specs.Taken.{probe_result_of}
+use Rattle.host_boot.specs.declared.ProbeResult.TheVariants.{Unready}
 use Rattle.server_history.proofs.state.FirstMembers.{nowhere, first_here}
 
 pub not_true : (b : Bool) → not b ≡ true → b ≡ false
@@ -70,23 +70,23 @@ issued_late id late early i = any_append (issues_it id) late early ∙ or_left _
 pub issued_early : (id : RequestId) (late early : List Step) → IsIssuedIn id early → IsIssuedIn id (late ++ early)
 issued_early id late early i = any_append (issues_it id) late early ∙ or_right _ _ i
 
-devices_only : (mode : Mode) (port : Port) (steps : List Step) → AllDevices steps → IssuesOnly mode port steps
+devices_only : (mode : QueueMode) (port : Port) (steps : List Step) → AllDevices steps → IssuesOnly mode port steps
 devices_only mode port [] all = tt
 devices_only mode port (Issue its e ∷ steps) all = absurd all.1
 devices_only mode port (step ∷ steps) all = (all.1, devices_only mode port steps all.0)
 
-pub only_append : (mode : Mode) (port : Port) (late early : List Step) → IssuesOnly mode port late → IssuesOnly mode port early → IssuesOnly mode port (late ++ early)
+pub only_append : (mode : QueueMode) (port : Port) (late early : List Step) → IssuesOnly mode port late → IssuesOnly mode port early → IssuesOnly mode port (late ++ early)
 only_append mode port [] early a b = b
 only_append mode port (Issue its e ∷ late) early a b = (a.0, a.1, only_append mode port late early a.2 b)
 only_append mode port (step ∷ late) early a b = (a.0, only_append mode port late early a.1 b)
 
 -- what such steps are to a call: each is the device's, or issues a request of the port
-module _ (mode : Mode) (port : Port) where
-  pub belong_on : {D : Type 0} (ask : Ask D) (ports : Ports) → ((e : Pending) → e.request.port ≡ port → IsServers ask ports (Issue mode e)) → (late early : List Step) → IssuesOnly mode port late → Belong ask ports early
+module _ (mode : QueueMode) (port : Port) where
+  pub belong_on : {D : Type 0} (ask : Ask D) (ports : Ports) → ((e : Pending) → e.request.port ≡ port → IsByServer ask ports (Issue mode e)) → (late early : List Step) → IssuesOnly mode port late → Belong ask ports early
       → Belong ask ports (late ++ early)
   belong_on ask ports own [] early only b = b
   belong_on ask ports own (Issue its e ∷ late) early only b =
-      (belong_on ask ports own late early only.2 b, inr (subst (λ (x : Mode). IsServers ask ports (Issue x e)) (sym only.0) (own e only.1)))
+      (belong_on ask ports own late early only.2 b, inr (subst (λ (x : QueueMode). IsByServer ask ports (Issue x e)) (sym only.0) (own e only.1)))
   belong_on ask ports own (step ∷ late) early only b = (belong_on ask ports own late early only.1 b, inl only.0)
 
   pub last_on : (late early : List Step) → IssuesOnly mode port late → IssuesLast late → IssuesLast early → ((id : RequestId) → IsIssuedIn id late → IsIssuedIn id early → ⊥) → IssuesLast (late ++ early)
@@ -104,7 +104,7 @@ module _ (mode : Mode) (port : Port) where
       issues (Issue its e) only id h = h
       issues step only id h = absurd (not_handled id step only.0 h)
 
-  pub lawful_on : (old : Moment) (evidence : Evidence) (ports : Ports) (late early : List Step) → IssuesOnly mode port late → AllLawful old evidence ports early → AllLawful old evidence ports (late ++ early)
+  pub lawful_on : (old : AbstractState) (evidence : Evidence) (ports : Ports) (late early : List Step) → IssuesOnly mode port late → AllLawful old evidence ports early → AllLawful old evidence ports (late ++ early)
   lawful_on old evidence ports [] early only l = l
   lawful_on old evidence ports (Issue its e ∷ late) early only l = lawful_on old evidence ports late early only.2 l
   lawful_on old evidence ports (Again e ∷ late) early only l = absurd only.0
@@ -120,7 +120,7 @@ module _ (mode : Mode) (port : Port) where
 -- ---- one after another
 
 -- These requests are issued by such steps from the machine, after which it stands for the new server.
-pub record AreIssued (port : Port) (ids : List RequestId) (old new : Server) (m : Machine) : Type 0 where
+pub record AreIssued (port : Port) (ids : List RequestId) (old new : ServerState) (m : Machine) : Type 0 where
   pub steps : List Step
   pub may : AllMay m steps
   pub backed : IsBacked old.device new.device m steps
@@ -135,15 +135,15 @@ same_id a b same = ap (λ (n : ℕ). record { 0 = n }) same
 
 module _ (laws : LawsBelow) (port : Port) where
   -- each waits until its turn comes
-  each_waits : (ids : List RequestId) (old new : Server) → IsKept old → IssuesEach port ids old new → (id : RequestId) → Contains ids id → (e : Held) → Contains old.book e → e.entry.id ≡ id → e.entry.issued ≡ false
+  each_waits : (ids : List RequestId) (old new : ServerState) → InCallInvariant old → IssuesEach port ids old new → (id : RequestId) → Contains ids id → (e : Held) → Contains old.book e → e.entry.id ≡ id → e.entry.issued ≡ false
   each_waits [] old new k none id there e here its = absurd (nowhere id there)
   each_waits (first ∷ ids) old new k (mid, one, more) id there e here its = ⊎_elim
       (λ (same : id ≡ first).
       let it : one.request ≡ e = laws.one old.book one.request e k.ordered one.here here (one.id_is ∙ sym same ∙ sym its) in
       subst (λ (x : Held). x.entry.issued ≡ false) it (not_true one.request.entry.issued (and_parts _ _ one.due.clear).0))
       (λ (later : Contains ids id).
-      let moved : Contains mid.book (at first issue e) = subst (λ (n : Server). Contains n.book (at first issue e)) (sym one.server) (into_map (at first issue) old.book e here) in
-      let waits : (at first issue e).entry.issued ≡ false = each_waits ids mid new (issue_kept laws old mid port first k one) more id later (at first issue e) moved (by_id e (has_id first e) ∙ its) in
+      let moved : Contains mid.book (at_entry first issue e) = subst (λ (n : ServerState). Contains n.book (at_entry first issue e)) (sym one.server) (into_map (at_entry first issue) old.book e here) in
+      let waits : (at_entry first issue e).entry.issued ≡ false = each_waits ids mid new (issue_kept laws old mid port first k one) more id later (at_entry first issue e) moved (by_id e (has_id first e) ∙ its) in
       still e (has_id first e) refl waits)
       (contains_cases first ids id there)
     where
@@ -151,31 +151,31 @@ module _ (laws : LawsBelow) (port : Port) where
       by_id e true = refl
       by_id e false = refl
 
-      still : (e : Held) (b : Bool) → has_id first e ≡ b → (at first issue e).entry.issued ≡ false → e.entry.issued ≡ false
+      still : (e : Held) (b : Bool) → has_id first e ≡ b → (at_entry first issue e).entry.issued ≡ false → e.entry.issued ≡ false
       still e true is waits = absurd (false≢true (sym waits ∙ ap (λ (x : Held). x.entry.issued) (cond-true (has_id first e) (record e { entry = issue e.entry }) e is)))
       still e false is waits = sym (ap (λ (x : Held). x.entry.issued) (cond-false (has_id first e) (record e { entry = issue e.entry }) e is)) ∙ waits
 
   -- so no request is issued twice
-  never_again : (first : RequestId) (ids : List RequestId) (old mid new : Server) → IsKept old → IssuesOne port first old mid → IssuesEach port ids mid new → Contains ids first → ⊥
+  never_again : (first : RequestId) (ids : List RequestId) (old mid new : ServerState) → InCallInvariant old → IssuesOne port first old mid → IssuesEach port ids mid new → Contains ids first → ⊥
   never_again first ids old mid new k one more there = false≢true (sym waits ∙ ap (λ (x : Held). x.entry.issued) now)
     where
       e : Held
       e = one.request
 
-      now : at first issue e ≡ record e { entry = issue e.entry }
+      now : at_entry first issue e ≡ record e { entry = issue e.entry }
       now = cond-true (has_id first e) (record e { entry = issue e.entry }) e (eq-eqb e.entry.id.0 first.0 (ap (λ (r : RequestId). r.0) one.id_is))
 
-      waits : (at first issue e).entry.issued ≡ false
-      waits = each_waits ids mid new (issue_kept laws old mid port first k one) more first there (at first issue e)
-          (subst (λ (n : Server). Contains n.book (at first issue e)) (sym one.server) (into_map (at first issue) old.book e one.here))
+      waits : (at_entry first issue e).entry.issued ≡ false
+      waits = each_waits ids mid new (issue_kept laws old mid port first k one) more first there (at_entry first issue e)
+          (subst (λ (n : ServerState). Contains n.book (at_entry first issue e)) (sym one.server) (into_map (at_entry first issue) old.book e one.here))
           (ap (λ (x : Held). x.entry.id) now ∙ one.id_is)
 
-  pub each_issued : (ids : List RequestId) (old new : Server) → IsKept old → IssuesEach port ids old new → (m : Machine) → IsReached m → IsMachineOf old m → AreIssued port ids old new m
+  pub each_issued : (ids : List RequestId) (old new : ServerState) → InCallInvariant old → IssuesEach port ids old new → (m : Machine) → IsReachable m → IsMachineOf old m → AreIssued port ids old new m
   each_issued [] old new k none m reached is = record {
     steps = [];
     may = tt;
-    backed = subst (λ (n : Server). IsBacked old.device n.device m []) (sym none) (laws.backed_none old.device m);
-    stands = subst (λ (n : Server). IsMachineOf n m) (sym none) is;
+    backed = subst (λ (n : ServerState). IsBacked old.device n.device m []) (sym none) (laws.backed_none old.device m);
+    stands = subst (λ (n : ServerState). IsMachineOf n m) (sym none) is;
     only = tt;
     named = λ id i. absurd (false≢true i);
     all = λ id here. absurd (nowhere id here);
@@ -190,7 +190,7 @@ module _ (laws : LawsBelow) (port : Port) where
         may = laws.basic.may m y.steps early x.may y.may;
         backed = laws.backed_parts old.device mid.device new.device m early y.steps x.backed y.backed;
         stands = subst (IsMachineOf new) (sym (laws.basic.joined m y.steps early)) y.stands;
-        only = only_append (mode_in old port) port y.steps early (subst (λ (modes : List Mode). IssuesOnly (mode_at modes port.0) port y.steps) (ap (λ (n : Server). n.modes) one.server) y.only) (refl, x.port_is, devices_only (mode_in old port) port x.steps x.only);
+        only = only_append (mode_in old port) port y.steps early (subst (λ (modes : List QueueMode). IssuesOnly (mode_at modes port.0) port y.steps) (ap (λ (n : ServerState). n.modes) one.server) y.only) (refl, x.port_is, devices_only (mode_in old port) port x.steps x.only);
         named = λ id i. ⊎_elim
             (λ (late : IsIssuedIn id y.steps). contains_there first ids id (y.named id late))
             (λ (here : IsIssuedIn id early). ⊎_elim
@@ -211,27 +211,27 @@ module _ (laws : LawsBelow) (port : Port) where
             (or_cases (x.request.request.id.0 == id.0) (list_any (issues_it id) x.steps) i));
       }
 
-  pub each_kept : (ids : List RequestId) (old new : Server) → IsKept old → IssuesEach port ids old new → IsKept new
-  each_kept [] old new k none = subst IsKept (sym none) k
+  pub each_kept : (ids : List RequestId) (old new : ServerState) → InCallInvariant old → IssuesEach port ids old new → InCallInvariant new
+  each_kept [] old new k none = subst InCallInvariant (sym none) k
   each_kept (first ∷ ids) old new k (mid, one, more) = each_kept ids mid new (issue_kept laws old mid port first k one) more
 
   -- in that no data comes for a command of the driver's own but on dead ports
-  pub each_silent : (ids : List RequestId) (old new : Server) → IsKept old → IssuesEach port ids old new → (q : ℕ) (o : Operation) → op_of o ≡ None → found_of old.ports q ≢ Unready Dead
+  pub each_silent : (ids : List RequestId) (old new : ServerState) → InCallInvariant old → IssuesEach port ids old new → (q : ℕ) (o : Operation) → op_of o ≡ None → probe_result_of old.ports q ≢ Unready Dead
       → SendsNone q o old.device new.device
-  each_silent [] old new k none q o own other = subst (λ (n : Server). SendsNone q o old.device n.device) (sym none) (silent_none q o old.device)
+  each_silent [] old new k none q o own other = subst (λ (n : ServerState). SendsNone q o old.device n.device) (sym none) (silent_none q o old.device)
   each_silent (first ∷ ids) old new k (mid, one, more) q o own other =
       silent_more q o old.device mid.device new.device (issue_silent laws old mid port first k one q o own other)
-      (each_silent ids mid new (issue_kept laws old mid port first k one) more q o own (λ dead. other (ap (λ (n : Server). found_of n.ports q) (sym one.server) ∙ dead)))
+      (each_silent ids mid new (issue_kept laws old mid port first k one) more q o own (λ dead. other (ap (λ (n : ServerState). probe_result_of n.ports q) (sym one.server) ∙ dead)))
 
   -- but for the device, the slots and the book, the server is as it was
-  pub each_settings : (ids : List RequestId) (old new : Server) → IssuesEach port ids old new → new ≡ record old { device = new.device; slots = new.slots; book = new.book }
-  each_settings [] old new none = none ∙ ap (λ (n : Server). record old { device = n.device; slots = n.slots; book = n.book }) (sym none)
+  pub each_settings : (ids : List RequestId) (old new : ServerState) → IssuesEach port ids old new → new ≡ record old { device = new.device; slots = new.slots; book = new.book }
+  each_settings [] old new none = none ∙ ap (λ (n : ServerState). record old { device = n.device; slots = n.slots; book = n.book }) (sym none)
   each_settings (first ∷ ids) old new (mid, one, more) =
-      each_settings ids mid new more ∙ ap (λ (n : Server). record n { device = new.device; slots = new.slots; book = new.book }) one.server
+      each_settings ids mid new more ∙ ap (λ (n : ServerState). record n { device = new.device; slots = new.slots; book = new.book }) one.server
 
   -- the accesses that issue them
-  pub each_driven : (ids : List RequestId) (old new : Server) → IssuesEach port ids old new → IsDrivenBy (IssuesIn port) old.device new.device
-  each_driven [] old new none = subst (λ (n : Server). IsDrivenBy (IssuesIn port) old.device n.device) (sym none) (by_none (IssuesIn port) old.device)
+  pub each_driven : (ids : List RequestId) (old new : ServerState) → IssuesEach port ids old new → IsDrivenBy (IssuesIn port) old.device new.device
+  each_driven [] old new none = subst (λ (n : ServerState). IsDrivenBy (IssuesIn port) old.device n.device) (sym none) (by_none (IssuesIn port) old.device)
   each_driven (first ∷ ids) old new (mid, one, more) =
       let late = each_driven ids mid new more in
       let early = driven_as (IsIssuing port one.slot) (IssuesIn port) old.device mid.device (λ access is. (one.slot, one.small, is)) one.issues.driven in
@@ -248,42 +248,42 @@ module _ (laws : LawsBelow) (port : Port) where
   with_each [] book = book
   with_each (id ∷ ids) book = with_each ids (with_issued id book)
 
-  each_asks : (ids : List RequestId) (old new : Server) → IssuesEach port ids old new → asks_of new.book ≡ with_each ids (asks_of old.book)
-  each_asks [] old new none = ap (λ (n : Server). asks_of n.book) none
+  each_asks : (ids : List RequestId) (old new : ServerState) → IssuesEach port ids old new → asks_of new.book ≡ with_each ids (asks_of old.book)
+  each_asks [] old new none = ap (λ (n : ServerState). asks_of n.book) none
   each_asks (first ∷ ids) old new (mid, one, more) =
-      each_asks ids mid new more ∙ ap (with_each ids) (ap (λ (n : Server). asks_of n.book) one.server ∙ laws.asks_issued old.book first)
+      each_asks ids mid new more ∙ ap (with_each ids) (ap (λ (n : ServerState). asks_of n.book) one.server ∙ laws.asks_issued old.book first)
 
   -- nothing changes how ports take commands
-  pub each_modes : (ids : List RequestId) (old new : Server) → IssuesEach port ids old new → new.modes ≡ old.modes
-  each_modes [] old new none = ap (λ (n : Server). n.modes) none
-  each_modes (first ∷ ids) old new (mid, one, more) = each_modes ids mid new more ∙ ap (λ (n : Server). n.modes) one.server
+  pub each_modes : (ids : List RequestId) (old new : ServerState) → IssuesEach port ids old new → new.modes ≡ old.modes
+  each_modes [] old new none = ap (λ (n : ServerState). n.modes) none
+  each_modes (first ∷ ids) old new (mid, one, more) = each_modes ids mid new more ∙ ap (λ (n : ServerState). n.modes) one.server
 
   -- once all that were due are issued, none is
-  pub each_done : (mode : Mode) (ids : List RequestId) (old new : Server) → IssuesEach port ids old new → AreDueInTurn mode port ids (asks_of old.book) → NoneDue mode (asks_of new.book) port
-  each_done mode [] old new none turns = subst (λ (n : Server). NoneDue mode (asks_of n.book) port) (sym none) turns
+  pub each_done : (mode : QueueMode) (ids : List RequestId) (old new : ServerState) → IssuesEach port ids old new → AreAllDueInOrder mode port ids (asks_of old.book) → NoneDue mode (asks_of new.book) port
+  each_done mode [] old new none turns = subst (λ (n : ServerState). NoneDue mode (asks_of n.book) port) (sym none) turns
   each_done mode (first ∷ ids) old new (mid, one, more) turns =
       each_done mode ids mid new more
-      (subst (AreDueInTurn mode port ids) (sym (ap (λ (n : Server). asks_of n.book) one.server ∙ laws.asks_issued old.book first)) turns.1)
+      (subst (AreAllDueInOrder mode port ids) (sym (ap (λ (n : ServerState). asks_of n.book) one.server ∙ laws.asks_issued old.book first)) turns.1)
 
   -- requests of another port are as they were
-  pub each_apart : (ids : List RequestId) (old new : Server) → IsInOrder old.book → IssuesEach port ids old new → (other : Port) → other ≢ port → of_port other (asks_of new.book) ≡ of_port other (asks_of old.book)
-  each_apart [] old new order none other ne = ap (λ (n : Server). of_port other (asks_of n.book)) none
+  pub each_apart : (ids : List RequestId) (old new : ServerState) → BookIsInOrder old.book → IssuesEach port ids old new → (other : Port) → other ≢ port → of_port other (asks_of new.book) ≡ of_port other (asks_of old.book)
+  each_apart [] old new order none other ne = ap (λ (n : ServerState). of_port other (asks_of n.book)) none
   each_apart (first ∷ ids) old new order (mid, one, more) other ne =
-      each_apart ids mid new (subst (λ (n : Server). IsInOrder n.book) (sym one.server) (laws.issued old.book first order (subst (λ (id : RequestId). IsWaiting id old.book) one.id_is (laws.waits (mode_in old port) old.book (asks one.request.entry) one.due)))) more other ne
-      ∙ ap (of_port other) (ap (λ (n : Server). asks_of n.book) one.server ∙ laws.asks_issued old.book first ∙ ap (λ (id : RequestId). with_issued id (asks_of old.book)) (sym one.id_is))
+      each_apart ids mid new (subst (λ (n : ServerState). BookIsInOrder n.book) (sym one.server) (laws.issued old.book first order (subst (λ (id : RequestId). IsWaiting id old.book) one.id_is (laws.waits (mode_in old port) old.book (asks one.request.entry) one.due)))) more other ne
+      ∙ ap (of_port other) (ap (λ (n : ServerState). asks_of n.book) one.server ∙ laws.asks_issued old.book first ∙ ap (λ (id : RequestId). with_issued id (asks_of old.book)) (sym one.id_is))
       ∙ laws.issued_apart other (asks_of old.book) (asks one.request.entry) (laws.asked old.book order) (into_map (λ (y : Held). asks y.entry) old.book one.request one.here)
       (λ same. ne (sym same ∙ one.port_is))
 
   -- and so are the slots of another port
-  pub each_slots : (ids : List RequestId) (old new : Server) → IssuesEach port ids old new → (other : ℕ) → other ≢ port.0 → slots_at new.slots other ≡ slots_at old.slots other
-  each_slots [] old new none other ne = ap (λ (n : Server). slots_at n.slots other) none
-  each_slots (first ∷ ids) old new (mid, one, more) other ne = each_slots ids mid new more other ne ∙ ap (λ (n : Server). slots_at n.slots other) one.server
+  pub each_slots : (ids : List RequestId) (old new : ServerState) → IssuesEach port ids old new → (other : ℕ) → other ≢ port.0 → slots_at new.slots other ≡ slots_at old.slots other
+  each_slots [] old new none other ne = ap (λ (n : ServerState). slots_at n.slots other) none
+  each_slots (first ∷ ids) old new (mid, one, more) other ne = each_slots ids mid new more other ne ∙ ap (λ (n : ServerState). slots_at n.slots other) one.server
       ∙ get_or-set_other old.slots port.0 other _ no_slots ne
 
-  pub settled : (old new : Server) → IsKept old → ((other : Port) → other ≢ port → NoneDue (mode_in old other) (asks_of old.book) other) → IssuesAll port old new → IsSettled new
+  pub settled : (old new : ServerState) → InCallInvariant old → ((other : Port) → other ≢ port → NoneDue (mode_in old other) (asks_of old.book) other) → IssuesAll port old new → SettledInvariant new
   settled old new k none issues = record {
     kept = each_kept ids old new k issues;
-    issued = λ other. subst (λ (modes : List Mode). NoneDue (mode_at modes other.0) (asks_of new.book) other) (sym (each_modes ids old new issues)) (⊎_elim
+    issued = λ other. subst (λ (modes : List QueueMode). NoneDue (mode_at modes other.0) (asks_of new.book) other) (sym (each_modes ids old new issues)) (⊎_elim
         (λ (same : other.0 ≡ port.0).
         subst (λ (q : Port). NoneDue (mode_in old q) (asks_of new.book) q) (ap (λ (n : ℕ). record { 0 = n }) (sym same))
         (each_done (mode_in old port) ids old new issues (laws.in_turn (mode_in old port) port (asks_of old.book) (laws.asked old.book k.ordered))))
@@ -355,7 +355,7 @@ module _ (laws : LawsBelow) (port : Port) where
   unmarked_all f g (x ∷ xs) each =
       ap (λ (y : Unanswered). y ∷ map f (map g xs)) (each x (first_here x xs)) ∙ ap (λ (ys : List Unanswered). x ∷ ys) (unmarked_all f g xs (λ r here. each r (contains_there x xs r here)))
 
-  module _ (old new : Server) (k : IsKept old) (issues : IssuesAll port old new) (m : Machine) (x : AreIssued port (due_ids (mode_in old port) port (asks_of old.book)) old new m) where
+  module _ (old new : ServerState) (k : InCallInvariant old) (issues : IssuesAll port old new) (m : Machine) (x : AreIssued port (due_ids (mode_in old port) port (asks_of old.book)) old new m) where
     abbrev ids : List RequestId
     ids = due_ids (mode_in old port) port (asks_of old.book)
 
@@ -385,8 +385,8 @@ module _ (laws : LawsBelow) (port : Port) where
           (λ issued. let d = is_due r here (x.named r.id issued) in subst (λ (z : Port). IsDue (mode_in old z) (asks_of old.book) r) (sym d.1 ∙ own) d.0),
           (λ its. ⊎_elim
               (λ (same : q.0 ≡ port.0).
-              let at : r.port ≡ port = own ∙ ap (λ (n : ℕ). record { 0 = n }) same in
-              x.all r.id (into_map (λ (u : Unanswered). u.id) (due_of (mode_in old port) port (asks_of old.book)) r ((laws.exact (mode_in old port) port (asks_of old.book) r at).1 (subst (λ (z : Port). IsDue (mode_in old z) (asks_of old.book) r) (ap (λ (n : ℕ). record { 0 = n }) same) its))))
+              let at_entry : r.port ≡ port = own ∙ ap (λ (n : ℕ). record { 0 = n }) same in
+              x.all r.id (into_map (λ (u : Unanswered). u.id) (due_of (mode_in old port) port (asks_of old.book)) r ((laws.exact (mode_in old port) port (asks_of old.book) r at_entry).1 (subst (λ (z : Port). IsDue (mode_in old z) (asks_of old.book) r) (ap (λ (n : ℕ). record { 0 = n }) same) its))))
               (λ (ne : q.0 ≢ port.0). absurd (none (λ same. ne (ap (λ (p : Port). p.0) same)) r own its))
               (cases_eq q.0 port.0)),
         )
@@ -451,7 +451,7 @@ mark_id steps r = by (list_any (issues_it r.id) steps)
 
 -- Where the port's requests are the same in two machines, and the same of them are issued in two lists of steps, what is due once the others
 -- are undone is the same.
-pub dues_carried : LawsBelow → (mode : Mode) → (one other : List Step) (m n : Machine) (q : Port) → of_port q (map unanswered m.book) ≡ of_port q (map unanswered n.book)
+pub dues_carried : LawsBelow → (mode : QueueMode) → (one other : List Step) (m n : Machine) (q : Port) → of_port q (map unanswered m.book) ≡ of_port q (map unanswered n.book)
     → ((r : Unanswered) → Contains (map unanswered m.book) r → r.port ≡ q → list_any (issues_it r.id) one ≡ list_any (issues_it r.id) other)
     → IssuesDue mode one m q → IssuesDue mode other n q
 dues_carried laws mode one other m n q same alike dues r here own = (

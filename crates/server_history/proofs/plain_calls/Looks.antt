@@ -11,26 +11,26 @@ use Rattle.adapter.specs.Access.Access.{Reading, Writing, Loading, Storing}
 use Rattle.adapter.specs.Device.{Device}
 use Rattle.adapter.specs.declared.command.Operation.{Operation}
 use Rattle.adapter.specs.declared.command.Operation.TheVariants.{Identify}
-use Rattle.agreement.specs.Agrees.{port_at}
-use Rattle.agreement.specs.Driven.{AnyUse, IsDrivenBy, IsFollowed, IsOf, LeavesPort, NoneWrites, SendsNone}
-use Rattle.agreement.specs.Halting.{IsHaltedAsTaken}
-use Rattle.agreement.specs.Slots.{IsOver, Uses, op_of}
-use Rattle.agreement.proofs.driver.Stretches.{along, followed_adds, followed_silent}
+use Rattle.refinement.specs.Relation.{port_at}
+use Rattle.refinement.specs.Driven.{AnyUse, IsDrivenBy, IsSimulated, IsOf, LeavesPort, NoneWrites, SendsNone}
+use Rattle.refinement.specs.Halting.{IsHaltedAsTaken}
+use Rattle.refinement.specs.Slots.{IsOver, SlotStates, op_of}
+use Rattle.refinement.proofs.driver.Stretches.{along, followed_adds, followed_silent}
 use Rattle.server_history.proofs.state.DrivenAccesses.{driven_as}
-use Rattle.agreement.proofs.driver.FinishedCommand.{access_over, steps_over}
-use Rattle.host_boot.specs.Taken.{found_of}
-use Rattle.host_boot.specs.declared.Found.TheVariants.{Unready}
+use Rattle.refinement.proofs.driver.FinishedCommand.{access_over, steps_over}
+use Rattle.host_boot.specs.Taken.{probe_result_of}
+use Rattle.host_boot.specs.declared.ProbeResult.TheVariants.{Unready}
 use Rattle.server_history.specs.Served.{IsMaskOf}
-use Rattle.server_history.specs.Server.{Server, IsKept, IsPortOf, slots_at, state_of, used_for}
+use Rattle.server_history.specs.Server.{ServerState, InCallInvariant, IsPortOf, slots_at, state_of, used_for}
 use Rattle.server_history.proofs.state.HistorySteps.{machine_on, kept_on}
 use Rattle.server_history.proofs.state.PlainHalts.{followed_halts}
 use Rattle.server_history.proofs.state.PortsOverAccesses.{port_on}
 use Rattle.server_history.proofs.state.PortSlots.{AreOver, busy_used, not_own, ready_found, serves_used, used_there}
 use Rattle.server_history.proofs.state.StoredCommands.{service_leaves_stored}
-use Rattle.agreement.specs.Acts.{at as at_slots}
+use Rattle.refinement.specs.Acts.{at_slots}
 use Rattle.std.specs.List.{All}
-use Rattle.port_look.specs.Looks.{IsLooking}
-use Rattle.port_look.specs.Services.{IsService}
+use Rattle.port_events.specs.Looks.{IsLooking}
+use Rattle.port_events.specs.Services.{IsService}
 use Rattle.ncq.specs.Masks.{ReadsDone, IsFinding}
 use Rattle.hba_regs.specs.Bits.{bit}
 use Rattle.server_history.specs.Below.{LawsBelow}
@@ -40,12 +40,12 @@ use Rattle.server_history.proofs.state.TransferAccesses.{finding_serves}
 
 -- Accesses that serve a ready port leave what stands behind each, where the others are left to the device, no page comes but on
 -- dead ones, and halts are of taken commands still.
-pub behind_served : LawsBelow → (s : Server) (new : Device) (port : Port) → IsKept s → state_of (found_of s.ports port.0) ≡ ReadyState → IsDrivenBy IsService s.device new
-    → ((q : ℕ) → q < 4 → q ≢ port.0 → LeavesPort (s.device.port q) (new.port q)) → ((q : ℕ) → found_of s.ports q ≢ Unready Dead → SendsNone q Identify s.device new)
+pub behind_served : LawsBelow → (s : ServerState) (new : Device) (port : Port) → InCallInvariant s → state_of (probe_result_of s.ports port.0) ≡ ReadyState → IsDrivenBy IsService s.device new
+    → ((q : ℕ) → q < 4 → q ≢ port.0 → LeavesPort (s.device.port q) (new.port q)) → ((q : ℕ) → probe_result_of s.ports q ≢ Unready Dead → SendsNone q Identify s.device new)
     → ((q : ℕ) → IsHaltedAsTaken (s.device.port q) → IsHaltedAsTaken (new.port q)) → (q : ℕ) → q < 4 → IsPortOf s.wanted s.ports q new
 behind_served laws s new port k ready driven left silent halts q low =
     port_on laws s.wanted s.ports q s.device new (laws.looking.services_same s.device new driven) k.on driven
-    (λ unready. left q low (λ same. unready (ap (λ (n : ℕ). state_of (found_of s.ports n)) same ∙ ready))) (silent q) (halts q) (k.behind q low)
+    (λ unready. left q low (λ same. unready (ap (λ (n : ℕ). state_of (probe_result_of s.ports n)) same ∙ ready))) (silent q) (halts q) (k.behind q low)
 
 -- ---- the server
 
@@ -57,19 +57,19 @@ looking_spares port q r other (Reading reg v) here = tt
 looking_spares port q r other (Loading at bytes) here = tt
 looking_spares port q r other (Storing at bytes) here = tt
 
-module _ (s : Server) (new : Device) (port : Port) (k : IsKept s) where
+module _ (s : ServerState) (new : Device) (port : Port) (k : InCallInvariant s) where
   -- in followed accesses that write neither PxCI nor PxSACT, no data comes for a command of the driver's own but on dead ports
-  silent_over : (May : Access → Type 0) → ((q : Port) → NoneWrites May (Px q Ci) × NoneWrites May (Px q Sact)) → IsFollowed May AnyUse s.device new
-      → (q : ℕ) (o : Operation) → op_of o ≡ None → found_of s.ports q ≢ Unready Dead → SendsNone q o s.device new
+  silent_over : (May : Access → Type 0) → ((q : Port) → NoneWrites May (Px q Ci) × NoneWrites May (Px q Sact)) → IsSimulated May AnyUse s.device new
+      → (q : ℕ) (o : Operation) → op_of o ≡ None → probe_result_of s.ports q ≢ Unready Dead → SendsNone q o s.device new
   silent_over May none followed q o own other =
       followed_silent followed k.stands.uses k.stands.parked k.machine tt k.reached k.stands.knows (port_at q) o own (none (port_at q)).0 (none (port_at q)).1
-      (not_own (found_of s.ports q) (used_for s.slots q 0) (k.stands.uses q 0) o other (k.stands.used q 0))
+      (not_own (probe_result_of s.ports q) (used_for s.slots q 0) (k.stands.uses q 0) o other (k.stands.used q 0))
 
   -- followed accesses that serve the port, and write no PxCI, where what stands behind each port goes on
   kept_by : LawsBelow → (May : Access → Type 0) → ((access : Access) → May access → IsService access) → ((access : Access) (at : ℕ) (bytes : List ℕ) → May access → access ≡ Storing at bytes → ⊥) → ((q : Port) → NoneWrites May (Px q Ci) × NoneWrites May (Px q Sact)) → ((q : Port) → NoneWrites May (Px q Cmd))
-      → ((q : ℕ) → q < 4 → IsPortOf s.wanted s.ports q new) → IsFollowed May AnyUse s.device new → IsKept (record s { device = new })
+      → ((q : ℕ) → q < 4 → IsPortOf s.wanted s.ports q new) → IsSimulated May AnyUse s.device new → InCallInvariant (record s { device = new })
   kept_by below May service storeless none commandless behind followed =
-      let uses : Uses = k.stands.uses in
+      let uses : SlotStates = k.stands.uses in
       let driven : IsDrivenBy IsService s.device new = driven_as May IsService s.device new service followed.driven in
       let x = (followed_adds followed uses k.stands.parked tt).adds k.machine k.reached k.stands.knows in
       kept_on below s new k (below.looking.services_on s.device new k.on driven) (below.looking.services_same s.device new driven)
@@ -102,17 +102,17 @@ module _ (s : Server) (new : Device) (port : Port) (k : IsKept s) where
   finding_stores : (access : Access) (at : ℕ) (bytes : List ℕ) → IsFinding port access → access ≡ Storing at bytes → ⊥
   finding_stores access at bytes is e = subst (IsFinding port) e is
 
-  pub looking_silent : IsFollowed (IsLooking port) AnyUse s.device new → (q : ℕ) (o : Operation) → op_of o ≡ None → found_of s.ports q ≢ Unready Dead → SendsNone q o s.device new
+  pub looking_silent : IsSimulated (IsLooking port) AnyUse s.device new → (q : ℕ) (o : Operation) → op_of o ≡ None → probe_result_of s.ports q ≢ Unready Dead → SendsNone q o s.device new
   looking_silent followed = silent_over (IsLooking port) (λ q. (looking_spares port q Ci (λ e. absurd cc), looking_spares port q Sact (λ e. absurd cc))) followed
 
   -- a look, whatever the port is, where what stands behind each port goes on
-  pub looked_kept : LawsBelow → IsFollowed (IsLooking port) AnyUse s.device new → ((q : ℕ) → q < 4 → IsPortOf s.wanted s.ports q new) → IsKept (record s { device = new })
+  pub looked_kept : LawsBelow → IsSimulated (IsLooking port) AnyUse s.device new → ((q : ℕ) → q < 4 → IsPortOf s.wanted s.ports q new) → InCallInvariant (record s { device = new })
   looked_kept laws followed behind =
       kept_by laws (IsLooking port) (laws.looking.looking_service port) looking_stores (λ q. (looking_spares port q Ci (λ e. absurd cc), looking_spares port q Sact (λ e. absurd cc))) (λ q. looking_spares port q Cmd (λ e. absurd cc)) behind followed
 
-module _ (s : Server) (new : Device) (port : Port) (k : IsKept s) (ready : state_of (found_of s.ports port.0) ≡ ReadyState) where
+module _ (s : ServerState) (new : Device) (port : Port) (k : InCallInvariant s) (ready : state_of (probe_result_of s.ports port.0) ≡ ReadyState) where
   kept_over : LawsBelow → (May : Access → Type 0) → ((access : Access) → May access → IsService access) → ((access : Access) (at : ℕ) (bytes : List ℕ) → May access → access ≡ Storing at bytes → ⊥) → ((q : Port) → NoneWrites May (Px q Ci) × NoneWrites May (Px q Sact)) → ((q : Port) → NoneWrites May (Px q Cmd))
-      → ((q : ℕ) → q < 4 → q ≢ port.0 → LeavesPort (s.device.port q) (new.port q)) → IsFollowed May AnyUse s.device new → IsKept (record s { device = new })
+      → ((q : ℕ) → q < 4 → q ≢ port.0 → LeavesPort (s.device.port q) (new.port q)) → IsSimulated May AnyUse s.device new → InCallInvariant (record s { device = new })
   kept_over below May service storeless none commandless left followed =
       kept_by s new port k below May service storeless none commandless
       (behind_served below s new port k ready (driven_as May IsService s.device new service followed.driven) left
@@ -120,18 +120,18 @@ module _ (s : Server) (new : Device) (port : Port) (k : IsKept s) (ready : state
       (λ q. followed_halts below (port_at q) May s k new followed (commandless (port_at q))))
       followed
 
-  pub looking_kept : LawsBelow → IsFollowed (IsLooking port) AnyUse s.device new → IsKept (record s { device = new })
+  pub looking_kept : LawsBelow → IsSimulated (IsLooking port) AnyUse s.device new → InCallInvariant (record s { device = new })
   looking_kept laws followed =
       kept_over laws (IsLooking port) (laws.looking.looking_service port) (looking_stores s new port k) (λ q. (looking_spares port q Ci (λ e. absurd cc), looking_spares port q Sact (λ e. absurd cc))) (λ q. looking_spares port q Cmd (λ e. absurd cc)) (λ q low other. laws.looks.other_left port q s.device new other k.on (driven_as (IsLooking port) (IsOf port) s.device new (laws.looking.looking_of port) followed.driven)) followed
 
   module _ (laws : LawsBelow) (mask done : ℕ) (finds : ReadsDone port mask done s.device new) where
-    pub finding_kept : IsKept (record s { device = new })
+    pub finding_kept : InCallInvariant (record s { device = new })
     finding_kept =
         let followed = laws.finding_followed port mask done s.device new finds in
         kept_over laws (IsFinding port) (finding_serves port) (finding_stores s new port k) (λ q. (finding_spares s new port k q Ci, finding_spares s new port k q Sact)) (λ q. finding_spares s new port k q Cmd)
         (λ q low other. laws.looks.other_left port q s.device new other k.on (driven_as (IsFinding port) (IsOf port) s.device new (laws.finding_of port) followed.driven)) followed
 
-    pub finding_silent : (q : ℕ) (o : Operation) → op_of o ≡ None → found_of s.ports q ≢ Unready Dead → SendsNone q o s.device new
+    pub finding_silent : (q : ℕ) (o : Operation) → op_of o ≡ None → probe_result_of s.ports q ≢ Unready Dead → SendsNone q o s.device new
     finding_silent = silent_over s new port k (IsFinding port) (λ q. (finding_spares s new port k q Ci, finding_spares s new port k q Sact)) (laws.finding_followed port mask done s.device new finds)
 
     -- the command of a slot that was found done is over, where only used slots were asked for

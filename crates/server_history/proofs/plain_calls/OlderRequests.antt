@@ -8,20 +8,20 @@ use Rattle.ata_types.specs.declared.request.Op.{Op}
 use Rattle.ata_types.specs.declared.request.Op.TheVariants.{Flush, Read, Trim, Write}
 use Rattle.ata_types.specs.declared.request.RequestId.{RequestId}
 use Rattle.adapter.specs.Commands.{Meaning}
-use Rattle.adapter.specs.Device.{PortState, Taken}
-use Rattle.agreement.specs.Driven.{known}
-use Rattle.agreement.specs.Slots.{Means, Progress, ServesRequest, Stage}
+use Rattle.adapter.specs.Device.{DevicePort, FetchedCommand}
+use Rattle.refinement.specs.Driven.{known}
+use Rattle.refinement.specs.Slots.{Means, Progress, ServesRequest, Stage}
 use Rattle.block_machine.specs.Due.{NoneDue, is_plain}
 use Rattle.block_machine.specs.State.{Machine, Pending}
 use Rattle.block_machine.specs.Steps.{Age, after_step, older}
 use Rattle.block_machine.specs.declared.due.Unanswered.{Unanswered}
 use Rattle.server_history.proofs.state.ListMembers.{into_map, map_in}
-use Rattle.host_boot.specs.Taken.{found_of}
+use Rattle.host_boot.specs.Taken.{probe_result_of}
 use Rattle.request_queue.specs.Entries as entries
 use Rattle.request_queue.specs.Entries.{Held}
-use Rattle.request_queue.specs.declared.Entry.{Entry}
+use Rattle.request_queue.specs.declared.PendingRequest.{PendingRequest}
 use Rattle.server_history.specs.Below.{LawsBelow}
-use Rattle.server_history.specs.Server.{Server, IsKept, IsMachineOf, IsSettled, mode_in, state_of, HasTrueMark}
+use Rattle.server_history.specs.Server.{ServerState, InCallInvariant, IsMachineOf, SettledInvariant, mode_in, state_of, HasTrueMark}
 use Rattle.server_history.specs.Turns.{a_tick_older, is_ready}
 use Rattle.server_history.proofs.state.RevokedMarks.{older_marked}
 
@@ -45,7 +45,7 @@ pub older_ended : (ready : Port → Bool) (e : Pending) → (older ready e).ende
 older_ended ready e = older_by (λ x. x.ended ≡ e.ended) ready e refl refl
 
 -- and so it is in the book
-pub entry_by : (P : Entry → Type 0) (ready : Port → Bool) (r : Entry) → P r → ((age : ℕ) → P (record r { age = age })) → P (entries.older ready r)
+pub entry_by : (P : PendingRequest → Type 0) (ready : Port → Bool) (r : PendingRequest) → P r → ((age : ℕ) → P (record r { age = age })) → P (entries.older_entry ready r)
 entry_by P ready r same other = by (r.issued && ready r.port)
   where
     by : (b : Bool) → P (if b then record r { age = min (suc r.age) 3 } else r)
@@ -54,8 +54,8 @@ entry_by P ready r same other = by (r.issued && ready r.port)
 
 -- ---- its slot
 
-module _ (memory : ℕ → ℕ) (p : PortState) (port slot : ℕ) where
-  progress_on : (op : Op) (e : Pending) (age : ℕ) (t : Taken) → Progress op memory port e t → Progress op memory port (record e { age = age }) t
+module _ (memory : ℕ → ℕ) (p : DevicePort) (port slot : ℕ) where
+  progress_on : (op : Op) (e : Pending) (age : ℕ) (t : FetchedCommand) → Progress op memory port e t → Progress op memory port (record e { age = age }) t
   progress_on Read e age t x = x
   progress_on Write e age t x = x
   progress_on Trim e age t x = x
@@ -108,9 +108,9 @@ module _ (memory : ℕ → ℕ) (p : PortState) (port slot : ℕ) where
 
 -- ---- the server
 
-module _ (laws : LawsBelow) (s : Server) where
+module _ (laws : LawsBelow) (s : ServerState) where
   abbrev ready : Port → Bool
-  ready port = is_ready (found_of s.ports port.0)
+  ready port = is_ready (probe_result_of s.ports port.0)
 
   pub older_stands : (m : Machine) → IsMachineOf s m → IsMachineOf (a_tick_older s) (after_step m (Age ready))
   older_stands m is = record {
@@ -128,14 +128,14 @@ module _ (laws : LawsBelow) (s : Server) where
   }
 
   -- who is in the book then was in it
-  was_held : (e : Held) → Contains (a_tick_older s).book e → (o : Held) × Contains s.book o × (e ≡ record o { entry = entries.older ready o.entry })
-  was_held e here = map_in (λ (x : Held). record x { entry = entries.older ready x.entry }) s.book e here
+  was_held : (e : Held) → Contains (a_tick_older s).book e → (o : Held) × Contains s.book o × (e ≡ record o { entry = entries.older_entry ready o.entry })
+  was_held e here = map_in (λ (x : Held). record x { entry = entries.older_entry ready x.entry }) s.book e here
 
   still_all : (P : Held → Type 0) → ((e : Held) (age : ℕ) → P e → P (record e { entry = record (e.entry) { age = age } })) → All P s.book → All P (a_tick_older s).book
-  still_all P keeps all = All-map P (λ (x : Held). record x { entry = entries.older ready x.entry }) s.book
+  still_all P keeps all = All-map P (λ (x : Held). record x { entry = entries.older_entry ready x.entry }) s.book
       (λ k d lt. entry_by (λ r. P (record (get_or s.book k d) { entry = r })) ready (get_or s.book k d).entry (all k d lt) (λ age. keeps (get_or s.book k d) age (all k d lt)))
 
-  pub older_settled : IsSettled s → IsSettled (a_tick_older s)
+  pub older_settled : SettledInvariant s → SettledInvariant (a_tick_older s)
   older_settled settled = record {
     kept = record {
       on = k.on;
@@ -162,7 +162,7 @@ module _ (laws : LawsBelow) (s : Server) where
       ordered = laws.ages.ordered s.book ready k.ordered;
       marked = still_all (HasTrueMark s.grants) (older_marked s.grants) k.marked;
       handed_out = still_all (λ e. e.entry.id.0 ≤ s.last) (λ e age x. x) k.handed_out;
-      ready = still_all (λ e. state_of (found_of s.ports e.entry.port.0) ≡ ReadyState) (λ e age x. x) k.ready;
+      ready = still_all (λ e. state_of (probe_result_of s.ports e.entry.port.0) ≡ ReadyState) (λ e age x. x) k.ready;
       machine = after_step k.machine (Age ready);
       reached = laws.basic.reached k.machine (Age ready ∷ []) k.reached (tt, tt);
       stands = older_stands k.machine k.stands;
@@ -170,5 +170,5 @@ module _ (laws : LawsBelow) (s : Server) where
     issued = λ port. subst (λ (us : List Unanswered). NoneDue (mode_in s port) us port) (sym (laws.ages.asks s.book ready)) (settled.issued port);
   }
     where
-      k : IsKept s
+      k : InCallInvariant s
       k = settled.kept

@@ -14,34 +14,34 @@ use Rattle.adapter.specs.Access.Access.{Reading, Writing, Loading, Storing}
 use Rattle.adapter.specs.Device.{Device}
 use Rattle.adapter.specs.declared.command.Operation.{Operation}
 use Rattle.adapter.specs.declared.command.Operation.TheVariants.{Identify}
-use Rattle.block_machine.specs.Due.{IsDue, conflict, holds_back, is_plain}
+use Rattle.block_machine.specs.Due.{IsDue, must_keep_order, waits_for, is_plain}
 use Rattle.block_machine.specs.Events.{AllDevices, AllMay}
-use Rattle.block_machine.specs.Histories.{IsReached}
+use Rattle.block_machine.specs.Histories.{IsReachable}
 use Rattle.block_machine.specs.Left.{after}
 use Rattle.block_machine.specs.State.{Machine, Pending, unanswered}
 use Rattle.block_machine.specs.Steps.{Step, Issue, May}
-use Rattle.block_machine.specs.declared.due.Mode.{Mode}
+use Rattle.block_machine.specs.declared.due.QueueMode.{QueueMode}
 use Rattle.block_machine.specs.declared.due.Unanswered.{Unanswered}
 use Rattle.server_history.proofs.state.ListMembers.{into_map, map_in}
-use Rattle.agreement.specs.Driven.{IsDrivenBy, IsOf, SendsNone, known}
-use Rattle.agreement.specs.Driver.{EndsWith, IsBacked, serving}
-use Rattle.agreement.specs.Links.{SparesRegister}
-use Rattle.agreement.specs.Slots.{Free, Serves, Use, op_of, put}
-use Rattle.agreement.specs.Spares.{SparesBook}
+use Rattle.refinement.specs.Driven.{IsDrivenBy, IsOf, SendsNone, known}
+use Rattle.refinement.specs.Driver.{EndsWith, IsBacked, serving}
+use Rattle.refinement.specs.Links.{SparesRegister}
+use Rattle.refinement.specs.Slots.{Free, Serves, SlotState, op_of, put}
+use Rattle.refinement.specs.Spares.{SparesBook}
 use Rattle.server_history.proofs.state.DrivenAccesses.{driven_as}
-use Rattle.host_boot.specs.Taken.{found_of}
-use Rattle.host_boot.specs.declared.Found.TheVariants.{Unready}
-use Rattle.request_queue.specs.Entries.{Held, asks_of, at, has_id, issue}
+use Rattle.host_boot.specs.Taken.{probe_result_of}
+use Rattle.host_boot.specs.declared.ProbeResult.TheVariants.{Unready}
+use Rattle.request_queue.specs.Entries.{Held, asks_of, at_entry, has_id, issue}
 use Rattle.request_queue.specs.Machine.{IsBook, IsEntry}
-use Rattle.agreement.specs.Driven.{AgreesWith}
+use Rattle.refinement.specs.Driven.{RelatesWith}
 use Rattle.ata_types.specs.declared.request.Frame.{Frame}
 use Rattle.command_table.specs.Written.{IsUnused}
 use Rattle.ncq.specs.declared.Task.{Task}
 use Rattle.request_queue.specs.Entries.{asks}
 use Rattle.slots.specs.Uses.{IsLowestFree}
-use Rattle.slots.specs.declared.Use.{Use as SlotUse}
+use Rattle.slots.specs.declared.SlotUse.{SlotUse}
 use Rattle.server_history.specs.Served.{IssuesOne, task_of, use_for}
-use Rattle.server_history.specs.Server.{HasCommand, StandsAlone, Server, IsKept, IsMachineOf, IsPortOf, IsUsedAs, mode_at, mode_in, slots_at, state_of, usable_of, used_for, with_slot, HasTrueMark}
+use Rattle.server_history.specs.Server.{HasCommand, StandsAlone, ServerState, InCallInvariant, IsMachineOf, IsPortOf, IsUsedAs, mode_at, mode_in, slots_at, state_of, usable_of, used_for, with_slot, HasTrueMark}
 use Rattle.server_history.specs.Below.{LawsBelow}
 use Rattle.server_history.proofs.state.DueRequests.{asked_alike, same_book}
 use Rattle.server_history.proofs.state.ChangedRequests.{all_changed}
@@ -51,20 +51,20 @@ use Rattle.server_history.proofs.state.PlacedSlots.{its_or_other, placed_four, p
 use Rattle.server_history.proofs.state.StoredCommands.{AreApart, issuing_leaves_stored}
 use Rattle.std.specs.Prelude.{if◌then◌else◌}
 use Rattle.adapter.specs.Commands.{is_queued}
-use Rattle.agreement.specs.Acts.{InSlots, at as at_slots}
-use Rattle.agreement.specs.Agrees.{port_at}
+use Rattle.refinement.specs.Acts.{InSlots, at_slots}
+use Rattle.refinement.specs.Relation.{port_at}
 use Rattle.ata_types.specs.declared.request.Op.{Op}
 use Rattle.ata_types.specs.declared.request.Op.TheVariants.{Read, Write, Trim, Flush}
-use Rattle.ncq.specs.Tasks.{operation_of}
+use Rattle.ncq.specs.Tasks.{task_operation}
 use Rattle.server_history.proofs.state.PortSlots.{due_has, free_unused, IsServedBy, its_mode, lowest_may, none_kept, not_dead, not_false, not_own, not_true, of_ready, ready_found, served_request, serves_used, usable_ready, used_or_not, used_there}
 use Rattle.server_history.proofs.state.PairedLists.{at_left}
-use Rattle.port_look.specs.Services.{IsService}
+use Rattle.port_events.specs.Services.{IsService}
 use Rattle.ncq.specs.Tasks.{IsIssuing, IsTaskOf, IssuesTask, MayServe, with_serving}
 use Rattle.server_history.proofs.state.TransferAccesses.{issuing_serves}
 use Rattle.server_history.proofs.state.RevokedMarks.{issued_marked}
 
 -- Steps of the device, and then the issue of this request, lead from the machine to one that stands for the new server.
-pub record IsIssue (port : Port) (id : RequestId) (old new : Server) (m : Machine) : Type 0 where
+pub record IsIssue (port : Port) (id : RequestId) (old new : ServerState) (m : Machine) : Type 0 where
   pub request : Pending
   pub id_is : request.request.id ≡ id
   pub port_is : request.request.port ≡ port
@@ -82,13 +82,13 @@ pub issued_serves : (port : Port) (slot : ℕ) (old new : Device) → IsDrivenBy
 issued_serves port slot old new driven = driven_as (IsIssuing port slot) IsService old new (issuing_serves port slot) driven
 
 -- in that no data comes for a command of the driver's own but on dead ports
-silent_issued : LawsBelow → (s : Server) (new : Device) (port : Port) (slot : ℕ) (mode : Mode) (r : Task) (frames : List Frame) (p : Pending) (k : IsKept s)
+silent_issued : LawsBelow → (s : ServerState) (new : Device) (port : Port) (slot : ℕ) (mode : QueueMode) (r : Task) (frames : List Frame) (p : Pending) (k : InCallInvariant s)
     → IssuesTask port slot r frames s.device new → IsTaskOf port slot r frames mode p
     → MayServe port slot mode p (record { uses = k.stands.uses; parked = k.stands.parked }) k.machine
-    → (q : ℕ) (o : Operation) → op_of o ≡ None → found_of s.ports q ≢ Unready Dead → SendsNone q o s.device new
+    → (q : ℕ) (o : Operation) → op_of o ≡ None → probe_result_of s.ports q ≢ Unready Dead → SendsNone q o s.device new
 silent_issued laws s new port slot mode r frames p k issues its may q o own other =
     laws.issuing_silent port slot r frames mode p s.device new (record { uses = k.stands.uses; parked = k.stands.parked }) k.machine issues its k.reached k.stands.knows may q o own
-    (not_own (found_of s.ports q) (used_for s.slots q 0) (k.stands.uses q 0) o other (k.stands.used q 0))
+    (not_own (probe_result_of s.ports q) (used_for s.slots q 0) (k.stands.uses q 0) o other (k.stands.used q 0))
 
 -- it writes no PxCMD
 issuing_commands : (port : Port) (slot : ℕ) (q : Port) (access : Access) → IsIssuing port slot access → SparesRegister (Px q Cmd) access
@@ -97,11 +97,11 @@ issuing_commands port slot q (Writing w v) is = ⊎_elim
     (λ (its : w ≡ Px port Ci) (same : w ≡ Px q Cmd). let z : Px port Ci ≡ Px q Cmd = sym its ∙ same in absurd cc)
     is.0
 issuing_commands port slot q (Reading w v) is = tt
-issuing_commands port slot q (Loading at bytes) is = tt
-issuing_commands port slot q (Storing at bytes) is = tt
+issuing_commands port slot q (Loading at_entry bytes) is = tt
+issuing_commands port slot q (Storing at_entry bytes) is = tt
 
 -- on a ready port, that leaves what stands behind each
-behind_issued : LawsBelow → (s : Server) (new : Device) (port : Port) (slot : ℕ) (mode : Mode) (r : Task) (frames : List Frame) (p : Pending) (k : IsKept s) → state_of (found_of s.ports port.0) ≡ ReadyState
+behind_issued : LawsBelow → (s : ServerState) (new : Device) (port : Port) (slot : ℕ) (mode : QueueMode) (r : Task) (frames : List Frame) (p : Pending) (k : InCallInvariant s) → state_of (probe_result_of s.ports port.0) ≡ ReadyState
     → IssuesTask port slot r frames s.device new → IsTaskOf port slot r frames mode p
     → MayServe port slot mode p (record { uses = k.stands.uses; parked = k.stands.parked }) k.machine → (q : ℕ) → q < 4 → IsPortOf s.wanted s.ports q new
 behind_issued laws s new port slot mode r frames p k ready issues its may =
@@ -111,16 +111,16 @@ behind_issued laws s new port slot mode r frames p k ready issues its may =
     (λ q.
     let slots : InSlots = record { uses = k.stands.uses; parked = k.stands.parked } in
     let c = issues.comes mode p its slots k.machine k.reached k.stands.knows may in
-    laws.trouble.halts_acts (port_at q) c.acts (at_slots slots s.device) (at_slots (with_serving port slot p.request.id slots) new) k.machine k.reached k.stands.knows c.done
+    laws.port_error.halts_acts (port_at q) c.acts (at_slots slots s.device) (at_slots (with_serving port slot p.request.id slots) new) k.machine k.reached k.stands.knows c.done
     (subst (All (SparesRegister (Px (port_at q) Cmd))) (sym c.accesses_are)
     (All-weaker (IsIssuing port slot) (SparesRegister (Px (port_at q) Cmd)) (issuing_commands port slot (port_at q)) issues.driven.accesses issues.driven.only)))
 
-module _ (laws : LawsBelow) (s new : Server) (port : Port) (id : RequestId) (k : IsKept s) (one : IssuesOne port id s new) where
+module _ (laws : LawsBelow) (s new : ServerState) (port : Port) (id : RequestId) (k : InCallInvariant s) (one : IssuesOne port id s new) where
   abbrev e : Held
   e = one.request
 
   -- how its port takes commands, and its slot
-  abbrev mode : Mode
+  abbrev mode : QueueMode
   mode = mode_in s port
 
   abbrev slot : ℕ
@@ -133,31 +133,31 @@ module _ (laws : LawsBelow) (s new : Server) (port : Port) (id : RequestId) (k :
   its_use = Some (use_for mode e)
 
   -- the server then
-  abbrev later : Server
-  later = record s { device = new.device; slots = with_slot s.slots port.0 slot its_use; book = map (at id issue) s.book }
+  abbrev later : ServerState
+  later = record s { device = new.device; slots = with_slot s.slots port.0 slot its_use; book = map (at_entry id issue) s.book }
 
   port_same : e.entry.port.0 ≡ port.0
   port_same = ap (λ (p : Port). p.0) one.port_is
 
-  pub issued_ready : state_of (found_of s.ports port.0) ≡ ReadyState
-  issued_ready = subst (λ (q : ℕ). state_of (found_of s.ports q) ≡ ReadyState) port_same (of_ready s k e one.here)
+  pub issued_ready : state_of (probe_result_of s.ports port.0) ≡ ReadyState
+  issued_ready = subst (λ (q : ℕ). state_of (probe_result_of s.ports q) ≡ ReadyState) port_same (of_ready s k e one.here)
 
   low : port.0 < 4
   low = (ready_found s port.0 k issued_ready).0
 
   -- its slot may be used for it
-  may_use : (slot < mode.usable) × (slot < 32) × (slot ≤ s.device.cap / 256 % 32) × (is_plain mode e.entry.op ≡ true → slot ≡ 0) × AgreesWith (IsUnused port.0 slot) s.device
+  may_use : (slot < mode.usable) × (slot < 32) × (slot ≤ s.device.cap / 256 % 32) × (is_plain mode e.entry.op ≡ true → slot ≡ 0) × RelatesWith (IsUnused port.0 slot) s.device
   may_use = subst (λ (q : Port). (IsDue (mode_in s q) (asks_of s.book) (asks e.entry)) → IsLowestFree (slots_at s.slots q.0) slot
-      → (slot < (mode_in s q).usable) × (slot < 32) × (slot ≤ s.device.cap / 256 % 32) × (is_plain (mode_in s q) e.entry.op ≡ true → slot ≡ 0) × AgreesWith (IsUnused q.0 slot) s.device)
+      → (slot < (mode_in s q).usable) × (slot < 32) × (slot ≤ s.device.cap / 256 % 32) × (is_plain (mode_in s q) e.entry.op ≡ true → slot ≡ 0) × RelatesWith (IsUnused q.0 slot) s.device)
       one.port_is (λ due lowest. lowest_may laws s e k one.here due slot lowest) one.due one.lowest
 
-  slot_low : slot < usable_of (found_of s.ports port.0) (mode_at s.modes port.0)
+  slot_low : slot < usable_of (probe_result_of s.ports port.0) (mode_at s.modes port.0)
   slot_low = subst (λ (n : ℕ). slot < n) (sym (usable_ready s port.0 k issued_ready)) may_use.0
 
-  few : usable_of (found_of s.ports port.0) (mode_at s.modes port.0) ≤ 32
+  few : usable_of (probe_result_of s.ports port.0) (mode_at s.modes port.0) ≤ 32
   few = let u = usable_ready s port.0 k issued_ready in let f = (its_mode s port.0 k low).0.1 in omega (arith, u, f)
 
-  module _ (m : Machine) (reached : IsReached m) (is : IsMachineOf s m) where
+  module _ (m : Machine) (reached : IsReachable m) (is : IsMachineOf s m) where
     free : is.uses port.0 slot ≡ Free
     free = free_unused s m port.0 is issued_ready slot one.lowest.1
 
@@ -177,7 +177,7 @@ module _ (laws : LawsBelow) (s new : Server) (port : Port) (id : RequestId) (k :
     may = (
       x.1,
       due,
-      none_kept s m p.request.port is (not_dead s p.request.port.0 (ap (λ (q : Port). state_of (found_of s.ports q.0)) (x.2.port ∙ one.port_is) ∙ issued_ready)),
+      none_kept s m p.request.port is (not_dead s p.request.port.0 (ap (λ (q : Port). state_of (probe_result_of s.ports q.0)) (x.2.port ∙ one.port_is) ∙ issued_ready)),
       due_has s k m is e one.here mode one.due p x.2,
     )
 
@@ -205,12 +205,12 @@ module _ (laws : LawsBelow) (s new : Server) (port : Port) (id : RequestId) (k :
     stands : IsMachineOf later (after m (Issue mode p ∷ ends.steps))
     stands = record {
       uses = put is.uses port.0 slot (Serves p.request.id);
-      used = subst (λ (u : Use). (q n : ℕ) → IsUsedAs (found_of s.ports q) (used_for (with_slot s.slots port.0 slot its_use) q n) (put is.uses port.0 slot u q n)) (ap Serves (sym x.2.id))
+      used = subst (λ (u : SlotState). (q n : ℕ) → IsUsedAs (probe_result_of s.ports q) (used_for (with_slot s.slots port.0 slot its_use) q n) (put is.uses port.0 slot u q n)) (ap Serves (sym x.2.id))
           (placed_uses s.slots port.0 slot its_use (let l = low in let f = k.four in omega (arith, l, f)) (let h = (k.slots port.0 low).places in let t = may_use.1 in omega (arith, h, t)) s.ports is.uses is.used);
       parked = is.parked;
       unparked = is.unparked;
       knows = ends.knows;
-      book = subst (λ (i : RequestId). IsBook (map (at i issue) s.book) (after m (Issue mode p ∷ ends.steps)).book) its_id
+      book = subst (λ (i : RequestId). IsBook (map (at_entry i issue) s.book) (after m (Issue mode p ∷ ends.steps)).book) its_id
           (laws.issues s.book (after m ends.steps) mode p (book_on s.book m.book (after m ends.steps).book spares.book is.book));
       kept = still_kept laws s.ports s.kept m.kept (after m ends.steps).kept spares.kept is.kept;
       rows = spares.rows ∙ is.rows;
@@ -230,13 +230,13 @@ module _ (laws : LawsBelow) (s new : Server) (port : Port) (id : RequestId) (k :
       only = ends.only;
       may = ends.may;
       backed = ends.backed;
-      stands = subst (λ (n : Server). IsMachineOf n (after m (Issue mode p ∷ ends.steps))) (sym one.server) stands;
+      stands = subst (λ (n : ServerState). IsMachineOf n (after m (Issue mode p ∷ ends.steps))) (sym one.server) stands;
     }
       where
         waiting : e.entry.issued ≡ false
         waiting = not_true e.entry.issued (and_parts _ _ one.due.clear).0
 
-  pub issue_silent : (q : ℕ) (o : Operation) → op_of o ≡ None → found_of s.ports q ≢ Unready Dead → SendsNone q o s.device new.device
+  pub issue_silent : (q : ℕ) (o : Operation) → op_of o ≡ None → probe_result_of s.ports q ≢ Unready Dead → SendsNone q o s.device new.device
   issue_silent =
       silent_issued laws s new.device port slot mode r e.frames (p k.machine k.reached k.stands) k one.issues (its_transfer k.machine k.reached k.stands)
       (free k.machine k.reached k.stands, may k.machine k.reached k.stands)
@@ -256,7 +256,7 @@ module _ (laws : LawsBelow) (s new : Server) (port : Port) (id : RequestId) (k :
   was_used q n used other is = placed_was s.slots port.0 slot its_use in_list in_places q n used other is
 
   -- each command is queued exactly if its request asks for it
-  kinds_then : (q : Port) (n : ℕ) (used : SlotUse) (h : Held) → used_for (with_slot s.slots port.0 slot its_use) q.0 n ≡ Some used → Contains (map (at id issue) s.book) h → h.entry.id ≡ used.id
+  kinds_then : (q : Port) (n : ℕ) (used : SlotUse) (h : Held) → used_for (with_slot s.slots port.0 slot its_use) q.0 n ≡ Some used → Contains (map (at_entry id issue) s.book) h → h.entry.id ≡ used.id
       → used.queued ≡ not (is_plain (mode_in s q) h.entry.op)
   kinds_then q n used h is there same = ⊎_elim
       (λ (its : (q.0 ≡ port.0) × (n ≡ slot)).
@@ -269,21 +269,21 @@ module _ (laws : LawsBelow) (s new : Server) (port : Port) (id : RequestId) (k :
       ∙ ap (λ (o : Op). not (is_plain (mode_in s q) o)) (sym (op_same old.0) ∙ ap (λ (x : Held). x.entry.op) (sym old.2)))
       (its_or_other port.0 slot q.0 n)
     where
-      old : (x : Held) × Contains s.book x × (h ≡ at id issue x)
-      old = map_in (at id issue) s.book h there
+      old : (x : Held) × Contains s.book x × (h ≡ at_entry id issue x)
+      old = map_in (at_entry id issue) s.book h there
 
       op_by : (x : Held) (b : Bool) → (if b then record x { entry = issue x.entry } else x).entry.op ≡ x.entry.op
       op_by x true = refl
       op_by x false = refl
 
-      op_same : (x : Held) → (at id issue x).entry.op ≡ x.entry.op
+      op_same : (x : Held) → (at_entry id issue x).entry.op ≡ x.entry.op
       op_same x = op_by x (has_id id x)
 
       id_by : (x : Held) (b : Bool) → (if b then record x { entry = issue x.entry } else x).entry.id ≡ x.entry.id
       id_by x true = refl
       id_by x false = refl
 
-      id_same : (x : Held) → (at id issue x).entry.id ≡ x.entry.id
+      id_same : (x : Held) → (at_entry id issue x).entry.id ≡ x.entry.id
       id_same x = id_by x (has_id id x)
 
   -- and its slot's bytes say such a command
@@ -308,11 +308,11 @@ module _ (laws : LawsBelow) (s new : Server) (port : Port) (id : RequestId) (k :
       })
       (its_or_other port.0 slot q n)
     where
-      transfer_is : (queued : Bool) → (is_queued (operation_of queued Read) ≡ queued) × (is_queued (operation_of queued Write) ≡ queued)
+      transfer_is : (queued : Bool) → (is_queued (task_operation queued Read) ≡ queued) × (is_queued (task_operation queued Write) ≡ queued)
       transfer_is true = (refl, refl)
       transfer_is false = (refl, refl)
 
-      queued_is : (its : Mode) (op : Op) → is_queued (operation_of (not (is_plain its op)) op) ≡ not (is_plain its op)
+      queued_is : (its : QueueMode) (op : Op) → is_queued (task_operation (not (is_plain its op)) op) ≡ not (is_plain its op)
       queued_is its Read = (transfer_is (not (not its.queued))).0
       queued_is its Write = (transfer_is (not (not its.queued))).1
       queued_is its Trim = refl
@@ -324,24 +324,24 @@ module _ (laws : LawsBelow) (s new : Server) (port : Port) (id : RequestId) (k :
   any_here test list element here passes = list_any_at test list here.0 element here.1 (ap test here.2 ∙ passes)
 
   -- an issued request of the port holds back each one, if either is plain
-  holds : (other : Unanswered) → other.port.0 ≡ port.0 → other.issued ≡ true → (is_plain mode e.entry.op ≡ true) ⊎ (is_plain mode other.op ≡ true) → holds_back mode (asks e.entry) other ≡ true
+  holds : (other : Unanswered) → other.port.0 ≡ port.0 → other.issued ≡ true → (is_plain mode e.entry.op ≡ true) ⊎ (is_plain mode other.op ≡ true) → waits_for mode (asks e.entry) other ≡ true
   holds other own issued plain =
       ap (λ (b : Bool). b && kept) (eq-eqb other.port.0 e.entry.port.0 (own ∙ sym port_same)) ∙ by (is_plain mode e.entry.op) plain
     where
       kept : Bool
-      kept = if is_plain mode e.entry.op then other.issued || nat_lt other.id.0 e.entry.id.0 else (is_plain mode other.op && other.issued) || (nat_lt other.id.0 e.entry.id.0 && (is_plain mode other.op || conflict other (asks e.entry)))
+      kept = if is_plain mode e.entry.op then other.issued || nat_lt other.id.0 e.entry.id.0 else (is_plain mode other.op && other.issued) || (nat_lt other.id.0 e.entry.id.0 && (is_plain mode other.op || must_keep_order other (asks e.entry)))
 
       by : (b : Bool) → (b ≡ true) ⊎ (is_plain mode other.op ≡ true) →
-          (if b then other.issued || nat_lt other.id.0 e.entry.id.0 else (is_plain mode other.op && other.issued) || (nat_lt other.id.0 e.entry.id.0 && (is_plain mode other.op || conflict other (asks e.entry)))) ≡ true
+          (if b then other.issued || nat_lt other.id.0 e.entry.id.0 else (is_plain mode other.op && other.issued) || (nat_lt other.id.0 e.entry.id.0 && (is_plain mode other.op || must_keep_order other (asks e.entry)))) ≡ true
       by true it = ap (λ (x : Bool). x || nat_lt other.id.0 e.entry.id.0) issued
       by false (inl queued) = absurd (false≢true queued)
       by false (inr its) =
-          ap (λ (x : Bool). (x && other.issued) || (nat_lt other.id.0 e.entry.id.0 && (x || conflict other (asks e.entry)))) its
-          ∙ ap (λ (x : Bool). x || (nat_lt other.id.0 e.entry.id.0 && (true || conflict other (asks e.entry)))) issued
+          ap (λ (x : Bool). (x && other.issued) || (nat_lt other.id.0 e.entry.id.0 && (x || must_keep_order other (asks e.entry)))) its
+          ∙ ap (λ (x : Bool). x || (nat_lt other.id.0 e.entry.id.0 && (true || must_keep_order other (asks e.entry)))) issued
 
   -- so no slot of the port is used where a plain request is due, and none for a plain one where any is
   none_beside : (n : ℕ) (u : SlotUse) → used_for s.slots port.0 n ≡ Some u → (is_plain mode e.entry.op ≡ true) ⊎ (u.queued ≡ false) → ⊥
-  none_beside n u used plain = false≢true (sym (not_true _ (and_parts _ _ one.due.clear).1) ∙ any_here (holds_back mode (asks e.entry)) (asks_of s.book) (asks x.request.entry)
+  none_beside n u used plain = false≢true (sym (not_true _ (and_parts _ _ one.due.clear).1) ∙ any_here (waits_for mode (asks e.entry)) (asks_of s.book) (asks x.request.entry)
       (into_map (λ (h : Held). asks h.entry) s.book x.request x.there)
       (holds (asks x.request.entry) x.port_is (sym x.entry.issued ∙ x.issued) (⊎_elim (λ it. inl it) (λ its. inr (plain_of its)) plain)))
     where
@@ -377,11 +377,11 @@ module _ (laws : LawsBelow) (s new : Server) (port : Port) (id : RequestId) (k :
       none_else q other never = ⊎_elim (λ x. absurd (never x.0 x.1)) (λ none. none) (used_or_not (used_for (with_slot s.slots port.0 slot its_use) q other))
 
   -- the server keeps what it keeps
-  pub issue_kept : IsKept new
+  pub issue_kept : InCallInvariant new
   issue_kept =
       let i = issue_one k.machine k.reached k.stands in
-      subst IsKept (sym one.server)
-      (kept_then s new.device s.grants s.table (with_slot s.slots port.0 slot its_use) (map (at id issue) s.book) s.last k k.rows
+      subst InCallInvariant (sym one.server)
+      (kept_then s new.device s.grants s.table (with_slot s.slots port.0 slot its_use) (map (at_entry id issue) s.book) s.last k k.rows
       (laws.looking.services_on s.device new.device k.on driven) (laws.looking.services_same s.device new.device driven)
       (behind_issued laws s new.device port slot mode r e.frames (p k.machine k.reached k.stands) k issued_ready one.issues (its_transfer k.machine k.reached k.stands)
       (free k.machine k.reached k.stands, may k.machine k.reached k.stands))
@@ -395,9 +395,9 @@ module _ (laws : LawsBelow) (s new : Server) (port : Port) (id : RequestId) (k :
       (laws.issued s.book id k.ordered (e, one.here, one.id_is, waiting))
       (all_changed id issue (HasTrueMark s.grants) (issued_marked s.grants) s.book k.marked)
       (all_changed id issue (λ y. y.entry.id.0 ≤ s.last) (λ y a. a) s.book k.handed_out)
-      (all_changed id issue (λ y. state_of (found_of s.ports y.entry.port.0) ≡ ReadyState) (λ y a. a) s.book k.ready)
+      (all_changed id issue (λ y. state_of (probe_result_of s.ports y.entry.port.0) ≡ ReadyState) (λ y a. a) s.book k.ready)
       (after k.machine (Issue mode i.request ∷ i.steps)) (laws.basic.reached k.machine (Issue mode i.request ∷ i.steps) k.reached i.may)
-      (subst (λ (n : Server). IsMachineOf n (after k.machine (Issue mode i.request ∷ i.steps))) one.server i.stands))
+      (subst (λ (n : ServerState). IsMachineOf n (after k.machine (Issue mode i.request ∷ i.steps))) one.server i.stands))
     where
       driven : IsDrivenBy IsService s.device new.device
       driven = issued_serves port slot s.device new.device one.issues.driven

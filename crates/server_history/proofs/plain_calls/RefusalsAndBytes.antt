@@ -13,24 +13,24 @@ use Rattle.adapter.specs.Access.{Access, Does, Loads, Stores}
 use Rattle.adapter.specs.Access.Access.{Loading, Reading, Storing, Writing}
 use Rattle.adapter.specs.Asked.{Asked}
 use Rattle.adapter.specs.Device.{Device}
-use Rattle.adapter.specs.Rules.{IsFree, Stays}
+use Rattle.adapter.specs.Rules.{IsFree, IsStable}
 use Rattle.adapter.specs.Steps.{Steps}
 use Rattle.adapter.specs.declared.access.DeviceStep.{DeviceStep}
 use Rattle.adapter.specs.declared.command.Operation.TheVariants.{Identify}
 use Rattle.adapter.proofs.Changed.{fun_ext}
-use Rattle.agreement.specs.Driven.{IsDrivenBy, SendsNone, known}
-use Rattle.agreement.specs.Driver.{EndsWith}
-use Rattle.agreement.specs.Links.{SameAdapter, SparesRegister}
+use Rattle.refinement.specs.Driven.{IsDrivenBy, SendsNone, known}
+use Rattle.refinement.specs.Driver.{EndsWith}
+use Rattle.refinement.specs.Links.{SameAdapter, SparesRegister}
 use Rattle.hba_regs.specs.declared.reg.PortReg.TheVariants.{Cmd}
 use Rattle.hba_regs.specs.declared.reg.Reg.TheVariants.{Ghc, Px}
-use Rattle.agreement.specs.Spares.{SparesBook}
-use Rattle.agreement.proofs.driver.AddedSteps.{device_adds, nothing_backed}
+use Rattle.refinement.specs.Spares.{SparesBook}
+use Rattle.refinement.proofs.driver.AddedSteps.{device_adds, nothing_backed}
 use Rattle.server_history.proofs.state.DrivenAccesses.{by_one}
-use Rattle.agreement.proofs.device.AdapterOverAccesses.{access_same}
-use Rattle.agreement.proofs.driver.AskedPages.{access_sends_none}
-use Rattle.block_machine.specs.Events.{Ask, Submit, StoreAt, LoadAt, Service, Tick, Reset, RevokeOf, State, AllMay, Device as Told, Said, Submitted, Shown, Stepped, IsAnswered, Moment, WasRevoked}
+use Rattle.refinement.proofs.device.AdapterOverAccesses.{access_same}
+use Rattle.refinement.proofs.driver.AskedPages.{access_sends_none}
+use Rattle.block_machine.specs.Events.{Ask, Submit, StoreAt, LoadAt, Service, Tick, Reset, RevokeOf, State, AllMay, Device as Told, CallResult, Submitted, Shown, Stepped, IsAnswered, AbstractState, WasRevoked}
 use Rattle.block_machine.specs.Rules.{HasRow}
-use Rattle.block_machine.specs.Histories.{Instant, Happening, IsReached, now}
+use Rattle.block_machine.specs.Histories.{JointState, Happening, IsReachable, now}
 use Rattle.block_machine.specs.Left.{after}
 use Rattle.block_machine.specs.Ports.{Evidence, Ports}
 use Rattle.block_machine.specs.Refusals.{Situation, IsFirstMemFault, IsFirstRefusal, IsOpen}
@@ -41,20 +41,20 @@ use Rattle.ata_types.specs.declared.PortState.TheVariants.{Ready as ReadyState}
 use Rattle.block_machine.proofs.Limits.{owned}
 use Rattle.ata_types.specs.declared.refusal.MemFault.TheVariants.{FrameForeign}
 use Rattle.dma_frames.specs.Table.{owner_of, lent_to}
-use Rattle.host_boot.specs.Taken.{found_of}
-use Rattle.host_boot.specs.declared.Found.TheVariants.{Unready}
+use Rattle.host_boot.specs.Taken.{probe_result_of}
+use Rattle.host_boot.specs.declared.ProbeResult.TheVariants.{Unready}
 use Rattle.ata_types.specs.declared.PortState.TheVariants.{Dead}
 use Rattle.ata_types.specs.declared.memory.TheConstants.{DRIVER_BYTES, DRIVER_FRAMES}
-use Rattle.port_look.specs.Services.{IsService}
+use Rattle.port_events.specs.Services.{IsService}
 use Rattle.server_history.specs.Below.{LawsBelow}
 use Rattle.driver_history.specs.Heeding.{IsGrounded}
-use Rattle.driver_history.specs.Histories.{CameBy, Issues, IssuesDue, LosesNoTrouble, TiesPort}
+use Rattle.driver_history.specs.Histories.{CameBy, Issues, IssuesDue, LosesNoPortError, PortCorresponds}
 use Rattle.driver_history.specs.Trace.{ClearsNone, LeavesEngine}
-use Rattle.server_history.specs.Histories.{Adds, AddsEvent, Leads, Stands, load_said, store_said}
-use Rattle.server_history.specs.Server.{HasCommand, Server, IsKept, IsMachineOf, IsPortOf, IsSettled, OwnsClientFrames, mode_in, ports_of, situation_of, used_for}
-use Rattle.slots.specs.declared.Use.{Use as SlotUse}
-use Rattle.agreement.specs.Agrees.{port_at}
-use Rattle.agreement.specs.Places.{IsTable}
+use Rattle.server_history.specs.Histories.{ExtendsSettled, ExtendsHistory, LeadsToServer, ServerRelation, load_said, store_said}
+use Rattle.server_history.specs.Server.{HasCommand, ServerState, InCallInvariant, IsMachineOf, IsPortOf, SettledInvariant, OwnsClientFrames, mode_in, ports_of, server_situation, used_for}
+use Rattle.slots.specs.declared.SlotUse.{SlotUse}
+use Rattle.refinement.specs.Relation.{port_at}
+use Rattle.refinement.specs.Places.{IsTableByte}
 use Rattle.server_history.proofs.state.StoredCommands.{service_leaves_stored}
 use Rattle.server_history.proofs.state.DueRequests.{none_issued}
 use Rattle.server_history.proofs.state.DeviceSteps.{devices_belong, devices_last, devices_lawful, devices_transfer}
@@ -66,12 +66,12 @@ use Rattle.server_history.proofs.state.PortSlots.{not_own, used_there}
 
 -- ---- what a history leads to
 
-module _ (laws : LawsBelow) (first : Instant Device) (past : List (Happening Device DeviceStep)) (s : Server) (leads : Leads first past s) where
-  pub reached : IsReached (now first past).moment.machine
+module _ (laws : LawsBelow) (first : JointState Device) (past : List (Happening Device DeviceStep)) (s : ServerState) (leads : LeadsToServer first past s) where
+  pub reached : IsReachable (now first past).moment.machine
   reached = laws.basic.history_reached s.wanted first past leads.history
 
 -- what holds of the server's owners and loans holds of the machine's
-pub as_told : (s : Server) (m : Machine) → IsMachineOf s m → (P : (Frame → Option ClientId) → (Frame → Option RequestId) → Type 0) → P (owner_of s.table) (lent_to s.table) → P m.owner m.lent
+pub as_told : (s : ServerState) (m : Machine) → IsMachineOf s m → (P : (Frame → Option ClientId) → (Frame → Option RequestId) → Type 0) → P (owner_of s.table) (lent_to s.table) → P m.owner m.lent
 as_told s m is P holds = subst (λ owner. P owner m.lent) (sym (fun_ext is.owner)) (subst (λ lent. P (owner_of s.table) lent) (sym (fun_ext is.lent)) holds)
 
 -- what it stores lies above the driver's own memory
@@ -82,13 +82,13 @@ loads_above : (at : ℕ) (bytes : List ℕ) → StoresAbove (Loading at bytes)
 loads_above at bytes from stored is = let x : Loading at bytes ≡ Storing from stored = is in absurd cc
 
 -- header and table of a slot lie below that
-above_table : (port slot place : ℕ) → port < 4 → slot < 32 → IsTable port slot place → DRIVER_BYTES ≤ place → ⊥
+above_table : (port slot place : ℕ) → port < 4 → slot < 32 → IsTableByte port slot place → DRIVER_BYTES ≤ place → ⊥
 above_table port slot place low small (inl t) high = omega (arith, low, small, t.1, high)
 above_table port slot place low small (inr (inl t)) high = omega (arith, low, small, t.1, high)
 above_table port slot place low small (inr (inr t)) high = omega (arith, low, small, t.1, high)
 
 -- the server's device, at a moment
-abbrev still : Server → Moment → Instant Device
+abbrev still : ServerState → AbstractState → JointState Device
 still s m = record { device = s.device; moment = m }
 
 -- accesses of bytes write no register
@@ -111,17 +111,17 @@ bytes_clear_none port (Reading r v) its = absurd its
 bytes_clear_none port (Writing r v) its = absurd its
 
 -- What a call that leaves the ports alone needs of the server, where it leads to this device: there holds what holds at each instant, and no trouble is lost.
-pub record GoesTo (s : Server) (new : Device) : Type 0 where
+pub record GoesTo (s : ServerState) (new : Device) : Type 0 where
   pub holds : IsHolding (record s { device = new })
-  pub trouble : (m : Moment) → m.ports ≡ ports_of s → (port : Port) → LosesNoTrouble (told_by s.device m.ports) (still s m) (ports_of s) new port
+  pub port_error : (m : AbstractState) → m.ports ≡ ports_of s → (port : Port) → LosesNoPortError (told_by s.device m.ports) (still s m) (ports_of s) new port
 
 -- what of it stands in the device's terms, for each port
-abbrev Parts : Server → Device → Ask DeviceStep → Said → List Step → List Access → Type 0
-Parts s new ask said steps accesses = (m : Moment) → m.ports ≡ ports_of s → (port : Port) → TiesPort (still s m) (happening (still s m) new ask said steps (ports_of s)) accesses port
+abbrev Parts : ServerState → Device → Ask DeviceStep → CallResult → List Step → List Access → Type 0
+Parts s new ask said steps accesses = (m : AbstractState) → m.ports ≡ ports_of s → (port : Port) → PortCorresponds (still s m) (happening (still s m) new ask said steps (ports_of s)) accesses port
 
 module _ (laws : LawsBelow) where
   -- what a request meets is what it meets in the machine
-  pub situation_is : (s : Server) (old : Instant Device) → Stands old s → events.situation_of old.moment ≡ situation_of s
+  pub situation_is : (s : ServerState) (old : JointState Device) → ServerRelation old s → events.situation_of old.moment ≡ server_situation s
   situation_is s old at = λ i. record {
     rows = at.machine.rows i;
     owner = fun_ext at.machine.owner i;
@@ -134,16 +134,16 @@ module _ (laws : LawsBelow) where
   }
 
   -- the machine of a load is that of the device's steps
-  pub load_ends : (s : Server) (new : Device) (client : ClientId) (frame : Frame) (offset : ℕ) (bytes : List ℕ) → IsOpen (owner_of s.table) (lent_to s.table) client frame offset (length bytes)
-      → Loads (4096 * frame.0 + offset) bytes s.device new → (m : Machine) → IsReached m → (is : IsMachineOf s m)
+  pub load_ends : (s : ServerState) (new : Device) (client : ClientId) (frame : Frame) (offset : ℕ) (bytes : List ℕ) → IsOpen (owner_of s.table) (lent_to s.table) client frame offset (length bytes)
+      → Loads (4096 * frame.0 + offset) bytes s.device new → (m : Machine) → IsReachable m → (is : IsMachineOf s m)
       → (x : EndsWith (known is.uses is.parked s.device) m (Load client frame offset bytes) (known is.uses is.parked new)) × IsMachineOf (record s { device = new }) (after m (Load client frame offset bytes ∷ x.steps))
   load_ends s new client frame offset bytes opens loads m r is =
       let x : EndsWith (known is.uses is.parked s.device) m (Load client frame offset bytes) (known is.uses is.parked new) =
       laws.client_loads (known is.uses is.parked s.device) m client frame offset bytes new r is.knows (as_told s m is (λ owner lent. IsOpen owner lent client frame offset (length bytes)) opens) loads in
       (x, machine_with laws s new m (after m (Load client frame offset bytes ∷ x.steps)) is (laws.basic.spares m x.steps x.only) x.knows)
 
-  pub store_ends : (s : Server) (new : Device) (client : ClientId) (frame : Frame) (offset : ℕ) (bytes : List ℕ) → IsOpen (owner_of s.table) (lent_to s.table) client frame offset (length bytes)
-      → Stores (4096 * frame.0 + offset) bytes s.device new → (m : Machine) → IsReached m → (is : IsMachineOf s m)
+  pub store_ends : (s : ServerState) (new : Device) (client : ClientId) (frame : Frame) (offset : ℕ) (bytes : List ℕ) → IsOpen (owner_of s.table) (lent_to s.table) client frame offset (length bytes)
+      → Stores (4096 * frame.0 + offset) bytes s.device new → (m : Machine) → IsReachable m → (is : IsMachineOf s m)
       → (x : EndsWith (known is.uses is.parked s.device) m (Store client frame offset bytes) (known is.uses is.parked new)) × IsMachineOf (record s { device = new }) (after m (Store client frame offset bytes ∷ x.steps))
   store_ends s new client frame offset bytes opens stores m r is =
       let x : EndsWith (known is.uses is.parked s.device) m (Store client frame offset bytes) (known is.uses is.parked new) =
@@ -168,72 +168,72 @@ module _ (laws : LawsBelow) where
   none_grounded (State port) evidence = tt
   none_grounded (Told step) evidence = tt
 
-  pub nothing_event : (s : Server) (ask : Ask DeviceStep) (said : Said) → GoesTo s s.device → ((m : Moment) → CameBy m ask said [] s.device s.device)
-      → ((old : Instant Device) → Stands old s → (evidence : Evidence) → IsAnswered ask said old.moment evidence [] (record { machine = old.moment.machine; ports = ports_of s }))
-      → ((old : Instant Device) → IsReached old.moment.machine → Stands old s → (port : Port) → Issues ask [] old.moment.machine (ports_of s) port)
+  pub nothing_event : (s : ServerState) (ask : Ask DeviceStep) (said : CallResult) → GoesTo s s.device → ((m : AbstractState) → CameBy m ask said [] s.device s.device)
+      → ((old : JointState Device) → ServerRelation old s → (evidence : Evidence) → IsAnswered ask said old.moment evidence [] (record { machine = old.moment.machine; ports = ports_of s }))
+      → ((old : JointState Device) → IsReachable old.moment.machine → ServerRelation old s → (port : Port) → Issues ask [] old.moment.machine (ports_of s) port)
       → Parts s s.device ask said [] []
-      → AddsEvent s s ask said
+      → ExtendsHistory s s ask said
   nothing_event s ask said goes came answered issues parts first past leads =
-      let old : Instant Device = now first past in
+      let old : JointState Device = now first past in
       lead_by laws first past s s ask said [] refl refl leads goes.holds tt tt tt tt (answered old leads.stands (told_by s.device old.moment.ports)) (none_grounded ask (told_by s.device old.moment.ports)) [] (came old.moment)
       (λ port. All-nil (LeavesEngine port)) (issues old (reached laws first past s leads) leads.stands) (parts old.moment leads.stands.ports_are) (nothing_backed s.device old.moment.machine) leads.stands.machine
 
-  module _ (s : Server) (goes : GoesTo s s.device) where
-    pub undone_event : (step : DeviceStep) → AddsEvent s s (Told step) (Stepped false)
+  module _ (s : ServerState) (goes : GoesTo s s.device) where
+    pub undone_event : (step : DeviceStep) → ExtendsHistory s s (Told step) (Stepped false)
     undone_event step =
         nothing_event s (Told step) (Stepped false) goes (λ m. (refl, refl))
         (λ old at evidence. (refl, ports_same old.moment.ports (ports_of s) at.ports_are)) (λ old was at port. tt)
-        (λ m are port. record { finds = tt; faults = tt; tries = tt; boots = tt; trouble = goes.trouble m are port; well = λ i. absurd (uninterrupted s.device m.ports port i); heeds = uninterrupted s.device m.ports port })
+        (λ m are port. record { finds = tt; faults = tt; probes = tt; boots = tt; port_error = goes.port_error m are port; well = λ i. absurd (uninterrupted s.device m.ports port i); heeds = uninterrupted s.device m.ports port })
 
-    pub state_event : (port : Port) → AddsEvent s s (State port) (Shown ((ports_of s).state port))
+    pub state_event : (port : Port) → ExtendsHistory s s (State port) (Shown ((ports_of s).state port))
     state_event port =
         nothing_event s (State port) (Shown ((ports_of s).state port)) goes (λ m. (refl, refl))
         (λ old at evidence. (ap (λ (ports : Ports). ports.state port) (sym at.ports_are), refl, ports_same old.moment.ports (ports_of s) at.ports_are)) (λ old was at q. tt)
-        (λ m are q. record { finds = tt; faults = tt; tries = tt; boots = tt; trouble = goes.trouble m are q; well = λ i. absurd (uninterrupted s.device m.ports q i); heeds = uninterrupted s.device m.ports q })
+        (λ m are q. record { finds = tt; faults = tt; probes = tt; boots = tt; port_error = goes.port_error m are q; well = λ i. absurd (uninterrupted s.device m.ports q i); heeds = uninterrupted s.device m.ports q })
 
     pub store_refused_event : (client : ClientId) (frame : Frame) (offset : ℕ) (bytes : List ℕ) (fault : MemFault)
-        → IsFirstMemFault (owner_of s.table) (lent_to s.table) client frame offset (length bytes) fault → AddsEvent s s (StoreAt client frame offset bytes) (store_said (Err fault))
+        → IsFirstMemFault (owner_of s.table) (lent_to s.table) client frame offset (length bytes) fault → ExtendsHistory s s (StoreAt client frame offset bytes) (store_said (Err fault))
     store_refused_event client frame offset bytes fault is =
         nothing_event s (StoreAt client frame offset bytes) (store_said (Err fault)) goes (λ m. (refl, refl))
         (λ old at evidence. (as_told s old.moment.machine at.machine (λ owner lent. IsFirstMemFault owner lent client frame offset (length bytes) fault) is, refl, ports_same old.moment.ports (ports_of s) at.ports_are))
         (λ old was at port. tt)
-        (λ m are port. record { finds = tt; faults = tt; tries = tt; boots = tt; trouble = goes.trouble m are port; well = λ i. absurd (uninterrupted s.device m.ports port i); heeds = uninterrupted s.device m.ports port })
+        (λ m are port. record { finds = tt; faults = tt; probes = tt; boots = tt; port_error = goes.port_error m are port; well = λ i. absurd (uninterrupted s.device m.ports port i); heeds = uninterrupted s.device m.ports port })
 
     pub load_refused_event : (client : ClientId) (frame : Frame) (offset count : ℕ) (bytes : List ℕ) (fault : MemFault)
-        → IsFirstMemFault (owner_of s.table) (lent_to s.table) client frame offset count fault → AddsEvent s s (LoadAt client frame offset count) (load_said (Err fault) bytes)
+        → IsFirstMemFault (owner_of s.table) (lent_to s.table) client frame offset count fault → ExtendsHistory s s (LoadAt client frame offset count) (load_said (Err fault) bytes)
     load_refused_event client frame offset count bytes fault is =
         nothing_event s (LoadAt client frame offset count) (load_said (Err fault) bytes) goes (λ m. (refl, refl))
         (λ old at evidence. (as_told s old.moment.machine at.machine (λ owner lent. IsFirstMemFault owner lent client frame offset count fault) is, refl, ports_same old.moment.ports (ports_of s) at.ports_are))
         (λ old was at port. tt)
-        (λ m are port. record { finds = tt; faults = tt; tries = tt; boots = tt; trouble = goes.trouble m are port; well = λ i. absurd (uninterrupted s.device m.ports port i); heeds = uninterrupted s.device m.ports port })
+        (λ m are port. record { finds = tt; faults = tt; probes = tt; boots = tt; port_error = goes.port_error m are port; well = λ i. absurd (uninterrupted s.device m.ports port i); heeds = uninterrupted s.device m.ports port })
 
     -- where nothing is due on a ready port
-    pub submit_refused_event : (r : Request) (refusal : Refusal) → IsFirstRefusal (situation_of s) r refusal
-        → ((m : Machine) → IsMachineOf s m → (port : Port) → (ports_of s).state port ≡ ReadyState → IssuesDue (mode_in s port) [] m port) → AddsEvent s s (Submit r) (Submitted (Err refusal))
+    pub submit_refused_event : (r : Request) (refusal : Refusal) → IsFirstRefusal (server_situation s) r refusal
+        → ((m : Machine) → IsMachineOf s m → (port : Port) → (ports_of s).state port ≡ ReadyState → IssuesDue (mode_in s port) [] m port) → ExtendsHistory s s (Submit r) (Submitted (Err refusal))
     submit_refused_event r refusal is undue =
         nothing_event s (Submit r) (Submitted (Err refusal)) goes (λ m. (refl, refl))
         (λ old at evidence. (subst (λ (x : Situation). IsFirstRefusal x r refusal) (sym (situation_is s old at)) is, refl, ports_same old.moment.ports (ports_of s) at.ports_are))
         (λ old was at port ready. undue old.moment.machine at.machine port ready)
-        (λ m are port. record { finds = tt; faults = tt; tries = tt; boots = tt; trouble = goes.trouble m are port; well = λ i. absurd (uninterrupted s.device m.ports port i); heeds = uninterrupted s.device m.ports port })
+        (λ m are port. record { finds = tt; faults = tt; probes = tt; boots = tt; port_error = goes.port_error m are port; well = λ i. absurd (uninterrupted s.device m.ports port i); heeds = uninterrupted s.device m.ports port })
 
     pub revoke_refused_event : (client : ClientId) (number : ℕ) → (HasRow client number s.grants → ⊥)
-        → ((m : Machine) → IsMachineOf s m → (port : Port) → (ports_of s).state port ≡ ReadyState → IssuesDue (mode_in s port) [] m port) → AddsEvent s s (RevokeOf client number) (WasRevoked None)
+        → ((m : Machine) → IsMachineOf s m → (port : Port) → (ports_of s).state port ≡ ReadyState → IssuesDue (mode_in s port) [] m port) → ExtendsHistory s s (RevokeOf client number) (WasRevoked None)
     revoke_refused_event client number none undue =
         nothing_event s (RevokeOf client number) (WasRevoked None) goes (λ m. (refl, refl))
         (λ old at evidence. (λ has. none (subst (HasRow client number) at.machine.rows has), refl, ports_same old.moment.ports (ports_of s) at.ports_are))
         (λ old was at port ready. undue old.moment.machine at.machine port ready)
-        (λ m are port. record { finds = tt; faults = tt; tries = tt; boots = tt; trouble = goes.trouble m are port; well = λ i. absurd (uninterrupted s.device m.ports port i); heeds = uninterrupted s.device m.ports port })
+        (λ m are port. record { finds = tt; faults = tt; probes = tt; boots = tt; port_error = goes.port_error m are port; well = λ i. absurd (uninterrupted s.device m.ports port i); heeds = uninterrupted s.device m.ports port })
 
   -- ---- calls that lead to another device
 
-  module _ (s : Server) (new : Device) (goes : GoesTo s new) where
-    abbrev then_is : Server
+  module _ (s : ServerState) (new : Device) (goes : GoesTo s new) where
+    abbrev then_is : ServerState
     then_is = record s { device = new }
 
-    pub device_event : (step : DeviceStep) → Asked step s.device new → Steps s.device new → AddsEvent s (record s { device = new }) (Told step) (Stepped true)
+    pub device_event : (step : DeviceStep) → Asked step s.device new → Steps s.device new → ExtendsHistory s (record s { device = new }) (Told step) (Stepped true)
     device_event step asked moves first past leads =
-        let old : Instant Device = now first past in
-        let at : Stands old s = leads.stands in
+        let old : JointState Device = now first past in
+        let at : ServerRelation old s = leads.stands in
         let m = at.machine in
         let x = (device_adds (known m.uses m.parked s.device) new moves).adds old.moment.machine (reached laws first past s leads) m.knows in
         let steps : List Step = x.0 in
@@ -245,15 +245,15 @@ module _ (laws : LawsBelow) where
         (refl, asked)
         (λ port. All-nil (LeavesEngine port))
         (λ port. tt)
-        (λ port. record { finds = tt; faults = tt; tries = tt; boots = tt; trouble = goes.trouble old.moment at.ports_are port; well = λ i. absurd (uninterrupted s.device old.moment.ports port i); heeds = uninterrupted s.device old.moment.ports port })
+        (λ port. record { finds = tt; faults = tt; probes = tt; boots = tt; port_error = goes.port_error old.moment at.ports_are port; well = λ i. absurd (uninterrupted s.device old.moment.ports port i); heeds = uninterrupted s.device old.moment.ports port })
         x.3.backed
         (machine_on laws s new old.moment.machine steps m x.3.only x.2)
 
     module _ (client : ClientId) (frame : Frame) (offset : ℕ) (bytes : List ℕ) (opens : IsOpen (owner_of s.table) (lent_to s.table) client frame offset (length bytes)) where
-      pub load_event : Loads (4096 * frame.0 + offset) bytes s.device new → AddsEvent s (record s { device = new }) (LoadAt client frame offset (length bytes)) (load_said (Ok tt) bytes)
+      pub load_event : Loads (4096 * frame.0 + offset) bytes s.device new → ExtendsHistory s (record s { device = new }) (LoadAt client frame offset (length bytes)) (load_said (Ok tt) bytes)
       load_event loads first past leads =
-          let old : Instant Device = now first past in
-          let at : Stands old s = leads.stands in
+          let old : JointState Device = now first past in
+          let at : ServerRelation old s = leads.stands in
           let x = load_ends s new client frame offset bytes opens loads old.moment.machine (reached laws first past s leads) at.machine in
           lead_by laws first past s then_is (LoadAt client frame offset (length bytes)) (load_said (Ok tt) bytes) (Load client frame offset bytes ∷ x.0.steps) refl refl leads goes.holds
           x.0.may (devices_belong {D = DeviceStep} (LoadAt client frame offset (length bytes)) (ports_of s) x.0.steps x.0.only, inr (refl, refl, refl, refl))
@@ -265,13 +265,13 @@ module _ (laws : LawsBelow) where
           ((new, loads, refl), refl)
           (λ port. All-cons (LeavesEngine port) (Loading (4096 * frame.0 + offset) bytes) [] (tt, tt) (All-nil (LeavesEngine port)))
           (λ port. tt)
-          (λ port. record { finds = tt; faults = tt; tries = tt; boots = tt; trouble = goes.trouble old.moment at.ports_are port; well = λ i. absurd (uninterrupted s.device old.moment.ports port i); heeds = uninterrupted s.device old.moment.ports port })
+          (λ port. record { finds = tt; faults = tt; probes = tt; boots = tt; port_error = goes.port_error old.moment at.ports_are port; well = λ i. absurd (uninterrupted s.device old.moment.ports port i); heeds = uninterrupted s.device old.moment.ports port })
           x.0.backed x.1
 
-      pub store_event : Stores (4096 * frame.0 + offset) bytes s.device new → AddsEvent s (record s { device = new }) (StoreAt client frame offset bytes) (store_said (Ok tt))
+      pub store_event : Stores (4096 * frame.0 + offset) bytes s.device new → ExtendsHistory s (record s { device = new }) (StoreAt client frame offset bytes) (store_said (Ok tt))
       store_event stores first past leads =
-          let old : Instant Device = now first past in
-          let at : Stands old s = leads.stands in
+          let old : JointState Device = now first past in
+          let at : ServerRelation old s = leads.stands in
           let x = store_ends s new client frame offset bytes opens stores old.moment.machine (reached laws first past s leads) at.machine in
           lead_by laws first past s then_is (StoreAt client frame offset bytes) (store_said (Ok tt)) (Store client frame offset bytes ∷ x.0.steps) refl refl leads goes.holds
           x.0.may (devices_belong {D = DeviceStep} (StoreAt client frame offset bytes) (ports_of s) x.0.steps x.0.only, inr (refl, refl, refl, refl))
@@ -283,7 +283,7 @@ module _ (laws : LawsBelow) where
           ((new, stores, refl), refl)
           (λ port. All-cons (LeavesEngine port) (Storing (4096 * frame.0 + offset) bytes) [] (tt, tt) (All-nil (LeavesEngine port)))
           (λ port. tt)
-          (λ port. record { finds = tt; faults = tt; tries = tt; boots = tt; trouble = goes.trouble old.moment at.ports_are port; well = λ i. absurd (uninterrupted s.device old.moment.ports port i); heeds = uninterrupted s.device old.moment.ports port })
+          (λ port. record { finds = tt; faults = tt; probes = tt; boots = tt; port_error = goes.port_error old.moment at.ports_are port; well = λ i. absurd (uninterrupted s.device old.moment.ports port i); heeds = uninterrupted s.device old.moment.ports port })
           x.0.backed x.1
 
   -- ---- clients' bytes
@@ -292,8 +292,8 @@ module _ (laws : LawsBelow) where
   pub open_owned : (owner : Frame → Option ClientId) (lent : Frame → Option RequestId) (client : ClientId) (frame : Frame) (offset count : ℕ) → IsOpen owner lent client frame offset count → owner frame ≡ Some client
   open_owned owner lent client frame offset count opens = owned (owner frame) client (opens FrameForeign)
 
-  pub open_free : (s : Server) (client : ClientId) (frame : Frame) (offset count : ℕ) → OwnsClientFrames s.table s.device.size → (m : Machine) → IsReached m → IsMachineOf s m
-      → IsOpen (owner_of s.table) (lent_to s.table) client frame offset count → Stays (IsFree (4096 * frame.0 + offset) count) s.device
+  pub open_free : (s : ServerState) (client : ClientId) (frame : Frame) (offset count : ℕ) → OwnsClientFrames s.table s.device.size → (m : Machine) → IsReachable m → IsMachineOf s m
+      → IsOpen (owner_of s.table) (lent_to s.table) client frame offset count → IsStable (IsFree (4096 * frame.0 + offset) count) s.device
   open_free s client frame offset count owners m was is opens =
       laws.client_bytes_free is.uses m s.device was is.knows.agrees client frame offset count (owners frame client (open_owned (owner_of s.table) (lent_to s.table) client frame offset count opens)).1
       (as_told s m is (λ owner lent. IsOpen owner lent client frame offset count) opens)
@@ -303,11 +303,11 @@ module _ (laws : LawsBelow) where
 module _ (laws : LawsBelow) where
   -- ---- trouble that isn't lost
 
-  untroubled : (s : Server) → IsKept s → (m : Moment) (port : Port) → LosesNoTrouble (told_by s.device m.ports) (still s m) (ports_of s) s.device port
+  untroubled : (s : ServerState) → InCallInvariant s → (m : AbstractState) (port : Port) → LosesNoPortError (told_by s.device m.ports) (still s m) (ports_of s) s.device port
   untroubled s k m port = laws.calls.ordinary port (still s m) s.device [] (told_by s.device m.ports) (ports_of s) k.on refl (All-nil (SparesRegister Ghc)) (All-nil (ClearsNone port))
 
-  one_untroubled : (s : Server) → IsKept s → (new : Device) (access : Access) → IsOfBytes access → Does access s.device new → (m : Moment) (port : Port)
-      → LosesNoTrouble (told_by s.device m.ports) (still s m) (ports_of s) new port
+  one_untroubled : (s : ServerState) → InCallInvariant s → (new : Device) (access : Access) → IsOfBytes access → Does access s.device new → (m : AbstractState) (port : Port)
+      → LosesNoPortError (told_by s.device m.ports) (still s m) (ports_of s) new port
   one_untroubled s k new access its does m port =
       laws.calls.ordinary port (still s m) new (access ∷ []) (told_by s.device m.ports) (ports_of s) k.on (new, does, refl)
       (All-cons (SparesRegister Ghc) access [] (bytes_spare_host access its) (All-nil (SparesRegister Ghc)))
@@ -315,22 +315,22 @@ module _ (laws : LawsBelow) where
 
   -- ---- accesses of bytes
 
-  module _ (s : Server) (k : IsKept s) (new : Device) (access : Access) (its : IsOfBytes access) (above : StoresAbove access) (does : Does access s.device new) where
+  module _ (s : ServerState) (k : InCallInvariant s) (new : Device) (access : Access) (its : IsOfBytes access) (above : StoresAbove access) (does : Does access s.device new) where
     served : IsDrivenBy IsService s.device new
     served = by_one IsService access s.device new (bytes_serve access its) does
 
     same : SameAdapter s.device new
     same = access_same access s.device new does
 
-    silent : (port : ℕ) → found_of s.ports port ≢ Unready Dead → SendsNone port Identify s.device new
+    silent : (port : ℕ) → probe_result_of s.ports port ≢ Unready Dead → SendsNone port Identify s.device new
     silent port other =
         access_sends_none k.stands.uses k.machine access s.device new port Identify k.reached k.stands.knows.agrees does refl
-        (not_own (found_of s.ports port) (used_for s.slots port 0) (k.stands.uses port 0) Identify other (k.stands.used port 0))
+        (not_own (probe_result_of s.ports port) (used_for s.slots port 0) (k.stands.uses port 0) Identify other (k.stands.used port 0))
 
     ports_on : (port : ℕ) → port < 4 → IsPortOf s.wanted s.ports port new
     ports_on port below =
         port_on laws s.wanted s.ports port s.device new same k.on served (λ unready. bytes_leave access s.device new its k.on does port) (silent port)
-        (laws.trouble.halts_access k.stands.uses k.machine (port_at port) access s.device new k.reached k.stands.knows.agrees (bytes_spare_commands (port_at port) access its) does) (k.behind port below)
+        (laws.port_error.halts_access k.stands.uses k.machine (port_at port) access s.device new k.reached k.stands.knows.agrees (bytes_spare_commands (port_at port) access its) does) (k.behind port below)
 
     -- what is stored for slots stays
     commands_on : (port slot : ℕ) (used : SlotUse) → used_for s.slots port slot ≡ Some used → HasCommand used.queued new port slot
@@ -346,12 +346,12 @@ module _ (laws : LawsBelow) where
         }
 
     -- a machine that spares the book
-    kept_with : (steps : List Step) → AllMay k.machine steps → IsMachineOf (record s { device = new }) (after k.machine steps) → IsKept (record s { device = new })
+    kept_with : (steps : List Step) → AllMay k.machine steps → IsMachineOf (record s { device = new }) (after k.machine steps) → InCallInvariant (record s { device = new })
     kept_with steps may stands = kept_on laws s new k (laws.looking.services_on s.device new k.on served) same ports_on commands_on steps may stands
 
   -- ---- the device's steps
 
-  pub device_kept : (s : Server) (new : Device) → IsKept s → Steps s.device new → IsKept (record s { device = new })
+  pub device_kept : (s : ServerState) (new : Device) → InCallInvariant s → Steps s.device new → InCallInvariant (record s { device = new })
   device_kept s new k steps =
       let x = (device_adds (known k.stands.uses k.stands.parked s.device) new steps).adds k.machine k.reached k.stands.knows in
       kept_with s k new (Loading 0 []) tt (loads_above 0 []) (none_loaded s.device new steps) x.0 x.1
@@ -359,55 +359,55 @@ module _ (laws : LawsBelow) where
 
   -- ---- events
 
-  pub stays : (s : Server) → IsKept s → GoesTo s s.device
-  stays s k = record { holds = holding s k; trouble = λ m are port. untroubled s k m port }
+  pub stays : (s : ServerState) → InCallInvariant s → GoesTo s s.device
+  stays s k = record { holds = holding s k; port_error = λ m are port. untroubled s k m port }
 
-  pub device_adds_event : (s : Server) (new : Device) (step : DeviceStep) → IsSettled s → Asked step s.device new → Steps s.device new
-      → Adds s (record s { device = new }) (Told step) (Stepped true)
+  pub device_adds_event : (s : ServerState) (new : Device) (step : DeviceStep) → SettledInvariant s → Asked step s.device new → Steps s.device new
+      → ExtendsSettled s (record s { device = new }) (Told step) (Stepped true)
   device_adds_event s new step k asked moves = record {
     settled = record { kept = device_kept s new k.kept moves; issued = k.issued };
     adds = device_event laws s new (record {
       holds = holding (record s { device = new }) (device_kept s new k.kept moves);
-      trouble = λ m are port. laws.calls.ordinary_steps port (still s m) new (told_by s.device m.ports) (ports_of s) k.kept.on moves;
+      port_error = λ m are port. laws.calls.ordinary_steps port (still s m) new (told_by s.device m.ports) (ports_of s) k.kept.on moves;
     }) step asked moves;
   }
 
-  pub undone_adds : (s : Server) (step : DeviceStep) → IsSettled s → Adds s s (Told step) (Stepped false)
+  pub undone_adds : (s : ServerState) (step : DeviceStep) → SettledInvariant s → ExtendsSettled s s (Told step) (Stepped false)
   undone_adds s step k = record { settled = k; adds = undone_event laws s (stays s k.kept) step }
 
-  pub state_adds : (s : Server) (port : Port) → IsSettled s → Adds s s (State port) (Shown ((ports_of s).state port))
+  pub state_adds : (s : ServerState) (port : Port) → SettledInvariant s → ExtendsSettled s s (State port) (Shown ((ports_of s).state port))
   state_adds s port k = record { settled = k; adds = state_event laws s (stays s k.kept) port }
 
-  pub store_refused : (s : Server) (client : ClientId) (frame : Frame) (offset : ℕ) (bytes : List ℕ) (fault : MemFault) → IsSettled s
-      → IsFirstMemFault (owner_of s.table) (lent_to s.table) client frame offset (length bytes) fault → Adds s s (StoreAt client frame offset bytes) (store_said (Err fault))
+  pub store_refused : (s : ServerState) (client : ClientId) (frame : Frame) (offset : ℕ) (bytes : List ℕ) (fault : MemFault) → SettledInvariant s
+      → IsFirstMemFault (owner_of s.table) (lent_to s.table) client frame offset (length bytes) fault → ExtendsSettled s s (StoreAt client frame offset bytes) (store_said (Err fault))
   store_refused s client frame offset bytes fault k is = record { settled = k; adds = store_refused_event laws s (stays s k.kept) client frame offset bytes fault is }
 
-  pub load_refused : (s : Server) (client : ClientId) (frame : Frame) (offset count : ℕ) (bytes : List ℕ) (fault : MemFault) → IsSettled s
-      → IsFirstMemFault (owner_of s.table) (lent_to s.table) client frame offset count fault → Adds s s (LoadAt client frame offset count) (load_said (Err fault) bytes)
+  pub load_refused : (s : ServerState) (client : ClientId) (frame : Frame) (offset count : ℕ) (bytes : List ℕ) (fault : MemFault) → SettledInvariant s
+      → IsFirstMemFault (owner_of s.table) (lent_to s.table) client frame offset count fault → ExtendsSettled s s (LoadAt client frame offset count) (load_said (Err fault) bytes)
   load_refused s client frame offset count bytes fault k is = record { settled = k; adds = load_refused_event laws s (stays s k.kept) client frame offset count bytes fault is }
 
-  pub revoke_refused : (s : Server) (client : ClientId) (number : ℕ) → IsSettled s → (HasRow client number s.grants → ⊥) → Adds s s (RevokeOf client number) (WasRevoked None)
+  pub revoke_refused : (s : ServerState) (client : ClientId) (number : ℕ) → SettledInvariant s → (HasRow client number s.grants → ⊥) → ExtendsSettled s s (RevokeOf client number) (WasRevoked None)
   revoke_refused s client number k none = record {
     settled = k;
     adds = revoke_refused_event laws s (stays s k.kept) client number none (λ m at port ready. none_issued s m at [] (λ id. refl) (mode_in s port) port (k.issued port));
   }
 
-  pub submit_refused : (s : Server) (r : Request) (refusal : Refusal) → IsSettled s → IsFirstRefusal (situation_of s) r refusal → Adds s s (Submit r) (Submitted (Err refusal))
+  pub submit_refused : (s : ServerState) (r : Request) (refusal : Refusal) → SettledInvariant s → IsFirstRefusal (server_situation s) r refusal → ExtendsSettled s s (Submit r) (Submitted (Err refusal))
   submit_refused s r refusal k is = record {
     settled = k;
     adds = submit_refused_event laws s (stays s k.kept) r refusal is (λ m at port ready. none_issued s m at [] (λ id. refl) (mode_in s port) port (k.issued port));
   }
 
-  module _ (s : Server) (new : Device) (client : ClientId) (frame : Frame) (offset : ℕ) (bytes : List ℕ) (t : IsSettled s) (opens : IsOpen (owner_of s.table) (lent_to s.table) client frame offset (length bytes)) where
-    abbrev k : IsKept s
+  module _ (s : ServerState) (new : Device) (client : ClientId) (frame : Frame) (offset : ℕ) (bytes : List ℕ) (t : SettledInvariant s) (opens : IsOpen (owner_of s.table) (lent_to s.table) client frame offset (length bytes)) where
+    abbrev k : InCallInvariant s
     k = t.kept
 
-    pub load_kept : Loads (4096 * frame.0 + offset) bytes s.device new → IsKept (record s { device = new })
+    pub load_kept : Loads (4096 * frame.0 + offset) bytes s.device new → InCallInvariant (record s { device = new })
     load_kept loads =
         let x = load_ends laws s new client frame offset bytes opens loads k.machine k.reached k.stands in
         kept_with s k new (Loading (4096 * frame.0 + offset) bytes) tt (loads_above (4096 * frame.0 + offset) bytes) loads (Load client frame offset bytes ∷ x.0.steps) x.0.may x.1
 
-    pub store_kept : Stores (4096 * frame.0 + offset) bytes s.device new → IsKept (record s { device = new })
+    pub store_kept : Stores (4096 * frame.0 + offset) bytes s.device new → InCallInvariant (record s { device = new })
     store_kept stores =
         let x = store_ends laws s new client frame offset bytes opens stores k.machine k.reached k.stands in
         kept_with s k new (Storing (4096 * frame.0 + offset) bytes) tt above stores (Store client frame offset bytes ∷ x.0.steps) x.0.may x.1
@@ -421,25 +421,25 @@ module _ (laws : LawsBelow) where
             let same : 4096 * frame.0 + offset ≡ at = cc in
             let o = owned.0 in omega (arith, same, o)
 
-    goes : IsKept (record s { device = new }) → (access : Access) → IsOfBytes access → Does access s.device new → GoesTo s new
-    goes then_kept access its does = record { holds = holding (record s { device = new }) then_kept; trouble = λ m are port. one_untroubled s k new access its does m port }
+    goes : InCallInvariant (record s { device = new }) → (access : Access) → IsOfBytes access → Does access s.device new → GoesTo s new
+    goes then_kept access its does = record { holds = holding (record s { device = new }) then_kept; port_error = λ m are port. one_untroubled s k new access its does m port }
 
-    pub load_adds : Loads (4096 * frame.0 + offset) bytes s.device new → Adds s (record s { device = new }) (LoadAt client frame offset (length bytes)) (load_said (Ok tt) bytes)
+    pub load_adds : Loads (4096 * frame.0 + offset) bytes s.device new → ExtendsSettled s (record s { device = new }) (LoadAt client frame offset (length bytes)) (load_said (Ok tt) bytes)
     load_adds loads = record {
       settled = record { kept = load_kept loads; issued = t.issued };
       adds = load_event laws s new (goes (load_kept loads) (Loading (4096 * frame.0 + offset) bytes) tt loads) client frame offset bytes opens loads;
     }
 
-    pub store_adds : Stores (4096 * frame.0 + offset) bytes s.device new → Adds s (record s { device = new }) (StoreAt client frame offset bytes) (store_said (Ok tt))
+    pub store_adds : Stores (4096 * frame.0 + offset) bytes s.device new → ExtendsSettled s (record s { device = new }) (StoreAt client frame offset bytes) (store_said (Ok tt))
     store_adds stores = record {
       settled = record { kept = store_kept stores; issued = t.issued };
       adds = store_event laws s new (goes (store_kept stores) (Storing (4096 * frame.0 + offset) bytes) tt stores) client frame offset bytes opens stores;
     }
 
   -- of so many bytes
-  pub load_of : (s : Server) (new : Device) (client : ClientId) (frame : Frame) (offset count : ℕ) (bytes : List ℕ) → IsSettled s → length bytes ≡ count
+  pub load_of : (s : ServerState) (new : Device) (client : ClientId) (frame : Frame) (offset count : ℕ) (bytes : List ℕ) → SettledInvariant s → length bytes ≡ count
       → IsOpen (owner_of s.table) (lent_to s.table) client frame offset count → Loads (4096 * frame.0 + offset) bytes s.device new
-      → Adds s (record s { device = new }) (LoadAt client frame offset count) (load_said (Ok tt) bytes)
+      → ExtendsSettled s (record s { device = new }) (LoadAt client frame offset count) (load_said (Ok tt) bytes)
   load_of s new client frame offset count bytes k long opens loads =
       let here : IsOpen (owner_of s.table) (lent_to s.table) client frame offset (length bytes) = subst (λ (n : ℕ). IsOpen (owner_of s.table) (lent_to s.table) client frame offset n) (sym long) opens in
-      subst (λ (n : ℕ). Adds s (record s { device = new }) (LoadAt client frame offset n) (load_said (Ok tt) bytes)) long (load_adds s new client frame offset bytes k here loads)
+      subst (λ (n : ℕ). ExtendsSettled s (record s { device = new }) (LoadAt client frame offset n) (load_said (Ok tt) bytes)) long (load_adds s new client frame offset bytes k here loads)

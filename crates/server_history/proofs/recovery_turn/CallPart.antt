@@ -6,27 +6,27 @@ use Rattle.ata_types.specs.declared.PortState.TheVariants.{Ready as ReadyState}
 use Rattle.ata_types.specs.declared.request.Reply.{Reply}
 use Rattle.adapter.specs.Device.{Device}
 use Rattle.adapter.specs.declared.access.DeviceStep.{DeviceStep}
-use Rattle.agreement.specs.Acts.{Act}
-use Rattle.agreement.specs.Driven.{AnyUse, IsFollowed}
+use Rattle.refinement.specs.Acts.{Act}
+use Rattle.refinement.specs.Driven.{AnyUse, IsSimulated}
 use Rattle.block_machine.specs.declared.due.Unanswered.{Unanswered}
 use Rattle.server_history.proofs.state.ListMembers.{map_in}
 use Rattle.std.specs.List.{Contains}
-use Rattle.server_history.proofs.fates.MetFates.{nobody}
+use Rattle.server_history.proofs.dispositions.MetFates.{nobody}
 use Rattle.block_machine.specs.Due.{due_of, IsDue, NoneDue, of_port}
 use Rattle.block_machine.specs.Events.{Belong}
-use Rattle.block_machine.specs.Histories.{IsReached}
+use Rattle.block_machine.specs.Histories.{IsReachable}
 use Rattle.block_machine.specs.State.{Machine}
-use Rattle.block_machine.specs.declared.due.Mode.{Mode}
-use Rattle.host_boot.specs.Taken.{found_of}
-use Rattle.host_boot.specs.declared.Found.TheVariants.{Ready}
+use Rattle.block_machine.specs.declared.due.QueueMode.{QueueMode}
+use Rattle.host_boot.specs.Taken.{probe_result_of}
+use Rattle.host_boot.specs.declared.ProbeResult.TheVariants.{Ready}
 use Rattle.identify.specs.declared.DiskInfo.{DiskInfo}
-use Rattle.port_look.specs.Looks.{IsLooking}
+use Rattle.port_events.specs.Looks.{IsLooking}
 use Rattle.request_queue.specs.Entries.{Held, asks, asks_of, due_ids}
 use Rattle.server_history.specs.Below.{LawsBelow}
-use Rattle.server_history.specs.Mended.{HasMetFates, MendsPort}
-use Rattle.port_look.specs.declared.Trouble.TheVariants.{Hung}
-use Rattle.server_history.specs.Server.{IsKept, IsMachineOf, IsSettled, Server, mode_in, ports_of, state_of}
-use Rattle.server_history.specs.Turns.{HasPart, InRestart, InService, MakesTurn, OwesTurn, ServesPort, TiesTurn, Turn, call_of}
+use Rattle.server_history.specs.ErrorHandling.{HasResolved, HandlesPortError}
+use Rattle.port_events.specs.declared.PortError.TheVariants.{TimedOut}
+use Rattle.server_history.specs.Server.{InCallInvariant, IsMachineOf, SettledInvariant, ServerState, mode_in, ports_of, state_of}
+use Rattle.server_history.specs.Turns.{HasPart, InRestart, InService, MakesTurn, OwesTurn, ServesPort, TurnCorresponds, Turn, call_of}
 use Rattle.server_history.proofs.recovery_turn.TurnAsCall.{heeds_trouble, ties_recovered}
 use Rattle.server_history.proofs.recovery_turn.DecidedSteps.{DecidesTurn, recovered_decides}
 use Rattle.server_history.proofs.recovery_turn.TurnEvidence.{IsEvident, evident}
@@ -39,8 +39,8 @@ use Rattle.server_history.proofs.plain_calls.IssueRounds.{each_apart, each_setti
 use Rattle.server_history.proofs.state.PortSlots.{of_ready, ready_found}
 
 -- where nobody looked, it is as after a look without accesses
-pub unlooked : (port : Port) (old seen : Device) → seen ≡ old → IsFollowed (IsLooking port) AnyUse old seen
-unlooked port old seen same = subst (IsFollowed (IsLooking port) AnyUse old) (sym same) (record {
+pub unlooked : (port : Port) (old seen : Device) → seen ≡ old → IsSimulated (IsLooking port) AnyUse old seen
+unlooked port old seen same = subst (IsSimulated (IsLooking port) AnyUse old) (sym same) (record {
   driven = record { accesses = []; all = refl; only = All-nil (IsLooking port) };
   comes = λ s m reached knows any. record {
     acts = [];
@@ -51,19 +51,19 @@ unlooked port old seen same = subst (IsFollowed (IsLooking port) AnyUse old) (sy
 })
 
 -- once its requests met their fates, the server keeps what it keeps
-pub goes_on : LawsBelow → (port : Port) (later : List Reply) (old new : Server) → IsKept old → state_of (found_of old.ports port.0) ≡ ReadyState → (a : HasMetFates port later old new)
-    → IsFollowed (IsLooking port) AnyUse old.device a.mended.seen → IsKept new
+pub goes_on : LawsBelow → (port : Port) (later : List Reply) (old new : ServerState) → InCallInvariant old → state_of (probe_result_of old.ports port.0) ≡ ReadyState → (a : HasResolved port later old new)
+    → IsSimulated (IsLooking port) AnyUse old.device a.error_handled.seen → InCallInvariant new
 goes_on laws port later old new k ready a looks =
     let f = adds_fates laws port later old new k ready a looks k.machine k.reached k.stands in
     recovered_kept laws port later old new k ready a looks _ (laws.basic.reached k.machine _ k.reached f.may) f.stands
 
 -- nothing is due on a port that isn't ready, of which no request is unanswered
-pub none_due_unready : (s : Server) → IsKept s → (port : Port) → state_of (found_of s.ports port.0) ≢ ReadyState → (mode : Mode) → NoneDue mode (asks_of s.book) port
+pub none_due_unready : (s : ServerState) → InCallInvariant s → (port : Port) → state_of (probe_result_of s.ports port.0) ≢ ReadyState → (mode : QueueMode) → NoneDue mode (asks_of s.book) port
 none_due_unready s k port unready mode r own due =
     let y = map_in (λ (x : Held). asks x.entry) s.book r due.here in
-    unready (ap (λ (q : Port). state_of (found_of s.ports q.0)) (sym own ∙ ap (λ (u : Unanswered). u.port) y.2) ∙ of_ready s k y.0 y.1)
+    unready (ap (λ (q : Port). state_of (probe_result_of s.ports q.0)) (sym own ∙ ap (λ (u : Unanswered). u.port) y.2) ∙ of_ready s k y.0 y.1)
 
-pub unready_undue : LawsBelow → (s : Server) → IsKept s → (port : Port) → ((info : DiskInfo) → found_of s.ports port.0 ≡ Ready info → ⊥) → due_ids (mode_in s port) port (asks_of s.book) ≡ []
+pub unready_undue : LawsBelow → (s : ServerState) → InCallInvariant s → (port : Port) → ((info : DiskInfo) → probe_result_of s.ports port.0 ≡ Ready info → ⊥) → due_ids (mode_in s port) port (asks_of s.book) ≡ []
 unready_undue laws s k port unready = ap (map (λ (r : Unanswered). r.id)) (nobody (due_of (mode_in s port) port (asks_of s.book)) none)
   where
     none : (r : Unanswered) → Contains (due_of (mode_in s port) port (asks_of s.book)) r → ⊥
@@ -71,24 +71,24 @@ unready_undue laws s k port unready = ap (map (λ (r : Unanswered). r.id)) (nobo
         let own = laws.own (mode_in s port) port (asks_of s.book) r here in
         none_due_unready s k port (λ ready. let found = (ready_found s port.0 k ready).1 in unready found.0 found.1) (mode_in s port) r own ((laws.exact (mode_in s port) port (asks_of s.book) r own).0 here)
 
-module _ (laws : LawsBelow) (port : Port) (replies : List Reply) (old new : Server) (t : IsSettled old) (ready : state_of (found_of old.ports port.0) ≡ ReadyState)
-    (r : MendsPort port replies old new) (looks : IsFollowed (IsLooking port) AnyUse old.device r.settled.mended.seen) where
-  abbrev k : IsKept old
+module _ (laws : LawsBelow) (port : Port) (replies : List Reply) (old new : ServerState) (t : SettledInvariant old) (ready : state_of (probe_result_of old.ports port.0) ≡ ReadyState)
+    (r : HandlesPortError port replies old new) (looks : IsSimulated (IsLooking port) AnyUse old.device r.settled.error_handled.seen) where
+  abbrev k : InCallInvariant old
   k = t.kept
 
-  kept : IsKept r.mid
+  kept : InCallInvariant r.mid
   kept = goes_on laws port r.later old r.mid k ready r.settled looks
 
   e : IsEvident port replies old new r
   e = evident laws port replies old new k ready r looks kept
 
   -- what it makes of a machine that stands for the server, where it is such a part of its call
-  module _ (m : Machine) (reached : IsReached m) (is : IsMachineOf old m) where
+  module _ (m : Machine) (reached : IsReachable m) (is : IsMachineOf old m) where
     d : DecidesTurn port replies old new r (evidence_by r.settled) m
     d = recovered_decides laws port replies old new k ready r looks kept m reached is
 
     makes : (turn : Turn) → Belong {D = DeviceStep} (call_of turn) (ports_of new) d.steps → OwesTurn turn port e.accesses old new m (evidence_by r.settled) d.steps
-        → TiesTurn turn port replies e.accesses old new m (evidence_by r.settled) d.steps → MakesTurn turn port replies e.accesses old new m
+        → TurnCorresponds turn port replies e.accesses old new m (evidence_by r.settled) d.steps → MakesTurn turn port replies e.accesses old new m
     makes turn belong owes ties = record {
       steps = d.steps;
       evidence = evidence_by r.settled;
@@ -113,7 +113,7 @@ module _ (laws : LawsBelow) (port : Port) (replies : List Reply) (old new : Serv
       ties = ties;
     }
 
-  has_part : (turn : Turn) → ((m : Machine) → IsReached m → IsMachineOf old m → MakesTurn turn port replies e.accesses old new m) → HasPart turn port replies old new
+  has_part : (turn : Turn) → ((m : Machine) → IsReachable m → IsMachineOf old m → MakesTurn turn port replies e.accesses old new m) → HasPart turn port replies old new
   has_part turn made = record {
     accesses = e.accesses;
     does = e.does;
@@ -124,7 +124,7 @@ module _ (laws : LawsBelow) (port : Port) (replies : List Reply) (old new : Serv
     makes = made;
   }
 
-  pub recovered : r.settled.mended.trouble ≢ Hung → ServesPort port replies old new
+  pub recovered : r.settled.error_handled.port_error ≢ TimedOut → ServesPort port replies old new
   recovered unhung = record {
     does = inr (r, unhung);
     part = has_part InService (λ m reached is.
@@ -132,7 +132,7 @@ module _ (laws : LawsBelow) (port : Port) (replies : List Reply) (old new : Serv
         makes m reached is InService its.belong (its.grounded unhung) (ties_recovered laws port replies old new k ready r looks kept e m reached is its unhung));
   }
 
-  pub restarted : r.settled.mended.trouble ≡ Hung → HasPart InRestart port replies old new
+  pub restarted : r.settled.error_handled.port_error ≡ TimedOut → HasPart InRestart port replies old new
   restarted hung = has_part InRestart (λ m reached is.
       let its = d m reached is in
       makes m reached is InRestart (belongs laws port replies old new k ready r looks kept e m reached is its hung) (owes laws port replies old new k ready r looks kept e m reached is its hung)
@@ -143,9 +143,9 @@ module _ (laws : LawsBelow) (port : Port) (replies : List Reply) (old new : Serv
   none_other other ne u its due =
       let ids = due_ids (mode_in r.mid port) port (asks_of r.mid.book) in
       let number : other.0 ≢ port.0 = λ same. ne (ap (λ (n : ℕ). record { 0 = n }) same) in
-      let mode_is : mode_in r.mid other ≡ mode_in old other = sym (ap (λ (n : Server). mode_in n other) (each_settings laws port ids r.mid new r.issued)) ∙ e.others.modes other.0 number in
+      let mode_is : mode_in r.mid other ≡ mode_in old other = sym (ap (λ (n : ServerState). mode_in n other) (each_settings laws port ids r.mid new r.issued)) ∙ e.others.modes other.0 number in
       let book_is : of_port other (asks_of r.mid.book) ≡ of_port other (asks_of old.book) = sym (each_apart laws port ids r.mid new kept.ordered r.issued other ne) ∙ e.others.book other ne in
-      t.issued other u its ((laws.same_due (mode_in old other) other (asks_of r.mid.book) (asks_of old.book) u book_is its).0 (subst (λ (mode : Mode). IsDue mode (asks_of r.mid.book) u) mode_is due))
+      t.issued other u its ((laws.same_due (mode_in old other) other (asks_of r.mid.book) (asks_of old.book) u book_is its).0 (subst (λ (mode : QueueMode). IsDue mode (asks_of r.mid.book) u) mode_is due))
 
-  pub settles : IsSettled new
+  pub settles : SettledInvariant new
   settles = settled laws port r.mid new kept none_other r.issued

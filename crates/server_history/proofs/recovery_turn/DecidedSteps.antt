@@ -13,54 +13,54 @@ use Rattle.ata_types.specs.declared.request.Outcome.TheVariants as outcome
 use Rattle.ata_types.specs.declared.request.Reply.{Reply}
 use Rattle.ata_types.specs.declared.request.RequestId.{RequestId}
 use Rattle.adapter.specs.declared.access.DeviceStep.{DeviceStep}
-use Rattle.agreement.specs.Driven.{AnyUse, IsFollowed}
-use Rattle.agreement.specs.Driver.{IsBacked}
-use Rattle.block_machine.specs.Events.{AllDevices, AllLawful, AllMay, Belong, GivesUp, IsIssuedIn, IsLawful, IssuesLast, IsToldBefore, Moment, Service, Tells, UnplugsAll, WasIssued, answers_of, issues_it, reply_of, IsReadyAgain}
-use Rattle.block_machine.specs.Histories.{IsReached}
+use Rattle.refinement.specs.Driven.{AnyUse, IsSimulated}
+use Rattle.refinement.specs.Driver.{IsBacked}
+use Rattle.block_machine.specs.Events.{AllDevices, AllLawful, AllMay, Belong, EndsUndone, IsIssuedIn, IsLawful, IssuesLast, IsToldBefore, AbstractState, Service, Tells, UnplugsAll, WasIssued, answers_of, issues_it, reply_of, IsReadyAgain}
+use Rattle.block_machine.specs.Histories.{IsReachable}
 use Rattle.block_machine.specs.Left.{after}
 use Rattle.block_machine.specs.Ports.{Evidence, Ports, SameDisk}
 use Rattle.block_machine.specs.State.{Machine, Pending}
 use Rattle.block_machine.specs.Steps.{Step, Again, Answer, Issue}
-use Rattle.block_machine.specs.declared.due.Mode.{Mode}
+use Rattle.block_machine.specs.declared.due.QueueMode.{QueueMode}
 use Rattle.block_machine.specs.declared.due.Unanswered.{Unanswered}
 use Rattle.server_history.proofs.state.ListMembers.{contains_here, map_in, in_filter}
 use Rattle.block_machine.specs.Due.{due_of}
 use Rattle.driver_history.specs.Heeding.{AllGrounded, AreTold}
 use Rattle.driver_history.specs.Histories.{IssuesDue}
 use Rattle.driver_history.specs.Holds.{NoneWaits}
-use Rattle.error_log.specs.declared.Failure.{Failure}
+use Rattle.error_log.specs.declared.FailedSlot.{FailedSlot}
 use Rattle.error_recovery.specs.declared.Next.{Next}
 use Rattle.error_recovery.specs.declared.Next.TheVariants.{Running, Restart, Dead as Stuck}
-use Rattle.host_boot.specs.Taken.{found_of}
-use Rattle.host_boot.specs.declared.Found.{Found}
-use Rattle.host_boot.specs.declared.Found.TheVariants.{Unserved, Ready, Unready}
+use Rattle.host_boot.specs.Taken.{probe_result_of}
+use Rattle.host_boot.specs.declared.ProbeResult.{ProbeResult}
+use Rattle.host_boot.specs.declared.ProbeResult.TheVariants.{Unserved, Ready, Unready}
 use Rattle.identify.specs.declared.DiskInfo.{DiskInfo}
-use Rattle.port_look.specs.Looks.{IsLooking}
-use Rattle.port_look.specs.declared.Trouble.{Trouble}
-use Rattle.port_look.specs.declared.Trouble.TheVariants.{Broken, Failed as Fails, Hung, Lost}
+use Rattle.port_events.specs.Looks.{IsLooking}
+use Rattle.port_events.specs.declared.PortError.{PortError}
+use Rattle.port_events.specs.declared.PortError.TheVariants.{BusError, TaskFileError, TimedOut, LinkChanged}
 use Rattle.request_queue.specs.Entries.{Held, asks, asks_of, due_ids, is_of}
-use Rattle.request_queue.specs.Fates.{fate_of}
+use Rattle.request_queue.specs.Dispositions.{disposition_of}
 use Rattle.request_queue.specs.Machine.{IsEntry}
-use Rattle.request_queue.specs.declared.Entry.{Entry}
-use Rattle.request_queue.specs.declared.fate.Failed.{Failed}
-use Rattle.request_queue.specs.declared.fate.Fate.TheVariants.{Ends}
-use Rattle.request_queue.specs.declared.fate.Prospect.{Prospect}
-use Rattle.request_queue.specs.declared.fate.Prospect.TheVariants.{SameDisk as Same, DiskLost, Dead as NoEnd}
-use Rattle.slots.specs.Uses.{Uses as PortSlots, use_at}
-use Rattle.slots.specs.declared.Use.{Use as SlotUse}
+use Rattle.request_queue.specs.declared.PendingRequest.{PendingRequest}
+use Rattle.request_queue.specs.declared.disposition.FailedRequest.{FailedRequest}
+use Rattle.request_queue.specs.declared.disposition.Disposition.TheVariants.{Complete}
+use Rattle.request_queue.specs.declared.disposition.Revalidation.{Revalidation}
+use Rattle.request_queue.specs.declared.disposition.Revalidation.TheVariants.{SameDisk as Same, DiskLost, Dead as NoEnd}
+use Rattle.slots.specs.Uses.{PortSlots, use_at}
+use Rattle.slots.specs.declared.SlotUse.{SlotUse}
 use Rattle.server_history.specs.Below.{LawsBelow}
-use Rattle.server_history.specs.Mended.{IsFailed, IsProspect, HasMetFates, MendsPort, holdings_of, requests_of}
+use Rattle.server_history.specs.ErrorHandling.{IsFailed, IsRevalidation, HasResolved, HandlesPortError, holdings_of, requests_of}
 use Rattle.server_history.specs.Served.{HasEnded, answers_in, done_reply}
-use Rattle.server_history.specs.Server.{IsKept, IsMachineOf, Server, disk_in, disk_of, mode_in, ports_of, remembered_at, sectors_of, serial_of, slots_at, state_of}
-use Rattle.server_history.specs.Turns.{IsOfTurn, moment_of}
+use Rattle.server_history.specs.Server.{InCallInvariant, IsMachineOf, ServerState, disk_in, last_disk_of, mode_in, ports_of, remembered_at, last_sectors_of, last_serial_of, slots_at, state_of}
+use Rattle.server_history.specs.Turns.{IsOfTurn, server_moment}
 use Rattle.server_history.proofs.state.AnswerSteps.{answered_in, ended_stood, issuing_answers, may_parts, no_answer, no_answer_issuing, told_so, with_ok}
 use Rattle.server_history.proofs.any_turn.ToldTrouble.{given_up, lost_or_not}
 use Rattle.server_history.proofs.state.DeviceSteps.{devices_belong, devices_lawful}
-use Rattle.server_history.proofs.fates.FateReasons.{RestsOnFailure, Why, answered_left, deciding_belong, deciding_grounded, deciding_issues_none, deciding_lawful, deciding_own, issuing_belong, none_left, ok_or_not, other_ends, why, why_again}
+use Rattle.server_history.proofs.dispositions.FateReasons.{RestsOnFailure, Why, answered_left, deciding_belong, deciding_grounded, deciding_issues_none, deciding_lawful, deciding_own, issuing_belong, none_left, ok_or_not, other_ends, why, why_again}
 use Rattle.server_history.proofs.recovery_turn.MendedMachine.{adds_fates, in_ports, mid_kept, mid_ready, unnamed}
 use Rattle.server_history.proofs.any_turn.JoinedParts.{all_pairs_append, answers_append, answers_there}
 use Rattle.server_history.proofs.healthy_turn.CallPart.{answered_permuted, answers_all, device_grounded, device_own, devices_all, devices_answers, issues_all, none_last, told_ordered}
-use Rattle.server_history.proofs.fates.AnswerOrder.{AreDifferent, AreOfPort, answered_id, told_differ, told_in_order}
+use Rattle.server_history.proofs.dispositions.AnswerOrder.{AreDifferent, AreOfPort, answered_id, told_differ, told_in_order}
 use Rattle.server_history.proofs.any_turn.TurnSteps.{stood}
 use Rattle.server_history.proofs.recovery_turn.TurnParts.{AddsFates, evidence_by, failed_of, faults_of, lost_of, stopped_of, until_issues}
 use Rattle.server_history.proofs.plain_calls.IssueRounds.{AreIssued, any_append, devices_issue_none, dues, dues_carried, each_issued, each_settings, last_on, lawful_on, or_none}
@@ -72,27 +72,27 @@ use Rattle.server_history.proofs.state.FirstMembers.{first_here}
 
 -- What a machine that stands for the server makes of the turn by its steps, with this evidence. (That a disk was in, `had_disk` has of them.) They are those
 -- up to the fates of its requests, and then those that issue what is due.
-pub record DecidesTurn (port : Port) (replies : List Reply) (old new : Server) (r : MendsPort port replies old new) (evidence : Evidence) (m : Machine) : Type 0 where
+pub record DecidesTurn (port : Port) (replies : List Reply) (old new : ServerState) (r : HandlesPortError port replies old new) (evidence : Evidence) (m : Machine) : Type 0 where
   pub steps : List Step
-  pub fates : AddsFates port r.later old r.mid r.settled m
-  pub issuing : AreIssued port (due_ids (mode_in r.mid port) port (asks_of r.mid.book)) r.mid new (after m (until_issues fates))
-  pub steps_are : steps ≡ issuing.steps ++ until_issues fates
+  pub dispositions : AddsFates port r.later old r.mid r.settled m
+  pub issuing : AreIssued port (due_ids (mode_in r.mid port) port (asks_of r.mid.book)) r.mid new (after m (until_issues dispositions))
+  pub steps_are : steps ≡ issuing.steps ++ until_issues dispositions
   pub may : AllMay m steps
   pub stands : IsMachineOf new (after m steps)
   pub backed : IsBacked old.device new.device m steps
   pub own : All (IsOfTurn port) steps
   pub belong : Belong {D = DeviceStep} Service (ports_of new) steps
   pub last : IssuesLast steps
-  pub lawful : AllLawful (moment_of old m) evidence (ports_of new) steps
-  pub grounded : r.settled.mended.trouble ≢ Hung → AllGrounded evidence steps
+  pub lawful : AllLawful (server_moment old m) evidence (ports_of new) steps
+  pub grounded : r.settled.error_handled.port_error ≢ TimedOut → AllGrounded evidence steps
   pub tells : Tells steps replies
   pub unplugs : UnplugsAll steps (after m steps)
   pub keeps : SameDisk (ports_of old) (ports_of new) port ⊎ NoneWaits (after m steps) port
   pub issues : (ports_of new).state port ≡ ReadyState → IssuesDue (mode_in new port) steps (after m steps) port
-  pub gives : r.settled.mended.trouble ≢ Fails → (e : Pending) (o : Outcome) → Contains steps (Answer e o) → GivesUp o ⊎ (o ≡ outcome.Ok)
-  pub unplugged : (e : Pending) → Contains steps (Answer e outcome.Unplugged) → (r.settled.prospect ≡ DiskLost) × (e.request.port ≡ port)
-  pub emptied : r.settled.mended.trouble ≡ Lost → NoneWaits (after m steps) port
-  pub told : r.settled.mended.trouble ≡ Lost → AreTold outcome.Unplugged steps port ⊎ AreTold outcome.PortDead steps port
+  pub gives : r.settled.error_handled.port_error ≢ TaskFileError → (e : Pending) (o : Outcome) → Contains steps (Answer e o) → EndsUndone o ⊎ (o ≡ outcome.Ok)
+  pub unplugged : (e : Pending) → Contains steps (Answer e outcome.Unplugged) → (r.settled.revalidation ≡ DiskLost) × (e.request.port ≡ port)
+  pub emptied : r.settled.error_handled.port_error ≡ LinkChanged → NoneWaits (after m steps) port
+  pub told : r.settled.error_handled.port_error ≡ LinkChanged → AreTold outcome.Unplugged steps port ⊎ AreTold outcome.PortDead steps port
 
 -- ---- evidence
 
@@ -102,16 +102,16 @@ stopped_named port (Restart token) lives = first_here port []
 stopped_named port Stuck lives = absurd (lives refl)
 
 -- of an error that recovery names the request had a slot
-failed_used : (slots : PortSlots) (its : Option Failure) (failed : Option Failed) (x : Failed) → IsFailed slots its failed → failed ≡ Some x → (slot : ℕ) × (used : SlotUse) × (use_at slots slot ≡ Some used) × (x.id ≡ used.id)
+failed_used : (slots : PortSlots) (its : Option FailedSlot) (failed : Option FailedRequest) (x : FailedRequest) → IsFailed slots its failed → failed ≡ Some x → (slot : ℕ) × (used : SlotUse) × (use_at slots slot ≡ Some used) × (x.id ≡ used.id)
 failed_used slots None failed x names is = let z : None ≡ Some x = sym names ∙ is in absurd cc
 failed_used slots (Some its) failed x (used, at, names) is =
     let z : Some (record { id = used.id; status = its.status; error = its.error }) ≡ Some x = sym names ∙ is in
     let same : record { id = used.id; status = its.status; error = its.error } ≡ x = cc in
-    (its.slot.0, used, at, ap (λ (f : Failed). f.id) (sym same))
+    (its.slot.0, used, at, ap (λ (f : FailedRequest). f.id) (sym same))
 
-module _ (laws : LawsBelow) (port : Port) (replies : List Reply) (old new : Server) (k : IsKept old) (ready : state_of (found_of old.ports port.0) ≡ ReadyState) (r : MendsPort port replies old new)
-    (looks : IsFollowed (IsLooking port) AnyUse old.device r.settled.mended.seen) (k_mid : IsKept r.mid) where
-  abbrev a : HasMetFates port r.later old r.mid
+module _ (laws : LawsBelow) (port : Port) (replies : List Reply) (old new : ServerState) (k : InCallInvariant old) (ready : state_of (probe_result_of old.ports port.0) ≡ ReadyState) (r : HandlesPortError port replies old new)
+    (looks : IsSimulated (IsLooking port) AnyUse old.device r.settled.error_handled.seen) (k_mid : InCallInvariant r.mid) where
+  abbrev a : HasResolved port r.later old r.mid
   a = r.settled
 
   abbrev its : List Held
@@ -127,25 +127,25 @@ module _ (laws : LawsBelow) (port : Port) (replies : List Reply) (old new : Serv
   low = (ready_found old port.0 k ready).0
 
   -- what was answered before the requests met their fates
-  k_then : IsKept a.mid
+  k_then : InCallInvariant a.mid
   k_then = mid_kept laws port r.later old r.mid k ready a looks
 
-  then_ready : state_of (found_of a.mid.ports port.0) ≡ ReadyState
+  then_ready : state_of (probe_result_of a.mid.ports port.0) ≡ ReadyState
   then_ready = mid_ready laws port r.later old r.mid k ready a looks
 
   -- ---- what the port is
 
-  found_mid : found_of r.mid.ports port.0 ≡ a.found
-  found_mid = ap (λ (s : Server). found_of s.ports port.0) a.server ∙ get_or-set_same a.mid.ports port.0 a.found Unserved (let f = (ready_found a.mid port.0 k_then then_ready).1 in in_ports a.mid.ports port.0 f.0 f.1)
+  found_mid : probe_result_of r.mid.ports port.0 ≡ a.found
+  found_mid = ap (λ (s : ServerState). probe_result_of s.ports port.0) a.server ∙ get_or-set_same a.mid.ports port.0 a.found Unserved (let f = (ready_found a.mid port.0 k_then then_ready).1 in in_ports a.mid.ports port.0 f.0 f.1)
 
   remembered_mid : remembered_at r.mid.remembered port.0 ≡ Some a.was
-  remembered_mid = ap (λ (s : Server). remembered_at s.remembered port.0) a.server ∙ get_or-set_same a.mid.remembered port.0 (Some a.was) None (let f = k_then.four_remembered in let l = low in omega (arith, f, l))
+  remembered_mid = ap (λ (s : ServerState). remembered_at s.remembered port.0) a.server ∙ get_or-set_same a.mid.remembered port.0 (Some a.was) None (let f = k_then.four_remembered in let l = low in omega (arith, f, l))
 
   new_settings : new ≡ record r.mid { device = new.device; slots = new.slots; book = new.book }
   new_settings = each_settings laws port ids r.mid new r.issued
 
   ports_same : ports_of new ≡ ports_of r.mid
-  ports_same = ap (λ (s : Server). ports_of s) new_settings
+  ports_same = ap (λ (s : ServerState). ports_of s) new_settings
 
   state_new : (ports_of new).state port ≡ state_of a.found
   state_new = ap (λ (ports : Ports). ports.state port) ports_same ∙ ap state_of found_mid
@@ -153,75 +153,75 @@ module _ (laws : LawsBelow) (port : Port) (replies : List Reply) (old new : Serv
   mode_new : mode_in new port ≡ mode_in r.mid port
   mode_new = ap (λ (ports : Ports). ports.mode port) ports_same
 
-  disk_new : disk_in new port ≡ disk_of a.found (Some a.was)
-  disk_new = ap (λ (s : Server). disk_in s port) new_settings ∙ ap (λ (f : Found). disk_of f (remembered_at r.mid.remembered port.0)) found_mid ∙ ap (disk_of a.found) remembered_mid
+  disk_new : disk_in new port ≡ last_disk_of a.found (Some a.was)
+  disk_new = ap (λ (s : ServerState). disk_in s port) new_settings ∙ ap (λ (f : ProbeResult). last_disk_of f (remembered_at r.mid.remembered port.0)) found_mid ∙ ap (last_disk_of a.found) remembered_mid
 
   disk_old : disk_in old port ≡ Some a.was
-  disk_old = ap (λ (f : Found). disk_of f (remembered_at old.remembered port.0)) a.ready
+  disk_old = ap (λ (f : ProbeResult). last_disk_of f (remembered_at old.remembered port.0)) a.ready
 
   -- the disk is the same, where the one that was found is
-  same_disk : (info : DiskInfo) → disk_of a.found (Some a.was) ≡ Some info → info.serial ≡ a.was.serial → info.sectors ≡ a.was.sectors → SameDisk (ports_of old) (ports_of new) port
+  same_disk : (info : DiskInfo) → last_disk_of a.found (Some a.was) ≡ Some info → info.serial ≡ a.was.serial → info.sectors ≡ a.was.sectors → SameDisk (ports_of old) (ports_of new) port
   same_disk info is serial sectors = (
-    ap serial_of (disk_new ∙ is) ∙ serial ∙ sym (ap serial_of disk_old),
-    ap sectors_of (disk_new ∙ is) ∙ sectors ∙ sym (ap sectors_of disk_old),
+    ap last_serial_of (disk_new ∙ is) ∙ serial ∙ sym (ap last_serial_of disk_old),
+    ap last_sectors_of (disk_new ∙ is) ∙ sectors ∙ sym (ap last_sectors_of disk_old),
   )
 
-  no_way : a.mended.result.next ≡ Stuck → (a.found ≡ Unready Dead) × (a.failed ≡ None)
+  no_way : a.error_handled.result.next ≡ Stuck → (a.found ≡ Unready Dead) × (a.failed ≡ None)
   no_way = unnamed laws port r.later old r.mid k ready a looks
 
   -- the same disk
-  module _ (is : a.prospect ≡ Same) where
+  module _ (is : a.revalidation ≡ Same) where
     info : (info : DiskInfo) × (a.found ≡ Ready info) × ((info.serial ≡ a.was.serial) × (info.sectors ≡ a.was.sectors))
-    info = (subst (IsProspect a.mended.trouble a.was a.found) is a.expects).1
+    info = (subst (IsRevalidation a.error_handled.port_error a.was a.found) is a.expects).1
 
     same_ready : (ports_of new).state port ≡ ReadyState
     same_ready = state_new ∙ ap state_of info.1
 
     same_shown : SameDisk (ports_of old) (ports_of new) port
-    same_shown = same_disk info.0 (ap (λ (f : Found). disk_of f (Some a.was)) info.1) info.2.0 info.2.1
+    same_shown = same_disk info.0 (ap (λ (f : ProbeResult). last_disk_of f (Some a.was)) info.1) info.2.0 info.2.1
 
     same_stopped : Contains evidence.stopped port
-    same_stopped = stopped_named port a.mended.result.next (λ stuck. let z : Ready info.0 ≡ Unready Dead = sym info.1 ∙ (no_way stuck).0 in absurd cc)
+    same_stopped = stopped_named port a.error_handled.result.next (λ stuck. let z : Ready info.0 ≡ Unready Dead = sym info.1 ∙ (no_way stuck).0 in absurd cc)
 
   -- another one
-  module _ (is : a.prospect ≡ DiskLost) where
+  module _ (is : a.revalidation ≡ DiskLost) where
     other_stopped : Contains evidence.stopped port
-    other_stopped = stopped_named port a.mended.result.next (λ stuck. (subst (IsProspect a.mended.trouble a.was a.found) is a.expects).0 (no_way stuck).0)
+    other_stopped = stopped_named port a.error_handled.result.next (λ stuck. (subst (IsRevalidation a.error_handled.port_error a.was a.found) is a.expects).0 (no_way stuck).0)
 
     other_lost : Contains evidence.lost port
-    other_lost = subst (λ (p : Prospect). Contains (lost_of port p) port) (sym is) (first_here port [])
+    other_lost = subst (λ (p : Revalidation). Contains (lost_of port p) port) (sym is) (first_here port [])
 
   -- but on the same disk, no request of it is left
-  none_stays : a.prospect ≢ Same → (x : Held) → Contains r.mid.book x → x.entry.port ≢ port
+  none_stays : a.revalidation ≢ Same → (x : Held) → Contains r.mid.book x → x.entry.port ≢ port
   none_stays other x here own =
-      let w = none_left laws (fate_of a.failed a.prospect) (other_ends a.failed a.prospect other) its r.later (holdings_of port a.mid) a.now a.meets x (subst (λ (s : Server). Contains s.book x) a.server here) in
+      let w = none_left laws (disposition_of a.failed a.revalidation) (other_ends a.failed a.revalidation other) its r.later (holdings_of port a.mid) a.now a.meets x (subst (λ (s : ServerState). Contains s.book x) a.server here) in
       w.1 (in_filter (λ (y : Held). is_of port y.entry) a.mid.book x w.0 (eq-eqb x.entry.port.0 port.0 (ap (λ (q : Port). q.0) own)))
 
   -- ---- who is named
 
   -- nobody, unless a command had failed
-  pub nobody : a.mended.trouble ≢ Fails → a.failed ≡ None
+  pub nobody : a.error_handled.port_error ≢ TaskFileError → a.failed ≡ None
   nobody other =
-      let none = (given_up a.mended.trouble port a.mended.outstanding a.mended.queued a.mended.result a.mended.mends.accesses a.mid.device a.device a.mended.tells other).0 in
-      subst (λ (f : Option Failure). IsFailed (slots_at a.mid.slots port.0) f a.failed) none a.names
+      let none = (given_up a.error_handled.port_error port a.error_handled.outstanding a.error_handled.queued a.error_handled.result a.error_handled.handling.accesses a.mid.device a.device a.error_handled.tells other).0 in
+      subst (λ (f : Option FailedSlot). IsFailed (slots_at a.mid.slots port.0) f a.failed) none a.names
 
   -- where its disk was lost, no request goes on as on the same disk
-  not_same : a.mended.trouble ≡ Lost → a.prospect ≢ Same
-  not_same lost same = (subst (IsProspect a.mended.trouble a.was a.found) same a.expects).0 lost
+  not_same : a.error_handled.port_error ≡ LinkChanged → a.revalidation ≢ Same
+  not_same lost same = (subst (IsRevalidation a.error_handled.port_error a.was a.found) same a.expects).0 lost
 
   -- the port failed, unless its disk was lost, or a request is hung
-  pub failed_named : a.mended.trouble ≢ Hung → a.mended.trouble ≢ Lost → Contains evidence.failed port
-  failed_named unhung other = by a.mended.trouble refl
+  pub failed_named : a.error_handled.port_error ≢ TimedOut → a.error_handled.port_error ≢ LinkChanged → Contains evidence.failed port
+  failed_named unhung other = by a.error_handled.port_error refl
     where
-      by : (t : Trouble) → a.mended.trouble ≡ t → Contains (failed_of port t (old.device.port port.0)) port
-      by Lost is = absurd (other is)
-      by Fails is = first_here port []
-      by Broken is = first_here port []
-      by Hung is = absurd (unhung is)
+      by : (t : PortError) → a.error_handled.port_error ≡ t → Contains (failed_of port t (old.device.port port.0)) port
+      by LinkChanged is = absurd (other is)
+      by TaskFileError is = first_here port []
+      by BusError is = first_here port []
+      by TimedOut is = absurd (unhung is)
 
   -- a dead port
-  dead_state : a.prospect ≡ NoEnd → (ports_of new).state port ≡ Dead
-  dead_state is = state_new ∙ ap state_of (subst (IsProspect a.mended.trouble a.was a.found) is a.expects)
+  dead_state : a.revalidation ≡ NoEnd → (ports_of new).state port ≡ Dead
+  dead_state is = state_new ∙ ap state_of (subst (IsRevalidation a.error_handled.port_error a.was a.found) is a.expects)
 
   -- a request that met its fate was in the book
   of_its : (e : Held) → Contains its e → Contains a.mid.book e × (e.entry.port ≡ port)
@@ -230,14 +230,14 @@ module _ (laws : LawsBelow) (port : Port) (replies : List Reply) (old new : Serv
     ap (λ (q : ℕ). record { 0 = q }) (eqb-true e.entry.port.0 port.0 (All-contains (λ (x : Held). is_of port x.entry ≡ true) its e (filter_passes (λ (x : Held). is_of port x.entry) a.mid.book) here)),
   )
 
-  module _ (m : Machine) (reached : IsReached m) (is : IsMachineOf old m) (f : AddsFates port r.later old r.mid a m) where
+  module _ (m : Machine) (reached : IsReachable m) (is : IsMachineOf old m) (f : AddsFates port r.later old r.mid a m) where
     abbrev base : List Step
     base = until_issues f
 
-    abbrev began : Moment
-    began = moment_of old m
+    abbrev began : AbstractState
+    began = server_moment old m
 
-    base_reached : IsReached (after m base)
+    base_reached : IsReachable (after m base)
     base_reached = laws.basic.reached m base reached f.may
 
     pub z : AreIssued port ids r.mid new (after m base)
@@ -250,24 +250,24 @@ module _ (laws : LawsBelow) (port : Port) (replies : List Reply) (old new : Serv
 
     was_issued : (e : Held) → Contains a.mid.book e → e.entry.issued ≡ true → WasIssued m e.entry.id
     was_issued e here issued =
-        let there = (answered_left laws port a.mended.done a.mended.requests _ a.mid a.mended.each e here).0 in
+        let there = (answered_left laws port a.error_handled.done a.error_handled.requests _ a.mid a.error_handled.each e here).0 in
         let p = at_left IsEntry old.book m.book is.book e there in
         record { pending = p.0; here = p.1; id_is = p.2.id; issued = p.2.issued ∙ issued }
 
     -- the one that failed was issued
-    failed_issued : (x : Failed) → a.failed ≡ Some x → (e : Held) → Contains a.mid.book e → x.id.0 ≡ e.entry.id.0 → e.entry.issued ≡ true
+    failed_issued : (x : FailedRequest) → a.failed ≡ Some x → (e : Held) → Contains a.mid.book e → x.id.0 ≡ e.entry.id.0 → e.entry.issued ≡ true
     failed_issued x some e here same =
-        let u = failed_used (slots_at a.mid.slots port.0) a.mended.result.failed a.failed x a.names some in
+        let u = failed_used (slots_at a.mid.slots port.0) a.error_handled.result.failed a.failed x a.names some in
         let s = served_request a.mid k_then.machine port.0 u.0 k_then.stands then_ready u.1.id (serves_used a.mid k_then.machine port.0 k_then.stands then_ready u.0 u.1 u.2) in
         let one : s.request ≡ e = laws.one a.mid.book s.request e k_then.ordered s.there here (s.id_is ∙ sym u.3 ∙ ap (λ (n : ℕ). record { 0 = n }) same) in
         subst (λ (y : Held). y.entry.issued ≡ true) one (sym s.entry.issued ∙ s.issued)
 
     -- ---- answers
 
-    fate_lawful : (e : Pending) (o : Outcome) → Contains f.fates (Answer e o) → IsLawful began evidence (ports_of new) e o
-    fate_lawful e o here = by (why a.failed a.prospect w.0.entry o w.3)
+    fate_lawful : (e : Pending) (o : Outcome) → Contains f.dispositions (Answer e o) → IsLawful began evidence (ports_of new) e o
+    fate_lawful e o here = by (why a.failed a.revalidation w.0.entry o w.3)
       where
-        w : (request : Held) × Contains its request × IsEntry request e × (fate_of a.failed a.prospect request.entry ≡ Ends o)
+        w : (request : Held) × Contains its request × IsEntry request e × (disposition_of a.failed a.revalidation request.entry ≡ Complete o)
         w = f.answered e o here
 
         there : Contains a.mid.book w.0
@@ -279,22 +279,22 @@ module _ (laws : LawsBelow) (port : Port) (replies : List Reply) (old new : Serv
         was : w.0.entry.issued ≡ true → WasIssued m e.request.id
         was issued = subst (WasIssued m) (sym w.2.id) (was_issued w.0 there issued)
 
-        goes_on : a.prospect ≡ Same → IsReadyAgain began evidence (ports_of new) e.request.port
+        goes_on : a.revalidation ≡ Same → IsReadyAgain began evidence (ports_of new) e.request.port
         goes_on same = (
           ap (ports_of new).state its_port ∙ same_ready same,
           subst (Contains evidence.stopped) (sym its_port) (same_stopped same),
           subst (SameDisk (ports_of old) (ports_of new)) (sym its_port) (same_shown same),
         )
 
-        by : Why a.failed a.prospect w.0.entry o → IsLawful began evidence (ports_of new) e o
+        by : Why a.failed a.revalidation w.0.entry o → IsLawful began evidence (ports_of new) e o
         by (inl x) =
             let issued = failed_issued x.0 x.1 w.0 there x.2 in
             subst (IsLawful began evidence (ports_of new) e) (sym x.3) (
               was issued,
               w.2.issued ∙ issued,
-              subst (λ (failed : Option Failed). Contains (faults_of failed) (record { id = e.request.id; status = x.0.status; error = x.0.error })) (sym x.1)
+              subst (λ (failed : Option FailedRequest). Contains (faults_of failed) (record { id = e.request.id; status = x.0.status; error = x.0.error })) (sym x.1)
                   (contains_here _ [] _ (λ i. record { id = (w.2.id ∙ ap (λ (n : ℕ). record { 0 = n }) (sym x.2)) i; status = x.0.status; error = x.0.error })),
-              subst (Contains evidence.stopped) (sym its_port) (stopped_named port a.mended.result.next (λ stuck. let y : None ≡ Some x.0 = sym (no_way stuck).1 ∙ x.1 in absurd cc)),
+              subst (Contains evidence.stopped) (sym its_port) (stopped_named port a.error_handled.result.next (λ stuck. let y : None ≡ Some x.0 = sym (no_way stuck).1 ∙ x.1 in absurd cc)),
             )
         by (inr (inl x)) =
             subst (IsLawful began evidence (ports_of new) e) (sym x.3) (was x.1, w.2.issues ∙ x.2, goes_on x.0)
@@ -303,14 +303,14 @@ module _ (laws : LawsBelow) (port : Port) (replies : List Reply) (old new : Serv
         by (inr (inr (inr (inl x)))) = subst (IsLawful began evidence (ports_of new) e) (sym x.1) (ap (ports_of new).state its_port ∙ dead_state x.0)
         by (inr (inr (inr (inr x)))) = subst (IsLawful began evidence (ports_of new) e) (sym x.3) (inr (goes_on x.0))
 
-    again_same : (e : Pending) → Contains f.fates (Again e) → (a.prospect ≡ Same) × (e.request.port ≡ port)
-    again_same e here = let w = f.again e here in (why_again a.failed a.prospect w.0.entry w.3, w.2.port ∙ (of_its w.0 w.1).1)
+    again_same : (e : Pending) → Contains f.dispositions (Again e) → (a.revalidation ≡ Same) × (e.request.port ≡ port)
+    again_same e here = let w = f.again e here in (why_again a.failed a.revalidation w.0.entry w.3, w.2.port ∙ (of_its w.0 w.1).1)
 
     early_may : AllMay m f.first × AllMay (after m f.first) (answers_in f.ended)
-    early_may = may_parts laws m (answers_in f.ended) f.first (may_parts laws m f.middle (answers_in f.ended ++ f.first) (may_parts laws m f.fates (f.middle ++ (answers_in f.ended ++ f.first)) f.may).0).0
+    early_may = may_parts laws m (answers_in f.ended) f.first (may_parts laws m f.middle (answers_in f.ended ++ f.first) (may_parts laws m f.dispositions (f.middle ++ (answers_in f.ended ++ f.first)) f.may).0).0
 
-    ended_by : (e : Pending) → Contains f.ended e → (request : Held) × Contains a.mended.requests request × HasEnded port request e
-    ended_by e here = at_right (HasEnded port) a.mended.requests f.ended f.each e here
+    ended_by : (e : Pending) → Contains f.ended e → (request : Held) × Contains a.error_handled.requests request × HasEnded port request e
+    ended_by e here = at_right (HasEnded port) a.error_handled.requests f.ended f.each e here
 
     ended_port : (e : Pending) → Contains f.ended e → e.request.port ≡ port
     ended_port e here = let y = ended_by e here in y.2.entry.port ∙ y.2.port_is
@@ -325,31 +325,31 @@ module _ (laws : LawsBelow) (port : Port) (replies : List Reply) (old new : Serv
     lawful : AllLawful began evidence (ports_of new) (z.steps ++ base)
     lawful =
         lawful_on (mode_in r.mid port) port began evidence (ports_of new) z.steps base z.only
-        (lawful_join began evidence (ports_of new) f.fates (f.middle ++ (answers_in f.ended ++ f.first))
-        (deciding_lawful port began evidence (ports_of new) f.fates f.own fate_lawful (λ e here. let s = again_same e here in subst (Contains evidence.stopped) (sym s.1) (same_stopped s.0)))
+        (lawful_join began evidence (ports_of new) f.dispositions (f.middle ++ (answers_in f.ended ++ f.first))
+        (deciding_lawful port began evidence (ports_of new) f.dispositions f.own fate_lawful (λ e here. let s = again_same e here in subst (Contains evidence.stopped) (sym s.1) (same_stopped s.0)))
         (lawful_join began evidence (ports_of new) f.middle (answers_in f.ended ++ f.first) (devices_lawful began evidence (ports_of new) f.middle f.middle_only)
         (answers_all (AllLawful began evidence (ports_of new)) f.ended f.first (λ e steps here l. (l, ok_lawful e here)) (devices_lawful began evidence (ports_of new) f.first f.first_only))))
 
-    again_failed : a.mended.trouble ≢ Hung → (e : Pending) → Contains f.fates (Again e) → Contains evidence.failed port
-    again_failed unhung e here = ⊎_elim (λ lost. absurd (not_same lost (again_same e here).0)) (failed_named unhung) (lost_or_not a.mended.trouble)
+    again_failed : a.error_handled.port_error ≢ TimedOut → (e : Pending) → Contains f.dispositions (Again e) → Contains evidence.failed port
+    again_failed unhung e here = ⊎_elim (λ lost. absurd (not_same lost (again_same e here).0)) (failed_named unhung) (lost_or_not a.error_handled.port_error)
 
-    answer_failed : a.mended.trouble ≢ Hung → (e : Pending) (o : Outcome) → Contains f.fates (Answer e o) → RestsOnFailure o → Contains evidence.failed port
-    answer_failed unhung e o here rests = ⊎_elim (λ lost. absurd (none lost (why a.failed a.prospect w.0.entry o w.3))) (failed_named unhung) (lost_or_not a.mended.trouble)
+    answer_failed : a.error_handled.port_error ≢ TimedOut → (e : Pending) (o : Outcome) → Contains f.dispositions (Answer e o) → RestsOnFailure o → Contains evidence.failed port
+    answer_failed unhung e o here rests = ⊎_elim (λ lost. absurd (none lost (why a.failed a.revalidation w.0.entry o w.3))) (failed_named unhung) (lost_or_not a.error_handled.port_error)
       where
-        w : (request : Held) × Contains its request × IsEntry request e × (fate_of a.failed a.prospect request.entry ≡ Ends o)
+        w : (request : Held) × Contains its request × IsEntry request e × (disposition_of a.failed a.revalidation request.entry ≡ Complete o)
         w = f.answered e o here
 
-        none : a.mended.trouble ≡ Lost → Why a.failed a.prospect w.0.entry o → ⊥
-        none lost (inl x) = let y : None ≡ Some x.0 = sym (nobody (λ failed. let z : Lost ≡ Fails = sym lost ∙ failed in absurd cc)) ∙ x.1 in absurd cc
+        none : a.error_handled.port_error ≡ LinkChanged → Why a.failed a.revalidation w.0.entry o → ⊥
+        none lost (inl x) = let y : None ≡ Some x.0 = sym (nobody (λ failed. let z : LinkChanged ≡ TaskFileError = sym lost ∙ failed in absurd cc)) ∙ x.1 in absurd cc
         none lost (inr (inl x)) = not_same lost x.0
         none lost (inr (inr (inl x))) = subst RestsOnFailure x.1 rests
         none lost (inr (inr (inr (inl x)))) = subst RestsOnFailure x.1 rests
         none lost (inr (inr (inr (inr x)))) = not_same lost x.0
 
-    grounded : a.mended.trouble ≢ Hung → AllGrounded evidence (z.steps ++ base)
+    grounded : a.error_handled.port_error ≢ TimedOut → AllGrounded evidence (z.steps ++ base)
     grounded unhung =
         issues_all (AllGrounded evidence) (mode_in r.mid port) port (device_grounded evidence) (λ e steps own g. g) z.steps base z.only
-        (grounded_join evidence f.fates (f.middle ++ (answers_in f.ended ++ f.first)) (deciding_grounded port evidence f.fates f.own (again_failed unhung) (answer_failed unhung))
+        (grounded_join evidence f.dispositions (f.middle ++ (answers_in f.ended ++ f.first)) (deciding_grounded port evidence f.dispositions f.own (again_failed unhung) (answer_failed unhung))
         (grounded_join evidence f.middle (answers_in f.ended ++ f.first) (devices_all (AllGrounded evidence) (device_grounded evidence) tt f.middle f.middle_only)
         (answers_all (AllGrounded evidence) f.ended f.first (λ e steps here g. g) (devices_all (AllGrounded evidence) (device_grounded evidence) tt f.first f.first_only))))
 
@@ -365,7 +365,7 @@ module _ (laws : LawsBelow) (port : Port) (replies : List Reply) (old new : Serv
 
     own : All (IsOfTurn port) (z.steps ++ base)
     own = All-append (IsOfTurn port) z.steps base issuing_own
-        (All-append (IsOfTurn port) f.fates (f.middle ++ (answers_in f.ended ++ f.first)) (deciding_own port f.fates f.own)
+        (All-append (IsOfTurn port) f.dispositions (f.middle ++ (answers_in f.ended ++ f.first)) (deciding_own port f.dispositions f.own)
         (All-append (IsOfTurn port) f.middle (answers_in f.ended ++ f.first) (devices_own f.middle f.middle_only)
         (answers_all (All (IsOfTurn port)) f.ended f.first (λ e rest here more. All-cons (IsOfTurn port) (Answer e outcome.Ok) rest (ended_port e here) more) (devices_own f.first f.first_only))))
 
@@ -376,18 +376,18 @@ module _ (laws : LawsBelow) (port : Port) (replies : List Reply) (old new : Serv
         let at : y.0.port ≡ port = laws.own (mode_in r.mid port) port (asks_of r.mid.book) y.0 y.1 in
         let due = (laws.exact (mode_in r.mid port) port (asks_of r.mid.book) y.0 at).0 y.1 in
         let e = map_in (λ (x : Held). asks x.entry) r.mid.book y.0 due.here in
-        ap (λ (ports : Ports). ports.state port) ports_same ∙ ap (λ (q : Port). state_of (found_of r.mid.ports q.0)) (sym (ap (λ (u : Unanswered). u.port) (sym e.2) ∙ at)) ∙ of_ready r.mid k_mid e.0 e.1
+        ap (λ (ports : Ports). ports.state port) ports_same ∙ ap (λ (q : Port). state_of (probe_result_of r.mid.ports q.0)) (sym (ap (λ (u : Unanswered). u.port) (sym e.2) ∙ at)) ∙ of_ready r.mid k_mid e.0 e.1
 
     belong : Belong {D = DeviceStep} Service (ports_of new) (z.steps ++ base)
     belong =
         belong_join Service (ports_of new) z.steps base (issuing_belong port (mode_in r.mid port) (ports_of new) mode_new z.steps z.only issued_ready)
-        (belong_join Service (ports_of new) f.fates (f.middle ++ (answers_in f.ended ++ f.first)) (deciding_belong port (ports_of new) f.fates f.own (λ e here. let s = again_same e here in ap (ports_of new).state s.1 ∙ same_ready s.0))
+        (belong_join Service (ports_of new) f.dispositions (f.middle ++ (answers_in f.ended ++ f.first)) (deciding_belong port (ports_of new) f.dispositions f.own (λ e here. let s = again_same e here in ap (ports_of new).state s.1 ∙ same_ready s.0))
         (belong_join Service (ports_of new) f.middle (answers_in f.ended ++ f.first) (devices_belong {D = DeviceStep} Service (ports_of new) f.middle f.middle_only)
         (answers_all (Belong {D = DeviceStep} Service (ports_of new)) f.ended f.first (λ e rest here b. (b, inr tt)) (devices_belong {D = DeviceStep} Service (ports_of new) f.first f.first_only))))
 
     none_in_base : (id : RequestId) → list_any (issues_it id) base ≡ false
     none_in_base id =
-        any_append (issues_it id) f.fates (f.middle ++ (answers_in f.ended ++ f.first)) ∙ ap (λ (b : Bool). b || list_any (issues_it id) (f.middle ++ (answers_in f.ended ++ f.first))) (deciding_issues_none port id f.fates f.own)
+        any_append (issues_it id) f.dispositions (f.middle ++ (answers_in f.ended ++ f.first)) ∙ ap (λ (b : Bool). b || list_any (issues_it id) (f.middle ++ (answers_in f.ended ++ f.first))) (deciding_issues_none port id f.dispositions f.own)
         ∙ any_append (issues_it id) f.middle (answers_in f.ended ++ f.first) ∙ ap (λ (b : Bool). b || list_any (issues_it id) (answers_in f.ended ++ f.first)) (devices_issue_none id f.middle f.middle_only)
         ∙ any_append (issues_it id) (answers_in f.ended) f.first ∙ ap (λ (b : Bool). b || list_any (issues_it id) f.first) (answers_issue_none id f.ended) ∙ devices_issue_none id f.first f.first_only
 
@@ -395,7 +395,7 @@ module _ (laws : LawsBelow) (port : Port) (replies : List Reply) (old new : Serv
     last = last_on (mode_in r.mid port) port z.steps base z.only z.last (none_last base none_in_base) (λ id late early. false≢true (sym (none_in_base id) ∙ early))
 
     issues : IssuesDue (mode_in new port) (z.steps ++ base) (after m (z.steps ++ base)) port
-    issues = subst (λ (mode : Mode). IssuesDue mode (z.steps ++ base) (after m (z.steps ++ base)) port) (sym mode_new) (subst (λ (n : Machine). IssuesDue (mode_in r.mid port) (z.steps ++ base) n port) (sym all_is)
+    issues = subst (λ (mode : QueueMode). IssuesDue mode (z.steps ++ base) (after m (z.steps ++ base)) port) (sym mode_new) (subst (λ (n : Machine). IssuesDue (mode_in r.mid port) (z.steps ++ base) n port) (sym all_is)
         (dues_carried laws (mode_in r.mid port) z.steps (z.steps ++ base) (after (after m base) z.steps) (after (after m base) z.steps) port refl
         (λ u here its_own. sym (any_append (issues_it u.id) z.steps base ∙ ap (λ (b : Bool). list_any (issues_it u.id) z.steps || b) (none_in_base u.id) ∙ or_none (list_any (issues_it u.id) z.steps)))
         (dues laws port r.mid new k_mid r.issued (after m base) z port (λ ne. absurd (ne refl)))))
@@ -405,8 +405,8 @@ module _ (laws : LawsBelow) (port : Port) (replies : List Reply) (old new : Serv
     abbrev told : List (Pending × Outcome)
     told = map with_ok f.ended ++ f.tells.answers
 
-    told_fate : (x : Pending × Outcome) → Contains f.tells.answers x → Contains f.fates (Answer x.0 x.1)
-    told_fate x here = answers_there f.fates x (Contains-permutation f.tells.answers (answers_of f.fates) x f.tells.same here)
+    told_fate : (x : Pending × Outcome) → Contains f.tells.answers x → Contains f.dispositions (Answer x.0 x.1)
+    told_fate x here = answers_there f.dispositions x (Contains-permutation f.tells.answers (answers_of f.dispositions) x f.tells.same here)
 
     ended_of : AreOfPort port (map with_ok f.ended)
     ended_of = All-map (λ (x : Pending × Outcome). x.0.request.port ≡ port) with_ok f.ended (All-weaker (Contains f.ended) (λ e. e.request.port ≡ port) ended_port f.ended (All-contains_itself f.ended))
@@ -416,17 +416,17 @@ module _ (laws : LawsBelow) (port : Port) (replies : List Reply) (old new : Serv
 
     apart : AreDifferent (map with_ok f.ended ++ f.tells.answers)
     apart = all_pairs_append (λ x y. answered_id x ≢ answered_id y) (map with_ok f.ended) f.tells.answers
-        (told_differ port (map with_ok f.ended) ended_of (told_ordered port a.mended.requests f.ended f.each a.mended.ordered))
+        (told_differ port (map with_ok f.ended) ended_of (told_ordered port a.error_handled.requests f.ended f.each a.error_handled.ordered))
         (told_differ port f.tells.answers fates_of f.tells.ordered)
         (λ x y here there same.
         let e = map_in with_ok f.ended x here in
         let d = ended_by e.0 e.1 in
         let w = f.answered y.0 y.1 (told_fate y there) in
-        (answered_left laws port a.mended.done a.mended.requests _ a.mid a.mended.each w.0 (of_its w.0 w.1).0).1 d.0 d.1
+        (answered_left laws port a.error_handled.done a.error_handled.requests _ a.mid a.error_handled.each w.0 (of_its w.0 w.1).0).1 d.0 d.1
         (ap (λ (n : ℕ). record { 0 = n }) (ap (λ (i : RequestId). i.0) (sym w.2.id) ∙ sym same ∙ ap (λ (q : Pending × Outcome). q.0.request.id.0) e.2 ∙ ap (λ (i : RequestId). i.0) d.2.entry.id)))
 
-    replies_are : map done_reply a.mended.requests ++ r.later ≡ map reply_of (map with_ok f.ended ++ f.tells.answers)
-    replies_are = ap (λ (list : List Reply). list ++ r.later) (told_so port a.mended.requests f.ended f.each) ∙ ap (λ (list : List Reply). map reply_of (map with_ok f.ended) ++ list) f.tells.told
+    replies_are : map done_reply a.error_handled.requests ++ r.later ≡ map reply_of (map with_ok f.ended ++ f.tells.answers)
+    replies_are = ap (λ (list : List Reply). list ++ r.later) (told_so port a.error_handled.requests f.ended f.each) ∙ ap (λ (list : List Reply). map reply_of (map with_ok f.ended) ++ list) f.tells.told
         ∙ sym (map-append reply_of (map with_ok f.ended) f.tells.answers)
 
     in_order : (list : List (Pending × Outcome)) × IsPermutation list (map with_ok f.ended ++ f.tells.answers) × AllPairs IsToldBefore list × (replies ≡ map reply_of list)
@@ -435,9 +435,9 @@ module _ (laws : LawsBelow) (port : Port) (replies : List Reply) (old new : Serv
     none_first : map with_ok f.ended ++ answers_of f.first ≡ map with_ok f.ended
     none_first = ap (λ (none : List (Pending × Outcome)). map with_ok f.ended ++ none) (devices_answers f.first f.first_only) ∙ append-nil (map with_ok f.ended)
 
-    answers_are : answers_of (z.steps ++ base) ≡ answers_of f.fates ++ answers_of (answers_in f.ended ++ f.first)
-    answers_are = issuing_answers (mode_in r.mid port) port z.steps base z.only ∙ answers_append f.fates (f.middle ++ (answers_in f.ended ++ f.first))
-        ∙ ap (λ (list : List (Pending × Outcome)). answers_of f.fates ++ list) (answers_append f.middle (answers_in f.ended ++ f.first) ∙ ap (λ (none : List (Pending × Outcome)). none ++ answers_of (answers_in f.ended ++ f.first)) (devices_answers f.middle f.middle_only))
+    answers_are : answers_of (z.steps ++ base) ≡ answers_of f.dispositions ++ answers_of (answers_in f.ended ++ f.first)
+    answers_are = issuing_answers (mode_in r.mid port) port z.steps base z.only ∙ answers_append f.dispositions (f.middle ++ (answers_in f.ended ++ f.first))
+        ∙ ap (λ (list : List (Pending × Outcome)). answers_of f.dispositions ++ list) (answers_append f.middle (answers_in f.ended ++ f.first) ∙ ap (λ (none : List (Pending × Outcome)). none ++ answers_of (answers_in f.ended ++ f.first)) (devices_answers f.middle f.middle_only))
 
     all_told : IsPermutation (map with_ok f.ended ++ f.tells.answers) (answers_of (z.steps ++ base))
     all_told = subst (IsPermutation (map with_ok f.ended ++ f.tells.answers)) (sym answers_are)
@@ -455,54 +455,54 @@ module _ (laws : LawsBelow) (port : Port) (replies : List Reply) (old new : Serv
     -- ---- who is told that the disk has gone
 
     -- an answer but Ok is a fate
-    fated : (e : Pending) (o : Outcome) → o ≢ outcome.Ok → Contains (z.steps ++ base) (Answer e o) → Contains f.fates (Answer e o)
+    fated : (e : Pending) (o : Outcome) → o ≢ outcome.Ok → Contains (z.steps ++ base) (Answer e o) → Contains f.dispositions (Answer e o)
     fated e o other here = ⊎_elim
         (λ late. absurd (no_answer_issuing (mode_in r.mid port) port z.steps z.only e o late))
         (λ rest. ⊎_elim
-        (λ fate. fate)
+        (λ disposition. disposition)
         (λ rest. ⊎_elim
         (λ mid. absurd (no_answer f.middle f.middle_only e o mid))
         (λ rest. ⊎_elim (λ ok. absurd (other (answered_in f.ended e o ok).1)) (λ early. absurd (no_answer f.first f.first_only e o early)) (Contains-append_cases (answers_in f.ended) f.first (Answer e o) rest))
         (Contains-append_cases f.middle (answers_in f.ended ++ f.first) (Answer e o) rest))
-        (Contains-append_cases f.fates (f.middle ++ (answers_in f.ended ++ f.first)) (Answer e o) rest))
+        (Contains-append_cases f.dispositions (f.middle ++ (answers_in f.ended ++ f.first)) (Answer e o) rest))
         (Contains-append_cases z.steps base (Answer e o) here)
 
     -- no fault is told unless a command had failed
-    gives : a.mended.trouble ≢ Fails → (e : Pending) (o : Outcome) → Contains (z.steps ++ base) (Answer e o) → GivesUp o ⊎ (o ≡ outcome.Ok)
+    gives : a.error_handled.port_error ≢ TaskFileError → (e : Pending) (o : Outcome) → Contains (z.steps ++ base) (Answer e o) → EndsUndone o ⊎ (o ≡ outcome.Ok)
     gives other e o here = by_ok (ok_or_not o)
       where
-        by : (entry : Entry) → Why a.failed a.prospect entry o → GivesUp o
+        by : (entry : PendingRequest) → Why a.failed a.revalidation entry o → EndsUndone o
         by entry (inl x) = let y : None ≡ Some x.0 = sym (nobody other) ∙ x.1 in absurd cc
-        by entry (inr (inl x)) = subst GivesUp (sym x.3) tt
-        by entry (inr (inr (inl x))) = subst GivesUp (sym x.1) tt
-        by entry (inr (inr (inr (inl x)))) = subst GivesUp (sym x.1) tt
-        by entry (inr (inr (inr (inr x)))) = subst GivesUp (sym x.3) tt
+        by entry (inr (inl x)) = subst EndsUndone (sym x.3) tt
+        by entry (inr (inr (inl x))) = subst EndsUndone (sym x.1) tt
+        by entry (inr (inr (inr (inl x)))) = subst EndsUndone (sym x.1) tt
+        by entry (inr (inr (inr (inr x)))) = subst EndsUndone (sym x.3) tt
 
-        by_ok : (o ≡ outcome.Ok) ⊎ (o ≢ outcome.Ok) → GivesUp o ⊎ (o ≡ outcome.Ok)
+        by_ok : (o ≡ outcome.Ok) ⊎ (o ≢ outcome.Ok) → EndsUndone o ⊎ (o ≡ outcome.Ok)
         by_ok (inl ok) = inr ok
-        by_ok (inr told) = let w = f.answered e o (fated e o told here) in inl (by w.0.entry (why a.failed a.prospect w.0.entry o w.3))
+        by_ok (inr told) = let w = f.answered e o (fated e o told here) in inl (by w.0.entry (why a.failed a.revalidation w.0.entry o w.3))
 
     -- it is of the port, and has another disk for its reason
-    unplugged_why : (e : Pending) → Contains (z.steps ++ base) (Answer e outcome.Unplugged) → (a.prospect ≡ DiskLost) × (e.request.port ≡ port)
-    unplugged_why e here = (by (why a.failed a.prospect w.0.entry outcome.Unplugged w.3), w.2.port ∙ (of_its w.0 w.1).1)
+    unplugged_why : (e : Pending) → Contains (z.steps ++ base) (Answer e outcome.Unplugged) → (a.revalidation ≡ DiskLost) × (e.request.port ≡ port)
+    unplugged_why e here = (by (why a.failed a.revalidation w.0.entry outcome.Unplugged w.3), w.2.port ∙ (of_its w.0 w.1).1)
       where
-        w : (request : Held) × Contains its request × IsEntry request e × (fate_of a.failed a.prospect request.entry ≡ Ends outcome.Unplugged)
+        w : (request : Held) × Contains its request × IsEntry request e × (disposition_of a.failed a.revalidation request.entry ≡ Complete outcome.Unplugged)
         w = f.answered e outcome.Unplugged (fated e outcome.Unplugged (λ x. let y : outcome.Unplugged ≡ outcome.Ok = x in cc) here)
 
-        by : Why a.failed a.prospect w.0.entry outcome.Unplugged → a.prospect ≡ DiskLost
+        by : Why a.failed a.revalidation w.0.entry outcome.Unplugged → a.revalidation ≡ DiskLost
         by (inl x) = let y : outcome.Unplugged ≡ outcome.DeviceError x.0.status x.0.error = x.3 in absurd cc
         by (inr (inl x)) = let y : outcome.Unplugged ≡ outcome.Aborted = x.3 in absurd cc
         by (inr (inr (inl x))) = x.0
         by (inr (inr (inr (inl x)))) = let y : outcome.Unplugged ≡ outcome.PortDead = x.1 in absurd cc
         by (inr (inr (inr (inr x)))) = let y : outcome.Unplugged ≡ outcome.Revoked = x.3 in absurd cc
 
-    dead_why : (e : Pending) → Contains (z.steps ++ base) (Answer e outcome.PortDead) → a.prospect ≡ NoEnd
-    dead_why e here = by (why a.failed a.prospect w.0.entry outcome.PortDead w.3)
+    dead_why : (e : Pending) → Contains (z.steps ++ base) (Answer e outcome.PortDead) → a.revalidation ≡ NoEnd
+    dead_why e here = by (why a.failed a.revalidation w.0.entry outcome.PortDead w.3)
       where
-        w : (request : Held) × Contains its request × IsEntry request e × (fate_of a.failed a.prospect request.entry ≡ Ends outcome.PortDead)
+        w : (request : Held) × Contains its request × IsEntry request e × (disposition_of a.failed a.revalidation request.entry ≡ Complete outcome.PortDead)
         w = f.answered e outcome.PortDead (fated e outcome.PortDead (λ x. let y : outcome.PortDead ≡ outcome.Ok = x in cc) here)
 
-        by : Why a.failed a.prospect w.0.entry outcome.PortDead → a.prospect ≡ NoEnd
+        by : Why a.failed a.revalidation w.0.entry outcome.PortDead → a.revalidation ≡ NoEnd
         by (inl x) = let y : outcome.PortDead ≡ outcome.DeviceError x.0.status x.0.error = x.3 in absurd cc
         by (inr (inl x)) = let y : outcome.PortDead ≡ outcome.Aborted = x.3 in absurd cc
         by (inr (inr (inl x))) = let y : outcome.PortDead ≡ outcome.Unplugged = x.1 in absurd cc
@@ -510,32 +510,32 @@ module _ (laws : LawsBelow) (port : Port) (replies : List Reply) (old new : Serv
         by (inr (inr (inr (inr x)))) = let y : outcome.PortDead ≡ outcome.Revoked = x.3 in absurd cc
 
     -- but with the same disk, none of the port's requests is left
-    none_waits : a.prospect ≢ Same → NoneWaits (after m (z.steps ++ base)) port
+    none_waits : a.revalidation ≢ Same → NoneWaits (after m (z.steps ++ base)) port
     none_waits other e here own_port =
         let b = stood laws port (after m base) z.steps issuing_own e (subst (λ (n : Machine). Contains n.book e) all_is here) in
         let h = at_right IsEntry r.mid.book (after m base).book f.stands.book b.was b.here in
         none_stays other h.0 h.1 (sym h.2.port ∙ ap (λ x. x.port) b.request ∙ own_port)
 
-    disk_lost : a.prospect ≡ DiskLost → a.prospect ≢ Same
+    disk_lost : a.revalidation ≡ DiskLost → a.revalidation ≢ Same
     disk_lost lost same = let y : DiskLost ≡ Same = sym lost ∙ same in absurd cc
 
     -- and where its disk was lost, all are told alike
-    told_lost : a.mended.trouble ≡ Lost → AreTold outcome.Unplugged (z.steps ++ base) port ⊎ AreTold outcome.PortDead (z.steps ++ base) port
-    told_lost lost = by a.prospect refl
+    told_lost : a.error_handled.port_error ≡ LinkChanged → AreTold outcome.Unplugged (z.steps ++ base) port ⊎ AreTold outcome.PortDead (z.steps ++ base) port
+    told_lost lost = by a.revalidation refl
       where
-        told_as : (told : Outcome) → ((e : Held) (o : Outcome) → Why a.failed a.prospect e.entry o → o ≡ told) → AreTold told (z.steps ++ base) port
+        told_as : (told : Outcome) → ((e : Held) (o : Outcome) → Why a.failed a.revalidation e.entry o → o ≡ told) → AreTold told (z.steps ++ base) port
         told_as told alike e o here own_port = by_ok (ok_or_not o)
           where
             by_ok : (o ≡ outcome.Ok) ⊎ (o ≢ outcome.Ok) → (o ≡ outcome.Ok) ⊎ (o ≡ told)
             by_ok (inl ok) = inl ok
             by_ok (inr other) =
                 let w = f.answered e o (fated e o other here) in
-                inr (alike w.0 o (why a.failed a.prospect w.0.entry o w.3))
+                inr (alike w.0 o (why a.failed a.revalidation w.0.entry o w.3))
 
-        unnamed_then : (x : Failed) → a.failed ≡ Some x → ⊥
-        unnamed_then x is = let y : None ≡ Some x = sym (nobody (λ failed. let z : Lost ≡ Fails = sym lost ∙ failed in absurd cc)) ∙ is in absurd cc
+        unnamed_then : (x : FailedRequest) → a.failed ≡ Some x → ⊥
+        unnamed_then x is = let y : None ≡ Some x = sym (nobody (λ failed. let z : LinkChanged ≡ TaskFileError = sym lost ∙ failed in absurd cc)) ∙ is in absurd cc
 
-        by : (p : Prospect) → a.prospect ≡ p → AreTold outcome.Unplugged (z.steps ++ base) port ⊎ AreTold outcome.PortDead (z.steps ++ base) port
+        by : (p : Revalidation) → a.revalidation ≡ p → AreTold outcome.Unplugged (z.steps ++ base) port ⊎ AreTold outcome.PortDead (z.steps ++ base) port
         by Same x = absurd (not_same lost x)
         by DiskLost x = inl (told_as outcome.Unplugged (λ e o reason. ⊎_elim
             (λ named. absurd (unnamed_then named.0 named.1))
@@ -565,17 +565,17 @@ module _ (laws : LawsBelow) (port : Port) (replies : List Reply) (old new : Serv
     }
 
     keeps : SameDisk (ports_of old) (ports_of new) port ⊎ NoneWaits (after m (z.steps ++ base)) port
-    keeps = by a.prospect refl
+    keeps = by a.revalidation refl
       where
-        by : (p : Prospect) → a.prospect ≡ p → SameDisk (ports_of old) (ports_of new) port ⊎ NoneWaits (after m (z.steps ++ base)) port
+        by : (p : Revalidation) → a.revalidation ≡ p → SameDisk (ports_of old) (ports_of new) port ⊎ NoneWaits (after m (z.steps ++ base)) port
         by Same x = inl (same_shown x)
         by DiskLost x = inr (none_waits (disk_lost x))
-        by NoEnd x = inl (same_disk a.was (ap (λ (found : Found). disk_of found (Some a.was)) (subst (IsProspect a.mended.trouble a.was a.found) x a.expects)) refl refl)
+        by NoEnd x = inl (same_disk a.was (ap (λ (found : ProbeResult). last_disk_of found (Some a.was)) (subst (IsRevalidation a.error_handled.port_error a.was a.found) x a.expects)) refl refl)
 
     pub decides_turn : DecidesTurn port replies old new r evidence m
     decides_turn = record {
       steps = z.steps ++ base;
-      fates = f;
+      dispositions = f;
       issuing = z;
       steps_are = refl;
       may = laws.basic.may m z.steps base f.may z.may;
@@ -599,8 +599,8 @@ module _ (laws : LawsBelow) (port : Port) (replies : List Reply) (old new : Serv
 -- ---- the whole
 
 -- So it is from each machine that stands for the server.
-pub recovered_decides : LawsBelow → (port : Port) (replies : List Reply) (old new : Server) → IsKept old → state_of (found_of old.ports port.0) ≡ ReadyState → (r : MendsPort port replies old new)
-    → IsFollowed (IsLooking port) AnyUse old.device r.settled.mended.seen → IsKept r.mid → (m : Machine) → IsReached m → IsMachineOf old m
+pub recovered_decides : LawsBelow → (port : Port) (replies : List Reply) (old new : ServerState) → InCallInvariant old → state_of (probe_result_of old.ports port.0) ≡ ReadyState → (r : HandlesPortError port replies old new)
+    → IsSimulated (IsLooking port) AnyUse old.device r.settled.error_handled.seen → InCallInvariant r.mid → (m : Machine) → IsReachable m → IsMachineOf old m
     → DecidesTurn port replies old new r (evidence_by r.settled) m
 recovered_decides laws port replies old new k ready r looks k_mid m reached is =
     decides_turn laws port replies old new k ready r looks k_mid m reached is (adds_fates laws port r.later old r.mid k ready r.settled looks m reached is)

@@ -15,29 +15,29 @@ use Rattle.hba_regs.specs.declared.reg.PortReg.TheVariants.{Ci, Sact}
 use Rattle.adapter.specs.Access.{Access, Reads}
 use Rattle.adapter.specs.Access.Access.{Reading}
 use Rattle.adapter.specs.Device.{Device}
-use Rattle.agreement.specs.Driven.{AnyUse, IsFollowed}
-use Rattle.agreement.specs.Slots.{Serves, ServesRequest}
+use Rattle.refinement.specs.Driven.{AnyUse, IsSimulated}
+use Rattle.refinement.specs.Slots.{Serves, ServesRequest}
 use Rattle.block_machine.specs.Events.{AllMay, AnswersEnded}
-use Rattle.block_machine.specs.Histories.{IsReached}
+use Rattle.block_machine.specs.Histories.{IsReachable}
 use Rattle.block_machine.specs.Left.{after}
 use Rattle.block_machine.specs.State.{Machine, Pending}
 use Rattle.block_machine.specs.Steps.{Step, Answer}
 use Rattle.server_history.proofs.state.ListMembers.{contains_cases, contains_there}
 use Rattle.driver_history.specs.Histories.{FindsDone, IsAnsweredOk, IsIssuedOn}
 use Rattle.driver_history.specs.Trace.{ReadsMasks}
-use Rattle.host_boot.specs.Taken.{found_of}
-use Rattle.port_look.specs.Looks.{IsLooking}
+use Rattle.host_boot.specs.Taken.{probe_result_of}
+use Rattle.port_events.specs.Looks.{IsLooking}
 use Rattle.request_queue.specs.Entries.{Held}
-use Rattle.request_queue.specs.Fates.{fate_of}
+use Rattle.request_queue.specs.Dispositions.{disposition_of}
 use Rattle.request_queue.specs.Machine.{IsEntry}
-use Rattle.request_queue.specs.declared.fate.Fate.TheVariants.{Ends}
-use Rattle.slots.specs.declared.Use.{Use as SlotUse}
+use Rattle.request_queue.specs.declared.disposition.Disposition.TheVariants.{Complete}
+use Rattle.slots.specs.declared.SlotUse.{SlotUse}
 use Rattle.server_history.specs.Below.{LawsBelow}
-use Rattle.server_history.specs.Mended.{IsMended, HasMetFates, MendsPort, requests_of}
+use Rattle.server_history.specs.ErrorHandling.{IsErrorHandled, HasResolved, HandlesPortError, requests_of}
 use Rattle.server_history.specs.Served.{AnswersEach, HasEnded, answers_in, is_used}
-use Rattle.server_history.specs.Server.{Server, IsKept, IsMachineOf, mode_in, state_of, used_for}
+use Rattle.server_history.specs.Server.{ServerState, InCallInvariant, IsMachineOf, mode_in, state_of, used_for}
 use Rattle.server_history.proofs.any_turn.UnusedSlotBits.{unused_clear}
-use Rattle.server_history.specs.Turns.{FindsTurn, instant_of}
+use Rattle.server_history.specs.Turns.{FindsTurn, server_instant}
 use Rattle.server_history.proofs.state.AnswerSteps.{answered_in, ended_stood, in_answered, may_parts, no_answer, no_answer_issuing}
 use Rattle.server_history.proofs.healthy_turn.OneAnswer.{answer_kept}
 use Rattle.server_history.proofs.plain_calls.IssueRounds.{not_true}
@@ -47,7 +47,7 @@ use Rattle.server_history.proofs.plain_calls.Looks.{both_clear}
 use Rattle.server_history.proofs.recovery_turn.TurnEvidence.{IsEvident, slots_were}
 use Rattle.server_history.proofs.state.PlacedSlots.{placed_other}
 use Rattle.server_history.proofs.state.TransferAccesses.{both_read}
-use Rattle.server_history.proofs.fates.FateReasons.{Why, why}
+use Rattle.server_history.proofs.dispositions.FateReasons.{Why, why}
 use Rattle.server_history.proofs.recovery_turn.TurnParts.{evidence_by, until_issues}
 use Rattle.server_history.proofs.healthy_turn.AnswersAndIssues.{over_on, ready_on}
 use Rattle.server_history.proofs.state.PortSlots.{AreOver, HasSlot, issued_has, ready_found, serves_used}
@@ -59,7 +59,7 @@ use Rattle.server_history.proofs.state.FirstMembers.{nowhere, first_here}
 
 module _ (laws : LawsBelow) (port : Port) (low : port.0 < 4) (done : ℕ) where
   -- of a request that was answered a slot was found done
-  record HadSlot (s : Server) (id : RequestId) : Type 0 where
+  record HadSlot (s : ServerState) (id : RequestId) : Type 0 where
     slot : ℕ
     small : slot < 32
     used : SlotUse
@@ -67,7 +67,7 @@ module _ (laws : LawsBelow) (port : Port) (low : port.0 < 4) (done : ℕ) where
     id_is : used.id ≡ id
     found : bit done slot ≡ true
 
-  had_slot : (requests : List Held) (old new : Server) → IsKept old → state_of (found_of old.ports port.0) ≡ ReadyState → AreOver port done old.device → AnswersEach port done requests old new
+  had_slot : (requests : List Held) (old new : ServerState) → InCallInvariant old → state_of (probe_result_of old.ports port.0) ≡ ReadyState → AreOver port done old.device → AnswersEach port done requests old new
       → (request : Held) → Contains requests request → HadSlot old request.entry.id
   had_slot [] old new k ready over none request here = absurd (nowhere request here)
   had_slot (e ∷ requests) old new k ready over (mid, one, its, more) request here = ⊎_elim
@@ -78,9 +78,9 @@ module _ (laws : LawsBelow) (port : Port) (low : port.0 < 4) (done : ℕ) where
       (contains_cases e requests request here)
 
   -- and whose slot isn't used any more was answered
-  was_told : (requests : List Held) (old new : Server) → IsKept old → state_of (found_of old.ports port.0) ≡ ReadyState → AreOver port done old.device → AnswersEach port done requests old new
+  was_told : (requests : List Held) (old new : ServerState) → InCallInvariant old → state_of (probe_result_of old.ports port.0) ≡ ReadyState → AreOver port done old.device → AnswersEach port done requests old new
       → (slot : ℕ) (used : SlotUse) → used_for old.slots port.0 slot ≡ Some used → used_for new.slots port.0 slot ≡ None → (request : Held) × Contains requests request × (request.entry.id ≡ used.id)
-  was_told [] old new k ready over none slot used is unused = let z : None ≡ Some used = sym unused ∙ ap (λ (n : Server). used_for n.slots port.0 slot) none ∙ is in absurd cc
+  was_told [] old new k ready over none slot used is unused = let z : None ≡ Some used = sym unused ∙ ap (λ (n : ServerState). used_for n.slots port.0 slot) none ∙ is in absurd cc
   was_told (e ∷ requests) old new k ready over (mid, one, its, more) slot used is unused = ⊎_elim
       (λ (same : slot ≡ one.slot).
       let z : Some one.used ≡ Some used = sym one.served ∙ ap (used_for old.slots port.0) (sym same) ∙ is in
@@ -91,7 +91,7 @@ module _ (laws : LawsBelow) (port : Port) (low : port.0 < 4) (done : ℕ) where
       let places = (k.slots port.0 low).places in
       let small = one.small in
       let still : used_for mid.slots port.0 slot ≡ Some used =
-      ap (λ (n : Server). used_for n.slots port.0 slot) one.server
+      ap (λ (n : ServerState). used_for n.slots port.0 slot) one.server
       ∙ placed_other old.slots port.0 one.slot None (omega (arith, four, low)) (omega (arith, places, small)) port.0 slot (λ _ same. other same) ∙ is in
       let x = was_told requests mid new (answer_kept laws old mid port e k ready one (over one.slot one.small its)) (ready_on laws port done e old mid one ready) (over_on laws port done e old mid one over) more slot used still unused in
       (x.0, contains_there e requests x.0 x.1, x.2))
@@ -99,16 +99,16 @@ module _ (laws : LawsBelow) (port : Port) (low : port.0 < 4) (done : ℕ) where
 
 -- ---- the whole
 
-module _ (laws : LawsBelow) (port : Port) (replies : List Reply) (old new : Server) (k : IsKept old) (ready : state_of (found_of old.ports port.0) ≡ ReadyState) (r : MendsPort port replies old new)
-    (looks : IsFollowed (IsLooking port) AnyUse old.device r.settled.mended.seen) (kept : IsKept r.mid) (evident : IsEvident port replies old new r) (m : Machine) (reached : IsReached m) (is : IsMachineOf old m)
+module _ (laws : LawsBelow) (port : Port) (replies : List Reply) (old new : ServerState) (k : InCallInvariant old) (ready : state_of (probe_result_of old.ports port.0) ≡ ReadyState) (r : HandlesPortError port replies old new)
+    (looks : IsSimulated (IsLooking port) AnyUse old.device r.settled.error_handled.seen) (kept : InCallInvariant r.mid) (evident : IsEvident port replies old new r) (m : Machine) (reached : IsReachable m) (is : IsMachineOf old m)
     (d : DecidesTurn port replies old new r (evidence_by r.settled) m) where
-  abbrev a : HasMetFates port r.later old r.mid
+  abbrev a : HasResolved port r.later old r.mid
   a = r.settled
 
-  abbrev x : IsMended port old a.mid a.device
-  x = a.mended
+  abbrev x : IsErrorHandled port old a.mid a.device
+  x = a.error_handled
 
-  abbrev from : Server
+  abbrev from : ServerState
   from = record old { device = x.found }
 
   low : port.0 < 4
@@ -118,42 +118,42 @@ module _ (laws : LawsBelow) (port : Port) (replies : List Reply) (old new : Serv
   one_of e y here there same = laws.basic.one m reached e y here there same
 
   -- who is answered Ok had ended: it is no fate
-  answered_ended : (e : Pending) → Contains d.steps (Answer e outcome.Ok) → Contains d.fates.ended e
+  answered_ended : (e : Pending) → Contains d.steps (Answer e outcome.Ok) → Contains d.dispositions.ended e
   answered_ended e here = ⊎_elim
       (λ late. absurd (no_answer_issuing (mode_in r.mid port) port d.issuing.steps d.issuing.only e outcome.Ok late))
       (λ rest. ⊎_elim
-      (λ fate. absurd (no_fate fate))
+      (λ disposition. absurd (no_fate disposition))
       (λ rest. ⊎_elim
-      (λ mid. absurd (no_answer d.fates.middle d.fates.middle_only e outcome.Ok mid))
-      (λ rest. ⊎_elim (λ ok. (answered_in d.fates.ended e outcome.Ok ok).0) (λ early. absurd (no_answer d.fates.first d.fates.first_only e outcome.Ok early))
-      (Contains-append_cases (answers_in d.fates.ended) d.fates.first (Answer e outcome.Ok) rest))
-      (Contains-append_cases d.fates.middle (answers_in d.fates.ended ++ d.fates.first) (Answer e outcome.Ok) rest))
-      (Contains-append_cases d.fates.fates (d.fates.middle ++ (answers_in d.fates.ended ++ d.fates.first)) (Answer e outcome.Ok) rest))
-      (Contains-append_cases d.issuing.steps (until_issues d.fates) (Answer e outcome.Ok) (subst (λ (steps : List Step). Contains steps (Answer e outcome.Ok)) d.steps_are here))
+      (λ mid. absurd (no_answer d.dispositions.middle d.dispositions.middle_only e outcome.Ok mid))
+      (λ rest. ⊎_elim (λ ok. (answered_in d.dispositions.ended e outcome.Ok ok).0) (λ early. absurd (no_answer d.dispositions.first d.dispositions.first_only e outcome.Ok early))
+      (Contains-append_cases (answers_in d.dispositions.ended) d.dispositions.first (Answer e outcome.Ok) rest))
+      (Contains-append_cases d.dispositions.middle (answers_in d.dispositions.ended ++ d.dispositions.first) (Answer e outcome.Ok) rest))
+      (Contains-append_cases d.dispositions.dispositions (d.dispositions.middle ++ (answers_in d.dispositions.ended ++ d.dispositions.first)) (Answer e outcome.Ok) rest))
+      (Contains-append_cases d.issuing.steps (until_issues d.dispositions) (Answer e outcome.Ok) (subst (λ (steps : List Step). Contains steps (Answer e outcome.Ok)) d.steps_are here))
     where
-      no_fate : Contains d.fates.fates (Answer e outcome.Ok) → ⊥
-      no_fate fate = by (why a.failed a.prospect w.0.entry outcome.Ok w.3)
+      no_fate : Contains d.dispositions.dispositions (Answer e outcome.Ok) → ⊥
+      no_fate disposition = by (why a.failed a.revalidation w.0.entry outcome.Ok w.3)
         where
-          w : (request : Held) × Contains (requests_of port a.mid.book) request × IsEntry request e × (fate_of a.failed a.prospect request.entry ≡ Ends outcome.Ok)
-          w = d.fates.answered e outcome.Ok fate
+          w : (request : Held) × Contains (requests_of port a.mid.book) request × IsEntry request e × (disposition_of a.failed a.revalidation request.entry ≡ Complete outcome.Ok)
+          w = d.dispositions.answered e outcome.Ok disposition
 
-          by : Why a.failed a.prospect w.0.entry outcome.Ok → ⊥
+          by : Why a.failed a.revalidation w.0.entry outcome.Ok → ⊥
           by (inl y) = let z : outcome.Ok ≡ outcome.DeviceError y.0.status y.0.error = y.3 in absurd cc
           by (inr (inl y)) = let z : outcome.Ok ≡ outcome.Aborted = y.3 in absurd cc
           by (inr (inr (inl y))) = let z : outcome.Ok ≡ outcome.Unplugged = y.1 in absurd cc
           by (inr (inr (inr (inl y)))) = let z : outcome.Ok ≡ outcome.PortDead = y.1 in absurd cc
           by (inr (inr (inr (inr y)))) = let z : outcome.Ok ≡ outcome.Revoked = y.3 in absurd cc
 
-  ended_answered : (e : Pending) → Contains d.fates.ended e → Contains d.steps (Answer e outcome.Ok)
+  ended_answered : (e : Pending) → Contains d.dispositions.ended e → Contains d.steps (Answer e outcome.Ok)
   ended_answered e here = subst (λ (steps : List Step). Contains steps (Answer e outcome.Ok)) (sym d.steps_are)
-      (Contains-append_right d.issuing.steps (until_issues d.fates) (Answer e outcome.Ok)
-      (Contains-append_right d.fates.fates (d.fates.middle ++ (answers_in d.fates.ended ++ d.fates.first)) (Answer e outcome.Ok)
-      (Contains-append_right d.fates.middle (answers_in d.fates.ended ++ d.fates.first) (Answer e outcome.Ok)
-      (Contains-append_left (answers_in d.fates.ended) d.fates.first (Answer e outcome.Ok) (in_answered d.fates.ended e here)))))
+      (Contains-append_right d.issuing.steps (until_issues d.dispositions) (Answer e outcome.Ok)
+      (Contains-append_right d.dispositions.dispositions (d.dispositions.middle ++ (answers_in d.dispositions.ended ++ d.dispositions.first)) (Answer e outcome.Ok)
+      (Contains-append_right d.dispositions.middle (answers_in d.dispositions.ended ++ d.dispositions.first) (Answer e outcome.Ok)
+      (Contains-append_left (answers_in d.dispositions.ended) d.dispositions.first (Answer e outcome.Ok) (in_answered d.dispositions.ended e here)))))
 
-  early_may : AllMay m d.fates.first × AllMay (after m d.fates.first) (answers_in d.fates.ended)
-  early_may = may_parts laws m (answers_in d.fates.ended) d.fates.first
-      (may_parts laws m d.fates.middle (answers_in d.fates.ended ++ d.fates.first) (may_parts laws m d.fates.fates (d.fates.middle ++ (answers_in d.fates.ended ++ d.fates.first)) d.fates.may).0).0
+  early_may : AllMay m d.dispositions.first × AllMay (after m d.dispositions.first) (answers_in d.dispositions.ended)
+  early_may = may_parts laws m (answers_in d.dispositions.ended) d.dispositions.first
+      (may_parts laws m d.dispositions.middle (answers_in d.dispositions.ended ++ d.dispositions.first) (may_parts laws m d.dispositions.dispositions (d.dispositions.middle ++ (answers_in d.dispositions.ended ++ d.dispositions.first)) d.dispositions.may).0).0
 
   -- the masks that were read
   masks_read : (read : Device) × Reads (Px port Ci) x.reads.issued x.seen read × Reads (Px port Sact) x.reads.active read x.found
@@ -173,7 +173,7 @@ module _ (laws : LawsBelow) (port : Port) (replies : List Reply) (old new : Serv
     -- the slot of a request that was answered was found done
     then_clear : IsAnsweredOk e d.steps → AreClear h.slot
     then_clear ok =
-        let w = at_right (HasEnded port) x.requests d.fates.ended d.fates.each ok.0 (answered_ended ok.0 ok.2) in
+        let w = at_right (HasEnded port) x.requests d.dispositions.ended d.dispositions.each ok.0 (answered_ended ok.0 ok.2) in
         let y = had_slot laws port low x.done x.requests from a.mid (found_kept laws port replies old new k ready r looks kept) ready (done_over laws port replies old new k ready r looks kept) x.each w.0 w.1 in
         let id_is : y.used.id ≡ e.request.id = y.id_is ∙ sym w.2.entry.id ∙ ap (λ q. q.id) ok.1 in
         let there = serves_used old m port.0 is ready y.slot y.used y.used_is ∙ ap Serves id_is in
@@ -187,8 +187,8 @@ module _ (laws : LawsBelow) (port : Port) (replies : List Reply) (old new : Serv
     then_told clear =
         let done = tells ∙ and_from (not (bit x.reads.issued h.slot)) (not (bit x.reads.active h.slot)) (ap not clear.0) (ap not clear.1) in
         let w = was_told laws port low x.done x.requests from a.mid (found_kept laws port replies old new k ready r looks kept) ready (done_over laws port replies old new k ready r looks kept) x.each h.slot h.used h.used_is (x.free h.slot h.small done) in
-        let y = at_left (HasEnded port) x.requests d.fates.ended d.fates.each w.0 w.1 in
-        let l = laws.basic.found_before m.book (after m d.fates.first).book y.0 (laws.basic.spares m d.fates.first d.fates.first_only).book (ended_stood laws (after m d.fates.first) d.fates.ended early_may.1 y.0 y.1) in
+        let y = at_left (HasEnded port) x.requests d.dispositions.ended d.dispositions.each w.0 w.1 in
+        let l = laws.basic.found_before m.book (after m d.dispositions.first).book y.0 (laws.basic.spares m d.dispositions.first d.dispositions.first_only).book (ended_stood laws (after m d.dispositions.first) d.dispositions.ended early_may.1 y.0 y.1) in
         let id_is : e.request.id ≡ y.0.request.id = sym h.id_is ∙ sym w.2 ∙ sym y.2.entry.id in
         let one : e ≡ l.0 = one_of e l.0 own.here l.1 (ap (λ (i : RequestId). i.0) (id_is ∙ ap (λ q. q.id) l.2.request)) in
         (y.0, l.2.request ∙ ap (λ (q : Pending). q.request) (sym one), ended_answered y.0 y.1)
@@ -218,7 +218,7 @@ module _ (laws : LawsBelow) (port : Port) (replies : List Reply) (old new : Serv
   there = evident.parts.masks
 
   abbrev rest : List Access
-  rest = x.mends.accesses ++ evident.parts.late.accesses
+  rest = x.handling.accesses ++ evident.parts.late.accesses
 
   masks : ReadsMasks port x.reads.issued x.reads.active evident.accesses
   masks = record {
@@ -230,7 +230,7 @@ module _ (laws : LawsBelow) (port : Port) (replies : List Reply) (old new : Serv
   }
 
   -- what is found done is answered, and nothing else
-  pub finding : FindsDone port evident.accesses (instant_of old m) d.steps
+  pub finding : FindsDone port evident.accesses (server_instant old m) d.steps
   finding = record { ci = x.reads.issued; sact = x.reads.active; reads = masks; exact = λ e slot own says. exact e own slot says }
 
   -- and the masks show the bits of a slot that isn't used clear

@@ -8,39 +8,39 @@ use Rattle.hba_regs.specs.declared.reg.PortReg.TheVariants.{Ci, Sact}
 use Rattle.adapter.specs.Access.Access.{Reading}
 use Rattle.adapter.specs.Device.{Device}
 use Rattle.adapter.specs.Rules.{IsOn}
-use Rattle.agreement.specs.Driven.{AgreesWith, AnyUse, IsFollowed}
-use Rattle.agreement.specs.Facts.{IsFaulted}
+use Rattle.refinement.specs.Driven.{RelatesWith, AnyUse, IsSimulated}
+use Rattle.refinement.specs.Facts.{IsFaulted}
 use Rattle.error_recovery.specs.Recovery.{FitsFor, IsAloneIn, MayRecover}
 use Rattle.driver_history.specs.Holds.{Runs}
-use Rattle.host_boot.specs.Taken.{StillStandsBehind, found_of, wanted_of}
-use Rattle.host_boot.specs.declared.Found.{Found}
+use Rattle.host_boot.specs.Taken.{StillStandsBehind, probe_result_of, wanted_of}
+use Rattle.host_boot.specs.declared.ProbeResult.{ProbeResult}
 use Rattle.ncq.specs.Masks.{ReadsDone}
-use Rattle.port_look.specs.Looks.{IsLooking, LooksAt}
-use Rattle.port_look.specs.declared.Look.TheVariants.{Failed}
-use Rattle.slots.specs.declared.Use.{Use as SlotUse}
+use Rattle.port_events.specs.Looks.{IsLooking, LooksAt}
+use Rattle.port_events.specs.declared.PortEvent.TheVariants.{TaskFileError}
+use Rattle.slots.specs.declared.SlotUse.{SlotUse}
 use Rattle.server_history.specs.Below.{LawsBelow}
-use Rattle.server_history.specs.Server.{Server, IsKept, StandsAlone, slots_at, state_of, used_for}
-use Rattle.server_history.specs.Mended.{AreQueued}
+use Rattle.server_history.specs.Server.{ServerState, InCallInvariant, StandsAlone, slots_at, state_of, used_for}
+use Rattle.server_history.specs.ErrorHandling.{AreQueued}
 use Rattle.server_history.specs.Served.{IsMaskOf}
 use Rattle.server_history.proofs.plain_calls.Looks.{finding_kept, looking_kept}
 use Rattle.server_history.proofs.state.TransferAccesses.{both_read}
 use Rattle.server_history.proofs.state.PortSlots.{busy_used, free_unused, ready_found, used_or_not}
 
 -- COMRESET isn't being sent
-released : (s : Server) (port : Port) → IsKept s → state_of (found_of s.ports port.0) ≡ ReadyState → (s.device.port port.0).sctl_det ≡ 0
+released : (s : ServerState) (port : Port) → InCallInvariant s → state_of (probe_result_of s.ports port.0) ≡ ReadyState → (s.device.port port.0).sctl_det ≡ 0
 released s port k ready =
     let r = ready_found s port.0 k ready in
-    (subst (λ (f : Found). StillStandsBehind (wanted_of s.wanted port.0) f port.0 s.device) r.1.1 (k.behind port.0 r.0).behind).1.det
+    (subst (λ (f : ProbeResult). StillStandsBehind (wanted_of s.wanted port.0) f port.0 s.device) r.1.1 (k.behind port.0 r.0).behind).1.det
 
-module _ (laws : LawsBelow) (s : Server) (seen found : Device) (port : Port) (mask done : ℕ) (k : IsKept s) (ready : state_of (found_of s.ports port.0) ≡ ReadyState)
-    (l : LooksAt port Failed s.device seen) (looks : IsFollowed (IsLooking port) AnyUse s.device seen) (finds : ReadsDone port mask done seen found) where
+module _ (laws : LawsBelow) (s : ServerState) (seen found : Device) (port : Port) (mask done : ℕ) (k : InCallInvariant s) (ready : state_of (probe_result_of s.ports port.0) ≡ ReadyState)
+    (l : LooksAt port TaskFileError s.device seen) (looks : IsSimulated (IsLooking port) AnyUse s.device seen) (finds : ReadsDone port mask done seen found) where
   low : port.0 < 4
   low = (ready_found s port.0 k ready).0
 
-  seen_kept : IsKept (record s { device = seen })
+  seen_kept : InCallInvariant (record s { device = seen })
   seen_kept = looking_kept s seen port k ready laws looks
 
-  found_kept : IsKept (record s { device = found })
+  found_kept : InCallInvariant (record s { device = found })
   found_kept = finding_kept (record s { device = seen }) found port seen_kept ready laws mask done finds
 
   -- it runs, before and after
@@ -81,8 +81,8 @@ module _ (laws : LawsBelow) (s : Server) (seen found : Device) (port : Port) (ma
   }
 
 -- of plain commands a port has one alone
-pub fits_for : (s : Server) (port : Port) (queued : Bool) (k : IsKept s) → state_of (found_of s.ports port.0) ≡ ReadyState
-    → ((slot : ℕ) (used : SlotUse) → used_for s.slots port.0 slot ≡ Some used → used.queued ≡ queued) → AgreesWith (FitsFor queued port.0) s.device
+pub fits_for : (s : ServerState) (port : Port) (queued : Bool) (k : InCallInvariant s) → state_of (probe_result_of s.ports port.0) ≡ ReadyState
+    → ((slot : ℕ) (used : SlotUse) → used_for s.slots port.0 slot ≡ Some used → used.queued ≡ queued) → RelatesWith (FitsFor queued port.0) s.device
 fits_for s port queued k ready kinds = (
   k.stands.uses,
   (λ plain slot other. ⊎_elim
@@ -93,7 +93,7 @@ fits_for s port queued k ready kinds = (
 )
 
 -- where a slot has a plain command, so it is of each used one
-one_plain : (s : Server) (port slot other : ℕ) (used its : SlotUse) → IsKept s → used_for s.slots port slot ≡ Some used → used_for s.slots port other ≡ Some its → used.queued ≡ false → its ≡ used
+one_plain : (s : ServerState) (port slot other : ℕ) (used its : SlotUse) → InCallInvariant s → used_for s.slots port slot ≡ Some used → used_for s.slots port other ≡ Some its → used.queued ≡ false → its ≡ used
 one_plain s port slot other used its k is there plain = ⊎_elim
     (λ (same : other ≡ 0).
     let z : Some its ≡ Some used = sym there ∙ ap (used_for s.slots port) (same ∙ sym alone.0) ∙ is in
@@ -105,7 +105,7 @@ one_plain s port slot other used its k is there plain = ⊎_elim
     alone = k.alone port slot used is plain
 
 -- the used slots of a port have queued commands, or plain ones
-pub are_alike : (s : Server) (port : Port) (slot : ℕ) (used : SlotUse) → IsKept s → used_for s.slots port.0 slot ≡ Some used → AreQueued used.queued (slots_at s.slots port.0)
+pub are_alike : (s : ServerState) (port : Port) (slot : ℕ) (used : SlotUse) → InCallInvariant s → used_for s.slots port.0 slot ≡ Some used → AreQueued used.queued (slots_at s.slots port.0)
 are_alike s port slot used k is other its there = ⊎_elim
     (λ (queued : used.queued ≡ true). ⊎_elim
     (λ (so : its.queued ≡ true). so ∙ sym queued)
@@ -115,7 +115,7 @@ are_alike s port slot used k is other its there = ⊎_elim
     (cases_Bool used.queued)
 
 -- of plain ones it is slot 0 alone
-pub is_alone : (s : Server) (port : Port) (queued : Bool) (outstanding : ℕ) → IsKept s → IsMaskOf (slots_at s.slots port.0) outstanding → AreQueued queued (slots_at s.slots port.0)
+pub is_alone : (s : ServerState) (port : Port) (queued : Bool) (outstanding : ℕ) → InCallInvariant s → IsMaskOf (slots_at s.slots port.0) outstanding → AreQueued queued (slots_at s.slots port.0)
     → IsAloneIn queued outstanding
 is_alone s port queued outstanding k its alike plain slot small is =
     let used = busy_used (used_for s.slots port.0 slot) (sym (its slot small) ∙ is) in

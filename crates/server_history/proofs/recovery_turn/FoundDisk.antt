@@ -12,25 +12,25 @@ use Rattle.hba_regs.specs.declared.reg.PortReg.TheVariants.{Sctl, Ssts, Tfd}
 use Rattle.hba_regs.specs.declared.reg.Reg.TheVariants.{Px}
 use Rattle.adapter.specs.Access.{Access, DoesAll, Writes}
 use Rattle.adapter.specs.Access.Access.{Reading, Writing}
-use Rattle.adapter.specs.Device.{Device, PortState}
+use Rattle.adapter.specs.Device.{Device, DevicePort}
 use Rattle.adapter.specs.Rules.{IsOn}
-use Rattle.agreement.specs.Driven.{Grows, IsControl, IsDrivenBy, IsOf}
-use Rattle.agreement.specs.Driver.{IsBacked}
+use Rattle.refinement.specs.Driven.{Grows, IsControl, IsDrivenBy, IsOf}
+use Rattle.refinement.specs.Driver.{IsBacked}
 use Rattle.block_machine.specs.Events.{ShowsDisk, changes_disk}
 use Rattle.block_machine.specs.State.{Machine}
 use Rattle.block_machine.specs.Steps.{Step}
 use Rattle.host_boot.specs.Again.{BootsAgain, BootsStopped, IsOfStart}
 use Rattle.host_boot.specs.declared.Booted.{Booted}
-use Rattle.host_boot.specs.declared.Found.{Found}
-use Rattle.host_boot.specs.declared.Found.TheVariants.{Ready, Unready, Unserved}
+use Rattle.host_boot.specs.declared.ProbeResult.{ProbeResult}
+use Rattle.host_boot.specs.declared.ProbeResult.TheVariants.{Ready, Unready, Unserved}
 use Rattle.identify.specs.declared.wanted.Wanted.{Wanted}
-use Rattle.port_boot.specs.States.{EndsAs, EndsEarly, EndsLate, GetsReady, GetsUp, IsEarly, IsLate, IsOfBoot, ShowsOwnDisk, TellsFault}
+use Rattle.port_boot.specs.States.{EndsAs, EndsEarly, EndsLate, GetsReady, GetsUp, IsEarly, IsLate, IsOfBoot, ShowsOwnDisk, IsStateOfFault}
 use Rattle.identify.specs.Wanted.{serial_of}
 use Rattle.port_control.specs.Ports.{FindsLink, HasLink, IsPlacing, Looks, ReadsUntil}
 use Rattle.port_control.specs.declared.PortFault.{PortFault}
 use Rattle.port_control.specs.declared.PortFault.TheVariants.{NoDevice, Busy, EngineStuck, NotAta}
 use Rattle.server_history.specs.Below.{LawsBelow}
-use Rattle.server_history.specs.Server.{IsMachineOf, Server, state_of}
+use Rattle.server_history.specs.Server.{IsMachineOf, ServerState, state_of}
 use Rattle.server_history.proofs.state.DrivenAccesses.{driven_as}
 use Rattle.server_history.proofs.recovery_turn.LinkResets.{IsBeside, cleared_then, late_then, linked_then, placing_boots, ready_then, resetting, started_then, until, without}
 use Rattle.server_history.proofs.any_turn.ShownTrouble.{grows_over}
@@ -54,7 +54,7 @@ module _ (laws : LawsBelow) (port : Port) where
       (λ shows. let z : 0 ≡ 3 = sym none ∙ shows in absurd (omega (arith, z)))
     where
       none : (sent.port port.0).ssts_det ≡ 0
-      none = ap (λ (p : PortState). p.ssts_det) (laws.looks.put port Sctl 1 placed sent sends on.no_reset).here
+      none = ap (λ (p : DevicePort). p.ssts_det) (laws.looks.put port Sctl 1 placed sent sends on.no_reset).here
 
   -- COMRESET was sent, and the link was found
   found_then : (old placed sent ended linked new : Device) → IsOn old → IsDrivenBy (IsControl IsPlacing port) old placed → Writes (Px port Sctl) 1 placed sent → Writes (Px port Sctl) 0 sent ended
@@ -79,7 +79,7 @@ module _ (laws : LawsBelow) (port : Port) where
   early : (state : Shown) (old new : Device) → IsOn old → state ≢ Absent → EndsEarly port state old new → SeesDevice port old new
   early state old new on other g = by g.fault g.told g.resets.rest
     where
-      by : (fault : PortFault) → TellsFault state fault → Looks port fault g.resets.ended new → SeesDevice port old new
+      by : (fault : PortFault) → IsStateOfFault state fault → Looks port fault g.resets.ended new → SeesDevice port old new
       by NoDevice told l = absurd (other told)
       by Busy told l = found_then old g.placed g.resets.sent g.resets.ended l.linked new on g.places g.resets.sends g.resets.ends l.links (without laws port Tfd _ READINGS l.linked new l.waits)
       by (NotAta signature) told l = found_then old g.placed g.resets.sent g.resets.ended l.linked new on g.places g.resets.sends g.resets.ends l.links (linked_then laws port signature g.resets.ended new l)
@@ -107,7 +107,7 @@ module _ (laws : LawsBelow) (port : Port) where
   ready_sees old new on g = started old g.up new on g.first (ready_then laws port old new g)
 
   -- each boot that finds a disk
-  pub boot_sees : (wanted : Wanted) (found : Found) (old new : Device) → IsOn old → BootsStopped wanted port found old new → ShowsDisk (state_of found) → SeesDevice port old new
+  pub boot_sees : (wanted : Wanted) (found : ProbeResult) (old new : Device) → IsOn old → BootsStopped wanted port found old new → ShowsDisk (state_of found) → SeesDevice port old new
   boot_sees wanted Unserved old new on none shows = absurd none
   boot_sees wanted (Ready info) old new on e shows = ready_sees old new on e.way
   boot_sees wanted (Unready state) old new on e shows = unready_sees state old new on (λ is. subst (λ (x : Shown). EndsAs (serial_of wanted) x port.0 new) is e.ended) e.early e.late shows
@@ -154,7 +154,7 @@ booted_sees laws port wanted booted accesses old d new on does of b shows = reco
     late = grows_over laws sees.late.accesses sees.seen new sees.late.all
 
 -- The machine had a disk in the port then, or one went or came, where the device went on after the boot.
-pub booted_had : (laws : LawsBelow) (port : Port) (s : Server) (wanted : Wanted) (booted : Booted) (accesses : List Access) (d new end : Device) → IsOn s.device → DoesAll accesses s.device d → All (IsOf port) accesses
+pub booted_had : (laws : LawsBelow) (port : Port) (s : ServerState) (wanted : Wanted) (booted : Booted) (accesses : List Access) (d new end : Device) → IsOn s.device → DoesAll accesses s.device d → All (IsOf port) accesses
     → (b : BootsAgain wanted port booted d new) → ShowsDisk (state_of booted.found) → Grows new end → (m : Machine) → IsMachineOf s m → (steps : List Step) → IsBacked s.device end m steps
     → (m.present port ≡ true) ⊎ (list_any (changes_disk port) steps ≡ true)
 booted_had laws port s wanted booted accesses d new end on does of b shows later m stands steps backed =

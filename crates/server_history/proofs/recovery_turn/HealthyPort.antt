@@ -11,35 +11,35 @@ use Rattle.hba_regs.specs.declared.reg.PortReg.TheVariants.{Ie, Sctl}
 use Rattle.hba_regs.specs.declared.reg.Reg.TheVariants.{Ghc, Px}
 use Rattle.adapter.specs.Access.{Access, DoesAll, named_causes}
 use Rattle.adapter.specs.Access.Access.{Writing}
-use Rattle.adapter.specs.Device.{Device, PortState}
+use Rattle.adapter.specs.Device.{Device, DevicePort}
 use Rattle.adapter.specs.Rules.{IsOn}
-use Rattle.agreement.specs.Driven.{AnyUse, Grows, IsDrivenBy, IsFollowed}
-use Rattle.agreement.specs.Errors.{IsFatalOf}
-use Rattle.agreement.specs.Facts.{IsFaultOf, RunsWell, Undisturbed}
-use Rattle.agreement.specs.Links.{PlugsNone, SparesRegister}
-use Rattle.agreement.specs.Recovering.{IsLinked, WorksPlainly}
+use Rattle.refinement.specs.Driven.{AnyUse, Grows, IsDrivenBy, IsSimulated}
+use Rattle.refinement.specs.Errors.{IsFatalOf}
+use Rattle.refinement.specs.Facts.{IsFaultOf, RunsWell, Undisturbed}
+use Rattle.refinement.specs.Links.{PlugsNone, SparesRegister}
+use Rattle.refinement.specs.Recovering.{IsLinked, WorksPlainly}
 use Rattle.block_machine.specs.State.{Machine}
 use Rattle.driver_history.specs.Histories.{RunsWellAnew}
 use Rattle.driver_history.specs.Trace.{ResetsLink}
 use Rattle.error_recovery.specs.Evidence.{GainsRunning}
 use Rattle.error_recovery.specs.declared.Next.{Next}
 use Rattle.error_recovery.specs.declared.Next.TheVariants as next
-use Rattle.host_boot.specs.Taken.{StillStandsBehind, found_of, wanted_of}
+use Rattle.host_boot.specs.Taken.{StillStandsBehind, probe_result_of, wanted_of}
 use Rattle.host_boot.specs.Again.{BootsAgain}
 use Rattle.host_boot.specs.declared.Booted.{Booted}
-use Rattle.host_boot.specs.declared.Found.{Found}
-use Rattle.host_boot.specs.declared.Found.TheVariants.{Ready}
+use Rattle.host_boot.specs.declared.ProbeResult.{ProbeResult}
+use Rattle.host_boot.specs.declared.ProbeResult.TheVariants.{Ready}
 use Rattle.identify.specs.declared.DiskInfo.{DiskInfo}
 use Rattle.identify.specs.declared.wanted.Wanted.{Wanted}
 use Rattle.port_boot.specs.States.{GetsReady}
-use Rattle.port_look.specs.Looks.{IsLooking}
-use Rattle.port_look.specs.declared.Trouble.{Trouble}
-use Rattle.port_look.specs.declared.Trouble.TheVariants.{Failed}
+use Rattle.port_events.specs.Looks.{IsLooking}
+use Rattle.port_events.specs.declared.PortError.{PortError}
+use Rattle.port_events.specs.declared.PortError.TheVariants.{TaskFileError}
 use Rattle.block_machine.specs.Events.{Service}
 use Rattle.server_history.specs.Below.{LawsBelow}
-use Rattle.server_history.specs.Mended.{IsMended, HasMetFates, MendsPort}
-use Rattle.server_history.specs.Server.{Server, IsKept, ports_of, state_of}
-use Rattle.server_history.specs.Turns.{instant_of}
+use Rattle.server_history.specs.ErrorHandling.{IsErrorHandled, HasResolved, HandlesPortError}
+use Rattle.server_history.specs.Server.{ServerState, InCallInvariant, ports_of, state_of}
+use Rattle.server_history.specs.Turns.{server_instant}
 use Rattle.server_history.proofs.recovery_turn.MendedPort.{next_dead, state_new}
 use Rattle.server_history.proofs.recovery_turn.TurnEvidence.{IsEvident}
 use Rattle.server_history.proofs.any_turn.ToldTrouble.{given_up}
@@ -57,7 +57,7 @@ use Rattle.server_history.proofs.recovery_turn.TurnStretches.{TurnParts}
 -- ---- a link that is up
 
 -- a device shows, its first FIS has come, and no link is due
-record ShowsLink (p : PortState) : Type 0 where
+record ShowsLink (p : DevicePort) : Type 0 where
   det : p.ssts_det ≡ 3
   fresh : p.fresh ≡ true
   undue : p.link_due ≡ false
@@ -128,14 +128,14 @@ never_reset port accesses all r = All-contains (SparesRegister (Px port Sctl)) a
 
 -- ---- the whole
 
-module _ (laws : LawsBelow) (port : Port) (replies : List Reply) (old new : Server) (k : IsKept old) (ready : state_of (found_of old.ports port.0) ≡ ReadyState) (r : MendsPort port replies old new)
-    (looks : IsFollowed (IsLooking port) AnyUse old.device r.settled.mended.seen) (kept : IsKept r.mid) (evident : IsEvident port replies old new r)
-    (plainly : r.settled.mended.queued ≡ false → WorksPlainly (r.settled.mid.device.port port.0)) where
-  abbrev a : HasMetFates port r.later old r.mid
+module _ (laws : LawsBelow) (port : Port) (replies : List Reply) (old new : ServerState) (k : InCallInvariant old) (ready : state_of (probe_result_of old.ports port.0) ≡ ReadyState) (r : HandlesPortError port replies old new)
+    (looks : IsSimulated (IsLooking port) AnyUse old.device r.settled.error_handled.seen) (kept : InCallInvariant r.mid) (evident : IsEvident port replies old new r)
+    (plainly : r.settled.error_handled.queued ≡ false → WorksPlainly (r.settled.mid.device.port port.0)) where
+  abbrev a : HasResolved port r.later old r.mid
   a = r.settled
 
-  abbrev x : IsMended port old a.mid a.device
-  x = a.mended
+  abbrev x : IsErrorHandled port old a.mid a.device
+  x = a.error_handled
 
   abbrev t : TurnParts port replies old new r
   t = evident.parts
@@ -143,17 +143,17 @@ module _ (laws : LawsBelow) (port : Port) (replies : List Reply) (old new : Serv
   low : port.0 < 4
   low = (ready_found old port.0 k ready).0
 
-  then_kept : IsKept a.mid
+  then_kept : InCallInvariant a.mid
   then_kept = mid_kept laws port r.later old r.mid k ready a looks
 
-  then_ready : state_of (found_of a.mid.ports port.0) ≡ ReadyState
+  then_ready : state_of (probe_result_of a.mid.ports port.0) ≡ ReadyState
   then_ready = mid_ready laws port r.later old r.mid k ready a looks
 
   early_grows : Grows old.device a.mid.device
   early_grows = grows_over laws t.early.accesses old.device a.mid.device t.early.all
 
   part_grows : Grows a.mid.device a.device
-  part_grows = grows_over laws x.mends.accesses a.mid.device a.device t.does
+  part_grows = grows_over laws x.handling.accesses a.mid.device a.device t.does
 
   late_grows : Grows a.device new.device
   late_grows = grows_over laws t.late.accesses a.device new.device t.late.all
@@ -161,13 +161,13 @@ module _ (laws : LawsBelow) (port : Port) (replies : List Reply) (old new : Serv
   -- ---- a port that runs again
 
   module _ (token : _) (is : x.result.next ≡ next.Running token) where
-    unreset : All (SparesRegister (Px port Sctl)) (t.early.accesses ++ (x.mends.accesses ++ t.late.accesses))
+    unreset : All (SparesRegister (Px port Sctl)) (t.early.accesses ++ (x.handling.accesses ++ t.late.accesses))
     unreset = t.unreset (λ other same. let z : next.Running token ≡ next.Restart other = sym is ∙ same in absurd cc)
 
     early_leaves : All (LeavesLinked laws port) t.early.accesses
     early_leaves = All-weaker (λ access. Contains t.early.accesses access × IsEarlyPart port access) (LeavesLinked laws port)
         (λ access w. (
-          All-contains (SparesRegister (Px port Sctl)) (t.early.accesses ++ (x.mends.accesses ++ t.late.accesses)) access unreset (Contains-append_left t.early.accesses (x.mends.accesses ++ t.late.accesses) access w.0),
+          All-contains (SparesRegister (Px port Sctl)) (t.early.accesses ++ (x.handling.accesses ++ t.late.accesses)) access unreset (Contains-append_left t.early.accesses (x.handling.accesses ++ t.late.accesses) access w.0),
           laws.of_host port access w.1.0.1,
         ))
         t.early.accesses (λ i d small. (All-contains_itself t.early.accesses i d small, t.early.only i d small))
@@ -193,13 +193,13 @@ module _ (laws : LawsBelow) (port : Port) (replies : List Reply) (old new : Serv
         released : (a.mid.device.port port.0).sctl_det ≡ 0
         released =
             let f = ready_found a.mid port.0 then_kept then_ready in
-            (subst (λ (f : Found). StillStandsBehind (wanted_of a.mid.wanted port.0) f port.0 a.mid.device) f.1.1 (then_kept.behind port.0 low).behind).1.det
+            (subst (λ (f : ProbeResult). StillStandsBehind (wanted_of a.mid.wanted port.0) f port.0 a.mid.device) f.1.1 (then_kept.behind port.0 low).behind).1.det
 
     runs_well : PlugsNone port.0 old.device new.device → (old.device.port port.0).ssts_det ≡ 3 → (GainsRunning (IsFaultOf port.0) port.0 old.device new.device → ⊥) → (GainsRunning (IsFatalOf port.0) port.0 old.device new.device → ⊥)
         → ResetsLink port evident.accesses ⊎ ((old.device.port port.0).fresh ≡ true) → RunsWell (new.device.port port.0)
     runs_well none det unfailed unbroken how =
         let fresh : (old.device.port port.0).fresh ≡ true = ⊎_elim
-        (λ reset. absurd (never_reset port (t.early.accesses ++ (x.mends.accesses ++ t.late.accesses)) unreset (subst (ResetsLink port) evident.accesses_are reset)))
+        (λ reset. absurd (never_reset port (t.early.accesses ++ (x.handling.accesses ++ t.late.accesses)) unreset (subst (ResetsLink port) evident.accesses_are reset)))
         (λ is. is) how in
         let rest = laws.looks.tape.grows_more a.mid.device a.device new.device part_grows late_grows in
         let plugs = laws.looks.tape.plugs_parts port.0 a.mid.device a.device new.device part_grows.0 late_grows.0 part_grows.1 late_grows.1
@@ -229,12 +229,12 @@ module _ (laws : LawsBelow) (port : Port) (replies : List Reply) (old new : Serv
   showed m token is none = ⊎_elim
       (λ shows. shows)
       (λ (missing : (old.device.port port.0).ssts_det ≢ 3).
-      let failed : x.trouble ≢ Failed = λ failed.
-      nowhere port (subst (λ (t : Trouble). Contains (gone_of port t (old.device.port port.0)) port) failed ((evident.evidenced Service m).gone_all ready (inr (missing, none_comes port.0 old.device new.device none)))) in
-      absurd ((given_up x.trouble port x.outstanding x.queued x.result x.mends.accesses a.mid.device a.device x.tells failed).1 token is))
+      let failed : x.port_error ≢ TaskFileError = λ failed.
+      nowhere port (subst (λ (t : PortError). Contains (gone_of port t (old.device.port port.0)) port) failed ((evident.evidenced Service m).gone_all ready (inr (missing, none_comes port.0 old.device new.device none)))) in
+      absurd ((given_up x.port_error port x.outstanding x.queued x.result x.handling.accesses a.mid.device a.device x.tells failed).1 token is))
       (cases_eq (old.device.port port.0).ssts_det 3)
 
-  pub going_well : (m : Machine) → RunsWellAnew (evidence_by a) evident.accesses (instant_of old m) (ports_of new) new.device port
+  pub going_well : (m : Machine) → RunsWellAnew (evidence_by a) evident.accesses (server_instant old m) (ports_of new) new.device port
   going_well m _ is_ready none unfailed unbroken how = by x.result.next refl
     where
       by : (n : Next) → x.result.next ≡ n → RunsWell (new.device.port port.0)

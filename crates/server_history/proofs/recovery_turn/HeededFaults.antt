@@ -13,31 +13,31 @@ use Rattle.ata_types.specs.declared.request.Outcome.{Outcome}
 use Rattle.ata_types.specs.declared.request.Outcome.TheVariants as outcome
 use Rattle.ata_types.specs.declared.request.Reply.{Reply}
 use Rattle.ata_types.specs.declared.request.RequestId.{RequestId}
-use Rattle.adapter.specs.Device.{PortState as DevicePort}
-use Rattle.agreement.specs.Driven.{AnyUse, IsFollowed}
+use Rattle.adapter.specs.Device.{DevicePort}
+use Rattle.refinement.specs.Driven.{AnyUse, IsSimulated}
 use Rattle.block_machine.specs.Events.{IsIssuedIn, NoneKeepsIssue, answers_of, issues_it}
-use Rattle.block_machine.specs.Histories.{IsReached}
+use Rattle.block_machine.specs.Histories.{IsReachable}
 use Rattle.block_machine.specs.Left.{after}
 use Rattle.block_machine.specs.State.{Machine, Pending}
-use Rattle.block_machine.specs.Steps.{Answer, Issue, Step, at, issue}
-use Rattle.block_machine.specs.declared.due.Mode.{Mode}
+use Rattle.block_machine.specs.Steps.{Answer, Issue, Step, at, newly_issued}
+use Rattle.block_machine.specs.declared.due.QueueMode.{QueueMode}
 use Rattle.driver_history.specs.Heeding.{IsDisturbed, ServesReady, tells_fault}
 use Rattle.server_history.proofs.state.ListMembers.{at_cases, contains_cases, contains_here, contains_there, map_in}
-use Rattle.host_boot.specs.Taken.{found_of}
-use Rattle.port_look.specs.Looks.{IsLooking}
-use Rattle.port_look.specs.declared.Trouble.{Trouble}
-use Rattle.port_look.specs.declared.Trouble.TheVariants.{Broken, Failed, Hung, Lost}
+use Rattle.host_boot.specs.Taken.{probe_result_of}
+use Rattle.port_events.specs.Looks.{IsLooking}
+use Rattle.port_events.specs.declared.PortError.{PortError}
+use Rattle.port_events.specs.declared.PortError.TheVariants.{BusError, TaskFileError, TimedOut, LinkChanged}
 use Rattle.request_queue.specs.Entries.{Held}
-use Rattle.request_queue.specs.Fates.{fate_of}
+use Rattle.request_queue.specs.Dispositions.{disposition_of}
 use Rattle.request_queue.specs.Machine.{IsEntry}
-use Rattle.request_queue.specs.declared.fate.Failed as failed_request
-use Rattle.request_queue.specs.declared.fate.Fate.TheVariants.{Ends}
-use Rattle.slots.specs.Uses.{Uses as PortSlots, use_at}
+use Rattle.request_queue.specs.declared.disposition.FailedRequest as failed_request
+use Rattle.request_queue.specs.declared.disposition.Disposition.TheVariants.{Complete}
+use Rattle.slots.specs.Uses.{PortSlots, use_at}
 use Rattle.server_history.specs.Below.{LawsBelow}
-use Rattle.server_history.specs.Mended.{HasMetFates, MendsPort, requests_of}
+use Rattle.server_history.specs.ErrorHandling.{HasResolved, HandlesPortError, requests_of}
 use Rattle.server_history.specs.Served.{IssuesOnly, answers_in}
-use Rattle.server_history.specs.Server.{Server, IsKept, IsMachineOf, mode_in, no_slots, state_of, used_for}
-use Rattle.server_history.specs.Turns.{IsOfTurn, moment_of}
+use Rattle.server_history.specs.Server.{ServerState, InCallInvariant, IsMachineOf, mode_in, no_slots, state_of, used_for}
+use Rattle.server_history.specs.Turns.{IsOfTurn, server_moment}
 use Rattle.server_history.proofs.state.AnswerSteps.{answered_in, no_answer, no_answer_issuing}
 use Rattle.server_history.proofs.recovery_turn.MendedPort.{interrupted}
 use Rattle.server_history.proofs.recovery_turn.DecidedSteps.{DecidesTurn, failed_named, nobody}
@@ -45,9 +45,9 @@ use Rattle.server_history.proofs.recovery_turn.TurnEvidence.{IsEvident}
 use Rattle.server_history.proofs.recovery_turn.NamedTrouble.{gone_is}
 use Rattle.server_history.proofs.recovery_turn.DoneRequests.{heeding}
 use Rattle.server_history.proofs.recovery_turn.MendedMachine.{mid_kept}
-use Rattle.server_history.proofs.fates.AnswerOrder.{AreDifferent, answered_id, still_differ, told_differ}
+use Rattle.server_history.proofs.dispositions.AnswerOrder.{AreDifferent, answered_id, still_differ, told_differ}
 use Rattle.server_history.proofs.any_turn.JoinedParts.{answers_there}
-use Rattle.server_history.proofs.fates.FateReasons.{Why, why}
+use Rattle.server_history.proofs.dispositions.FateReasons.{Why, why}
 use Rattle.server_history.proofs.any_turn.ToldTrouble.{lost_or_not}
 use Rattle.server_history.proofs.recovery_turn.TurnParts.{evidence_by, failed_of, fatal_of, gone_of, is_named_if, named_if, named_if_is, until_issues}
 use Rattle.server_history.proofs.state.CallEvidence.{failure_shows, shows_failure, shows_fatal, unfatal}
@@ -59,12 +59,12 @@ use Rattle.server_history.proofs.state.FirstMembers.{nowhere, first_here}
 -- ---- requests that are issued
 
 -- Who is issued after steps that issue requests was issued by them, or was before.
-issued_before : LawsBelow → (mode : Mode) (port : Port) (m : Machine) (steps : List Step) → IssuesOnly mode port steps → (e : Pending) → Contains (after m steps).book e → e.issued ≡ true
+issued_before : LawsBelow → (mode : QueueMode) (port : Port) (m : Machine) (steps : List Step) → IssuesOnly mode port steps → (e : Pending) → Contains (after m steps).book e → e.issued ≡ true
     → IsIssuedIn e.request.id steps ⊎ ((was : Pending) × Contains m.book was × (was.request ≡ e.request) × (was.issued ≡ true))
 issued_before laws mode port m [] only e here issued = inr (e, here, refl, issued)
 issued_before laws mode port m (Issue its x ∷ steps) only e here issued =
-    let w = map_in (λ (y : Pending). at x.request.id issue y) (after m steps).book e here in ⊎_elim
-    (λ (hit : (w.0.request.id.0 ≡ x.request.id.0) × (at x.request.id issue w.0 ≡ issue w.0)).
+    let w = map_in (λ (y : Pending). at x.request.id newly_issued y) (after m steps).book e here in ⊎_elim
+    (λ (hit : (w.0.request.id.0 ≡ x.request.id.0) × (at x.request.id newly_issued w.0 ≡ newly_issued w.0)).
     let same : e.request.id.0 ≡ x.request.id.0 = ap (λ (y : Pending). y.request.id.0) (w.2 ∙ hit.1) ∙ hit.0 in
     inl (ap (λ (b : Bool). b || list_any (issues_it e.request.id) steps) (eq-eqb x.request.id.0 e.request.id.0 (sym same))))
     (λ miss.
@@ -74,7 +74,7 @@ issued_before laws mode port m (Issue its x ∷ steps) only e here issued =
     inl (by (x.request.id.0 == e.request.id.0) (subst (λ (y : Pending). IsIssuedIn y.request.id steps) (sym same) before)))
     (λ was. inr (was.0, was.1, was.2 ∙ ap (λ (y : Pending). y.request) (sym same), was.3))
     (issued_before laws mode port m steps only.2 w.0 w.1 (ap (λ (y : Pending). y.issued) (sym same) ∙ issued)))
-    (at_cases x.request.id issue w.0)
+    (at_cases x.request.id newly_issued w.0)
   where
     by : (b : Bool) → list_any (issues_it e.request.id) steps ≡ true → (b || list_any (issues_it e.request.id) steps) ≡ true
     by true is = refl
@@ -155,18 +155,18 @@ one_told port id (step ∷ steps) differ its =
 
 -- ---- the whole
 
-abbrev failed_id : Option failed_request.Failed → ℕ
+abbrev failed_id : Option failed_request.FailedRequest → ℕ
 failed_id None = 0
 failed_id (Some failed) = failed.id.0
 
-module _ (laws : LawsBelow) (port : Port) (replies : List Reply) (old new : Server) (k : IsKept old) (ready : state_of (found_of old.ports port.0) ≡ ReadyState) (r : MendsPort port replies old new)
-    (looks : IsFollowed (IsLooking port) AnyUse old.device r.settled.mended.seen) (kept : IsKept r.mid) (evident : IsEvident port replies old new r) (m : Machine) (reached : IsReached m) (is : IsMachineOf old m)
+module _ (laws : LawsBelow) (port : Port) (replies : List Reply) (old new : ServerState) (k : InCallInvariant old) (ready : state_of (probe_result_of old.ports port.0) ≡ ReadyState) (r : HandlesPortError port replies old new)
+    (looks : IsSimulated (IsLooking port) AnyUse old.device r.settled.error_handled.seen) (kept : InCallInvariant r.mid) (evident : IsEvident port replies old new r) (m : Machine) (reached : IsReachable m) (is : IsMachineOf old m)
     (d : DecidesTurn port replies old new r (evidence_by r.settled) m) where
-  abbrev a : HasMetFates port r.later old r.mid
+  abbrev a : HasResolved port r.later old r.mid
   a = r.settled
 
   abbrev base : List Step
-  base = until_issues d.fates
+  base = until_issues d.dispositions
 
   -- ---- no request keeps its issue
 
@@ -178,15 +178,15 @@ module _ (laws : LawsBelow) (port : Port) (replies : List Reply) (old new : Serv
   unused slot =
       let then_kept = mid_kept laws port r.later old r.mid k ready a looks in
       let four = then_kept.four in
-      ap (λ (s : Server). used_for s.slots port.0 slot) a.server
+      ap (λ (s : ServerState). used_for s.slots port.0 slot) a.server
       ∙ ap (λ (slots : PortSlots). use_at slots slot) (get_or-set_same a.mid.slots port.0 a.slots no_slots (let small = low in omega (arith, small, four))) ∙ a.unused.free slot
 
   none_issued : (e : Pending) → Contains (after m base).book e → e.request.port ≡ port → e.issued ≡ true → ⊥
   none_issued e here own issued =
-      let w = at_right IsEntry r.mid.book (after m base).book d.fates.stands.book e here in
+      let w = at_right IsEntry r.mid.book (after m base).book d.dispositions.stands.book e here in
       let number : w.0.entry.port.0 ≡ port.0 = ap (λ (q : Port). q.0) (sym w.2.port ∙ own) in
-      let is_ready = ap (λ (q : ℕ). state_of (found_of r.mid.ports q)) (sym number) ∙ of_ready r.mid kept w.0 w.1 in
-      let h : HasSlot r.mid port e.request.id = issued_has r.mid (after m base) port d.fates.stands kept is_ready e here own issued in
+      let is_ready = ap (λ (q : ℕ). state_of (probe_result_of r.mid.ports q)) (sym number) ∙ of_ready r.mid kept w.0 w.1 in
+      let h : HasSlot r.mid port e.request.id = issued_has r.mid (after m base) port d.dispositions.stands kept is_ready e here own issued in
       let z : None ≡ Some h.used = sym (unused h.slot) ∙ h.used_is in absurd cc
 
   pub anew : NoneKeepsIssue d.steps (after m d.steps) port
@@ -199,27 +199,27 @@ module _ (laws : LawsBelow) (port : Port) (replies : List Reply) (old new : Serv
 
   -- ---- one fault is told at most
 
-  fate_there : (e : Pending) (o : Outcome) → Contains d.fates.fates (Answer e o) → Contains d.steps (Answer e o)
+  fate_there : (e : Pending) (o : Outcome) → Contains d.dispositions.dispositions (Answer e o) → Contains d.steps (Answer e o)
   fate_there e o here = subst (λ (steps : List Step). Contains steps (Answer e o)) (sym d.steps_are)
-      (Contains-append_right d.issuing.steps base (Answer e o) (Contains-append_left d.fates.fates (d.fates.middle ++ (answers_in d.fates.ended ++ d.fates.first)) (Answer e o) here))
+      (Contains-append_right d.issuing.steps base (Answer e o) (Contains-append_left d.dispositions.dispositions (d.dispositions.middle ++ (answers_in d.dispositions.ended ++ d.dispositions.first)) (Answer e o) here))
 
-  differ : AreDifferent (answers_of d.fates.fates)
-  differ = still_differ d.fates.tells.answers (answers_of d.fates.fates) d.fates.tells.same (told_differ port d.fates.tells.answers
-      (All-weaker (Contains d.fates.tells.answers) (λ x. x.0.request.port ≡ port)
-      (λ x here. All-contains (IsOfTurn port) d.steps (Answer x.0 x.1) d.own (fate_there x.0 x.1 (answers_there d.fates.fates x (Contains-permutation d.fates.tells.answers (answers_of d.fates.fates) x d.fates.tells.same here))))
-      d.fates.tells.answers (All-contains_itself d.fates.tells.answers))
-      d.fates.tells.ordered)
+  differ : AreDifferent (answers_of d.dispositions.dispositions)
+  differ = still_differ d.dispositions.tells.answers (answers_of d.dispositions.dispositions) d.dispositions.tells.same (told_differ port d.dispositions.tells.answers
+      (All-weaker (Contains d.dispositions.tells.answers) (λ x. x.0.request.port ≡ port)
+      (λ x here. All-contains (IsOfTurn port) d.steps (Answer x.0 x.1) d.own (fate_there x.0 x.1 (answers_there d.dispositions.dispositions x (Contains-permutation d.dispositions.tells.answers (answers_of d.dispositions.dispositions) x d.dispositions.tells.same here))))
+      d.dispositions.tells.answers (All-contains_itself d.dispositions.tells.answers))
+      d.dispositions.tells.ordered)
 
-  named : (e : Pending) (o : Outcome) → Contains d.fates.fates (Answer e o) → tells_fault port (Answer e o) ≡ true → e.request.id.0 ≡ failed_id a.failed
-  named e o here tells = by (why a.failed a.prospect w.0.entry o w.3)
+  named : (e : Pending) (o : Outcome) → Contains d.dispositions.dispositions (Answer e o) → tells_fault port (Answer e o) ≡ true → e.request.id.0 ≡ failed_id a.failed
+  named e o here tells = by (why a.failed a.revalidation w.0.entry o w.3)
     where
-      w : (request : Held) × Contains (requests_of port a.mid.book) request × IsEntry request e × (fate_of a.failed a.prospect request.entry ≡ Ends o)
-      w = d.fates.answered e o here
+      w : (request : Held) × Contains (requests_of port a.mid.book) request × IsEntry request e × (disposition_of a.failed a.revalidation request.entry ≡ Complete o)
+      w = d.dispositions.answered e o here
 
       no : (other : Outcome) → o ≡ other → tells_fault port (Answer e other) ≡ false → ⊥
       no other same none = false≢true (sym none ∙ ap (λ (y : Outcome). tells_fault port (Answer e y)) (sym same) ∙ tells)
 
-      by : Why a.failed a.prospect w.0.entry o → e.request.id.0 ≡ failed_id a.failed
+      by : Why a.failed a.revalidation w.0.entry o → e.request.id.0 ≡ failed_id a.failed
       by (inl y) = ap (λ (i : RequestId). i.0) w.2.id ∙ sym y.2 ∙ ap failed_id (sym y.1)
       by (inr (inl y)) = absurd (no outcome.Aborted y.3 refl)
       by (inr (inr (inl y))) = absurd (no outcome.Unplugged y.1 refl)
@@ -227,22 +227,22 @@ module _ (laws : LawsBelow) (port : Port) (replies : List Reply) (old new : Serv
       by (inr (inr (inr (inr y)))) = absurd (no outcome.Revoked y.3 refl)
 
   -- and none where nobody is named
-  untold : a.failed ≡ None → count_by (tells_fault port) d.fates.fates ≡ 0
-  untold nobody = none_told port d.fates.fates (λ e o here. ⊎_elim
+  untold : a.failed ≡ None → count_by (tells_fault port) d.dispositions.dispositions ≡ 0
+  untold nobody = none_told port d.dispositions.dispositions (λ e o here. ⊎_elim
       (λ (tells : tells_fault port (Answer e o) ≡ true). absurd (not_named e o here tells))
       (λ other. other)
       (cases_Bool (tells_fault port (Answer e o))))
     where
-      not_named : (e : Pending) (o : Outcome) → Contains d.fates.fates (Answer e o) → tells_fault port (Answer e o) ≡ true → ⊥
-      not_named e o here tells = by (why a.failed a.prospect w.0.entry o w.3)
+      not_named : (e : Pending) (o : Outcome) → Contains d.dispositions.dispositions (Answer e o) → tells_fault port (Answer e o) ≡ true → ⊥
+      not_named e o here tells = by (why a.failed a.revalidation w.0.entry o w.3)
         where
-          w : (request : Held) × Contains (requests_of port a.mid.book) request × IsEntry request e × (fate_of a.failed a.prospect request.entry ≡ Ends o)
-          w = d.fates.answered e o here
+          w : (request : Held) × Contains (requests_of port a.mid.book) request × IsEntry request e × (disposition_of a.failed a.revalidation request.entry ≡ Complete o)
+          w = d.dispositions.answered e o here
 
           no : (other : Outcome) → o ≡ other → tells_fault port (Answer e other) ≡ false → ⊥
           no other same none = false≢true (sym none ∙ ap (λ (y : Outcome). tells_fault port (Answer e y)) (sym same) ∙ tells)
 
-          by : Why a.failed a.prospect w.0.entry o → ⊥
+          by : Why a.failed a.revalidation w.0.entry o → ⊥
           by (inl y) = let z : None ≡ Some y.0 = sym nobody ∙ y.1 in cc
           by (inr (inl y)) = no outcome.Aborted y.3 refl
           by (inr (inr (inl y))) = no outcome.Unplugged y.1 refl
@@ -252,20 +252,20 @@ module _ (laws : LawsBelow) (port : Port) (replies : List Reply) (old new : Serv
   silent : (steps : List Step) → ((e : Pending) (o : Outcome) → Contains steps (Answer e o) → o ≡ outcome.Ok) → count_by (tells_fault port) steps ≡ 0
   silent steps ok = none_told port steps (λ e o here. ap (λ (y : Outcome). tells_fault port (Answer e y)) (ok e o here))
 
-  counted : count_by (tells_fault port) d.steps ≡ count_by (tells_fault port) d.fates.fates
+  counted : count_by (tells_fault port) d.steps ≡ count_by (tells_fault port) d.dispositions.dispositions
   counted =
       let issuing = silent d.issuing.steps (λ e o here. absurd (no_answer_issuing (mode_in r.mid port) port d.issuing.steps d.issuing.only e o here)) in
-      let middle = silent d.fates.middle (λ e o here. absurd (no_answer d.fates.middle d.fates.middle_only e o here)) in
-      let ended = silent (answers_in d.fates.ended) (λ e o here. (answered_in d.fates.ended e o here).1) in
-      let first = silent d.fates.first (λ e o here. absurd (no_answer d.fates.first d.fates.first_only e o here)) in
+      let middle = silent d.dispositions.middle (λ e o here. absurd (no_answer d.dispositions.middle d.dispositions.middle_only e o here)) in
+      let ended = silent (answers_in d.dispositions.ended) (λ e o here. (answered_in d.dispositions.ended e o here).1) in
+      let first = silent d.dispositions.first (λ e o here. absurd (no_answer d.dispositions.first d.dispositions.first_only e o here)) in
       let c = ap (count_by (tells_fault port)) d.steps_are ∙ count_append (tells_fault port) d.issuing.steps base in
-      let c1 = count_append (tells_fault port) d.fates.fates (d.fates.middle ++ (answers_in d.fates.ended ++ d.fates.first)) in
-      let c2 = count_append (tells_fault port) d.fates.middle (answers_in d.fates.ended ++ d.fates.first) in
-      let c3 = count_append (tells_fault port) (answers_in d.fates.ended) d.fates.first in
+      let c1 = count_append (tells_fault port) d.dispositions.dispositions (d.dispositions.middle ++ (answers_in d.dispositions.ended ++ d.dispositions.first)) in
+      let c2 = count_append (tells_fault port) d.dispositions.middle (answers_in d.dispositions.ended ++ d.dispositions.first) in
+      let c3 = count_append (tells_fault port) (answers_in d.dispositions.ended) d.dispositions.first in
       omega (arith, issuing, middle, ended, first, c, c1, c2, c3)
 
   single : count_by (tells_fault port) d.steps ≤ 1
-  single = let one = one_told port (failed_id a.failed) d.fates.fates differ named in let c = counted in omega (arith, one, c)
+  single = let one = one_told port (failed_id a.failed) d.dispositions.dispositions differ named in let c = counted in omega (arith, one, c)
 
   abbrev shown : DevicePort
   shown = old.device.port port.0
@@ -273,26 +273,26 @@ module _ (laws : LawsBelow) (port : Port) (replies : List Reply) (old new : Serv
   -- an error that was fatal was a failure
   fatal : Contains (evidence_by a).fatal port → Contains (evidence_by a).failed port × (count_by (tells_fault port) d.steps ≡ 0)
   fatal here = (
-    is_failure a.mended.trouble here,
-    counted ∙ untold (nobody laws port replies old new k ready r looks kept (λ failed. nowhere port (subst (λ (t : Trouble). Contains (fatal_of port t shown) port) failed here))),
+    is_failure a.error_handled.port_error here,
+    counted ∙ untold (nobody laws port replies old new k ready r looks kept (λ failed. nowhere port (subst (λ (t : PortError). Contains (fatal_of port t shown) port) failed here))),
   )
     where
       shows : Contains (named_if (shows_fatal shown) port) port → Contains (named_if (shows_failure shown) port) port
       shows there = is_named_if (shows_failure shown) port (failure_shows shown (inl (unfatal shown (named_if_is (shows_fatal shown) port there))))
 
-      is_failure : (t : Trouble) → Contains (fatal_of port t shown) port → Contains (failed_of port t shown) port
-      is_failure Broken there = first_here port []
-      is_failure Failed there = first_here port []
-      is_failure Lost there = shows there
-      is_failure Hung there = shows there
+      is_failure : (t : PortError) → Contains (fatal_of port t shown) port → Contains (failed_of port t shown) port
+      is_failure BusError there = first_here port []
+      is_failure TaskFileError there = first_here port []
+      is_failure LinkChanged there = shows there
+      is_failure TimedOut there = shows there
 
   -- ---- all of it
 
-  pub serves_ready : a.mended.trouble ≢ Hung → ServesReady (moment_of old m) (evidence_by a) d.steps (moment_of new (after m d.steps)) port
+  pub serves_ready : a.error_handled.port_error ≢ TimedOut → ServesReady (server_moment old m) (evidence_by a) d.steps (server_moment new (after m d.steps)) port
   serves_ready unhung = record {
     ended = heeding laws port replies old new k ready r looks kept evident m reached is d;
-    emptied = λ here. d.emptied (gone_is port shown a.mended.trouble unhung here);
-    told = λ here. d.told (gone_is port shown a.mended.trouble unhung here);
+    emptied = λ here. d.emptied (gone_is port shown a.error_handled.port_error unhung here);
+    told = λ here. d.told (gone_is port shown a.error_handled.port_error unhung here);
     interrupts = λ _. interrupted laws port replies old new k ready r looks kept;
     anew = λ _. anew;
     single = single;
@@ -303,6 +303,6 @@ module _ (laws : LawsBelow) (port : Port) (replies : List Reply) (old new : Serv
     where
       disturbed : IsDisturbed (evidence_by a) d.steps port
       disturbed = ⊎_elim
-          (λ lost. inr (inl (subst (λ (t : Trouble). Contains (gone_of port t shown) port) (sym lost) (first_here port []))))
+          (λ lost. inr (inl (subst (λ (t : PortError). Contains (gone_of port t shown) port) (sym lost) (first_here port []))))
           (λ other. inl (failed_named laws port replies old new k ready r looks kept unhung other))
-          (lost_or_not a.mended.trouble)
+          (lost_or_not a.error_handled.port_error)

@@ -11,12 +11,12 @@ use Rattle.adapter.specs.Access.{Access, named_causes}
 use Rattle.adapter.specs.Access.Access.{Loading, Reading, Storing, Writing}
 use Rattle.adapter.specs.Device.{Device}
 use Rattle.adapter.specs.Rules.{IsOn}
-use Rattle.agreement.specs.Driven.{AnyUse, IsDrivenBy, IsFollowed, IsOf}
-use Rattle.agreement.proofs.driver.Stretches.{by_then}
+use Rattle.refinement.specs.Driven.{AnyUse, IsDrivenBy, IsSimulated, IsOf}
+use Rattle.refinement.proofs.driver.Stretches.{by_then}
 use Rattle.server_history.proofs.state.DrivenAccesses.{driven_as}
 use Rattle.block_machine.specs.State.{Machine}
 use Rattle.disk_page.specs.Asking.{IsAsking}
-use Rattle.driver_history.specs.Histories.{LosesNoTrouble}
+use Rattle.driver_history.specs.Histories.{LosesNoPortError}
 use Rattle.error_recovery.specs.Evidence.{ShowsTrouble}
 use Rattle.error_recovery.specs.Recovery.{EndsIn, RunsAgain}
 use Rattle.error_recovery.specs.declared.Next.{Next}
@@ -24,20 +24,20 @@ use Rattle.error_recovery.specs.declared.Next.TheVariants as next
 use Rattle.host_boot.specs.Again.{BootsAgain, BootsStopped, IsOfStart}
 use Rattle.identify.specs.Wanted.{serial_of}
 use Rattle.port_boot.specs.Outcomes.{EndsReady}
-use Rattle.host_boot.specs.Taken.{found_of, wanted_of}
+use Rattle.host_boot.specs.Taken.{probe_result_of, wanted_of}
 use Rattle.host_boot.specs.declared.Booted.{Booted}
-use Rattle.host_boot.specs.declared.Found.{Found}
-use Rattle.host_boot.specs.declared.Found.TheVariants.{Ready, Unready}
+use Rattle.host_boot.specs.declared.ProbeResult.{ProbeResult}
+use Rattle.host_boot.specs.declared.ProbeResult.TheVariants.{Ready, Unready}
 use Rattle.identify.specs.declared.DiskInfo.{DiskInfo}
 use Rattle.port_boot.specs.States.{GetsReady, IsOfBoot}
-use Rattle.port_look.specs.Looks.{IsLooking}
+use Rattle.port_events.specs.Looks.{IsLooking}
 use Rattle.request_queue.specs.Entries.{asks_of, due_ids}
 use Rattle.identify.specs.declared.wanted.Wanted.{Wanted}
 use Rattle.server_history.specs.Below.{LawsBelow}
-use Rattle.server_history.specs.Mended.{IsFoundAfter, IsMended, HasMetFates, MendsPort}
+use Rattle.server_history.specs.ErrorHandling.{IsRevalidated, IsErrorHandled, HasResolved, HandlesPortError}
 use Rattle.server_history.specs.Served.{IssuesIn}
-use Rattle.server_history.specs.Server.{Server, IsKept, mode_in, ports_of, state_of}
-use Rattle.server_history.specs.Turns.{instant_of}
+use Rattle.server_history.specs.Server.{ServerState, InCallInvariant, mode_in, ports_of, state_of}
+use Rattle.server_history.specs.Turns.{server_instant}
 use Rattle.server_history.proofs.recovery_turn.MendedPort.{interrupted, next_dead, ready_info, state_new}
 use Rattle.server_history.proofs.recovery_turn.RecoveryAccesses.{IsEarlyPart, IsPart, start_part}
 use Rattle.server_history.proofs.recovery_turn.TurnParts.{evidence_by}
@@ -118,7 +118,7 @@ module _ (laws : LawsBelow) (port : Port) (low : port.0 < 4) (wanted : Wanted) (
   boot_asked_on = laws.of_on port d b.asked on (driven_as (IsOfStart port) (IsOf port) d b.asked (λ access s. (start_part laws port low access s).1) b.asks.driven)
 
   pub boot_ends : EndsReady (serial_of wanted) port info b.asked mid
-  boot_ends = subst (λ (f : Found). BootsStopped wanted port f b.asked mid) found b.boots
+  boot_ends = subst (λ (f : ProbeResult). BootsStopped wanted port f b.asked mid) found b.boots
 
   abbrev boot_way : GetsReady port b.asked mid
   boot_way = boot_ends.way
@@ -128,13 +128,13 @@ module _ (laws : LawsBelow) (port : Port) (low : port.0 < 4) (wanted : Wanted) (
 
 -- ---- the whole
 
-module _ (laws : LawsBelow) (port : Port) (replies : List Reply) (old new : Server) (k : IsKept old) (ready : state_of (found_of old.ports port.0) ≡ ReadyState) (r : MendsPort port replies old new)
-    (looks : IsFollowed (IsLooking port) AnyUse old.device r.settled.mended.seen) (kept : IsKept r.mid) (t : TurnParts port replies old new r) where
-  abbrev a : HasMetFates port r.later old r.mid
+module _ (laws : LawsBelow) (port : Port) (replies : List Reply) (old new : ServerState) (k : InCallInvariant old) (ready : state_of (probe_result_of old.ports port.0) ≡ ReadyState) (r : HandlesPortError port replies old new)
+    (looks : IsSimulated (IsLooking port) AnyUse old.device r.settled.error_handled.seen) (kept : InCallInvariant r.mid) (t : TurnParts port replies old new r) where
+  abbrev a : HasResolved port r.later old r.mid
   a = r.settled
 
-  abbrev x : IsMended port old a.mid a.device
-  x = a.mended
+  abbrev x : IsErrorHandled port old a.mid a.device
+  x = a.error_handled
 
   low : port.0 < 4
   low = (ready_found old port.0 k ready).0
@@ -146,24 +146,24 @@ module _ (laws : LawsBelow) (port : Port) (replies : List Reply) (old new : Serv
   -- the adapter is on when the port was recovered
   pub recovered_driven : IsDrivenBy (IsOf port) old.device a.device
   recovered_driven = by_then (driven_as (IsEarlyPart port) (IsOf port) old.device a.mid.device (λ access is. is.0.1) t.early)
-      (record { accesses = x.mends.accesses; all = t.does; only = All-weaker (IsPart port) (IsOf port) (λ access is. is.1) x.mends.accesses t.kinds })
+      (record { accesses = x.handling.accesses; all = t.does; only = All-weaker (IsPart port) (IsOf port) (λ access is. is.1) x.handling.accesses t.kinds })
 
   pub recovered_on : IsOn a.device
   recovered_on = laws.of_on port old.device a.device k.on recovered_driven
 
   -- a port that runs again
   module _ (token : _) (is : x.result.next ≡ next.Running token) where
-    again_is : IsFoundAfter (wanted_of old.wanted port.0) port x.trouble a.was (next.Running token) a.device r.mid.device a.found
-    again_is = subst (λ (n : Next). IsFoundAfter (wanted_of old.wanted port.0) port x.trouble a.was n a.device r.mid.device a.found) is a.is
+    again_is : IsRevalidated (wanted_of old.wanted port.0) port x.port_error a.was (next.Running token) a.device r.mid.device a.found
+    again_is = subst (λ (n : Next). IsRevalidated (wanted_of old.wanted port.0) port x.port_error a.was n a.device r.mid.device a.found) is a.is
 
     pub again : RunsAgain x.queued port.0 a.mid.device a.device
-    again = (subst (λ (n : Next). EndsIn x.queued port n a.mid.device a.device) is x.mends.leaves.ends).1
+    again = (subst (λ (n : Next). EndsIn x.queued port n a.mid.device a.device) is x.handling.leaves.ends).1
 
     pub then_issuing : IsDrivenBy (LeavesTrouble port) a.device new.device
     then_issuing = subst (λ (d : Device). IsDrivenBy (LeavesTrouble port) d new.device) again_is.1 issuing
 
     runs_shows : ShowsTrouble port.0 old.device new.device
-    runs_shows = shown_more port.0 old.device a.mid.device a.device new.device again.shows (grows_over laws x.mends.accesses a.mid.device a.device t.does) again.since
+    runs_shows = shown_more port.0 old.device a.mid.device a.device new.device again.shows (grows_over laws x.handling.accesses a.mid.device a.device t.does) again.since
         (shows_over laws port then_issuing.accesses a.device new.device recovered_on then_issuing.only then_issuing.all)
 
   -- one that was booted
@@ -173,14 +173,14 @@ module _ (laws : LawsBelow) (port : Port) (replies : List Reply) (old new : Serv
 
     pub again_booted : (booted : Booted) × (booted.found ≡ a.found) × BootsAgain (wanted_of old.wanted port.0) port booted a.device r.mid.device
     again_booted =
-        let after : IsFoundAfter (wanted_of old.wanted port.0) port x.trouble a.was (next.Restart token) a.device r.mid.device a.found =
-        subst (λ (n : Next). IsFoundAfter (wanted_of old.wanted port.0) port x.trouble a.was n a.device r.mid.device a.found) is a.is in (
+        let after : IsRevalidated (wanted_of old.wanted port.0) port x.port_error a.was (next.Restart token) a.device r.mid.device a.found =
+        subst (λ (n : Next). IsRevalidated (wanted_of old.wanted port.0) port x.port_error a.was n a.device r.mid.device a.found) is a.is in (
           after.0,
           after.1,
           ⊎_elim
               (λ (boots : BootsAgain (wanted_of old.wanted port.0) port after.0 a.device r.mid.device). boots)
               (λ absent. let z : Unready AbsentState ≡ Ready info.0 = sym absent.is ∙ after.1 ∙ info.1 in absurd cc)
-              (boots_or_absent x.trouble (wanted_of old.wanted port.0) port after.0 a.device r.mid.device after.2),
+              (boots_or_absent x.port_error (wanted_of old.wanted port.0) port after.0 a.device r.mid.device after.2),
         )
 
     abbrev pub asked : Device
@@ -200,7 +200,7 @@ module _ (laws : LawsBelow) (port : Port) (replies : List Reply) (old new : Serv
           let z : DeadState ≡ ReadyState = sym dead ∙ is_ready in absurd cc
 
   -- the port was interrupted
-  pub lasting : (m : Machine) → LosesNoTrouble (evidence_by a) (instant_of old m) (ports_of new) new.device port
+  pub lasting : (m : Machine) → LosesNoPortError (evidence_by a) (server_instant old m) (ports_of new) new.device port
   lasting m = record {
     errors = λ _ _. inl (interrupted laws port replies old new k ready r looks kept);
     changes = λ _ _. inl (interrupted laws port replies old new k ready r looks kept);

@@ -13,9 +13,9 @@ use Rattle.hba_regs.specs.declared.reg.Reg.TheVariants.{Px}
 use Rattle.adapter.specs.Access.{Access, Does, Reads, Writes, named_causes}
 use Rattle.adapter.specs.Access.Access.{Loading, Reading, Storing, Writing}
 use Rattle.adapter.specs.Device.{Device}
-use Rattle.agreement.specs.Driven.{IsControl, IsDrivenBy}
-use Rattle.agreement.specs.Links.{SparesRegister}
-use Rattle.agreement.proofs.driver.Stretches.{by_then}
+use Rattle.refinement.specs.Driven.{IsControl, IsDrivenBy}
+use Rattle.refinement.specs.Links.{SparesRegister}
+use Rattle.refinement.proofs.driver.Stretches.{by_then}
 use Rattle.server_history.proofs.state.DrivenAccesses.{by_none, driven_as}
 use Rattle.disk_page.specs.Asking.{IsAsking}
 use Rattle.driver_history.specs.Trace.{ResetsLink}

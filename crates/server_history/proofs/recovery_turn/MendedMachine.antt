@@ -12,45 +12,45 @@ use Rattle.ata_types.specs.declared.request.Frame.{Frame}
 use Rattle.ata_types.specs.declared.request.Reply.{Reply}
 use Rattle.ata_types.specs.declared.request.RequestId.{RequestId}
 use Rattle.adapter.specs.Device.{Device}
-use Rattle.agreement.specs.Acts.{InSlots, at as at_slots}
-use Rattle.agreement.specs.Driven.{AnyUse, IsFollowed}
-use Rattle.agreement.specs.Driver.{HasNoSlot, IsBacked}
-use Rattle.agreement.specs.Slots.{Serves}
-use Rattle.agreement.specs.Spares.{SparesBook}
+use Rattle.refinement.specs.Acts.{InSlots, at_slots}
+use Rattle.refinement.specs.Driven.{AnyUse, IsSimulated}
+use Rattle.refinement.specs.Driver.{HasNoSlot, IsBacked}
+use Rattle.refinement.specs.Slots.{Serves}
+use Rattle.refinement.specs.Spares.{SparesBook}
 use Rattle.block_machine.specs.Events.{AllDevices, AllMay}
-use Rattle.block_machine.specs.Histories.{IsReached}
+use Rattle.block_machine.specs.Histories.{IsReachable}
 use Rattle.block_machine.specs.Left.{after}
 use Rattle.block_machine.specs.State.{Machine, Pending}
 use Rattle.block_machine.specs.Steps.{Step, Accept, after_step, Revoke}
-use Rattle.block_machine.specs.declared.due.Mode.{Mode}
+use Rattle.block_machine.specs.declared.due.QueueMode.{QueueMode}
 use Rattle.dma_frames.specs.Loan.{Lending}
 use Rattle.error_recovery.specs.declared.Next.{Next}
 use Rattle.error_recovery.specs.declared.Next.TheVariants.{Running, Restart, Dead as Stuck}
-use Rattle.host_boot.specs.Taken.{found_of, wanted_of}
-use Rattle.host_boot.specs.declared.Found.{Found}
-use Rattle.host_boot.specs.declared.Found.TheVariants.{Unserved, Ready, Unready}
+use Rattle.host_boot.specs.Taken.{probe_result_of, wanted_of}
+use Rattle.host_boot.specs.declared.ProbeResult.{ProbeResult}
+use Rattle.host_boot.specs.declared.ProbeResult.TheVariants.{Unserved, Ready, Unready}
 use Rattle.identify.specs.declared.DiskInfo.{DiskInfo}
-use Rattle.port_look.specs.Looks.{IsLooking}
+use Rattle.port_events.specs.Looks.{IsLooking}
 use Rattle.request_queue.specs.Entries.{Held, IsEarlier, is_of}
-use Rattle.request_queue.specs.Fates.{EndsLoan, Holdings, MeetFates, MeetsFate, fate_of, fate_on, keeps_loan}
+use Rattle.request_queue.specs.Dispositions.{EndsLoan, Holdings, AreResolved, IsResolved, disposition_of, disposition_on, quarantines_loan}
 use Rattle.request_queue.specs.Machine.{IsEntry}
-use Rattle.request_queue.specs.declared.Entry.{Entry}
-use Rattle.request_queue.specs.declared.fate.Failed.{Failed}
-use Rattle.request_queue.specs.declared.fate.Fate.{Fate}
-use Rattle.request_queue.specs.declared.fate.Fate.TheVariants.{Ends, GoesAgain, Waits}
-use Rattle.request_queue.specs.declared.fate.Prospect.{Prospect}
-use Rattle.request_queue.specs.declared.fate.Prospect.TheVariants.{SameDisk, DiskLost, Dead as NoEnd}
-use Rattle.slots.specs.Uses.{Uses as PortSlots}
+use Rattle.request_queue.specs.declared.PendingRequest.{PendingRequest}
+use Rattle.request_queue.specs.declared.disposition.FailedRequest.{FailedRequest}
+use Rattle.request_queue.specs.declared.disposition.Disposition.{Disposition}
+use Rattle.request_queue.specs.declared.disposition.Disposition.TheVariants.{Complete, Requeue, Wait}
+use Rattle.request_queue.specs.declared.disposition.Revalidation.{Revalidation}
+use Rattle.request_queue.specs.declared.disposition.Revalidation.TheVariants.{SameDisk, DiskLost, Dead as NoEnd}
+use Rattle.slots.specs.Uses.{PortSlots}
 use Rattle.server_history.specs.Below.{LawsBelow}
-use Rattle.server_history.specs.Fates.{DecidesOn, MayMeet, MeetsInMachine, keeps_fate}
-use Rattle.server_history.specs.Mended.{AreUnused, IsFailed, IsFoundAfter, IsProspect, HasMetFates, holdings_of, requests_of, with_port}
+use Rattle.server_history.specs.Dispositions.{DecidesOn, MayMeet, MeetsInMachine, keeps_fate}
+use Rattle.server_history.specs.ErrorHandling.{AreUnused, IsFailed, IsRevalidated, IsRevalidation, HasResolved, holdings_of, requests_of, with_port_found}
 use Rattle.server_history.specs.Served.{answers_in}
-use Rattle.server_history.specs.Server.{AreKept, AreUsesOf, IsKept, IsMachineOf, Server, is_served, kept_at, slots_at, state_of, HasTrueMark}
+use Rattle.server_history.specs.Server.{AreKept, AreUsesOf, InCallInvariant, IsMachineOf, ServerState, is_served, kept_at, slots_at, state_of, HasTrueMark}
 use Rattle.server_history.proofs.state.HistorySteps.{book_on, still_kept}
-use Rattle.server_history.proofs.state.KeptLoans.{none_alive}
+use Rattle.server_history.proofs.state.Quarantine.{none_alive}
 use Rattle.server_history.proofs.plain_calls.Looks.{finding_kept, found_over, looking_kept}
-use Rattle.server_history.proofs.fates.FittingFates.{fits_each, kept_dead_alone}
-use Rattle.server_history.proofs.fates.MetFates.{meet, none_parked}
+use Rattle.server_history.proofs.dispositions.FittingFates.{fits_each, kept_dead_alone}
+use Rattle.server_history.proofs.dispositions.MetFates.{meet, none_parked}
 use Rattle.server_history.proofs.recovery_turn.RecoveredDevice.{IsPassed, devices_both, passed, uses_then}
 use Rattle.server_history.proofs.recovery_turn.TurnParts.{AddsFates}
 use Rattle.server_history.proofs.recovery_turn.ReplacedPort.{is_listed}
@@ -58,16 +58,16 @@ use Rattle.server_history.proofs.healthy_turn.ServedPort.{finds_serve, followed_
 use Rattle.server_history.proofs.healthy_turn.AnswersAndIssues.{AreAnswered, answers_kept, answers_settings, each_answered}
 use Rattle.server_history.proofs.state.PortSlots.{AreOver, not_dead, ready_found, served_request}
 use Rattle.server_history.proofs.state.PairedLists.{at_left}
-use Rattle.server_history.proofs.fates.MoreKeptLoans.{more_kept}
+use Rattle.server_history.proofs.dispositions.MoreKeptLoans.{more_kept}
 use Rattle.server_history.proofs.state.FirstMembers.{nowhere}
-use Rattle.port_look.specs.declared.Trouble.{Trouble}
+use Rattle.port_events.specs.declared.PortError.{PortError}
 use Rattle.server_history.proofs.state.RevokedMarks.{tells_of}
 use Rattle.server_history.proofs.state.ListMembers.{in_filter}
 
 -- ---- lists
 
 -- a port that was found with a disk is in the list
-pub in_ports : (ports : List Found) (port : ℕ) (info : DiskInfo) → found_of ports port ≡ Ready info → port < length ports
+pub in_ports : (ports : List ProbeResult) (port : ℕ) (info : DiskInfo) → probe_result_of ports port ≡ Ready info → port < length ports
 in_ports ports port info is = is_listed ports port (ap is_served is)
 
 -- ---- what fates leave
@@ -86,38 +86,38 @@ deciding_leaves port m (step ∷ steps) own =
     (x.0 ∙ y.0, λ frame. x.1 frame ∙ y.1 frame, x.2 ∙ y.2)
 
 -- and fates the owners
-fate_owners : (request : Held) (f : Fate) (replies : List Reply) (old new : Holdings) → MeetsFate request f replies old new → new.table.owners ≡ old.table.owners
-fate_owners request Waits replies old new meets = ap (λ (h : Holdings). h.table.owners) meets.1
-fate_owners request GoesAgain replies old new meets = ap (λ (h : Holdings). h.table.owners) meets.1
-fate_owners request (Ends o) replies old new meets = by (keeps_loan o request.entry) meets.2
+fate_owners : (request : Held) (f : Disposition) (replies : List Reply) (old new : Holdings) → IsResolved request f replies old new → new.table.owners ≡ old.table.owners
+fate_owners request Wait replies old new meets = ap (λ (h : Holdings). h.table.owners) meets.1
+fate_owners request Requeue replies old new meets = ap (λ (h : Holdings). h.table.owners) meets.1
+fate_owners request (Complete o) replies old new meets = by (quarantines_loan o request.entry) meets.2
   where
     by : (b : Bool) → EndsLoan b request old new → new.table.owners ≡ old.table.owners
     by true loan = ap (λ t. t.owners) loan.1
     by false loan = loan.1.owners
 
-pub fates_owners : (fate : Entry → Fate) (requests : List Held) (replies : List Reply) (old new : Holdings) → MeetFates fate requests replies old new → new.table.owners ≡ old.table.owners
-fates_owners fate [] replies old new meets = ap (λ (h : Holdings). h.table.owners) meets.1
-fates_owners fate (request ∷ requests) replies old new (mid, its, later, split, meets, more) = fates_owners fate requests later mid new more ∙ fate_owners request (fate request.entry) its old mid meets
+pub fates_owners : (disposition : PendingRequest → Disposition) (requests : List Held) (replies : List Reply) (old new : Holdings) → AreResolved disposition requests replies old new → new.table.owners ≡ old.table.owners
+fates_owners disposition [] replies old new meets = ap (λ (h : Holdings). h.table.owners) meets.1
+fates_owners disposition (request ∷ requests) replies old new (mid, its, later, split, meets, more) = fates_owners disposition requests later mid new more ∙ fate_owners request (disposition request.entry) its old mid meets
 
 -- ---- the port's requests meet their fates
 
 -- a dead port has no other prospect
-pub dead_end : (trouble : Trouble) (was : DiskInfo) (found : Found) (prospect : Prospect) → IsProspect trouble was found prospect → found ≡ Unready Dead → prospect ≡ NoEnd
-dead_end trouble was found SameDisk (_, (info, is, same)) dead = let z : Ready info ≡ Unready Dead = sym is ∙ dead in absurd cc
-dead_end trouble was found DiskLost x dead = absurd (x.0 dead)
-dead_end trouble was found NoEnd x dead = refl
+pub dead_end : (port_error : PortError) (was : DiskInfo) (found : ProbeResult) (revalidation : Revalidation) → IsRevalidation port_error was found revalidation → found ≡ Unready Dead → revalidation ≡ NoEnd
+dead_end port_error was found SameDisk (_, (info, is, same)) dead = let z : Ready info ≡ Unready Dead = sym is ∙ dead in absurd cc
+dead_end port_error was found DiskLost x dead = absurd (x.0 dead)
+dead_end port_error was found NoEnd x dead = refl
 
-module _ (laws : LawsBelow) (port : Port) (mid : Server) (k : IsKept mid) (ready : state_of (found_of mid.ports port.0) ≡ ReadyState) (n : Machine) (reached : IsReached n) (is : IsMachineOf mid n)
-    (way : Next) (found : Found) (device : Device) (passed : IsPassed port.0 way found mid.device device (record { uses = is.uses; parked = is.parked }) n)
-    (failed : Option Failed) (prospect : Prospect) (trouble : Trouble) (was : DiskInfo) (expects : IsProspect trouble was found prospect) (unnamed : way ≡ Stuck → (found ≡ Unready Dead) × (failed ≡ None)) where
+module _ (laws : LawsBelow) (port : Port) (mid : ServerState) (k : InCallInvariant mid) (ready : state_of (probe_result_of mid.ports port.0) ≡ ReadyState) (n : Machine) (reached : IsReachable n) (is : IsMachineOf mid n)
+    (way : Next) (found : ProbeResult) (device : Device) (passed : IsPassed port.0 way found mid.device device (record { uses = is.uses; parked = is.parked }) n)
+    (failed : Option FailedRequest) (revalidation : Revalidation) (port_error : PortError) (was : DiskInfo) (expects : IsRevalidation port_error was found revalidation) (unnamed : way ≡ Stuck → (found ≡ Unready Dead) × (failed ≡ None)) where
   abbrev t : InSlots
   t = passed.slots
 
   abbrev w : Machine
   w = after n passed.passes.steps
 
-  abbrev fate : Entry → Fate
-  fate = fate_of failed prospect
+  abbrev disposition : PendingRequest → Disposition
+  disposition = disposition_of failed revalidation
 
   abbrev its : List Held
   its = requests_of port mid.book
@@ -125,10 +125,10 @@ module _ (laws : LawsBelow) (port : Port) (mid : Server) (k : IsKept mid) (ready
   low : port.0 < 4
   low = (ready_found mid port.0 k ready).0
 
-  alive : found_of mid.ports port.0 ≢ Unready Dead
+  alive : probe_result_of mid.ports port.0 ≢ Unready Dead
   alive = not_dead mid port.0 ready
 
-  w_reached : IsReached w
+  w_reached : IsReachable w
   w_reached = laws.basic.reached n passed.passes.steps reached passed.passes.may
 
   spares : SparesBook n w
@@ -144,7 +144,7 @@ module _ (laws : LawsBelow) (port : Port) (mid : Server) (k : IsKept mid) (ready
   )
 
   -- one whose loan isn't kept has no slot
-  unserved : (e : Held) → Contains its e → keeps_fate (fate e.entry) e.entry ≡ false → HasNoSlot t.uses e.entry.id
+  unserved : (e : Held) → Contains its e → keeps_fate (disposition e.entry) e.entry ≡ false → HasNoSlot t.uses e.entry.id
   unserved e here never = by e.entry.issued refl
     where
       entry : (p : Pending) × Contains n.book p × IsEntry e p
@@ -161,8 +161,8 @@ module _ (laws : LawsBelow) (port : Port) (mid : Server) (k : IsKept mid) (ready
       of (Restart token) z issued = served (λ stuck. let y : Restart token ≡ Stuck = sym z ∙ stuck in absurd cc) issued
       of Stuck z issued =
           let u = unnamed z in
-          let keeps : keeps_fate (fate e.entry) e.entry ≡ true =
-          ap (λ (f : Option Failed). keeps_fate (fate_of f prospect e.entry) e.entry) u.1 ∙ ap (λ (p : Prospect). keeps_fate (fate_on p e.entry) e.entry) (dead_end trouble was found prospect expects u.0) ∙ issued in
+          let keeps : keeps_fate (disposition e.entry) e.entry ≡ true =
+          ap (λ (f : Option FailedRequest). keeps_fate (disposition_of f revalidation e.entry) e.entry) u.1 ∙ ap (λ (p : Revalidation). keeps_fate (disposition_on p e.entry) e.entry) (dead_end port_error was found revalidation expects u.0) ∙ issued in
           absurd (false≢true (sym never ∙ keeps))
 
       by : (b : Bool) → e.entry.issued ≡ b → HasNoSlot t.uses e.entry.id
@@ -181,7 +181,7 @@ module _ (laws : LawsBelow) (port : Port) (mid : Server) (k : IsKept mid) (ready
       (λ there. absurd (nowhere id (subst (λ (ids : List RequestId). Contains ids id) (is.unparked port.0 alive) there)))
       (Contains-append_cases _ (is.parked port.0) id (passed.left.its id here))
 
-  may_meet : MayMeet port fate its (holdings_of port mid) (at_slots t device) w
+  may_meet : MayMeet port disposition its (holdings_of port mid) (at_slots t device) w
   may_meet = record {
     reached = w_reached;
     knows = passed.passes.knows;
@@ -195,43 +195,43 @@ module _ (laws : LawsBelow) (port : Port) (mid : Server) (k : IsKept mid) (ready
     unserved = unserved;
   }
 
-  module _ (later : List Reply) (now : Holdings) (meets : MeetFates fate its later (holdings_of port mid) now) where
-    pub met : MeetsInMachine port fate its later (holdings_of port mid) now (at_slots t device) w
-    met = meet laws port fate its (fits_each failed prospect its) later (holdings_of port mid) now (at_slots t device) w may_meet meets
+  module _ (later : List Reply) (now : Holdings) (meets : AreResolved disposition its later (holdings_of port mid) now) where
+    pub met : MeetsInMachine port disposition its later (holdings_of port mid) now (at_slots t device) w
+    met = meet laws port disposition its (fits_each failed revalidation its) later (holdings_of port mid) now (at_slots t device) w may_meet meets
 
     abbrev z : Machine
     z = after w met.steps
 
     -- a request whose loan is kept is of a dead port
     dies : (e : Pending) → Contains met.held e → (e.request.port ≡ port) × (found ≡ Unready Dead)
-    dies e here = (x.2.port ∙ (of_its x.0 x.1).1, by prospect refl)
+    dies e here = (x.2.port ∙ (of_its x.0 x.1).1, by revalidation refl)
       where
-        x : (request : Held) × Contains its request × IsEntry request e × (keeps_fate (fate request.entry) request.entry ≡ true)
+        x : (request : Held) × Contains its request × IsEntry request e × (keeps_fate (disposition request.entry) request.entry ≡ true)
         x = met.whose e here
 
-        lives : prospect ≢ NoEnd → ⊥
-        lives other = false≢true (sym (kept_dead_alone failed prospect x.0.entry other) ∙ x.3)
+        lives : revalidation ≢ NoEnd → ⊥
+        lives other = false≢true (sym (kept_dead_alone failed revalidation x.0.entry other) ∙ x.3)
 
-        by : (p : Prospect) → prospect ≡ p → found ≡ Unready Dead
+        by : (p : Revalidation) → revalidation ≡ p → found ≡ Unready Dead
         by SameDisk same = absurd (lives (λ dead. let y : SameDisk ≡ NoEnd = sym same ∙ dead in absurd cc))
         by DiskLost same = absurd (lives (λ dead. let y : DiskLost ≡ NoEnd = sym same ∙ dead in absurd cc))
-        by NoEnd same = subst (IsProspect trouble was found) same expects
+        by NoEnd same = subst (IsRevalidation port_error was found) same expects
 
     -- on another port nothing is decided
-    quiet : found ≢ Unready Dead → (e : Entry) → keeps_fate (fate e) e ≡ false
-    quiet other e = kept_dead_alone failed prospect e (λ dead. other (subst (IsProspect trouble was found) dead expects))
+    quiet : found ≢ Unready Dead → (e : PendingRequest) → keeps_fate (disposition e) e ≡ false
+    quiet other e = kept_dead_alone failed revalidation e (λ dead. other (subst (IsRevalidation port_error was found) dead expects))
 
     none_left : found ≢ Unready Dead → met.parked port.0 ≡ []
-    none_left other = none_parked port fate its (fits_each failed prospect its) later (holdings_of port mid) now (at_slots t device) w met (quiet other) parked_by
+    none_left other = none_parked port disposition its (fits_each failed revalidation its) later (holdings_of port mid) now (at_slots t device) w met (quiet other) parked_by
 
-    module _ (mode : Mode) (slots : PortSlots) (unused : AreUnused mode slots) where
-      abbrev new : Server
-      new = with_port port device found was mode slots now mid
+    module _ (mode : QueueMode) (slots : PortSlots) (unused : AreUnused mode slots) where
+      abbrev new : ServerState
+      new = with_port_found port device found was mode slots now mid
 
-      found_same : found_of new.ports port.0 ≡ found
+      found_same : probe_result_of new.ports port.0 ≡ found
       found_same = get_or-set_same mid.ports port.0 found Unserved (let f = (ready_found mid port.0 k ready).1 in in_ports mid.ports port.0 f.0 f.1)
 
-      found_other : (q : ℕ) → q ≢ port.0 → found_of new.ports q ≡ found_of mid.ports q
+      found_other : (q : ℕ) → q ≢ port.0 → probe_result_of new.ports q ≡ probe_result_of mid.ports q
       found_other q ne = get_or-set_other mid.ports port.0 q found Unserved ne
 
       kept_same : kept_at new.kept port.0 ≡ now.kept
@@ -244,10 +244,10 @@ module _ (laws : LawsBelow) (port : Port) (mid : Server) (k : IsKept mid) (ready
       used = uses_then port.0 way found mid.ports mid.slots slots (record { uses = is.uses; parked = is.parked }) t (let f = (ready_found mid port.0 k ready).1 in in_ports mid.ports port.0 f.0 f.1)
           (let f = k.four in let l = low in omega (arith, f, l)) unused.free passed.left is.used
 
-      unparked : (q : ℕ) → found_of new.ports q ≢ Unready Dead → met.parked q ≡ []
+      unparked : (q : ℕ) → probe_result_of new.ports q ≢ Unready Dead → met.parked q ≡ []
       unparked q lives = ⊎_elim
           (λ (same : q ≡ port.0).
-          ap met.parked same ∙ none_left (λ dead. lives (ap (found_of new.ports) same ∙ found_same ∙ dead)))
+          ap met.parked same ∙ none_left (λ dead. lives (ap (probe_result_of new.ports) same ∙ found_same ∙ dead)))
           (λ (ne : q ≢ port.0). met.others q ne ∙ passed.left.parked q ne ∙ is.unparked q (λ dead. lives (found_other q ne ∙ dead)))
           (cases_eq q port.0)
 
@@ -258,7 +258,7 @@ module _ (laws : LawsBelow) (port : Port) (mid : Server) (k : IsKept mid) (ready
 
       -- one that was kept is of another port
       elsewhere : (e : Pending) → Contains w.kept e → e.request.port.0 ≢ port.0
-      elsewhere e here same = alive (ap (found_of mid.ports) (sym same) ∙ was_kept.dead e here)
+      elsewhere e here same = alive (ap (probe_result_of mid.ports) (sym same) ∙ was_kept.dead e here)
 
       none_kept_here : kept_at mid.kept port.0 ≡ []
       none_kept_here = none_alive mid k port.0 alive (kept_at mid.kept port.0) refl
@@ -285,49 +285,49 @@ module _ (laws : LawsBelow) (port : Port) (mid : Server) (k : IsKept mid) (ready
         kept = are_kept;
         rows = leaves.0 ∙ spares.rows ∙ is.rows;
         owner = λ frame. leaves.1 frame ∙ ap (λ f. f frame) spares.owner ∙ is.owner frame
-            ∙ ap (λ (owners : List (Option ClientId)). get_or owners frame.0 None) (sym (fates_owners fate its later (holdings_of port mid) now meets));
+            ∙ ap (λ (owners : List (Option ClientId)). get_or owners frame.0 None) (sym (fates_owners disposition its later (holdings_of port mid) now meets));
         lent = met.lent;
         next = leaves.2 ∙ spares.next ∙ is.next;
       }
 
 -- ---- the whole
 
-module _ (laws : LawsBelow) (port : Port) (later : List Reply) (old new : Server) (k : IsKept old) (ready : state_of (found_of old.ports port.0) ≡ ReadyState) (a : HasMetFates port later old new)
-    (looks : IsFollowed (IsLooking port) AnyUse old.device a.mended.seen) where
-  abbrev from : Server
-  from = record old { device = a.mended.found }
+module _ (laws : LawsBelow) (port : Port) (later : List Reply) (old new : ServerState) (k : InCallInvariant old) (ready : state_of (probe_result_of old.ports port.0) ≡ ReadyState) (a : HasResolved port later old new)
+    (looks : IsSimulated (IsLooking port) AnyUse old.device a.error_handled.seen) where
+  abbrev from : ServerState
+  from = record old { device = a.error_handled.found }
 
-  seen_kept : IsKept (record old { device = a.mended.seen })
-  seen_kept = looking_kept old a.mended.seen port k ready laws looks
+  seen_kept : InCallInvariant (record old { device = a.error_handled.seen })
+  seen_kept = looking_kept old a.error_handled.seen port k ready laws looks
 
-  pub found_kept : IsKept from
-  found_kept = finding_kept (record old { device = a.mended.seen }) a.mended.found port seen_kept ready laws a.mended.mask a.mended.done a.mended.reads
+  pub found_kept : InCallInvariant from
+  found_kept = finding_kept (record old { device = a.error_handled.seen }) a.error_handled.found port seen_kept ready laws a.error_handled.mask a.error_handled.done a.error_handled.reads
 
-  pub over : AreOver port a.mended.done a.mended.found
-  over = found_over (record old { device = a.mended.seen }) a.mended.found port seen_kept ready laws a.mended.mask a.mended.done a.mended.reads a.mended.its
+  pub over : AreOver port a.error_handled.done a.error_handled.found
+  over = found_over (record old { device = a.error_handled.seen }) a.error_handled.found port seen_kept ready laws a.error_handled.mask a.error_handled.done a.error_handled.reads a.error_handled.its
 
-  pub mid_kept : IsKept a.mid
-  mid_kept = answers_kept laws port a.mended.done a.mended.requests from a.mid found_kept ready over a.mended.each
+  pub mid_kept : InCallInvariant a.mid
+  mid_kept = answers_kept laws port a.error_handled.done a.error_handled.requests from a.mid found_kept ready over a.error_handled.each
 
   pub settings : a.mid ≡ record from { table = a.mid.table; slots = a.mid.slots; book = a.mid.book }
-  settings = answers_settings laws port a.mended.done a.mended.requests from a.mid a.mended.each
+  settings = answers_settings laws port a.error_handled.done a.error_handled.requests from a.mid a.error_handled.each
 
-  pub mid_ready : state_of (found_of a.mid.ports port.0) ≡ ReadyState
-  mid_ready = ap (λ (s : Server). state_of (found_of s.ports port.0)) settings ∙ ready
+  pub mid_ready : state_of (probe_result_of a.mid.ports port.0) ≡ ReadyState
+  mid_ready = ap (λ (s : ServerState). state_of (probe_result_of s.ports port.0)) settings ∙ ready
 
   -- nobody is named on a port whose engine is stuck
-  pub unnamed : a.mended.result.next ≡ Stuck → (a.found ≡ Unready Dead) × (a.failed ≡ None)
+  pub unnamed : a.error_handled.result.next ≡ Stuck → (a.found ≡ Unready Dead) × (a.failed ≡ None)
   unnamed stuck = (
-    (subst (λ (way : Next). IsFoundAfter (wanted_of old.wanted port.0) port a.mended.trouble a.was way a.device new.device a.found) stuck a.is).0,
-    subst (λ (its : Option _). IsFailed (slots_at a.mid.slots port.0) its a.failed) (a.mended.mends.tells.dead stuck) a.names,
+    (subst (λ (way : Next). IsRevalidated (wanted_of old.wanted port.0) port a.error_handled.port_error a.was way a.device new.device a.found) stuck a.is).0,
+    subst (λ (its : Option _). IsFailed (slots_at a.mid.slots port.0) its a.failed) (a.error_handled.handling.tells.dead stuck) a.names,
   )
 
-  pub adds_fates : (m : Machine) → IsReached m → IsMachineOf old m → AddsFates port later old new a m
+  pub adds_fates : (m : Machine) → IsReachable m → IsMachineOf old m → AddsFates port later old new a m
   adds_fates m reached is = record {
     first = x.0;
     ended = y.ended;
     middle = p.passes.steps;
-    fates = f.steps;
+    dispositions = f.steps;
     first_only = x.4;
     early = record { looked = looked.0; later = finding.0; first_is = refl; seen = looked.2; seen_backed = looked.3; found = x.2; found_backed = x.3 };
     each = y.each;
@@ -336,35 +336,35 @@ module _ (laws : LawsBelow) (port : Port) (later : List Reply) (old new : Server
     backed = laws.backed_parts old.device new.device new.device m (p.passes.steps ++ base) f.steps
         (laws.backed_parts old.device a.mid.device new.device m base p.passes.steps base_backed p.passes.backed) (subst (λ (s : Machine). IsBacked new.device new.device s f.steps) (sym then_is) (f.backed new.device));
     stands = subst (IsMachineOf new) (sym (laws.basic.joined m f.steps (p.passes.steps ++ base) ∙ ap (λ (s : Machine). after s f.steps) then_is))
-        (subst (λ (s : Server). IsMachineOf s (after (after n p.passes.steps) f.steps)) (sym a.server)
-        (stands laws port a.mid mid_kept mid_ready n n_reached is_mid a.mended.result.next a.found new.device p a.failed a.prospect a.mended.trouble a.was a.expects unnamed later a.now a.meets a.mode a.slots a.unused));
+        (subst (λ (s : ServerState). IsMachineOf s (after (after n p.passes.steps) f.steps)) (sym a.server)
+        (stands laws port a.mid mid_kept mid_ready n n_reached is_mid a.error_handled.result.next a.found new.device p a.failed a.revalidation a.error_handled.port_error a.was a.expects unnamed later a.now a.meets a.mode a.slots a.unused));
     own = f.own;
     answered = f.answered;
     again = f.again;
     tells = f.tells;
   }
     where
-      looked : (steps : List Step) × AllMay m steps × IsMachineOf (record old { device = a.mended.seen }) (after m steps) × IsBacked old.device a.mended.seen m steps × AllDevices steps
-      looked = followed_steps laws old a.mended.seen (looks_serve laws port old.device a.mended.seen looks) m reached is
+      looked : (steps : List Step) × AllMay m steps × IsMachineOf (record old { device = a.error_handled.seen }) (after m steps) × IsBacked old.device a.error_handled.seen m steps × AllDevices steps
+      looked = followed_steps laws old a.error_handled.seen (looks_serve laws port old.device a.error_handled.seen looks) m reached is
 
-      finding : (steps : List Step) × AllMay (after m looked.0) steps × IsMachineOf from (after (after m looked.0) steps) × IsBacked a.mended.seen a.mended.found (after m looked.0) steps × AllDevices steps
-      finding = followed_steps laws (record old { device = a.mended.seen }) a.mended.found (finds_serve laws port a.mended.mask a.mended.done a.mended.seen a.mended.found a.mended.reads)
+      finding : (steps : List Step) × AllMay (after m looked.0) steps × IsMachineOf from (after (after m looked.0) steps) × IsBacked a.error_handled.seen a.error_handled.found (after m looked.0) steps × AllDevices steps
+      finding = followed_steps laws (record old { device = a.error_handled.seen }) a.error_handled.found (finds_serve laws port a.error_handled.mask a.error_handled.done a.error_handled.seen a.error_handled.found a.error_handled.reads)
           (after m looked.0) (laws.basic.reached m looked.0 reached looked.1) looked.2
 
-      x : (steps : List Step) × AllMay m steps × IsMachineOf from (after m steps) × IsBacked old.device a.mended.found m steps × AllDevices steps
+      x : (steps : List Step) × AllMay m steps × IsMachineOf from (after m steps) × IsBacked old.device a.error_handled.found m steps × AllDevices steps
       x = (
         finding.0 ++ looked.0,
         laws.basic.may m finding.0 looked.0 looked.1 finding.1,
         subst (IsMachineOf from) (sym (laws.basic.joined m finding.0 looked.0)) finding.2,
-        laws.backed_parts old.device a.mended.seen a.mended.found m looked.0 finding.0 looked.3 finding.3,
+        laws.backed_parts old.device a.error_handled.seen a.error_handled.found m looked.0 finding.0 looked.3 finding.3,
         devices_both finding.0 looked.0 finding.4 looked.4,
       )
 
-      reached_x : IsReached (after m x.0)
+      reached_x : IsReachable (after m x.0)
       reached_x = laws.basic.reached m x.0 reached x.1
 
-      y : AreAnswered port a.mended.requests from a.mid (after m x.0)
-      y = each_answered laws port a.mended.done a.mended.requests from a.mid found_kept ready over a.mended.each (after m x.0) reached_x x.2
+      y : AreAnswered port a.error_handled.requests from a.mid (after m x.0)
+      y = each_answered laws port a.error_handled.done a.error_handled.requests from a.mid found_kept ready over a.error_handled.each (after m x.0) reached_x x.2
 
       base : List Step
       base = answers_in y.ended ++ x.0
@@ -376,20 +376,20 @@ module _ (laws : LawsBelow) (port : Port) (later : List Reply) (old new : Server
       base_may = laws.basic.may m (answers_in y.ended) x.0 x.1 y.may
 
       base_backed : IsBacked old.device a.mid.device m base
-      base_backed = laws.backed_parts old.device a.mended.found a.mid.device m x.0 (answers_in y.ended) x.3 y.backed
+      base_backed = laws.backed_parts old.device a.error_handled.found a.mid.device m x.0 (answers_in y.ended) x.3 y.backed
 
-      n_reached : IsReached n
+      n_reached : IsReachable n
       n_reached = laws.basic.reached m base reached base_may
 
       is_mid : IsMachineOf a.mid n
       is_mid = subst (IsMachineOf a.mid) (sym (laws.basic.joined m (answers_in y.ended) x.0)) y.stands
 
-      p : IsPassed port.0 a.mended.result.next a.found a.mid.device new.device (record { uses = is_mid.uses; parked = is_mid.parked }) n
-      p = passed laws (wanted_of old.wanted port.0) port a.mended.trouble a.was a.mended.result.next a.mended.mends.accesses a.mid.device a.device new.device a.found a.mended.mends.does.slots a.is
+      p : IsPassed port.0 a.error_handled.result.next a.found a.mid.device new.device (record { uses = is_mid.uses; parked = is_mid.parked }) n
+      p = passed laws (wanted_of old.wanted port.0) port a.error_handled.port_error a.was a.error_handled.result.next a.error_handled.handling.accesses a.mid.device a.device new.device a.found a.error_handled.handling.does.slots a.is
           (record { uses = is_mid.uses; parked = is_mid.parked }) n n_reached is_mid.knows
 
-      f : MeetsInMachine port (fate_of a.failed a.prospect) (requests_of port a.mid.book) later (holdings_of port a.mid) a.now (at_slots p.slots new.device) (after n p.passes.steps)
-      f = met laws port a.mid mid_kept mid_ready n n_reached is_mid a.mended.result.next a.found new.device p a.failed a.prospect a.mended.trouble a.was a.expects unnamed later a.now a.meets
+      f : MeetsInMachine port (disposition_of a.failed a.revalidation) (requests_of port a.mid.book) later (holdings_of port a.mid) a.now (at_slots p.slots new.device) (after n p.passes.steps)
+      f = met laws port a.mid mid_kept mid_ready n n_reached is_mid a.error_handled.result.next a.found new.device p a.failed a.revalidation a.error_handled.port_error a.was a.expects unnamed later a.now a.meets
 
       then_is : after m (p.passes.steps ++ base) ≡ after n p.passes.steps
       then_is = laws.basic.joined m p.passes.steps base

@@ -11,39 +11,39 @@ use Rattle.ata_types.specs.declared.limits.TheConstants.{READINGS}
 use Rattle.hba_regs.specs.Bits.{bit}
 use Rattle.adapter.specs.Device.{Device}
 use Rattle.adapter.specs.declared.command.Operation.TheVariants.{Identify}
-use Rattle.agreement.specs.Acts.{InSlots}
-use Rattle.agreement.specs.Driven.{AnyUse, IsFollowed}
-use Rattle.agreement.specs.Links.{SameAdapter}
-use Rattle.block_machine.specs.Histories.{IsReached}
+use Rattle.refinement.specs.Acts.{InSlots}
+use Rattle.refinement.specs.Driven.{AnyUse, IsSimulated}
+use Rattle.refinement.specs.Links.{SameAdapter}
+use Rattle.block_machine.specs.Histories.{IsReachable}
 use Rattle.block_machine.specs.State.{Machine}
 use Rattle.server_history.proofs.state.ListMembers.{contains_cases, contains_here, contains_there}
 use Rattle.error_recovery.specs.Recovery.{EndsIn}
 use Rattle.error_recovery.specs.declared.Next.{Next}
 use Rattle.error_recovery.specs.declared.Next.TheVariants as next
-use Rattle.host_boot.specs.Taken.{IsServed, StillStandsBehind, found_of, wanted_of}
-use Rattle.host_boot.specs.declared.Found.{Found}
-use Rattle.host_boot.specs.declared.Found.TheVariants.{Ready}
+use Rattle.host_boot.specs.Taken.{IsServed, StillStandsBehind, probe_result_of, wanted_of}
+use Rattle.host_boot.specs.declared.ProbeResult.{ProbeResult}
+use Rattle.host_boot.specs.declared.ProbeResult.TheVariants.{Ready}
 use Rattle.identify.specs.declared.wanted.Wanted.{Wanted}
 use Rattle.port_boot.specs.States.{IsBootable}
 use Rattle.port_control.specs.Ports.{IsStopped}
 use Rattle.port_control.specs.declared.Running as running_token
 use Rattle.port_control.specs.declared.Stopped.{Stopped}
-use Rattle.port_look.specs.Looks.{IsLooking}
+use Rattle.port_events.specs.Looks.{IsLooking}
 use Rattle.request_queue.specs.Entries.{Held, is_of}
-use Rattle.request_queue.specs.Fates.{fate_of}
-use Rattle.request_queue.specs.declared.fate.Prospect.{Prospect}
-use Rattle.request_queue.specs.declared.fate.Prospect.TheVariants.{SameDisk, DiskLost, Dead}
+use Rattle.request_queue.specs.Dispositions.{disposition_of}
+use Rattle.request_queue.specs.declared.disposition.Revalidation.{Revalidation}
+use Rattle.request_queue.specs.declared.disposition.Revalidation.TheVariants.{SameDisk, DiskLost, Dead}
 use Rattle.server_history.specs.Below.{LawsBelow}
-use Rattle.server_history.specs.Mended.{AreQueued, IsFoundAfter, IsProspect, IsMended, HasMetFates, holdings_of, requests_of}
-use Rattle.server_history.specs.Server.{Server, IsKept, IsMachineOf, is_served, kept_at, mode_found, mode_in, slots_at, state_of, used_for}
+use Rattle.server_history.specs.ErrorHandling.{AreQueued, IsRevalidated, IsRevalidation, IsErrorHandled, HasResolved, holdings_of, requests_of}
+use Rattle.server_history.specs.Server.{ServerState, InCallInvariant, IsMachineOf, is_served, kept_at, mode_found, mode_in, slots_at, state_of, used_for}
 use Rattle.server_history.proofs.state.PortGrounds.{ready_on}
 use Rattle.server_history.proofs.recovery_turn.OtherPorts.{Passes, PassesTo, recovery_passes, after_passes, passes_none, slots_of}
 use Rattle.server_history.proofs.state.PlainHalts.{again_halts, works_plainly}
 use Rattle.server_history.proofs.state.FirstMembers.{nowhere}
 use Rattle.server_history.proofs.plain_calls.Looks.{finding_kept, found_over, looking_kept}
 use Rattle.server_history.proofs.state.IssueCounts.{places}
-use Rattle.server_history.proofs.fates.FittingFates.{fits_each}
-use Rattle.server_history.proofs.fates.RemainingBook.{IsLeft, WasIn, ends_of, fated, its_requests}
+use Rattle.server_history.proofs.dispositions.FittingFates.{fits_each}
+use Rattle.server_history.proofs.dispositions.RemainingBook.{IsLeft, WasIn, ends_of, fated, its_requests}
 use Rattle.server_history.proofs.recovery_turn.ReplacedPort.{StandsAt, replaced_kept, same_over, stands_after, still_there}
 use Rattle.server_history.proofs.recovery_turn.SeenDevice.{saw_still}
 use Rattle.server_history.proofs.healthy_turn.AnswersAndIssues.{answers_kept, answers_settings}
@@ -66,16 +66,16 @@ kept_in {X} passes (y ∷ xs) x here is = ⊎_elim
 
 -- ---- a recovery
 
-module _ (laws : LawsBelow) (port : Port) (old mid : Server) (device : Device) (k : IsKept old) (ready : state_of (found_of old.ports port.0) ≡ ReadyState) (r : IsMended port old mid device)
-    (looks : IsFollowed (IsLooking port) AnyUse old.device r.seen) where
-  seen_kept : IsKept (record old { device = r.seen })
+module _ (laws : LawsBelow) (port : Port) (old mid : ServerState) (device : Device) (k : InCallInvariant old) (ready : state_of (probe_result_of old.ports port.0) ≡ ReadyState) (r : IsErrorHandled port old mid device)
+    (looks : IsSimulated (IsLooking port) AnyUse old.device r.seen) where
+  seen_kept : InCallInvariant (record old { device = r.seen })
   seen_kept = looking_kept old r.seen port k ready laws looks
 
-  found_kept : IsKept (record old { device = r.found })
+  found_kept : InCallInvariant (record old { device = r.found })
   found_kept = finding_kept (record old { device = r.seen }) r.found port seen_kept ready laws r.mask r.done r.reads
 
   -- what was done was answered
-  pub mid_kept : IsKept mid
+  pub mid_kept : InCallInvariant mid
   mid_kept = answers_kept laws port r.done r.requests (record old { device = r.found }) mid found_kept ready
       (λ slot small done. found_over (record old { device = r.seen }) r.found port seen_kept ready laws r.mask r.done r.reads r.its slot small done) r.each
 
@@ -83,29 +83,29 @@ module _ (laws : LawsBelow) (port : Port) (old mid : Server) (device : Device) (
   settings = answers_settings laws port r.done r.requests (record old { device = r.found }) mid r.each
 
   ports_same : mid.ports ≡ old.ports
-  ports_same = ap (λ (n : Server). n.ports) settings
+  ports_same = ap (λ (n : ServerState). n.ports) settings
 
   wanted_same : mid.wanted ≡ old.wanted
-  wanted_same = ap (λ (n : Server). n.wanted) settings
+  wanted_same = ap (λ (n : ServerState). n.wanted) settings
 
-  mid_ready : state_of (found_of mid.ports port.0) ≡ ReadyState
-  mid_ready = ap (λ (ports : List Found). state_of (found_of ports port.0)) ports_same ∙ ready
+  mid_ready : state_of (probe_result_of mid.ports port.0) ≡ ReadyState
+  mid_ready = ap (λ (ports : List ProbeResult). state_of (probe_result_of ports port.0)) ports_same ∙ ready
 
   low : port.0 < 4
   low = (ready_found mid port.0 mid_kept mid_ready).0
 
   -- the recovery leaves the other ports to the device
   passed : PassesTo laws mid port mid_kept low r.result.next device
-  passed = recovery_passes laws mid port mid_kept low (slots_of mid mid_kept) mid.device (passes_none mid port mid_kept) r.outstanding r.queued r.result device r.mends
+  passed = recovery_passes laws mid port mid_kept low (slots_of mid mid_kept) mid.device (passes_none mid port mid_kept) r.outstanding r.queued r.result device r.handling
 
   same : SameAdapter mid.device device
   same = same_over laws port mid.device device passed.1.driven
 
   -- how the port takes commands, by what the adapter is capable of
-  pub mode_still : mode_in old port ≡ mode_found device.cap (found_of old.ports port.0)
+  pub mode_still : mode_in old port ≡ mode_found device.cap (probe_result_of old.ports port.0)
   mode_still =
-      sym (ap (λ (n : Server). mode_in n port) settings) ∙ mid_kept.modes port.0 low
-      ∙ ap (λ (cap : ℕ). mode_found cap (found_of mid.ports port.0)) (sym same.cap) ∙ ap (λ (ports : List Found). mode_found device.cap (found_of ports port.0)) ports_same
+      sym (ap (λ (n : ServerState). mode_in n port) settings) ∙ mid_kept.modes port.0 low
+      ∙ ap (λ (cap : ℕ). mode_found cap (probe_result_of mid.ports port.0)) (sym same.cap) ∙ ap (λ (ports : List ProbeResult). mode_found device.cap (probe_result_of ports port.0)) ports_same
 
   -- a port that has to be booted may be
   pub bootable : (token : Stopped) → r.result.next ≡ next.Restart token → IsBootable port device × IsStopped (device.port port.0) × ((device.port port.0).notes.link_count ≡ READINGS)
@@ -116,46 +116,46 @@ module _ (laws : LawsBelow) (port : Port) (old mid : Server) (device : Device) (
       room = let room = mid_kept.room in let size = same.size in omega (arith, room, size);
       agreed = (passed.0.uses, passed.2 (λ dead. let z : next.Restart token ≡ next.Dead = sym is ∙ dead in absurd cc), record { machine = passed.1.machine; parked = passed.0.parked; reached = passed.1.reached; knows = passed.1.knows });
     },
-    (subst (λ (n : Next). EndsIn r.queued port n mid.device device) is r.mends.leaves.ends).1,
-    saw_still laws port r.mends.accesses mid.device device r.mends.does.only (recovery_does port.0 r.result.next r.mends.accesses mid.device device r.mends.does.slots) mid_kept.on ((mid_kept.behind port.0 low).runs mid_ready).saw,
+    (subst (λ (n : Next). EndsIn r.queued port n mid.device device) is r.handling.leaves.ends).1,
+    saw_still laws port r.handling.accesses mid.device device r.handling.does.only (recovery_does port.0 r.result.next r.handling.accesses mid.device device r.handling.does.slots) mid_kept.on ((mid_kept.behind port.0 low).runs mid_ready).saw,
   )
 
 -- ---- what it is then
 
-module _ (laws : LawsBelow) (port : Port) (later : List Reply) (old new : Server) (k : IsKept old) (ready : state_of (found_of old.ports port.0) ≡ ReadyState) (a : HasMetFates port later old new)
-    (looks : IsFollowed (IsLooking port) AnyUse old.device a.mended.seen) where
-  abbrev r : IsMended port old a.mid a.device
-  r = a.mended
+module _ (laws : LawsBelow) (port : Port) (later : List Reply) (old new : ServerState) (k : InCallInvariant old) (ready : state_of (probe_result_of old.ports port.0) ≡ ReadyState) (a : HasResolved port later old new)
+    (looks : IsSimulated (IsLooking port) AnyUse old.device a.error_handled.seen) where
+  abbrev r : IsErrorHandled port old a.mid a.device
+  r = a.error_handled
 
-  abbrev mid : Server
+  abbrev mid : ServerState
   mid = a.mid
 
-  m : IsKept mid
+  m : InCallInvariant mid
   m = mid_kept laws port old mid a.device k ready r looks
 
-  its_ready : state_of (found_of mid.ports port.0) ≡ ReadyState
+  its_ready : state_of (probe_result_of mid.ports port.0) ≡ ReadyState
   its_ready = mid_ready laws port old mid a.device k ready r looks
 
   small : port.0 < 4
   small = low laws port old mid a.device k ready r looks
 
-  was_found : found_of mid.ports port.0 ≡ Ready a.was
-  was_found = ap (λ (ports : List Found). found_of ports port.0) (ports_same laws port old mid a.device k ready r looks) ∙ a.ready
+  was_found : probe_result_of mid.ports port.0 ≡ Ready a.was
+  was_found = ap (λ (ports : List ProbeResult). probe_result_of ports port.0) (ports_same laws port old mid a.device k ready r looks) ∙ a.ready
 
   abbrev wanted : Wanted
   wanted = wanted_of mid.wanted port.0
 
-  is_after : IsFoundAfter wanted port r.trouble a.was r.result.next a.device new.device a.found
-  is_after = subst (λ (list : List Wanted). IsFoundAfter (wanted_of list port.0) port r.trouble a.was r.result.next a.device new.device a.found) (sym (wanted_same laws port old mid a.device k ready r looks)) a.is
+  is_after : IsRevalidated wanted port r.port_error a.was r.result.next a.device new.device a.found
+  is_after = subst (λ (list : List Wanted). IsRevalidated (wanted_of list port.0) port r.port_error a.was r.result.next a.device new.device a.found) (sym (wanted_same laws port old mid a.device k ready r looks)) a.is
 
   done : PassesTo laws mid port m small r.result.next a.device
-  done = recovery_passes laws mid port m small (slots_of mid m) mid.device (passes_none mid port m) r.outstanding r.queued r.result a.device r.mends
+  done = recovery_passes laws mid port m small (slots_of mid m) mid.device (passes_none mid port m) r.outstanding r.queued r.result a.device r.handling
 
   -- ---- accesses
 
   -- the whole way leaves the other ports
   whole : (slots : InSlots) × Passes mid port slots new.device
-  whole = after_passes laws mid port m small wanted r.trouble a.was r.result.next a.device new.device a.found is_after done
+  whole = after_passes laws mid port m small wanted r.port_error a.was r.result.next a.device new.device a.found is_after done
 
   alike : SameAdapter mid.device new.device
   alike = same_over laws port mid.device new.device whole.1.driven
@@ -163,7 +163,7 @@ module _ (laws : LawsBelow) (port : Port) (later : List Reply) (old new : Server
   -- ---- the port
 
   was_stands : StillStandsBehind wanted (Ready a.was) port.0 mid.device
-  was_stands = subst (λ (f : Found). StillStandsBehind wanted f port.0 mid.device) was_found (m.behind port.0 small).behind
+  was_stands = subst (λ (f : ProbeResult). StillStandsBehind wanted f port.0 mid.device) was_found (m.behind port.0 small).behind
 
   recovered_same : SameAdapter mid.device a.device
   recovered_same = same_over laws port mid.device a.device done.1.driven
@@ -171,20 +171,20 @@ module _ (laws : LawsBelow) (port : Port) (later : List Reply) (old new : Server
   served_then : IsServed wanted port.0 a.device
   served_then = (was_stands.0.0, ap (λ (pi : ℕ). bit pi port.0) recovered_same.pi ∙ was_stands.0.1)
 
-  abbrev Stands : Found → Device → Type 0
+  abbrev Stands : ProbeResult → Device → Type 0
   Stands found d = StandsAt wanted found port.0 d
 
   -- it runs again
   runs_then : (token : running_token.Running) → EndsIn r.queued port (next.Running token) mid.device a.device → Stands (Ready a.was) a.device
   runs_then token ends =
-      let l = r.mends.leaves in
+      let l = r.handling.leaves in
       let g = ends.1 in
       let was = (m.behind port.0 small).runs its_ready in
       record {
         behind = ready_on wanted a.was port.0 mid.device a.device recovered_same l.det l.enabled l.written
             (l.silent (
               m.stands.uses,
-              (λ own. not_own (found_of mid.ports port.0) (used_for mid.slots port.0 0) (m.stands.uses port.0 0) Identify (not_dead mid port.0 its_ready) (m.stands.used port.0 0) own),
+              (λ own. not_own (probe_result_of mid.ports port.0) (used_for mid.slots port.0 0) (m.stands.uses port.0 0) Identify (not_dead mid port.0 its_ready) (m.stands.used port.0 0) own),
               record { machine = m.machine; parked = m.stands.parked; reached = m.reached; knows = m.stands.knows },
             )) was_stands;
         runs = λ _. record { st = g.runs.st; cr = g.runs.cr; fre = g.runs.fre; bases = g.runs.bases; saw = g.count ∙ was.saw; recorded = g.recorded };
@@ -195,27 +195,27 @@ module _ (laws : LawsBelow) (port : Port) (later : List Reply) (old new : Server
       }
 
   its_stands : Stands a.found new.device
-  its_stands = stands_after laws wanted port a.device new.device done.1.on served_then r.queued r.trouble a.was mid.device r.result.next a.found r.mends.leaves.ends is_after (alike.pi ∙ sym recovered_same.pi)
-      (λ token is. runs_then token (subst (λ (n : Next). EndsIn r.queued port n mid.device a.device) is r.mends.leaves.ends))
+  its_stands = stands_after laws wanted port a.device new.device done.1.on served_then r.queued r.port_error a.was mid.device r.result.next a.found r.handling.leaves.ends is_after (alike.pi ∙ sym recovered_same.pi)
+      (λ token is. runs_then token (subst (λ (n : Next). EndsIn r.queued port n mid.device a.device) is r.handling.leaves.ends))
 
   -- ---- the requests
 
-  left : IsLeft port (fate_of a.failed a.prospect) (requests_of port mid.book) (holdings_of port mid) a.now
-  left = fated laws port (fate_of a.failed a.prospect) (requests_of port mid.book) (fits_each a.failed a.prospect (requests_of port mid.book)) later (holdings_of port mid) a.now (its_requests port mid m.ordered m.accepted) a.meets
+  left : IsLeft port (disposition_of a.failed a.revalidation) (requests_of port mid.book) (holdings_of port mid) a.now
+  left = fated laws port (disposition_of a.failed a.revalidation) (requests_of port mid.book) (fits_each a.failed a.revalidation (requests_of port mid.book)) later (holdings_of port mid) a.now (its_requests port mid m.ordered m.accepted) a.meets
 
   -- where one of the port is left, its port is ready
   still_ready : (e : Held) → Contains a.now.book e → e.entry.port.0 ≡ port.0 → state_of a.found ≡ ReadyState
-  still_ready e here own = by a.prospect refl a.expects
+  still_ready e here own = by a.revalidation refl a.expects
     where
       w : WasIn mid.book e
       w = left.from e here
 
-      none : (a.prospect ≡ SameDisk → ⊥) → ⊥
+      none : (a.revalidation ≡ SameDisk → ⊥) → ⊥
       none other =
-          let end = ends_of a.failed a.prospect other w.was.entry in
+          let end = ends_of a.failed a.revalidation other w.was.entry in
           left.gone w.was end.0 (kept_in (λ (x : Held). is_of port x.entry) mid.book w.was w.there (eq-eqb w.was.entry.port.0 port.0 (ap (λ (p : Port). p.0) (sym w.port) ∙ own))) end.1 e here w.id
 
-      by : (p : Prospect) → a.prospect ≡ p → IsProspect r.trouble a.was a.found p → state_of a.found ≡ ReadyState
+      by : (p : Revalidation) → a.revalidation ≡ p → IsRevalidation r.port_error a.was a.found p → state_of a.found ≡ ReadyState
       by SameDisk is x = ap state_of x.1.1
       by DiskLost is x = absurd (none (λ same. let z : DiskLost ≡ SameDisk = sym is ∙ same in cc))
       by Dead is x = absurd (none (λ same. let z : Dead ≡ SameDisk = sym is ∙ same in cc))
@@ -239,8 +239,8 @@ module _ (laws : LawsBelow) (port : Port) (later : List Reply) (old new : Server
       omega (arith, there, most))
       (cases_eq q port.0)
 
-  pub recovered_kept : (machine : Machine) → IsReached machine → IsMachineOf new machine → IsKept new
-  recovered_kept machine reached stands = subst IsKept (sym a.server)
+  pub recovered_kept : (machine : Machine) → IsReachable machine → IsMachineOf new machine → InCallInvariant new
+  recovered_kept machine reached stands = subst InCallInvariant (sym a.server)
       (replaced_kept laws port mid m small new.device whole.0 whole.1 a.now.table a.found (slice_set mid.remembered port.0 (Some a.was)) a.mode a.slots (slice_set mid.kept port.0 a.now.kept) a.now.book (ap is_served was_found) its_stands a.mode_is a.unused
       (record { owners = left.owners; accepted = left.accepted; ordered = left.ordered; from = left.from; ready = still_ready })
-      (length-set mid.remembered port.0 (Some a.was) ∙ m.four_remembered) (length-set mid.kept port.0 a.now.kept ∙ m.four_kept) few_kept machine reached (subst (λ (s : Server). IsMachineOf s machine) a.server stands))
+      (length-set mid.remembered port.0 (Some a.was) ∙ m.four_remembered) (length-set mid.kept port.0 a.now.kept ∙ m.four_kept) few_kept machine reached (subst (λ (s : ServerState). IsMachineOf s machine) a.server stands))

@@ -15,40 +15,40 @@ use Rattle.adapter.specs.Rules.{IsOn}
 use Rattle.adapter.specs.declared.command.Operation.{Operation}
 use Rattle.adapter.specs.declared.command.Operation.TheVariants.{Identify, ReadLog}
 use Rattle.adapter.proofs.Changed.{changed_other, changed_same}
-use Rattle.agreement.specs.Acts.{Act, Comes, InSlots, steps_of, at as at_slots}
-use Rattle.agreement.specs.Agrees.{port_at}
-use Rattle.agreement.specs.Driven.{AnyUse, IsControl, IsDrivenBy, IsFollowed, IsFollowedTo, IsOf, SendsNone}
-use Rattle.agreement.specs.Driver.{AllFree, Goes, Knows}
-use Rattle.agreement.specs.GivingUp.{given_up}
-use Rattle.agreement.specs.Halting.{IsHaltedAsTaken}
-use Rattle.agreement.specs.Links.{SparesRegister}
-use Rattle.agreement.specs.Readying.{LeavesStored}
-use Rattle.agreement.specs.Slots.{Free, Own, Use, Uses, op_of, put}
-use Rattle.agreement.proofs.driver.Stretches.{by_then, followed_silent}
+use Rattle.refinement.specs.Acts.{Act, Comes, InSlots, act_steps, at_slots}
+use Rattle.refinement.specs.Relation.{port_at}
+use Rattle.refinement.specs.Driven.{AnyUse, IsControl, IsDrivenBy, IsSimulated, IsSimulatedTo, IsOf, SendsNone}
+use Rattle.refinement.specs.Driver.{AllFree, Goes, DriverRelation}
+use Rattle.refinement.specs.GivingUp.{given_up}
+use Rattle.refinement.specs.Halting.{IsHaltedAsTaken}
+use Rattle.refinement.specs.Links.{SparesRegister}
+use Rattle.refinement.specs.Readying.{LeavesStored}
+use Rattle.refinement.specs.Slots.{Free, Own, SlotState, SlotStates, op_of, put}
+use Rattle.refinement.proofs.driver.Stretches.{by_then, followed_silent}
 use Rattle.server_history.proofs.state.DrivenAccesses.{by_none}
-use Rattle.block_machine.specs.Histories.{IsReached}
+use Rattle.block_machine.specs.Histories.{IsReachable}
 use Rattle.block_machine.specs.Left.{after}
 use Rattle.block_machine.specs.State.{Machine}
 use Rattle.command_table.specs.Written.{IsTableStore}
 use Rattle.disk_page.specs.Asking.{IsAsking}
-use Rattle.error_recovery.specs.Recovery.{IsRecovered, IsRecovering, LeavesSlots, Mends, with_own}
+use Rattle.error_recovery.specs.Recovery.{IsRecovered, IsRecovering, LeavesSlots, RecoversOrStops, with_own}
 use Rattle.error_recovery.specs.declared.Next.{Next}
 use Rattle.error_recovery.specs.declared.Next.TheVariants as next
 use Rattle.error_recovery.specs.declared.Recovered.{Recovered}
 use Rattle.host_boot.specs.Again.{BootsAgain, BootsStopped, IsOfStart}
-use Rattle.host_boot.specs.Taken.{IsSurvey, found_of}
+use Rattle.host_boot.specs.Taken.{IsSurvey, probe_result_of}
 use Rattle.host_boot.specs.declared.Booted.{Booted}
-use Rattle.host_boot.specs.declared.Found.{Found}
-use Rattle.host_boot.specs.declared.Found.TheVariants.{Unserved, Ready, Unready}
+use Rattle.host_boot.specs.declared.ProbeResult.{ProbeResult}
+use Rattle.host_boot.specs.declared.ProbeResult.TheVariants.{Unserved, Ready, Unready}
 use Rattle.identify.specs.declared.DiskInfo.{DiskInfo}
 use Rattle.identify.specs.declared.wanted.Wanted.{Wanted}
 use Rattle.port_boot.specs.States.{IsBootTo, IsBooting, IsOfBoot, StopsOnWay}
-use Rattle.port_look.specs.Looks.{IsLooking}
-use Rattle.slots.specs.declared.Use.{Use as SlotUse}
+use Rattle.port_events.specs.Looks.{IsLooking}
+use Rattle.slots.specs.declared.SlotUse.{SlotUse}
 use Rattle.server_history.specs.Below.{LawsBelow}
-use Rattle.server_history.specs.Mended.{IsFoundAfter}
-use Rattle.port_look.specs.declared.Trouble.{Trouble}
-use Rattle.server_history.specs.Server.{HasCommand, Server, IsKept, used_for}
+use Rattle.server_history.specs.ErrorHandling.{IsRevalidated}
+use Rattle.port_events.specs.declared.PortError.{PortError}
+use Rattle.server_history.specs.Server.{HasCommand, ServerState, InCallInvariant, used_for}
 use Rattle.server_history.proofs.state.SilentOperations.{silent_more, silent_none}
 use Rattle.server_history.proofs.state.PortSlots.{not_own, used_there}
 use Rattle.server_history.proofs.recovery_turn.BootOrAbsence.{boots_or_absent}
@@ -99,51 +99,51 @@ module _ (laws : LawsBelow) where
 -- Accesses of the port led from the server's device to this one, and some machine agrees with the slots used so. On other ports that aren't dead
 -- no slot has a command of the driver's own, no page came, and the commands of used slots are stored; and halts of other ports are of taken commands
 -- still.
-pub record Passes (s : Server) (port : Port) (slots : InSlots) (d : Device) : Type 0 where
+pub record Passes (s : ServerState) (port : Port) (slots : InSlots) (d : Device) : Type 0 where
   pub driven : IsDrivenBy (IsOf port) s.device d
   pub on : IsOn d
   pub machine : Machine
-  pub reached : IsReached machine
-  pub knows : Knows machine (at_slots slots d)
-  pub clients : (q : ℕ) (o : Operation) → q ≢ port.0 → found_of s.ports q ≢ Unready DeadState → slots.uses q 0 ≡ Own o → ⊥
-  pub silent : (q : ℕ) (o : Operation) → op_of o ≡ None → q ≢ port.0 → found_of s.ports q ≢ Unready DeadState → SendsNone q o s.device d
+  pub reached : IsReachable machine
+  pub knows : DriverRelation machine (at_slots slots d)
+  pub clients : (q : ℕ) (o : Operation) → q ≢ port.0 → probe_result_of s.ports q ≢ Unready DeadState → slots.uses q 0 ≡ Own o → ⊥
+  pub silent : (q : ℕ) (o : Operation) → op_of o ≡ None → q ≢ port.0 → probe_result_of s.ports q ≢ Unready DeadState → SendsNone q o s.device d
   pub halts : (q : ℕ) → q ≢ port.0 → IsHaltedAsTaken (s.device.port q) → IsHaltedAsTaken (d.port q)
   pub commands : (q slot : ℕ) (used : SlotUse) → q ≢ port.0 → used_for s.slots q slot ≡ Some used → HasCommand used.queued d q slot
 
 -- what the server's machine has in the slots
-abbrev pub slots_of : (s : Server) → IsKept s → InSlots
+abbrev pub slots_of : (s : ServerState) → InCallInvariant s → InSlots
 slots_of s k = record { uses = k.stands.uses; parked = k.stands.parked }
 
-pub passes_none : (s : Server) (port : Port) (k : IsKept s) → Passes s port (slots_of s k) s.device
+pub passes_none : (s : ServerState) (port : Port) (k : InCallInvariant s) → Passes s port (slots_of s k) s.device
 passes_none s port k = record {
   driven = by_none (IsOf port) s.device;
   on = k.on;
   machine = k.machine;
   reached = k.reached;
   knows = k.stands.knows;
-  clients = λ q o other alive. not_own (found_of s.ports q) (used_for s.slots q 0) (k.stands.uses q 0) o alive (k.stands.used q 0);
+  clients = λ q o other alive. not_own (probe_result_of s.ports q) (used_for s.slots q 0) (k.stands.uses q 0) o alive (k.stands.used q 0);
   silent = λ q o own other alive. silent_none q o s.device;
   halts = λ q other h. h;
   commands = λ q slot used other is. k.commands q slot used is;
 }
 
-module _ (laws : LawsBelow) (s : Server) (port : Port) (k : IsKept s) (low : port.0 < 4) where
+module _ (laws : LawsBelow) (s : ServerState) (port : Port) (k : InCallInvariant s) (low : port.0 < 4) where
   -- ---- acts
 
   module _ (slots then : InSlots) (d new : Device) (p : Passes s port slots d) where
     passes_on : (accesses : List Access) → DoesAll accesses d new → All (IsMild port) accesses → (Tells : List Act → Type 0) → Comes accesses (at_slots slots d) p.machine (at_slots then new) Tells
-        → ((q : ℕ) (o : Operation) → q ≢ port.0 → found_of s.ports q ≢ Unready DeadState → then.uses q 0 ≡ Own o → ⊥)
-        → ((q : ℕ) (o : Operation) → op_of o ≡ None → q ≢ port.0 → found_of s.ports q ≢ Unready DeadState → SendsNone q o d new) → Passes s port then new
+        → ((q : ℕ) (o : Operation) → q ≢ port.0 → probe_result_of s.ports q ≢ Unready DeadState → then.uses q 0 ≡ Own o → ⊥)
+        → ((q : ℕ) (o : Operation) → op_of o ≡ None → q ≢ port.0 → probe_result_of s.ports q ≢ Unready DeadState → SendsNone q o d new) → Passes s port then new
     passes_on accesses all only Tells c clients silent = record {
       driven = by_then p.driven its;
       on = laws.of_on port d new p.on its;
-      machine = after p.machine (steps_of c.acts);
-      reached = laws.recovery.gone_reached (at_slots slots d) (at_slots then new) p.machine (steps_of c.acts) p.reached goes;
+      machine = after p.machine (act_steps c.acts);
+      reached = laws.recovery.gone_reached (at_slots slots d) (at_slots then new) p.machine (act_steps c.acts) p.reached goes;
       knows = goes.knows;
       clients = clients;
       silent = λ q o own other alive. silent_more q o s.device d new (p.silent q o own other alive) (silent q o own other alive);
       halts = λ q other h.
-          laws.trouble.halts_acts (port_at q) c.acts (at_slots slots d) (at_slots then new) p.machine p.reached p.knows c.done
+          laws.port_error.halts_acts (port_at q) c.acts (at_slots slots d) (at_slots then new) p.machine p.reached p.knows c.done
           (subst (All (SparesRegister (Px (port_at q) Cmd))) (sym c.accesses_are)
           (All-weaker (IsMild port) (SparesRegister (Px (port_at q) Cmd)) (λ access is. laws.of_spares port (port_at q) Cmd other access is.0) accesses only)) (p.halts q other h);
       commands = λ q slot used other is.
@@ -163,13 +163,13 @@ module _ (laws : LawsBelow) (s : Server) (port : Port) (k : IsKept s) (low : por
         its : IsDrivenBy (IsOf port) d new
         its = record { accesses = accesses; all = all; only = All-weaker (IsMild port) (IsOf port) (λ access is. is.0) accesses only }
 
-        goes : Goes (at_slots slots d) p.machine (steps_of c.acts) (at_slots then new)
+        goes : Goes (at_slots slots d) p.machine (act_steps c.acts) (at_slots then new)
         goes = laws.slots.acts_go c.acts (at_slots slots d) (at_slots then new) p.machine p.knows c.done
 
   -- ---- a stretch that is followed
 
-  module _ (slots : InSlots) (d new : Device) (p : Passes s port slots d) (May : Access → Type 0) (Fits : Uses → Type 0) (next_uses : Uses → Uses) (mild : (access : Access) → May access → IsMild port access)
-      (fits : Fits slots.uses) (others : (q : ℕ) → q ≢ port.0 → next_uses slots.uses q 0 ≡ slots.uses q 0) (f : IsFollowedTo May Fits next_uses d new) where
+  module _ (slots : InSlots) (d new : Device) (p : Passes s port slots d) (May : Access → Type 0) (Fits : SlotStates → Type 0) (next_uses : SlotStates → SlotStates) (mild : (access : Access) → May access → IsMild port access)
+      (fits : Fits slots.uses) (others : (q : ℕ) → q ≢ port.0 → next_uses slots.uses q 0 ≡ slots.uses q 0) (f : IsSimulatedTo May Fits next_uses d new) where
     passes_followed : Passes s port (record slots { uses = next_uses slots.uses }) new
     passes_followed =
         passes_on slots (record slots { uses = next_uses slots.uses }) d new p f.driven.accesses f.driven.all (All-weaker May (IsMild port) mild f.driven.accesses f.driven.only) _
@@ -186,11 +186,11 @@ module _ (laws : LawsBelow) (s : Server) (port : Port) (k : IsKept s) (low : por
   abbrev pub PassesTo : Next → Device → Type 0
   PassesTo after_it new = (then : InSlots) × Passes s port then new × (after_it ≢ next.Dead → AllFree then.uses port.0)
 
-  module _ (slots : InSlots) (d : Device) (first : Passes s port slots d) (outstanding : ℕ) (queued : Bool) (result : Recovered) (new : Device) (r : Mends port outstanding queued result d new) where
+  module _ (slots : InSlots) (d : Device) (first : Passes s port slots d) (outstanding : ℕ) (queued : Bool) (result : Recovered) (new : Device) (r : RecoversOrStops port outstanding queued result d new) where
     mild : All (IsMild port) r.accesses
     mild = All-weaker (IsRecovering port) (IsMild port) (recovering_mild laws port) r.accesses r.does.only
 
-    silent : (q : ℕ) (o : Operation) → op_of o ≡ None → q ≢ port.0 → found_of s.ports q ≢ Unready DeadState → SendsNone q o d new
+    silent : (q : ℕ) (o : Operation) → op_of o ≡ None → q ≢ port.0 → probe_result_of s.ports q ≢ Unready DeadState → SendsNone q o d new
     silent q o own other alive =
         r.leaves.others (port_at q) o other own (slots.uses, first.clients q o other alive, record { machine = first.machine; parked = slots.parked; reached = first.reached; knows = first.knows })
 
@@ -198,12 +198,12 @@ module _ (laws : LawsBelow) (s : Server) (port : Port) (k : IsKept s) (low : por
     given_others q other = changed_other slots.uses port.0 (λ slot. Free) q other
 
     given_free : AllFree (given_up port.0 slots).uses port.0
-    given_free slot = ap (λ (f : ℕ → Use). f slot) (changed_same slots.uses port.0 (λ slot. Free))
+    given_free slot = ap (λ (f : ℕ → SlotState). f slot) (changed_same slots.uses port.0 (λ slot. Free))
 
     given : (Tells : List Act → Type 0) → DoesAll r.accesses d new → Comes r.accesses (at_slots slots d) first.machine (at_slots (given_up port.0 slots) new) Tells → Passes s port (given_up port.0 slots) new
     given Tells does c =
         passes_on slots (given_up port.0 slots) d new first r.accesses does mild Tells c
-        (λ q o other alive is. first.clients q o other alive (ap (λ (f : ℕ → Use). f 0) (sym (given_others q other)) ∙ is)) silent
+        (λ q o other alive is. first.clients q o other alive (ap (λ (f : ℕ → SlotState). f 0) (sym (given_others q other)) ∙ is)) silent
 
     by_next : (after_it : Next) → LeavesSlots port.0 after_it r.accesses d new → PassesTo after_it new
     by_next (next.Running token) p = (given_up port.0 slots, given _ p.does (p.comes slots first.machine first.reached first.knows tt), λ alive. given_free)
@@ -213,7 +213,7 @@ module _ (laws : LawsBelow) (s : Server) (port : Port) (k : IsKept s) (low : por
     by_next next.Dead (inr (inr p)) = (
       with_own port.0 ReadLog (given_up port.0 slots),
       passes_on slots (with_own port.0 ReadLog (given_up port.0 slots)) d new first r.accesses p.does mild _ (p.comes slots first.machine first.reached first.knows tt)
-          (λ q o other alive is. first.clients q o other alive (ap (λ (f : ℕ → Use). f 0) (sym (given_others q other)) ∙ sym (laws.recovery.put_other (given_up port.0 slots).uses port.0 0 (Own ReadLog) q 0 (λ same _. other same)) ∙ is)) silent,
+          (λ q o other alive is. first.clients q o other alive (ap (λ (f : ℕ → SlotState). f 0) (sym (given_others q other)) ∙ sym (laws.recovery.put_other (given_up port.0 slots).uses port.0 0 (Own ReadLog) q 0 (λ same _. other same)) ∙ is)) silent,
       λ alive. absurd (alive refl),
     )
 
@@ -235,13 +235,13 @@ module _ (laws : LawsBelow) (s : Server) (port : Port) (k : IsKept s) (low : por
     boot_to Tells Foreign b = (slots, passes_followed slots d new p (IsOfBoot port) (λ uses. AllFree uses port.0) (λ uses. uses) (booting_mild laws port) free (λ q other. refl) b.followed)
     boot_to Tells (Unfit n) b = (slots, passes_followed slots d new p (IsOfBoot port) (λ uses. AllFree uses port.0) (λ uses. uses) (booting_mild laws port) free (λ q other. refl) b.followed)
 
-    stopped_passes : (wanted : Wanted) (found : Found) → BootsStopped wanted port found d new → (then : InSlots) × Passes s port then new
+    stopped_passes : (wanted : Wanted) (found : ProbeResult) → BootsStopped wanted port found d new → (then : InSlots) × Passes s port then new
     stopped_passes wanted Unserved b = absurd b
     stopped_passes wanted (Ready info) b =
         (slots, passes_followed slots d new p (IsOfBoot port) (λ uses. AllFree uses port.0) (λ uses. uses) (booting_mild laws port) free (λ q other. refl) b.boots.followed)
     stopped_passes wanted (Unready state) b = boot_to (StopsOnWay port state) state b.boots
 
-  pub start_passes : (slots : InSlots) (d new : Device) → Passes s port slots d → AllFree slots.uses port.0 → IsFollowed (IsOfStart port) (λ uses. AllFree uses port.0) d new → Passes s port slots new
+  pub start_passes : (slots : InSlots) (d new : Device) → Passes s port slots d → AllFree slots.uses port.0 → IsSimulated (IsOfStart port) (λ uses. AllFree uses port.0) d new → Passes s port slots new
   start_passes slots d new p free asks =
       passes_followed slots d new p (IsOfStart port) (λ uses. AllFree uses port.0) (λ uses. uses) (λ access is. ⊎_elim (survey_mild port access) (booting_mild laws port access) is) free (λ q other. refl) asks
 
@@ -254,16 +254,16 @@ module _ (laws : LawsBelow) (s : Server) (port : Port) (k : IsKept s) (low : por
   -- ---- what a port is then
 
   -- a look leaves the other ports, and the slots
-  pub look_passes : (slots : InSlots) (d new : Device) → Passes s port slots d → IsFollowed (IsLooking port) AnyUse d new → Passes s port slots new
+  pub look_passes : (slots : InSlots) (d new : Device) → Passes s port slots d → IsSimulated (IsLooking port) AnyUse d new → Passes s port slots new
   look_passes slots d new p looks = passes_followed slots d new p (IsLooking port) AnyUse (λ uses. uses) (λ access is. (laws.looking.looking_of port access is, looking_stores port access is)) tt (λ q other. refl) looks
 
   -- it was found so once it was stopped
-  pub after_passes : (wanted : Wanted) (trouble : Trouble) (was : DiskInfo) (after_it : Next) (d new : Device) (found : Found) → IsFoundAfter wanted port trouble was after_it d new found → PassesTo after_it d
+  pub after_passes : (wanted : Wanted) (port_error : PortError) (was : DiskInfo) (after_it : Next) (d new : Device) (found : ProbeResult) → IsRevalidated wanted port port_error was after_it d new found → PassesTo after_it d
       → (then : InSlots) × Passes s port then new
-  after_passes wanted trouble was (next.Running token) d new found (is, same) (slots, p, free) = (slots, subst (Passes s port slots) (sym same) p)
-  after_passes wanted trouble was (next.Restart token) d new found (booted, is, b) (slots, p, free) =
+  after_passes wanted port_error was (next.Running token) d new found (is, same) (slots, p, free) = (slots, subst (Passes s port slots) (sym same) p)
+  after_passes wanted port_error was (next.Restart token) d new found (booted, is, b) (slots, p, free) =
       let free_then = free (λ dead. let z : next.Restart token ≡ next.Dead = dead in absurd cc) in ⊎_elim
       (λ (boots : BootsAgain wanted port booted d new). again_passes slots d new p free_then wanted booted boots)
       (λ absent. (slots, start_passes slots d new p free_then absent.starts))
-      (boots_or_absent trouble wanted port booted d new b)
-  after_passes wanted trouble was next.Dead d new found (is, same) (slots, p, free) = (slots, subst (Passes s port slots) (sym same) p)
+      (boots_or_absent port_error wanted port booted d new b)
+  after_passes wanted port_error was next.Dead d new found (is, same) (slots, p, free) = (slots, subst (Passes s port slots) (sym same) p)

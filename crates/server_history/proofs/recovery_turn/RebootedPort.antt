@@ -9,8 +9,8 @@ use Rattle.ata_types.specs.declared.PortState.TheVariants.{Dead as DeadState, Re
 use Rattle.ata_types.specs.declared.request.Reply.{Reply}
 use Rattle.adapter.specs.Access.{Access}
 use Rattle.adapter.specs.Device.{Device}
-use Rattle.agreement.specs.Driven.{AnyUse, IsFollowed}
-use Rattle.agreement.specs.Links.{SameAdapter}
+use Rattle.refinement.specs.Driven.{AnyUse, IsSimulated}
+use Rattle.refinement.specs.Links.{SameAdapter}
 use Rattle.block_machine.specs.Events.{Served, Service}
 use Rattle.block_machine.specs.Ports.{SamePort}
 use Rattle.block_machine.specs.State.{Machine}
@@ -18,17 +18,17 @@ use Rattle.driver_history.specs.Histories.{BootsAnew}
 use Rattle.driver_history.specs.Trace.{ResetsLink}
 use Rattle.error_recovery.specs.declared.Next.{Next}
 use Rattle.error_recovery.specs.declared.Next.TheVariants as next
-use Rattle.host_boot.specs.Taken.{found_of, wanted_of}
-use Rattle.host_boot.specs.declared.Found.{Found}
-use Rattle.host_boot.specs.declared.Found.TheVariants.{Ready, Unready, Unserved}
+use Rattle.host_boot.specs.Taken.{probe_result_of, wanted_of}
+use Rattle.host_boot.specs.declared.ProbeResult.{ProbeResult}
+use Rattle.host_boot.specs.declared.ProbeResult.TheVariants.{Ready, Unready, Unserved}
 use Rattle.port_control.specs.declared.Running as running_token
-use Rattle.port_look.specs.Looks.{IsLooking}
-use Rattle.port_look.specs.declared.Trouble.{Trouble}
-use Rattle.port_look.specs.declared.Trouble.TheVariants.{Failed, Lost}
+use Rattle.port_events.specs.Looks.{IsLooking}
+use Rattle.port_events.specs.declared.PortError.{PortError}
+use Rattle.port_events.specs.declared.PortError.TheVariants.{TaskFileError, LinkChanged}
 use Rattle.server_history.specs.Below.{LawsBelow}
-use Rattle.server_history.specs.Mended.{IsFoundAfter, IsMended, HasMetFates, MendsPort}
-use Rattle.server_history.specs.Server.{Server, IsKept, disk_in, disk_of, is_served, mode_found, mode_in, plain_mode, ports_of, sectors_of, serial_of, state_of, trims_of}
-use Rattle.server_history.specs.Turns.{instant_of}
+use Rattle.server_history.specs.ErrorHandling.{IsRevalidated, IsErrorHandled, HasResolved, HandlesPortError}
+use Rattle.server_history.specs.Server.{ServerState, InCallInvariant, disk_in, last_disk_of, is_served, mode_found, mode_in, plain_mode, ports_of, last_sectors_of, last_serial_of, state_of, last_trims_of}
+use Rattle.server_history.specs.Turns.{server_instant}
 use Rattle.server_history.proofs.recovery_turn.MendedPort.{disk_new, disk_old, found_new, issued_as, next_dead, state_new}
 use Rattle.server_history.proofs.recovery_turn.TurnEvidence.{IsEvident}
 use Rattle.server_history.proofs.any_turn.ToldTrouble.{given_up}
@@ -39,13 +39,13 @@ use Rattle.server_history.proofs.state.PortSlots.{ready_found}
 use Rattle.server_history.proofs.recovery_turn.TurnStretches.{TurnParts}
 use Rattle.server_history.proofs.state.FirstMembers.{nowhere}
 
-module _ (laws : LawsBelow) (port : Port) (replies : List Reply) (old new : Server) (k : IsKept old) (ready : state_of (found_of old.ports port.0) ≡ ReadyState) (r : MendsPort port replies old new)
-    (looks : IsFollowed (IsLooking port) AnyUse old.device r.settled.mended.seen) (kept : IsKept r.mid) (evident : IsEvident port replies old new r) where
-  abbrev a : HasMetFates port r.later old r.mid
+module _ (laws : LawsBelow) (port : Port) (replies : List Reply) (old new : ServerState) (k : InCallInvariant old) (ready : state_of (probe_result_of old.ports port.0) ≡ ReadyState) (r : HandlesPortError port replies old new)
+    (looks : IsSimulated (IsLooking port) AnyUse old.device r.settled.error_handled.seen) (kept : InCallInvariant r.mid) (evident : IsEvident port replies old new r) where
+  abbrev a : HasResolved port r.later old r.mid
   a = r.settled
 
-  abbrev x : IsMended port old a.mid a.device
-  x = a.mended
+  abbrev x : IsErrorHandled port old a.mid a.device
+  x = a.error_handled
 
   abbrev t : TurnParts port replies old new r
   t = evident.parts
@@ -59,39 +59,39 @@ module _ (laws : LawsBelow) (port : Port) (replies : List Reply) (old new : Serv
   mode_new =
       let then_kept = mid_kept laws port r.later old r.mid k ready a looks in
       let four = then_kept.four_modes in
-      ap (λ (s : Server). mode_in s port) (issued_as laws port replies old new k ready r looks kept) ∙ ap (λ (s : Server). mode_in s port) a.server
+      ap (λ (s : ServerState). mode_in s port) (issued_as laws port replies old new k ready r looks kept) ∙ ap (λ (s : ServerState). mode_in s port) a.server
       ∙ get_or-set_same a.mid.modes port.0 a.mode plain_mode (let small = low in omega (arith, small, four))
 
   abbrev until : List Access
-  until = t.early.accesses ++ x.mends.accesses
+  until = t.early.accesses ++ x.handling.accesses
 
   adapter : SameAdapter old.device a.device
   adapter = laws.looks.same_over old.device a.device (record {
     accesses = until;
-    all = laws.basic.does_append t.early.accesses x.mends.accesses old.device a.mid.device a.device t.early.all t.does;
+    all = laws.basic.does_append t.early.accesses x.handling.accesses old.device a.mid.device a.device t.early.all t.does;
     only = λ i access small. tt;
   })
 
   module _ (found : a.found ≡ Ready a.was) (device : r.mid.device ≡ a.device) where
-    found_same : found_of new.ports port.0 ≡ found_of old.ports port.0
+    found_same : probe_result_of new.ports port.0 ≡ probe_result_of old.ports port.0
     found_same = found_new laws port replies old new k ready r looks kept ∙ found ∙ sym a.ready
 
     disk_same : disk_in new port ≡ disk_in old port
-    disk_same = disk_new laws port replies old new k ready r looks kept ∙ ap (λ (f : Found). disk_of f (Some a.was)) found ∙ sym (disk_old laws port replies old new k ready r looks kept)
+    disk_same = disk_new laws port replies old new k ready r looks kept ∙ ap (λ (f : ProbeResult). last_disk_of f (Some a.was)) found ∙ sym (disk_old laws port replies old new k ready r looks kept)
 
     mode_same : mode_in new port ≡ mode_in old port
     mode_same =
         mode_new ∙ a.mode_is ∙ ap (mode_found r.mid.device.cap) (found ∙ sym a.ready)
-        ∙ ap (λ cap. mode_found cap (found_of old.ports port.0)) (ap (λ (d : Device). d.cap) device ∙ adapter.cap) ∙ sym (k.modes port.0 low)
+        ∙ ap (λ cap. mode_found cap (probe_result_of old.ports port.0)) (ap (λ (d : Device). d.cap) device ∙ adapter.cap) ∙ sym (k.modes port.0 low)
 
     same : SamePort (ports_of old) (ports_of new) port
-    same = (ap is_served found_same, ap state_of found_same, ap serial_of disk_same, ap sectors_of disk_same, ap trims_of found_same, mode_same)
+    same = (ap is_served found_same, ap state_of found_same, ap last_serial_of disk_same, ap last_sectors_of disk_same, ap last_trims_of found_same, mode_same)
 
   -- ---- one that was booted
 
   -- It is dead; or its link was reset; or its disk was lost, and it is absent.
   abbrev Stopped : Type 0
-  Stopped = ((ports_of new).state port ≡ DeadState) ⊎ (((x.trouble ≡ Lost) × ((ports_of new).state port ≡ shown.Absent)) ⊎ ResetsLink port evident.accesses)
+  Stopped = ((ports_of new).state port ≡ DeadState) ⊎ (((x.port_error ≡ LinkChanged) × ((ports_of new).state port ≡ shown.Absent)) ⊎ ResetsLink port evident.accesses)
 
   abbrev Rebooted : Type 0
   Rebooted = ((ports_of new).state port ≡ DeadState) ⊎ (((ports_of new).state port ≡ shown.Absent) ⊎ ResetsLink port evident.accesses)
@@ -100,9 +100,9 @@ module _ (laws : LawsBelow) (port : Port) (replies : List Reply) (old new : Serv
   rebooted s = ⊎_elim (λ dead. inl dead) (λ more. inr (⊎_elim (λ absent. inl absent.1) (λ resets. inr resets) more)) s
 
   reset : ResetsLink port t.late.accesses → ResetsLink port evident.accesses
-  reset late = subst (ResetsLink port) (sym evident.accesses_are) (resets_since port t.early.accesses (x.mends.accesses ++ t.late.accesses) (resets_since port x.mends.accesses t.late.accesses late))
+  reset late = subst (ResetsLink port) (sym evident.accesses_are) (resets_since port t.early.accesses (x.handling.accesses ++ t.late.accesses) (resets_since port x.handling.accesses t.late.accesses late))
 
-  dead_or_not : (f : Found) → (f ≡ Unready DeadState) ⊎ (f ≢ Unready DeadState)
+  dead_or_not : (f : ProbeResult) → (f ≡ Unready DeadState) ⊎ (f ≢ Unready DeadState)
   dead_or_not Unserved = inr (λ is. let z : Unserved ≡ Unready DeadState = is in cc)
   dead_or_not (Ready info) = inr (λ is. let z : Ready info ≡ Unready DeadState = is in cc)
   dead_or_not (Unready shown.Absent) = inr (λ is. let z : Unready shown.Absent ≡ Unready DeadState = is in cc)
@@ -127,24 +127,24 @@ module _ (laws : LawsBelow) (port : Port) (replies : List Reply) (old new : Serv
     where
       by : (n : Next) → x.result.next ≡ n → SamePort (ports_of old) (ports_of new) port ⊎ Stopped
       by (next.Running token) is =
-          let then_is : IsFoundAfter (wanted_of old.wanted port.0) port x.trouble a.was (next.Running token) a.device r.mid.device a.found = subst (λ (n : Next). IsFoundAfter (wanted_of old.wanted port.0) port x.trouble a.was n a.device r.mid.device a.found) is a.is in
+          let then_is : IsRevalidated (wanted_of old.wanted port.0) port x.port_error a.was (next.Running token) a.device r.mid.device a.found = subst (λ (n : Next). IsRevalidated (wanted_of old.wanted port.0) port x.port_error a.was n a.device r.mid.device a.found) is a.is in
           inl (same then_is.0 then_is.1)
       by (next.Restart token) is = inr (stops (next.Restart token) is (λ at e. let z : next.Restart token ≡ next.Running at = e in cc))
       by next.Dead is = inr (stops next.Dead is (λ at e. let z : next.Dead ≡ next.Running at = e in cc))
 
   -- but after a command that failed it doesn't run on
-  unless_failed : x.trouble ≢ Failed → Stopped
-  unless_failed other = stops x.result.next refl ((given_up x.trouble port x.outstanding x.queued x.result x.mends.accesses a.mid.device a.device x.tells other).1)
+  unless_failed : x.port_error ≢ TaskFileError → Stopped
+  unless_failed other = stops x.result.next refl ((given_up x.port_error port x.outstanding x.queued x.result x.handling.accesses a.mid.device a.device x.tells other).1)
 
   -- and where its disk wasn't lost either, its link was reset, unless it is dead
-  pub restarts : x.trouble ≢ Failed → x.trouble ≢ Lost → ((ports_of new).state port ≡ DeadState) ⊎ ResetsLink port evident.accesses
+  pub restarts : x.port_error ≢ TaskFileError → x.port_error ≢ LinkChanged → ((ports_of new).state port ≡ DeadState) ⊎ ResetsLink port evident.accesses
   restarts other there = ⊎_elim (λ dead. inl dead) (λ more. inr (⊎_elim (λ absent. absurd (there absent.0)) (λ resets. resets) more)) (unless_failed other)
 
-  pub reboots : (m : Machine) → BootsAnew Service (Served replies) evident.accesses (instant_of old m) (ports_of new) new.device port
+  pub reboots : (m : Machine) → BootsAnew Service (Served replies) evident.accesses (server_instant old m) (ports_of new) new.device port
   reboots m = (
-    (λ is_ready trouble. rebooted (unless_failed (λ failed. ⊎_elim
-        (λ fatal. nowhere port (subst (λ (t : Trouble). Contains (fatal_of port t (old.device.port port.0)) port) failed ((evident.evidenced Service m).fatal_all is_ready fatal)))
-        (λ loss. nowhere port (subst (λ (t : Trouble). Contains (gone_of port t (old.device.port port.0)) port) failed ((evident.evidenced Service m).gone_all is_ready loss)))
-        trouble))),
+    (λ is_ready port_error. rebooted (unless_failed (λ failed. ⊎_elim
+        (λ fatal. nowhere port (subst (λ (t : PortError). Contains (fatal_of port t (old.device.port port.0)) port) failed ((evident.evidenced Service m).fatal_all is_ready fatal)))
+        (λ loss. nowhere port (subst (λ (t : PortError). Contains (gone_of port t (old.device.port port.0)) port) failed ((evident.evidenced Service m).gone_all is_ready loss)))
+        port_error))),
     ⊎_elim (λ same. inl same) (λ stops. inr (rebooted stops)) ends,
   )

@@ -15,15 +15,15 @@ use Rattle.adapter.specs.Memory.{changed}
 use Rattle.adapter.specs.declared.command.Operation.{Operation}
 use Rattle.adapter.specs.declared.command.Operation.TheVariants.{Identify, ReadLog}
 use Rattle.adapter.proofs.Changed.{changed_other, changed_same}
-use Rattle.agreement.specs.Acts.{AnySlots, ByDeviceAlone, InSlots, Performs, at, steps_of}
-use Rattle.agreement.specs.Agrees.{AreApart}
-use Rattle.agreement.specs.Driven.{IsFollowed, IsFollowedTo}
-use Rattle.agreement.specs.Driver.{AllFree, HasNoSlot, IsBacked, Known, Knows}
-use Rattle.agreement.specs.GivingUp.{given_up, served_ids}
-use Rattle.agreement.specs.Slots.{Free, Own, Serves, Use, Uses, put}
-use Rattle.agreement.proofs.driver.Stretches.{followed_adds}
+use Rattle.refinement.specs.Acts.{AnySlots, ByDeviceAlone, InSlots, Performs, at_slots, act_steps}
+use Rattle.refinement.specs.Relation.{ServeApart}
+use Rattle.refinement.specs.Driven.{IsSimulated, IsSimulatedTo}
+use Rattle.refinement.specs.Driver.{AllFree, HasNoSlot, IsBacked, DriverState, DriverRelation}
+use Rattle.refinement.specs.GivingUp.{given_up, served_ids}
+use Rattle.refinement.specs.Slots.{Free, Own, Serves, SlotState, SlotStates, put}
+use Rattle.refinement.proofs.driver.Stretches.{followed_adds}
 use Rattle.block_machine.specs.Events.{AllDevices, AllMay}
-use Rattle.block_machine.specs.Histories.{IsReached}
+use Rattle.block_machine.specs.Histories.{IsReachable}
 use Rattle.block_machine.specs.Left.{after}
 use Rattle.block_machine.specs.State.{Machine}
 use Rattle.block_machine.specs.Steps.{Step}
@@ -31,117 +31,117 @@ use Rattle.error_recovery.specs.Recovery.{LeavesSlots, with_own}
 use Rattle.error_recovery.specs.declared.Next.{Next}
 use Rattle.error_recovery.specs.declared.Next.TheVariants.{Running, Restart, Dead as Stuck}
 use Rattle.host_boot.specs.Again.{BootsAgain, BootsStopped, IsOfStart}
-use Rattle.host_boot.specs.Taken.{found_of}
-use Rattle.host_boot.specs.declared.Found.{Found}
-use Rattle.host_boot.specs.declared.Found.TheVariants.{Unserved, Ready, Unready}
+use Rattle.host_boot.specs.Taken.{probe_result_of}
+use Rattle.host_boot.specs.declared.ProbeResult.{ProbeResult}
+use Rattle.host_boot.specs.declared.ProbeResult.TheVariants.{Unserved, Ready, Unready}
 use Rattle.identify.specs.declared.DiskInfo.{DiskInfo}
 use Rattle.identify.specs.declared.wanted.Wanted.{Wanted}
 use Rattle.port_boot.specs.States.{IsBoot, IsBootTo, IsOfBoot, StopsOnWay}
 use Rattle.port_control.specs.Engines.{Sticks}
-use Rattle.slots.specs.Uses.{Uses as PortSlots, use_at}
+use Rattle.slots.specs.Uses.{PortSlots, use_at}
 use Rattle.server_history.specs.Below.{LawsBelow}
-use Rattle.server_history.specs.Mended.{IsFoundAfter}
+use Rattle.server_history.specs.ErrorHandling.{IsRevalidated}
 use Rattle.server_history.specs.Server.{IsUsedAs, no_slots, use_of, used_for}
-use Rattle.port_look.specs.declared.Trouble.{Trouble}
+use Rattle.port_events.specs.declared.PortError.{PortError}
 use Rattle.server_history.proofs.recovery_turn.BootOrAbsence.{IsFoundAbsent, boots_or_absent}
 
 -- ---- steps of the device
 
 -- The device's steps alone lead from what the driver knew to what it knows then.
-pub record Passes (k later : Known) (m : Machine) : Type 0 where
+pub record Passes (k later : DriverState) (m : Machine) : Type 0 where
   pub steps : List Step
   pub only : AllDevices steps
   pub may : AllMay m steps
   pub backed : IsBacked k.device later.device m steps
-  pub knows : Knows (after m steps) later
+  pub knows : DriverRelation (after m steps) later
 
 pub devices_both : (late early : List Step) → AllDevices late → AllDevices early → AllDevices (late ++ early)
 devices_both [] early a b = b
 devices_both (step ∷ late) early a b = (devices_both late early a.0 b, a.1)
 
-passes_then : LawsBelow → (a b c : Known) (m : Machine) (x : Passes a b m) → Passes b c (after m x.steps) → Passes a c m
+passes_then : LawsBelow → (a b c : DriverState) (m : Machine) (x : Passes a b m) → Passes b c (after m x.steps) → Passes a c m
 passes_then laws a b c m x y = record {
   steps = y.steps ++ x.steps;
   only = devices_both y.steps x.steps y.only x.only;
   may = laws.basic.may m y.steps x.steps x.may y.may;
   backed = laws.backed_parts a.device b.device c.device m x.steps y.steps x.backed y.backed;
-  knows = subst (λ (n : Machine). Knows n c) (sym (laws.basic.joined m y.steps x.steps)) y.knows;
+  knows = subst (λ (n : Machine). DriverRelation n c) (sym (laws.basic.joined m y.steps x.steps)) y.knows;
 }
 
 -- what was followed
-passes_followed : (May : Access → Type 0) (Fits : Uses → Type 0) (next : Uses → Uses) (old new : Device) → IsFollowedTo May Fits next old new → (s : InSlots) (m : Machine) → Fits s.uses → IsReached m → Knows m (at s old)
-    → Passes (at s old) (at (record s { uses = next s.uses }) new) m
+passes_followed : (May : Access → Type 0) (Fits : SlotStates → Type 0) (next : SlotStates → SlotStates) (old new : Device) → IsSimulatedTo May Fits next old new → (s : InSlots) (m : Machine) → Fits s.uses → IsReachable m → DriverRelation m (at_slots s old)
+    → Passes (at_slots s old) (at_slots (record s { uses = next s.uses }) new) m
 passes_followed May Fits next old new followed s m fits reached knows =
     let x = (followed_adds followed s.uses s.parked fits).adds m reached knows in
     record { steps = x.0; only = x.3.only; may = x.1; backed = x.3.backed; knows = x.2 }
 
 -- a part of a call
-passes_performs : LawsBelow → (accesses : List Access) (next : InSlots → InSlots) (old new : Device) → Performs accesses AnySlots next ByDeviceAlone old new → (s : InSlots) (m : Machine) → IsReached m → Knows m (at s old)
-    → Passes (at s old) (at (next s) new) m
+passes_performs : LawsBelow → (accesses : List Access) (next : InSlots → InSlots) (old new : Device) → Performs accesses AnySlots next ByDeviceAlone old new → (s : InSlots) (m : Machine) → IsReachable m → DriverRelation m (at_slots s old)
+    → Passes (at_slots s old) (at_slots (next s) new) m
 passes_performs laws accesses next old new p s m reached knows =
     let c = p.comes s m reached knows tt in
-    let g = laws.slots.acts_go c.acts (at s old) (at (next s) new) m knows c.done in
-    record { steps = steps_of c.acts; only = c.tells; may = g.may; backed = g.backed; knows = g.knows }
+    let g = laws.slots.acts_go c.acts (at_slots s old) (at_slots (next s) new) m knows c.done in
+    record { steps = act_steps c.acts; only = c.tells; may = g.may; backed = g.backed; knows = g.knows }
 
 -- ---- what is in the slots then
 
 -- Other ports' slots are as they were. What is parked of the port was, or was in one of its slots. No slot serves one that a slot of it served, unless its
 -- engine is stuck; and none of its slots is used, unless it is dead.
-pub record LeavesIn (port : ℕ) (way : Next) (found : Found) (s t : InSlots) : Type 0 where
+pub record LeavesIn (port : ℕ) (way : Next) (found : ProbeResult) (s t : InSlots) : Type 0 where
   pub uses : (q : ℕ) → q ≢ port → t.uses q ≡ s.uses q
   pub parked : (q : ℕ) → q ≢ port → t.parked q ≡ s.parked q
   pub its : (id : RequestId) → Contains (t.parked port) id → Contains (served_ids s.uses port 32 ++ s.parked port) id
-  pub unserved : way ≢ Stuck → AreApart s.uses → (slot : ℕ) (id : RequestId) → s.uses port slot ≡ Serves id → HasNoSlot t.uses id
+  pub unserved : way ≢ Stuck → ServeApart s.uses → (slot : ℕ) (id : RequestId) → s.uses port slot ≡ Serves id → HasNoSlot t.uses id
   pub free : found ≢ Unready Dead → AllFree t.uses port
 
 -- The slots of a server whose port was found so then, and uses none, are used so.
-pub uses_then : (port : ℕ) (way : Next) (found : Found) (ports : List Found) (slots : List PortSlots) (its : PortSlots) (s t : InSlots) → port < length ports → port < length slots
-    → ((slot : ℕ) → use_at its slot ≡ None) → LeavesIn port way found s t → ((q slot : ℕ) → IsUsedAs (found_of ports q) (used_for slots q slot) (s.uses q slot))
-    → (q slot : ℕ) → IsUsedAs (found_of (slice_set ports port found) q) (used_for (slice_set slots port its) q slot) (t.uses q slot)
+pub uses_then : (port : ℕ) (way : Next) (found : ProbeResult) (ports : List ProbeResult) (slots : List PortSlots) (its : PortSlots) (s t : InSlots) → port < length ports → port < length slots
+    → ((slot : ℕ) → use_at its slot ≡ None) → LeavesIn port way found s t → ((q slot : ℕ) → IsUsedAs (probe_result_of ports q) (used_for slots q slot) (s.uses q slot))
+    → (q slot : ℕ) → IsUsedAs (probe_result_of (slice_set ports port found) q) (used_for (slice_set slots port its) q slot) (t.uses q slot)
 uses_then port way found ports slots its s t listed within unused left used q slot = ⊎_elim
     (λ (same : q ≡ port).
-    subst (λ (p : ℕ). IsUsedAs (found_of (slice_set ports port found) p) (used_for (slice_set slots port its) p slot) (t.uses p slot)) (sym same)
+    subst (λ (p : ℕ). IsUsedAs (probe_result_of (slice_set ports port found) p) (used_for (slice_set slots port its) p slot) (t.uses p slot)) (sym same)
     (λ lives. left.free (λ dead. lives (get_or-set_same ports port found Unserved listed ∙ dead)) slot ∙ ap use_of (sym (ap (λ (x : PortSlots). use_at x slot) (get_or-set_same slots port its no_slots within) ∙ unused slot))))
     (λ (other : q ≢ port) lives.
-    ap (λ (u : ℕ → Use). u slot) (left.uses q other) ∙ used q slot (λ dead. lives (get_or-set_other ports port q found Unserved other ∙ dead))
+    ap (λ (u : ℕ → SlotState). u slot) (left.uses q other) ∙ used q slot (λ dead. lives (get_or-set_other ports port q found Unserved other ∙ dead))
     ∙ ap (λ (x : PortSlots). use_of (use_at x slot)) (sym (get_or-set_other slots port q its no_slots other)))
     (cases_eq q port)
 
 -- the steps lead to that
-pub record IsPassed (port : ℕ) (way : Next) (found : Found) (old new : Device) (s : InSlots) (m : Machine) : Type 0 where
+pub record IsPassed (port : ℕ) (way : Next) (found : ProbeResult) (old new : Device) (s : InSlots) (m : Machine) : Type 0 where
   pub slots : InSlots
   pub left : LeavesIn port way found s slots
-  pub passes : Passes (at s old) (at slots new) m
+  pub passes : Passes (at_slots s old) (at_slots slots new) m
 
 module _ (laws : LawsBelow) (port : ℕ) (s : InSlots) (d : Device) where
   free_then : AllFree (given_up port s).uses port
-  free_then slot = ap (λ (uses : ℕ → Use). uses slot) (changed_same s.uses port (λ slot. Free))
+  free_then slot = ap (λ (uses : ℕ → SlotState). uses slot) (changed_same s.uses port (λ slot. Free))
 
   its_then : (id : RequestId) → Contains ((given_up port s).parked port) id → Contains (served_ids s.uses port 32 ++ s.parked port) id
   its_then id here = subst (λ (ids : List RequestId). Contains ids id) (changed_same s.parked port (served_ids s.uses port 32 ++ s.parked port)) here
 
-  left_given : (way : Next) (found : Found) → LeavesIn port way found s (given_up port s)
+  left_given : (way : Next) (found : ProbeResult) → LeavesIn port way found s (given_up port s)
   left_given way found = record {
     uses = λ q ne. changed_other s.uses port (λ slot. Free) q ne;
     parked = λ q ne. changed_other s.parked port (served_ids s.uses port 32 ++ s.parked port) q ne;
     its = its_then;
-    unserved = λ lives apart slot id serves. laws.slots.frees (at s d) port slot id apart serves;
+    unserved = λ lives apart slot id serves. laws.slots.frees (at_slots s d) port slot id apart serves;
     free = λ lives. free_then;
   }
 
   -- with a command of the driver's own in slot 0 of a dead port
-  left_own : (way : Next) (found : Found) (o : Operation) → found ≡ Unready Dead → LeavesIn port way found s (with_own port o (given_up port s))
+  left_own : (way : Next) (found : ProbeResult) (o : Operation) → found ≡ Unready Dead → LeavesIn port way found s (with_own port o (given_up port s))
   left_own way found o dead = record {
     uses = λ q ne. changed_other (given_up port s).uses port (changed ((given_up port s).uses port) 0 (Own o)) q ne ∙ changed_other s.uses port (λ slot. Free) q ne;
     parked = λ q ne. changed_other s.parked port (served_ids s.uses port 32 ++ s.parked port) q ne;
     its = its_then;
     unserved = λ lives apart slot id serves.
-        laws.slots.put_unserved (given_up port s).uses port 0 (Own o) id (laws.slots.frees (at s d) port slot id apart serves) (λ other same. let z : Own o ≡ Serves other = same in absurd cc);
+        laws.slots.put_unserved (given_up port s).uses port 0 (Own o) id (laws.slots.frees (at_slots s d) port slot id apart serves) (λ other same. let z : Own o ≡ Serves other = same in absurd cc);
     free = λ lives. absurd (lives dead);
   }
 
   -- where the engine is stuck, and the slots are as they were
-  left_stuck : (found : Found) → found ≡ Unready Dead → LeavesIn port Stuck found s s
+  left_stuck : (found : ProbeResult) → found ≡ Unready Dead → LeavesIn port Stuck found s s
   left_stuck found dead = record {
     uses = λ q ne. refl;
     parked = λ q ne. refl;
@@ -152,21 +152,21 @@ module _ (laws : LawsBelow) (port : ℕ) (s : InSlots) (d : Device) where
 
 -- ---- recovery, and then a boot
 
-module _ (laws : LawsBelow) (wanted : Wanted) (port : Port) (old mid new : Device) (s : InSlots) (m : Machine) (reached : IsReached m) (knows : Knows m (at s old)) where
+module _ (laws : LawsBelow) (wanted : Wanted) (port : Port) (old mid new : Device) (s : InSlots) (m : Machine) (reached : IsReachable m) (knows : DriverRelation m (at_slots s old)) where
   abbrev given : InSlots
   given = given_up port.0 s
 
   -- its slots were given up, and then it was booted
-  module _ (x : Passes (at s old) (at given mid) m) where
-    here : IsReached (after m x.steps)
+  module _ (x : Passes (at_slots s old) (at_slots given mid) m) where
+    here : IsReachable (after m x.steps)
     here = laws.basic.reached m x.steps reached x.may
 
-    booted : (way : Next) (found : Found) → BootsStopped wanted port found mid new → IsPassed port.0 way found old new s m
+    booted : (way : Next) (found : ProbeResult) → BootsStopped wanted port found mid new → IsPassed port.0 way found old new s m
     booted way Unserved boots = absurd boots
     booted way (Ready info) boots = record {
       slots = given;
       left = left_given laws port.0 s old way (Ready info);
-      passes = passes_then laws (at s old) (at given mid) (at given new) m x
+      passes = passes_then laws (at_slots s old) (at_slots given mid) (at_slots given new) m x
           (passes_followed (IsOfBoot port) (λ uses. AllFree uses port.0) (λ uses. uses) mid new boots.boots.followed given (after m x.steps) (free_then laws port.0 s old) here x.knows);
     }
     booted way (Unready state) boots = by state boots.boots
@@ -175,7 +175,7 @@ module _ (laws : LawsBelow) (wanted : Wanted) (port : Port) (old mid new : Devic
         plainly Tells boots state = record {
           slots = given;
           left = left_given laws port.0 s old way (Unready state);
-          passes = passes_then laws (at s old) (at given mid) (at given new) m x
+          passes = passes_then laws (at_slots s old) (at_slots given mid) (at_slots given new) m x
               (passes_followed (IsOfBoot port) (λ uses. AllFree uses port.0) (λ uses. uses) mid new boots.followed given (after m x.steps) (free_then laws port.0 s old) here x.knows);
         }
 
@@ -184,7 +184,7 @@ module _ (laws : LawsBelow) (wanted : Wanted) (port : Port) (old mid new : Devic
         by Dead (inr boots) = record {
           slots = with_own port.0 Identify given;
           left = left_own laws port.0 s old way (Unready Dead) Identify refl;
-          passes = passes_then laws (at s old) (at given mid) (at (with_own port.0 Identify given) new) m x
+          passes = passes_then laws (at_slots s old) (at_slots given mid) (at_slots (with_own port.0 Identify given) new) m x
               (passes_followed (IsOfBoot port) (λ uses. AllFree uses port.0) (λ uses. put uses port.0 0 (Own Identify)) mid new boots.followed given (after m x.steps) (free_then laws port.0 s old) here x.knows);
         }
         by Absent boots = plainly (StopsOnWay port Absent) boots Absent
@@ -192,43 +192,43 @@ module _ (laws : LawsBelow) (wanted : Wanted) (port : Port) (old mid new : Devic
         by Foreign boots = plainly (StopsOnWay port Foreign) boots Foreign
         by (Unfit cause) boots = plainly (StopsOnWay port (Unfit cause)) boots (Unfit cause)
 
-pub passed : LawsBelow → (wanted : Wanted) (port : Port) (trouble : Trouble) (was : DiskInfo) (way : Next) (accesses : List Access) (old mid new : Device) (found : Found) → LeavesSlots port.0 way accesses old mid → IsFoundAfter wanted port trouble was way mid new found
-    → (s : InSlots) (m : Machine) → IsReached m → Knows m (at s old) → IsPassed port.0 way found old new s m
-passed laws wanted port trouble was (Running token) accesses old mid new found performs (is, same) s m reached knows = record {
+pub passed : LawsBelow → (wanted : Wanted) (port : Port) (port_error : PortError) (was : DiskInfo) (way : Next) (accesses : List Access) (old mid new : Device) (found : ProbeResult) → LeavesSlots port.0 way accesses old mid → IsRevalidated wanted port port_error was way mid new found
+    → (s : InSlots) (m : Machine) → IsReachable m → DriverRelation m (at_slots s old) → IsPassed port.0 way found old new s m
+passed laws wanted port port_error was (Running token) accesses old mid new found performs (is, same) s m reached knows = record {
   slots = given_up port.0 s;
   left = left_given laws port.0 s old (Running token) found;
-  passes = subst (λ (d : Device). Passes (at s old) (at (given_up port.0 s) d) m) (sym same) (passes_performs laws accesses (given_up port.0) old mid performs s m reached knows);
+  passes = subst (λ (d : Device). Passes (at_slots s old) (at_slots (given_up port.0 s) d) m) (sym same) (passes_performs laws accesses (given_up port.0) old mid performs s m reached knows);
 }
-passed laws wanted port trouble was (Restart token) accesses old mid new found performs (its, is, again) s m reached knows =
-    subst (λ (f : Found). IsPassed port.0 (Restart token) f old new s m) is (⊎_elim
+passed laws wanted port port_error was (Restart token) accesses old mid new found performs (its, is, again) s m reached knows =
+    subst (λ (f : ProbeResult). IsPassed port.0 (Restart token) f old new s m) is (⊎_elim
     (λ (b : BootsAgain wanted port its mid new). booted laws wanted port old b.asked new s m reached knows (started b.asked b.asks) (Restart token) its.found b.boots)
-    (λ (absent : IsFoundAbsent wanted port trouble its.found mid new). record {
+    (λ (absent : IsFoundAbsent wanted port port_error its.found mid new). record {
       slots = given_up port.0 s;
       left = left_given laws port.0 s old (Restart token) its.found;
       passes = started new absent.starts;
     })
-    (boots_or_absent trouble wanted port its mid new again))
+    (boots_or_absent port_error wanted port its mid new again))
   where
-    x : Passes (at s old) (at (given_up port.0 s) mid) m
+    x : Passes (at_slots s old) (at_slots (given_up port.0 s) mid) m
     x = passes_performs laws accesses (given_up port.0) old mid performs s m reached knows
 
-    started : (d : Device) → IsFollowed (IsOfStart port) (λ uses. AllFree uses port.0) mid d → Passes (at s old) (at (given_up port.0 s) d) m
+    started : (d : Device) → IsSimulated (IsOfStart port) (λ uses. AllFree uses port.0) mid d → Passes (at_slots s old) (at_slots (given_up port.0 s) d) m
     started d asks =
-        passes_then laws (at s old) (at (given_up port.0 s) mid) (at (given_up port.0 s) d) m x
+        passes_then laws (at_slots s old) (at_slots (given_up port.0 s) mid) (at_slots (given_up port.0 s) d) m x
         (passes_followed (IsOfStart port) (λ uses. AllFree uses port.0) (λ uses. uses) mid d asks (given_up port.0 s) (after m x.steps) (free_then laws port.0 s old) (laws.basic.reached m x.steps reached x.may) x.knows)
-passed laws wanted port trouble was Stuck accesses old mid new found (inl performs) (is, same) s m reached knows = record {
+passed laws wanted port port_error was Stuck accesses old mid new found (inl performs) (is, same) s m reached knows = record {
   slots = s;
   left = left_stuck laws port.0 s old found is;
-  passes = subst (λ (d : Device). Passes (at s old) (at s d) m) (sym same) (passes_performs laws accesses (λ s. s) old mid performs s m reached knows);
+  passes = subst (λ (d : Device). Passes (at_slots s old) (at_slots s d) m) (sym same) (passes_performs laws accesses (λ s. s) old mid performs s m reached knows);
 }
-passed laws wanted port trouble was Stuck accesses old mid new found (inr (inl performs)) (is, same) s m reached knows = record {
+passed laws wanted port port_error was Stuck accesses old mid new found (inr (inl performs)) (is, same) s m reached knows = record {
   slots = given_up port.0 s;
   left = left_given laws port.0 s old Stuck found;
-  passes = subst (λ (d : Device). Passes (at s old) (at (given_up port.0 s) d) m) (sym same) (passes_performs laws accesses (given_up port.0) old mid performs s m reached knows);
+  passes = subst (λ (d : Device). Passes (at_slots s old) (at_slots (given_up port.0 s) d) m) (sym same) (passes_performs laws accesses (given_up port.0) old mid performs s m reached knows);
 }
-passed laws wanted port trouble was Stuck accesses old mid new found (inr (inr performs)) (is, same) s m reached knows = record {
+passed laws wanted port port_error was Stuck accesses old mid new found (inr (inr performs)) (is, same) s m reached knows = record {
   slots = with_own port.0 ReadLog (given_up port.0 s);
   left = left_own laws port.0 s old Stuck found ReadLog is;
-  passes = subst (λ (d : Device). Passes (at s old) (at (with_own port.0 ReadLog (given_up port.0 s)) d) m) (sym same)
+  passes = subst (λ (d : Device). Passes (at_slots s old) (at_slots (with_own port.0 ReadLog (given_up port.0 s)) d) m) (sym same)
       (passes_performs laws accesses (λ s. with_own port.0 ReadLog (given_up port.0 s)) old mid performs s m reached knows);
 }

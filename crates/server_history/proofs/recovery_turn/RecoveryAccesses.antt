@@ -16,12 +16,12 @@ use Rattle.adapter.specs.Access.Access.{Loading, Reading, Storing, Writing}
 use Rattle.adapter.specs.Device.{Device}
 use Rattle.adapter.specs.declared.command.Operation.{Operation}
 use Rattle.adapter.specs.declared.command.Operation.TheVariants.{Identify}
-use Rattle.agreement.specs.Driven.{IsDrivenBy, IsFollowed, IsFollowedTo, IsOf, IsToldTo, SendsNone, known}
-use Rattle.agreement.specs.Driver.{AllFree, Knows}
-use Rattle.agreement.specs.Links.{SparesRegister}
-use Rattle.agreement.specs.Slots.{Own, Uses, op_of, put}
-use Rattle.agreement.proofs.driver.Stretches.{followed_adds, followed_silent}
-use Rattle.block_machine.specs.Histories.{IsReached}
+use Rattle.refinement.specs.Driven.{IsDrivenBy, IsSimulated, IsSimulatedTo, IsOf, IsSimulatedAlongTo, SendsNone, known}
+use Rattle.refinement.specs.Driver.{AllFree, DriverRelation}
+use Rattle.refinement.specs.Links.{SparesRegister}
+use Rattle.refinement.specs.Slots.{Own, SlotStates, op_of, put}
+use Rattle.refinement.proofs.driver.Stretches.{followed_adds, followed_silent}
+use Rattle.block_machine.specs.Histories.{IsReachable}
 use Rattle.block_machine.specs.Left.{after}
 use Rattle.block_machine.specs.State.{Machine}
 use Rattle.disk_page.specs.Asking.{IsAsking}
@@ -34,20 +34,20 @@ use Rattle.identify.specs.Wanted.{serial_of}
 use Rattle.port_boot.specs.Outcomes.{EndsUnready}
 use Rattle.host_boot.specs.Taken.{IsSurvey}
 use Rattle.host_boot.specs.declared.Booted.{Booted}
-use Rattle.host_boot.specs.declared.Found.{Found}
-use Rattle.host_boot.specs.declared.Found.TheVariants.{Ready, Unready, Unserved}
+use Rattle.host_boot.specs.declared.ProbeResult.{ProbeResult}
+use Rattle.host_boot.specs.declared.ProbeResult.TheVariants.{Ready, Unready, Unserved}
 use Rattle.identify.specs.declared.DiskInfo.{DiskInfo}
 use Rattle.identify.specs.declared.wanted.Wanted.{Wanted}
 use Rattle.port_boot.specs.States.{IsBoot, IsOfBoot}
 use Rattle.port_control.specs.Engines.{Sticks}
 use Rattle.port_control.specs.declared.Stopped.{Stopped}
 use Rattle.server_history.specs.Below.{LawsBelow}
-use Rattle.server_history.specs.Mended.{IsFoundAfter}
+use Rattle.server_history.specs.ErrorHandling.{IsRevalidated}
 use Rattle.server_history.proofs.state.TurnAccesses.{table_own}
 use Rattle.server_history.proofs.recovery_turn.LinkResets.{ResetsBy, early_resets, late_resets, ready_resets, resets_since}
 use Rattle.server_history.proofs.state.SilentOperations.{silent_more, silent_none}
-use Rattle.port_look.specs.declared.Trouble.{Trouble}
-use Rattle.port_look.specs.declared.Trouble.TheVariants.{Lost}
+use Rattle.port_events.specs.declared.PortError.{PortError}
+use Rattle.port_events.specs.declared.PortError.TheVariants.{LinkChanged}
 use Rattle.server_history.proofs.recovery_turn.BootOrAbsence.{IsFoundAbsent, boots_or_absent}
 
 -- ---- kinds of accesses
@@ -102,25 +102,25 @@ start_part laws port low access is = ⊎_elim (survey_part port access) (booting
 
 -- Some machine agrees with a driver that uses no slot of the port.
 pub record IsGivenUp (port : Port) (d : Device) : Type 0 where
-  pub uses : Uses
+  pub uses : SlotStates
   pub parked : ℕ → List RequestId
   pub machine : Machine
   pub free : AllFree uses port.0
-  pub reached : IsReached machine
-  pub knows : Knows machine (known uses parked d)
+  pub reached : IsReachable machine
+  pub knows : DriverRelation machine (known uses parked d)
 
 -- The accesses between recovery and the issues, and what they tell of a port that is dead after its boot: 64 readings in a row showed an engine that is
 -- stuck. Another boot has reset the link. Another port is sent no page by a command that its slot 0 hadn't.
-pub record AfterList (port : Port) (trouble : Trouble) (then : Next) (found : Found) (old new : Device) : Type 0 where
+pub record AfterList (port : Port) (port_error : PortError) (then : Next) (found : ProbeResult) (old new : Device) : Type 0 where
   pub driven : IsDrivenBy (IsPart port) old new
   pub sticks : found ≡ Unready DeadState → then ≢ next.Dead → Sticks port driven.accesses
   pub stuck : found ≡ Unready DeadState → then ≢ next.Dead → (new.port port.0).notes.engine_count ≡ READINGS
-  pub resets : (token : Stopped) → then ≡ next.Restart token → found ≢ Unready DeadState → ((trouble ≡ Lost) × (found ≡ Unready shown.Absent)) ⊎ ResetsLink port driven.accesses
+  pub resets : (token : Stopped) → then ≡ next.Restart token → found ≢ Unready DeadState → ((port_error ≡ LinkChanged) × (found ≡ Unready shown.Absent)) ⊎ ResetsLink port driven.accesses
   pub unreset : ((token : Stopped) → then ≢ next.Restart token) → All (SparesRegister (Px port Sctl)) driven.accesses
   pub silent : (q : Port) (o : Operation) → q.0 ≢ port.0 → op_of o ≡ None → ((token : Stopped) → then ≡ next.Restart token → (g : IsGivenUp port old) × (g.uses q.0 0 ≡ Own o → ⊥)) → SendsNone q.0 o old new
 
-module _ (laws : LawsBelow) (port : Port) (low : port.0 < 4) (wanted : Wanted) (trouble : Trouble) where
-  module _ (token : Stopped) (old asked new : Device) (asks : IsFollowed (IsOfStart port) (λ uses. AllFree uses port.0) old asked) (then : Uses → Uses) (boots : IsFollowedTo (IsOfBoot port) (λ uses. AllFree uses port.0) then asked new) where
+module _ (laws : LawsBelow) (port : Port) (low : port.0 < 4) (wanted : Wanted) (port_error : PortError) where
+  module _ (token : Stopped) (old asked new : Device) (asks : IsSimulated (IsOfStart port) (λ uses. AllFree uses port.0) old asked) (then : SlotStates → SlotStates) (boots : IsSimulatedTo (IsOfBoot port) (λ uses. AllFree uses port.0) then asked new) where
     boot_silent : (q : Port) (o : Operation) → q.0 ≢ port.0 → op_of o ≡ None → (g : IsGivenUp port old) → (g.uses q.0 0 ≡ Own o → ⊥) → SendsNone q.0 o old new
     boot_silent q o other own g none =
         let x = (followed_adds asks g.uses g.parked g.free).adds g.machine g.reached g.knows in
@@ -129,8 +129,8 @@ module _ (laws : LawsBelow) (port : Port) (low : port.0 < 4) (wanted : Wanted) (
         (followed_silent boots g.uses g.parked (after g.machine x.0) g.free (laws.basic.reached g.machine x.0 g.reached x.1) x.2 q o own
         (λ access is. laws.of_spares port q Ci other access (laws.booting_of port access is)) (λ access is. laws.of_spares port q Sact other access (laws.booting_of port access is)) none)
 
-    boot_list : (found : Found) (by : IsDrivenBy (IsOfBoot port) asked new) → (found ≡ Unready DeadState → Sticks port by.accesses) → (found ≡ Unready DeadState → (new.port port.0).notes.engine_count ≡ READINGS)
-        → (found ≢ Unready DeadState → ResetsLink port by.accesses) → AfterList port trouble (next.Restart token) found old new
+    boot_list : (found : ProbeResult) (by : IsDrivenBy (IsOfBoot port) asked new) → (found ≡ Unready DeadState → Sticks port by.accesses) → (found ≡ Unready DeadState → (new.port port.0).notes.engine_count ≡ READINGS)
+        → (found ≢ Unready DeadState → ResetsLink port by.accesses) → AfterList port port_error (next.Restart token) found old new
     boot_list found by sticks stuck resets = record {
       driven = record {
         accesses = asks.driven.accesses ++ by.accesses;
@@ -146,11 +146,11 @@ module _ (laws : LawsBelow) (port : Port) (low : port.0 < 4) (wanted : Wanted) (
     }
 
     -- one that isn't dead has its link reset
-    lives_list : (found : Found) → found ≢ Unready DeadState → ResetsBy port asked new → AfterList port trouble (next.Restart token) found old new
+    lives_list : (found : ProbeResult) → found ≢ Unready DeadState → ResetsBy port asked new → AfterList port port_error (next.Restart token) found old new
     lives_list found lives by = boot_list found by.driven (λ dead. absurd (lives dead)) (λ dead. absurd (lives dead)) (λ _. by.resets)
 
   -- no device showed
-  absent_list : (token : Stopped) (found : Found) (old new : Device) → IsFoundAbsent wanted port trouble found old new → AfterList port trouble (next.Restart token) found old new
+  absent_list : (token : Stopped) (found : ProbeResult) (old new : Device) → IsFoundAbsent wanted port port_error found old new → AfterList port port_error (next.Restart token) found old new
   absent_list token found old new absent = record {
     driven = record { accesses = made.accesses; all = made.all; only = All-weaker (IsOfStart port) (IsPart port) (start_part laws port low) made.accesses made.only };
     sticks = λ dead _. absurd (lives dead);
@@ -169,16 +169,16 @@ module _ (laws : LawsBelow) (port : Port) (low : port.0 < 4) (wanted : Wanted) (
       lives : found ≡ Unready DeadState → ⊥
       lives dead = let z : Unready shown.Absent ≡ Unready DeadState = sym absent.is ∙ dead in cc
 
-  booted_list : (token : Stopped) (booted : Booted) (old new : Device) → BootsAgain wanted port booted old new → AfterList port trouble (next.Restart token) booted.found old new
+  booted_list : (token : Stopped) (booted : Booted) (old new : Device) → BootsAgain wanted port booted old new → AfterList port port_error (next.Restart token) booted.found old new
   booted_list token booted old new b = by booted.found b.boots
     where
       lives : (state : Shown) → state ≢ DeadState → Unready state ≡ Unready DeadState → ⊥
       lives state other is = other (let z : Unready state ≡ Unready DeadState = is in cc)
 
-      unready : (state : Shown) → EndsUnready (serial_of wanted) port state b.asked new → AfterList port trouble (next.Restart token) (Unready state) old new
+      unready : (state : Shown) → EndsUnready (serial_of wanted) port state b.asked new → AfterList port port_error (next.Restart token) (Unready state) old new
       unready shown.Dead x = ⊎_elim
           (λ (told : IsBoot (Sticks port) port b.asked new). boot_list token old b.asked new b.asks (λ uses. uses) told.followed (Unready DeadState) told.followed.driven (λ _. told.tells) (λ _. x.ended.1) (λ lives. absurd (lives refl)))
-          (λ (told : IsToldTo (Sticks port) (IsOfBoot port) (λ uses. AllFree uses port.0) (λ uses. put uses port.0 0 (Own Identify)) b.asked new).
+          (λ (told : IsSimulatedAlongTo (Sticks port) (IsOfBoot port) (λ uses. AllFree uses port.0) (λ uses. put uses port.0 0 (Own Identify)) b.asked new).
           boot_list token old b.asked new b.asks (λ uses. put uses port.0 0 (Own Identify)) told.followed (Unready DeadState) told.followed.driven (λ _. told.tells) (λ _. x.ended.1) (λ lives. absurd (lives refl)))
           x.boots
       unready shown.Absent x = lives_list token old b.asked new b.asks (λ uses. uses) x.boots.followed (Unready shown.Absent) (lives shown.Absent (λ e. let z : shown.Absent ≡ DeadState = e in cc)) (early_resets laws port shown.Absent b.asked new (x.early tt))
@@ -194,17 +194,17 @@ module _ (laws : LawsBelow) (port : Port) (low : port.0 < 4) (wanted : Wanted) (
           (cases_eq n 7))
       unready shown.Ready x = absurd x.ended
 
-      by : (found : Found) → BootsStopped wanted port found b.asked new → AfterList port trouble (next.Restart token) found old new
+      by : (found : ProbeResult) → BootsStopped wanted port found b.asked new → AfterList port port_error (next.Restart token) found old new
       by Unserved x = absurd x
       by (Ready info) x =
           let no : Ready info ≡ Unready DeadState → ⊥ = λ e. let z : Ready info ≡ Unready DeadState = e in cc in
           lives_list token old b.asked new b.asks (λ uses. uses) x.boots.followed (Ready info) no (ready_resets laws port b.asked new x.way)
       by (Unready state) x = unready state x
 
-  pub after_list : (was : DiskInfo) (then : Next) (old new : Device) (found : Found) → IsFoundAfter wanted port trouble was then old new found → AfterList port trouble then found old new
+  pub after_list : (was : DiskInfo) (then : Next) (old new : Device) (found : ProbeResult) → IsRevalidated wanted port port_error was then old new found → AfterList port port_error then found old new
   after_list was (next.Running token) old new found is =
       let none : found ≡ Unready DeadState → ⊥ = λ dead. let z : Ready was ≡ Unready DeadState = sym is.0 ∙ dead in cc in
-      subst (λ (d : Device). AfterList port trouble (next.Running token) found old d) (sym is.1) (record {
+      subst (λ (d : Device). AfterList port port_error (next.Running token) found old d) (sym is.1) (record {
         driven = record { accesses = []; all = refl; only = All-nil (IsPart port) };
         sticks = λ dead _. absurd (none dead);
         stuck = λ dead _. absurd (none dead);
@@ -212,11 +212,11 @@ module _ (laws : LawsBelow) (port : Port) (low : port.0 < 4) (wanted : Wanted) (
         unreset = λ _. All-nil (SparesRegister (Px port Sctl));
         silent = λ q o other own given. silent_none q.0 o old;
       })
-  after_list was (next.Restart token) old new found is = subst (λ (f : Found). AfterList port trouble (next.Restart token) f old new) is.1 (⊎_elim
+  after_list was (next.Restart token) old new found is = subst (λ (f : ProbeResult). AfterList port port_error (next.Restart token) f old new) is.1 (⊎_elim
       (λ (b : BootsAgain wanted port is.0 old new). booted_list token is.0 old new b)
-      (λ (absent : IsFoundAbsent wanted port trouble is.0.found old new). absent_list token is.0.found old new absent)
-      (boots_or_absent trouble wanted port is.0 old new is.2))
-  after_list was next.Dead old new found is = subst (λ (d : Device). AfterList port trouble next.Dead found old d) (sym is.1) (record {
+      (λ (absent : IsFoundAbsent wanted port port_error is.0.found old new). absent_list token is.0.found old new absent)
+      (boots_or_absent port_error wanted port is.0 old new is.2))
+  after_list was next.Dead old new found is = subst (λ (d : Device). AfterList port port_error next.Dead found old d) (sym is.1) (record {
     driven = record { accesses = []; all = refl; only = All-nil (IsPart port) };
     sticks = λ _ lives. absurd (lives refl);
     stuck = λ _ lives. absurd (lives refl);

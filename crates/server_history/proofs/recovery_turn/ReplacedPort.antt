@@ -14,16 +14,16 @@ use Rattle.hba_regs.specs.Bits.{bit}
 use Rattle.adapter.specs.Device.{Device}
 use Rattle.adapter.specs.Rules.{HasPort, IsOn}
 use Rattle.adapter.specs.declared.command.Operation.TheVariants.{Identify}
-use Rattle.agreement.specs.Acts.{InSlots}
-use Rattle.agreement.specs.Agrees.{port_at}
-use Rattle.agreement.specs.Driven.{AnyAccess, IsDrivenBy, IsOf, LeavesPort, SendsNone}
-use Rattle.agreement.specs.Halting.{HaltsAsTaken, IsHaltedAsTaken}
-use Rattle.agreement.specs.Links.{HasDeviceOrNone, SameAdapter}
+use Rattle.refinement.specs.Acts.{InSlots}
+use Rattle.refinement.specs.Relation.{port_at}
+use Rattle.refinement.specs.Driven.{AnyAccess, IsDrivenBy, IsOf, LeavesPort, SendsNone}
+use Rattle.refinement.specs.Halting.{HaltsAsTaken, IsHaltedAsTaken}
+use Rattle.refinement.specs.Links.{HasDeviceOrNone, SameAdapter}
 use Rattle.block_machine.specs.Due.{is_plain}
 use Rattle.block_machine.specs.Events.{ShowsDisk}
-use Rattle.block_machine.specs.Histories.{IsReached}
+use Rattle.block_machine.specs.Histories.{IsReachable}
 use Rattle.block_machine.specs.State.{Machine}
-use Rattle.block_machine.specs.declared.due.Mode.{Mode}
+use Rattle.block_machine.specs.declared.due.QueueMode.{QueueMode}
 use Rattle.dma_frames.specs.Loan.{Lending}
 use Rattle.dma_frames.specs.Table.{Table}
 use Rattle.driver_history.specs.Holds.{Runs}
@@ -31,47 +31,47 @@ use Rattle.error_recovery.specs.Recovery.{EndsIn}
 use Rattle.error_recovery.specs.declared.Next.{Next}
 use Rattle.error_recovery.specs.declared.Next.TheVariants as next
 use Rattle.host_boot.specs.Again.{BootsAgain, BootsStopped, IsOfStart}
-use Rattle.host_boot.specs.Taken.{FoundBadDisk, IsServed, StillStandsBehind, found_of, wanted_of}
+use Rattle.host_boot.specs.Taken.{FoundBadDisk, IsServed, StillStandsBehind, probe_result_of, wanted_of}
 use Rattle.host_boot.specs.declared.Booted.{Booted}
-use Rattle.host_boot.specs.declared.Found.{Found}
-use Rattle.host_boot.specs.declared.Found.TheVariants.{Unserved, Ready, Unready}
+use Rattle.host_boot.specs.declared.ProbeResult.{ProbeResult}
+use Rattle.host_boot.specs.declared.ProbeResult.TheVariants.{Unserved, Ready, Unready}
 use Rattle.host_boot.proofs.Leaving.{boots_begin}
 use Rattle.identify.specs.Wanted.{serial_of}
 use Rattle.identify.specs.declared.DiskInfo.{DiskInfo}
 use Rattle.identify.specs.declared.wanted.Wanted.{Wanted}
 use Rattle.port_boot.specs.States.{EndsAs, ShowsOwnDisk}
-use Rattle.port_control.specs.Ports.{Shows}
+use Rattle.port_control.specs.Ports.{BacksFault}
 use Rattle.port_control.specs.declared.PortFault.TheVariants.{EngineStuck}
 use Rattle.port_control.specs.declared.Running as running_token
-use Rattle.request_queue.specs.Entries.{Held, IsAccepted, IsInOrder}
-use Rattle.slots.specs.Uses.{Uses as PortSlots, use_at}
-use Rattle.slots.specs.declared.Use.{Use as SlotUse}
+use Rattle.request_queue.specs.Entries.{Held, IsAccepted, BookIsInOrder}
+use Rattle.slots.specs.Uses.{PortSlots, use_at}
+use Rattle.slots.specs.declared.SlotUse.{SlotUse}
 use Rattle.server_history.specs.Below.{LawsBelow}
-use Rattle.server_history.specs.Mended.{IsFoundAfter, AreUnused}
-use Rattle.server_history.specs.Server.{HasSlots, Server, IsKept, IsMachineOf, IsPortOf, is_served, kept_at, mode_at, mode_found, mode_in, no_slots, plain_mode, slots_at, state_of, usable_of, used_for, HasTrueMark}
-use Rattle.port_look.specs.declared.Trouble.{Trouble}
+use Rattle.server_history.specs.ErrorHandling.{IsRevalidated, AreUnused}
+use Rattle.server_history.specs.Server.{HasSlots, ServerState, InCallInvariant, IsMachineOf, IsPortOf, is_served, kept_at, mode_at, mode_found, mode_in, no_slots, plain_mode, slots_at, state_of, usable_of, used_for, HasTrueMark}
+use Rattle.port_events.specs.declared.PortError.{PortError}
 use Rattle.server_history.proofs.state.PortGrounds.{left_on}
 use Rattle.server_history.proofs.recovery_turn.OtherPorts.{Passes}
 use Rattle.server_history.proofs.state.DrivenAccesses.{driven_as}
-use Rattle.server_history.proofs.fates.RemainingBook.{WasIn, marked_from}
+use Rattle.server_history.proofs.dispositions.RemainingBook.{WasIn, marked_from}
 use Rattle.server_history.proofs.recovery_turn.FoundDisk.{boot_sees}
 use Rattle.server_history.proofs.recovery_turn.BootOrAbsence.{IsFoundAbsent, boots_or_absent}
 
 -- ---- a port
 
 -- What stands behind a port that was found so, as a server has it.
-pub record StandsAt (wanted : Wanted) (found : Found) (port : ℕ) (d : Device) : Type 0 where
+pub record StandsAt (wanted : Wanted) (found : ProbeResult) (port : ℕ) (d : Device) : Type 0 where
   pub behind : StillStandsBehind wanted found port d
   pub runs : state_of found ≡ ReadyState → Runs port d
   pub shown : FoundBadDisk (state_of found) → HasDeviceOrNone (d.port port)
   pub own : state_of found ≡ ReadyState → ShowsOwnDisk (d.port port)
   pub halts : state_of found ≡ ReadyState → HaltsAsTaken (d.port port)
 
-its_port : (wanted : List Wanted) (found : List Found) (port : ℕ) (d : Device) → StandsAt (wanted_of wanted port) (found_of found port) port d → IsPortOf wanted found port d
+its_port : (wanted : List Wanted) (found : List ProbeResult) (port : ℕ) (d : Device) → StandsAt (wanted_of wanted port) (probe_result_of found port) port d → IsPortOf wanted found port d
 its_port wanted found port d s = record { behind = s.behind; runs = s.runs; shown = s.shown; own = s.own; halts = s.halts }
 
 -- another port is left to the device
-other_stands : LawsBelow → (port : Port) (wanted : Wanted) (found : Found) (q : ℕ) (old new : Device) → q ≢ port.0 → IsOn old → IsDrivenBy (IsOf port) old new → SameAdapter old new
+other_stands : LawsBelow → (port : Port) (wanted : Wanted) (found : ProbeResult) (q : ℕ) (old new : Device) → q ≢ port.0 → IsOn old → IsDrivenBy (IsOf port) old new → SameAdapter old new
     → (found ≢ Unready DeadState → SendsNone q Identify old new) → (IsHaltedAsTaken (old.port q) → IsHaltedAsTaken (new.port q)) → StandsAt wanted found q old → StandsAt wanted found q new
 other_stands laws port wanted found q old new other on driven same silent halts s = record {
   behind = left_on wanted found q old new same left silent s.behind;
@@ -104,7 +104,7 @@ still_there port old new same there = (there.0, ap (λ (pi : ℕ). bit pi port) 
 
 module _ (laws : LawsBelow) (wanted : Wanted) (port : Port) (d new : Device) (on : IsOn d) (served : IsServed wanted port.0 d) where
   -- its engine was awaited in vain
-  pub dies_then : (d.port port.0).st ≡ false → Shows EngineStuck (d.port port.0).notes → StandsAt wanted (Unready DeadState) port.0 d
+  pub dies_then : (d.port port.0).st ≡ false → BacksFault EngineStuck (d.port port.0).notes → StandsAt wanted (Unready DeadState) port.0 d
   dies_then st stuck = record {
     behind = (served, (st, stuck));
     runs = λ is. let z : DeadState ≡ ReadyState = is in absurd cc;
@@ -124,7 +124,7 @@ module _ (laws : LawsBelow) (wanted : Wanted) (port : Port) (d new : Device) (on
   }
 
   module _ (booted : Booted) (b : BootsAgain wanted port booted d new) where
-    runs_as : (f : Found) → BootsStopped wanted port f b.asked new → state_of f ≡ ReadyState → Runs port.0 new
+    runs_as : (f : ProbeResult) → BootsStopped wanted port f b.asked new → state_of f ≡ ReadyState → Runs port.0 new
     runs_as Unserved none is = absurd none
     runs_as (Ready info) e is = record {
       st = e.ready.runs.st;
@@ -136,12 +136,12 @@ module _ (laws : LawsBelow) (wanted : Wanted) (port : Port) (d new : Device) (on
     }
     runs_as (Unready state) e is = absurd (subst (λ (s : PortState). EndsAs (serial_of wanted) s port.0 new) is e.ended)
 
-    halts_as : (f : Found) → BootsStopped wanted port f b.asked new → state_of f ≡ ReadyState → HaltsAsTaken (new.port port.0)
+    halts_as : (f : ProbeResult) → BootsStopped wanted port f b.asked new → state_of f ≡ ReadyState → HaltsAsTaken (new.port port.0)
     halts_as Unserved none is = absurd none
     halts_as (Ready info) e is = e.halts
     halts_as (Unready state) e is = absurd (subst (λ (s : PortState). EndsAs (serial_of wanted) s port.0 new) is e.ended)
 
-    shown_as : (f : Found) → booted.found ≡ f → FoundBadDisk (state_of f) → HasDeviceOrNone (new.port port.0)
+    shown_as : (f : ProbeResult) → booted.found ≡ f → FoundBadDisk (state_of f) → HasDeviceOrNone (new.port port.0)
     shown_as Unserved is bad = absurd bad
     shown_as (Ready info) is bad = absurd bad
     shown_as (Unready state) is bad = laws.recovery.again_shown wanted port booted state d new on b bad is
@@ -164,28 +164,28 @@ module _ (laws : LawsBelow) (wanted : Wanted) (port : Port) (d new : Device) (on
     }
 
   -- it was found so, where it wasn't found running
-  pub stands_after : (queued : Bool) (trouble : Trouble) (was : DiskInfo) (old : Device) (then : Next) (found : Found) → EndsIn queued port then old d → IsFoundAfter wanted port trouble was then d new found → new.pi ≡ d.pi
+  pub stands_after : (queued : Bool) (port_error : PortError) (was : DiskInfo) (old : Device) (then : Next) (found : ProbeResult) → EndsIn queued port then old d → IsRevalidated wanted port port_error was then d new found → new.pi ≡ d.pi
       → ((token : running_token.Running) → then ≡ next.Running token → StandsAt wanted (Ready was) port.0 d) → StandsAt wanted found port.0 new
-  stands_after queued trouble was old (next.Running token) found ends (is, same) same_pi runs =
-      subst (λ (f : Found). StandsAt wanted f port.0 new) (sym is) (subst (StandsAt wanted (Ready was) port.0) (sym same) (runs token refl))
-  stands_after queued trouble was old (next.Restart token) found ends (booted, is, b) same_pi runs = subst (λ (f : Found). StandsAt wanted f port.0 new) is (⊎_elim
+  stands_after queued port_error was old (next.Running token) found ends (is, same) same_pi runs =
+      subst (λ (f : ProbeResult). StandsAt wanted f port.0 new) (sym is) (subst (StandsAt wanted (Ready was) port.0) (sym same) (runs token refl))
+  stands_after queued port_error was old (next.Restart token) found ends (booted, is, b) same_pi runs = subst (λ (f : ProbeResult). StandsAt wanted f port.0 new) is (⊎_elim
       (boots_then booted)
-      (λ (absent : IsFoundAbsent wanted port trouble booted.found d new). subst (λ (f : Found). StandsAt wanted f port.0 new) (sym absent.is) (absent_then same_pi absent.ended))
-      (boots_or_absent trouble wanted port booted d new b))
-  stands_after queued trouble was old next.Dead found ends (is, same) same_pi runs =
-      subst (λ (f : Found). StandsAt wanted f port.0 new) (sym is) (subst (StandsAt wanted (Unready DeadState) port.0) (sym same) (dies_then ends.0 ends.1))
+      (λ (absent : IsFoundAbsent wanted port port_error booted.found d new). subst (λ (f : ProbeResult). StandsAt wanted f port.0 new) (sym absent.is) (absent_then same_pi absent.ended))
+      (boots_or_absent port_error wanted port booted d new b))
+  stands_after queued port_error was old next.Dead found ends (is, same) same_pi runs =
+      subst (λ (f : ProbeResult). StandsAt wanted f port.0 new) (sym is) (subst (StandsAt wanted (Unready DeadState) port.0) (sym same) (dies_then ends.0 ends.1))
 
 -- ---- the server
 
 -- a port that is served is in the list
-pub is_listed : (ports : List Found) (port : ℕ) → is_served (found_of ports port) ≡ true → port < length ports
+pub is_listed : (ports : List ProbeResult) (port : ℕ) → is_served (probe_result_of ports port) ≡ true → port < length ports
 is_listed ports port served = ⊎_elim
     (λ (less : port < length ports). less)
     (λ (high : length ports ≤ port). absurd (false≢true (sym (ap is_served (get_or_past ports port Unserved high)) ∙ served)))
     (cases_lt port (length ports))
 
 -- the server, with this device and book, and with the port found so, which takes commands so and uses these slots
-abbrev pub with_found : Port → Device → Table → Found → List (Option DiskInfo) → Mode → PortSlots → List (List Lending) → List Held → Server → Server
+abbrev pub with_found : Port → Device → Table → ProbeResult → List (Option DiskInfo) → QueueMode → PortSlots → List (List Lending) → List Held → ServerState → ServerState
 with_found port device table found remembered mode its kept book s = record s {
   device = device;
   table = table;
@@ -198,27 +198,27 @@ with_found port device table found remembered mode its kept book s = record s {
 }
 
 -- What of a server has to hold then: each request was one of it before, and is of a ready port.
-pub record IsBookLeft (port : Port) (found : Found) (table : Table) (book : List Held) (s : Server) : Type 0 where
+pub record IsBookLeft (port : Port) (found : ProbeResult) (table : Table) (book : List Held) (s : ServerState) : Type 0 where
   pub owners : table.owners ≡ s.table.owners
   pub accepted : All (IsAccepted table) book
-  pub ordered : IsInOrder book
+  pub ordered : BookIsInOrder book
   pub from : (e : Held) → Contains book e → WasIn s.book e
   pub ready : (e : Held) → Contains book e → e.entry.port.0 ≡ port.0 → state_of found ≡ ReadyState
 
-module _ (laws : LawsBelow) (port : Port) (s : Server) (k : IsKept s) (low : port.0 < 4) (device : Device) (slots : InSlots) (whole : Passes s port slots device) (table : Table)
-    (found : Found) (remembered : List (Option DiskInfo)) (mode : Mode) (its : PortSlots) (kept : List (List Lending)) (book : List Held)
-    (served : is_served (found_of s.ports port.0) ≡ true) (stands : StandsAt (wanted_of s.wanted port.0) found port.0 device) (mode_is : mode ≡ mode_found device.cap found) (unused : AreUnused mode its)
+module _ (laws : LawsBelow) (port : Port) (s : ServerState) (k : InCallInvariant s) (low : port.0 < 4) (device : Device) (slots : InSlots) (whole : Passes s port slots device) (table : Table)
+    (found : ProbeResult) (remembered : List (Option DiskInfo)) (mode : QueueMode) (its : PortSlots) (kept : List (List Lending)) (book : List Held)
+    (served : is_served (probe_result_of s.ports port.0) ≡ true) (stands : StandsAt (wanted_of s.wanted port.0) found port.0 device) (mode_is : mode ≡ mode_found device.cap found) (unused : AreUnused mode its)
     (left : IsBookLeft port found table book s) where
-  abbrev then_is : Server
+  abbrev then_is : ServerState
   then_is = with_found port device table found remembered mode its kept book s
 
   alike : SameAdapter s.device device
   alike = same_over laws port s.device device whole.driven
 
-  found_here : found_of then_is.ports port.0 ≡ found
+  found_here : probe_result_of then_is.ports port.0 ≡ found
   found_here = get_or-set_same s.ports port.0 found Unserved (is_listed s.ports port.0 served)
 
-  found_other : (q : ℕ) → q ≢ port.0 → found_of then_is.ports q ≡ found_of s.ports q
+  found_other : (q : ℕ) → q ≢ port.0 → probe_result_of then_is.ports q ≡ probe_result_of s.ports q
   found_other q other = get_or-set_other s.ports port.0 q found Unserved other
 
   mode_here : mode_at then_is.modes port.0 ≡ mode
@@ -244,24 +244,24 @@ module _ (laws : LawsBelow) (port : Port) (s : Server) (k : IsKept s) (low : por
   ports_stand : (q : ℕ) → q < 4 → IsPortOf s.wanted then_is.ports q device
   ports_stand q small = its_port s.wanted then_is.ports q device (⊎_elim
       (λ (same : q ≡ port.0).
-      subst (λ (p : ℕ). StandsAt (wanted_of s.wanted p) (found_of then_is.ports p) p device) (sym same) (subst (λ (f : Found). StandsAt (wanted_of s.wanted port.0) f port.0 device) (sym found_here) stands))
+      subst (λ (p : ℕ). StandsAt (wanted_of s.wanted p) (probe_result_of then_is.ports p) p device) (sym same) (subst (λ (f : ProbeResult). StandsAt (wanted_of s.wanted port.0) f port.0 device) (sym found_here) stands))
       (λ (other : q ≢ port.0).
       let was = k.behind q small in
-      subst (λ (f : Found). StandsAt (wanted_of s.wanted q) f q device) (sym (found_other q other))
-      (other_stands laws port (wanted_of s.wanted q) (found_of s.ports q) q s.device device other k.on whole.driven alike (λ alive. whole.silent q Identify refl other alive) (whole.halts q other)
+      subst (λ (f : ProbeResult). StandsAt (wanted_of s.wanted q) f q device) (sym (found_other q other))
+      (other_stands laws port (wanted_of s.wanted q) (probe_result_of s.ports q) q s.device device other k.on whole.driven alike (λ alive. whole.silent q Identify refl other alive) (whole.halts q other)
       (record { behind = was.behind; runs = was.runs; shown = was.shown; own = was.own; halts = was.halts })))
       (cases_eq q port.0))
 
-  there_is : (q : ℕ) → is_served (found_of then_is.ports q) ≡ true → HasPort device q
+  there_is : (q : ℕ) → is_served (probe_result_of then_is.ports q) ≡ true → HasPort device q
   there_is q is = still_there q s.device device alike (⊎_elim
       (λ (same : q ≡ port.0). subst (HasPort s.device) (sym same) (k.there port.0 served))
       (λ (other : q ≢ port.0). k.there q (ap is_served (sym (found_other q other)) ∙ is))
       (cases_eq q port.0))
 
-  modes_are : (q : ℕ) → q < 4 → mode_at then_is.modes q ≡ mode_found device.cap (found_of then_is.ports q)
+  modes_are : (q : ℕ) → q < 4 → mode_at then_is.modes q ≡ mode_found device.cap (probe_result_of then_is.ports q)
   modes_are q small = ⊎_elim
       (λ (same : q ≡ port.0).
-      subst (λ (p : ℕ). mode_at then_is.modes p ≡ mode_found device.cap (found_of then_is.ports p)) (sym same) (mode_here ∙ mode_is ∙ ap (λ (f : Found). mode_found device.cap f) (sym found_here)))
+      subst (λ (p : ℕ). mode_at then_is.modes p ≡ mode_found device.cap (probe_result_of then_is.ports p)) (sym same) (mode_here ∙ mode_is ∙ ap (λ (f : ProbeResult). mode_found device.cap f) (sym found_here)))
       (λ (other : q ≢ port.0). mode_other q other ∙ k.modes q small ∙ (λ i. mode_found (sym alike.cap i) (sym (found_other q other) i)))
       (cases_eq q port.0)
 
@@ -269,30 +269,30 @@ module _ (laws : LawsBelow) (port : Port) (s : Server) (k : IsKept s) (low : por
   slots_are q small = ⊎_elim
       (λ (same : q ≡ port.0). subst (HasSlots then_is.ports then_is.modes then_is.slots) (sym same) (record {
         places = ap (λ (x : PortSlots). length x.places) slots_here ∙ unused.places;
-        usable = ap (λ (x : PortSlots). x.usable) slots_here ∙ unused.usable ∙ ap (λ (m : Mode). m.usable) (sym mode_here);
+        usable = ap (λ (x : PortSlots). x.usable) slots_here ∙ unused.usable ∙ ap (λ (m : QueueMode). m.usable) (sym mode_here);
         unused = λ slot high. ap (λ (x : PortSlots). use_at x slot) slots_here ∙ unused.free slot;
       }))
       (λ (other : q ≢ port.0).
       let was = k.slots q small in
       record {
         places = ap (λ (x : PortSlots). length x.places) (slots_other q other) ∙ was.places;
-        usable = ap (λ (x : PortSlots). x.usable) (slots_other q other) ∙ was.usable ∙ ap (λ (m : Mode). m.usable) (sym (mode_other q other));
+        usable = ap (λ (x : PortSlots). x.usable) (slots_other q other) ∙ was.usable ∙ ap (λ (m : QueueMode). m.usable) (sym (mode_other q other));
         unused = λ slot high.
             ap (λ (x : PortSlots). use_at x slot) (slots_other q other)
-            ∙ was.unused slot (subst (λ (f : Found). usable_of f (mode_at s.modes q) ≤ slot) (found_other q other)
-            (subst (λ (m : Mode). usable_of (found_of then_is.ports q) m ≤ slot) (mode_other q other) high));
+            ∙ was.unused slot (subst (λ (f : ProbeResult). usable_of f (mode_at s.modes q) ≤ slot) (found_other q other)
+            (subst (λ (m : QueueMode). usable_of (probe_result_of then_is.ports q) m ≤ slot) (mode_other q other) high));
       })
       (cases_eq q port.0)
 
   -- ---- the requests
 
-  ready_one : (e : Held) → Contains book e → state_of (found_of then_is.ports e.entry.port.0) ≡ ReadyState
+  ready_one : (e : Held) → Contains book e → state_of (probe_result_of then_is.ports e.entry.port.0) ≡ ReadyState
   ready_one e here =
       let w = left.from e here in ⊎_elim
-      (λ (same : e.entry.port.0 ≡ port.0). ap (λ (q : ℕ). state_of (found_of then_is.ports q)) same ∙ ap state_of found_here ∙ left.ready e here same)
+      (λ (same : e.entry.port.0 ≡ port.0). ap (λ (q : ℕ). state_of (probe_result_of then_is.ports q)) same ∙ ap state_of found_here ∙ left.ready e here same)
       (λ (other : e.entry.port.0 ≢ port.0).
-      ap state_of (found_other e.entry.port.0 other) ∙ ap (λ (p : Port). state_of (found_of s.ports p.0)) w.port
-      ∙ All-contains (λ (x : Held). state_of (found_of s.ports x.entry.port.0) ≡ ReadyState) s.book w.was k.ready w.there)
+      ap state_of (found_other e.entry.port.0 other) ∙ ap (λ (p : Port). state_of (probe_result_of s.ports p.0)) w.port
+      ∙ All-contains (λ (x : Held). state_of (probe_result_of s.ports x.entry.port.0) ≡ ReadyState) s.book w.was k.ready w.there)
       (cases_eq e.entry.port.0 port.0)
 
   marked_one : (e : Held) → Contains book e → HasTrueMark s.grants e
@@ -316,7 +316,7 @@ module _ (laws : LawsBelow) (port : Port) (s : Server) (k : IsKept s) (low : por
 
   -- ---- the whole
 
-  pub replaced_kept : length remembered ≡ 4 → length kept ≡ 4 → ((q : ℕ) → length (kept_at kept q) ≤ 32) → (machine : Machine) → IsReached machine → IsMachineOf then_is machine → IsKept then_is
+  pub replaced_kept : length remembered ≡ 4 → length kept ≡ 4 → ((q : ℕ) → length (kept_at kept q) ≤ 32) → (machine : Machine) → IsReachable machine → IsMachineOf then_is machine → InCallInvariant then_is
   replaced_kept four_remembered four_kept few_kept machine reached is = record {
     on = whole.on;
     room = let room = k.room in let size = alike.size in omega (arith, room, size);
@@ -343,7 +343,7 @@ module _ (laws : LawsBelow) (port : Port) (s : Server) (k : IsKept s) (low : por
     ordered = left.ordered;
     marked = each_left (HasTrueMark s.grants) marked_one;
     handed_out = each_left (λ (e : Held). e.entry.id.0 ≤ s.last) handed_one;
-    ready = each_left (λ (e : Held). state_of (found_of then_is.ports e.entry.port.0) ≡ ReadyState) ready_one;
+    ready = each_left (λ (e : Held). state_of (probe_result_of then_is.ports e.entry.port.0) ≡ ReadyState) ready_one;
     machine = machine;
     reached = reached;
     stands = is;

@@ -4,39 +4,39 @@ use Rattle.ata_types.specs.declared.Port.{Port}
 use Rattle.ata_types.specs.declared.PortState.TheVariants.{Ready as ReadyState}
 use Rattle.ata_types.specs.declared.request.Reply.{Reply}
 use Rattle.adapter.specs.declared.access.DeviceStep.{DeviceStep}
-use Rattle.agreement.specs.Driven.{AnyUse, IsFollowed}
+use Rattle.refinement.specs.Driven.{AnyUse, IsSimulated}
 use Rattle.block_machine.specs.Events.{Belong, FindsAnother, Tick}
-use Rattle.block_machine.specs.Histories.{IsReached}
+use Rattle.block_machine.specs.Histories.{IsReachable}
 use Rattle.block_machine.specs.Ports.{SameDisk}
 use Rattle.block_machine.specs.State.{Machine}
-use Rattle.host_boot.specs.Taken.{found_of}
-use Rattle.port_look.specs.Looks.{IsLooking}
-use Rattle.request_queue.specs.declared.fate.Prospect.TheVariants.{DiskLost}
+use Rattle.host_boot.specs.Taken.{probe_result_of}
+use Rattle.port_events.specs.Looks.{IsLooking}
+use Rattle.request_queue.specs.declared.disposition.Revalidation.TheVariants.{DiskLost}
 use Rattle.server_history.specs.Below.{LawsBelow}
-use Rattle.server_history.specs.Mended.{HasMetFates, IsProspect, MendsPort}
-use Rattle.server_history.specs.Server.{IsKept, IsMachineOf, Server, ports_of, state_of}
+use Rattle.server_history.specs.ErrorHandling.{HasResolved, IsRevalidation, HandlesPortError}
+use Rattle.server_history.specs.Server.{InCallInvariant, IsMachineOf, ServerState, ports_of, state_of}
 use Rattle.server_history.specs.Turns.{InRestart, OwesTurn, RestartsPort}
-use Rattle.port_look.specs.declared.Trouble.TheVariants.{Failed, Hung, Lost}
+use Rattle.port_events.specs.declared.PortError.TheVariants.{TaskFileError, TimedOut, LinkChanged}
 use Rattle.server_history.proofs.recovery_turn.MendedPort.{dead_found, disk_same, interrupted, ready_info}
 use Rattle.server_history.proofs.recovery_turn.DecidedSteps.{DecidesTurn, nobody}
 use Rattle.server_history.proofs.recovery_turn.TurnEvidence.{IsEvident}
 use Rattle.server_history.proofs.recovery_turn.DoneRequests.{found_by_masks, heeding}
 use Rattle.server_history.proofs.recovery_turn.HeededFaults.{anew}
-use Rattle.server_history.proofs.fates.FateReasons.{belong_tick}
+use Rattle.server_history.proofs.dispositions.FateReasons.{belong_tick}
 use Rattle.server_history.proofs.recovery_turn.RebootedPort.{restarts}
 use Rattle.server_history.proofs.recovery_turn.TurnParts.{evidence_by, faults_of}
 
-module _ (laws : LawsBelow) (port : Port) (replies : List Reply) (old new : Server) (k : IsKept old) (ready : state_of (found_of old.ports port.0) ≡ ReadyState) (r : MendsPort port replies old new)
-    (looks : IsFollowed (IsLooking port) AnyUse old.device r.settled.mended.seen) (kept : IsKept r.mid) (evident : IsEvident port replies old new r) (m : Machine) (reached : IsReached m) (is : IsMachineOf old m)
-    (d : DecidesTurn port replies old new r (evidence_by r.settled) m) (hung : r.settled.mended.trouble ≡ Hung) where
-  abbrev a : HasMetFates port r.later old r.mid
+module _ (laws : LawsBelow) (port : Port) (replies : List Reply) (old new : ServerState) (k : InCallInvariant old) (ready : state_of (probe_result_of old.ports port.0) ≡ ReadyState) (r : HandlesPortError port replies old new)
+    (looks : IsSimulated (IsLooking port) AnyUse old.device r.settled.error_handled.seen) (kept : InCallInvariant r.mid) (evident : IsEvident port replies old new r) (m : Machine) (reached : IsReachable m) (is : IsMachineOf old m)
+    (d : DecidesTurn port replies old new r (evidence_by r.settled) m) (hung : r.settled.error_handled.port_error ≡ TimedOut) where
+  abbrev a : HasResolved port r.later old r.mid
   a = r.settled
 
-  unlost : a.mended.trouble ≢ Lost
-  unlost lost = let z : Hung ≡ Lost = sym hung ∙ lost in cc
+  unlost : a.error_handled.port_error ≢ LinkChanged
+  unlost lost = let z : TimedOut ≡ LinkChanged = sym hung ∙ lost in cc
 
-  unfailed : a.mended.trouble ≢ Failed
-  unfailed failed = let z : Hung ≡ Failed = sym hung ∙ failed in cc
+  unfailed : a.error_handled.port_error ≢ TaskFileError
+  unfailed failed = let z : TimedOut ≡ TaskFileError = sym hung ∙ failed in cc
 
   pub belongs : Belong {D = DeviceStep} Tick (ports_of new) d.steps
   belongs = belong_tick (ports_of new) d.steps (d.gives unfailed) d.belong
@@ -45,7 +45,7 @@ module _ (laws : LawsBelow) (port : Port) (replies : List Reply) (old new : Serv
   another : FindsAnother d.steps (ports_of old) (ports_of new)
   another e here =
       let why = d.unplugged e here in
-      let told : IsProspect a.mended.trouble a.was a.found DiskLost = subst (IsProspect a.mended.trouble a.was a.found) why.0 a.expects in
+      let told : IsRevalidation a.error_handled.port_error a.was a.found DiskLost = subst (IsRevalidation a.error_handled.port_error a.was a.found) why.0 a.expects in
       let own = ap (ports_of new).state (sym why.1) in (
         λ dead. told.0 (dead_found laws port replies old new k ready r looks kept (own ∙ dead)),
         λ is_ready same.

@@ -8,7 +8,7 @@ use Rattle.hba_regs.specs.declared.reg.Reg.TheVariants.{Ghc}
 use Rattle.adapter.specs.Access.{Access, DoesAll}
 use Rattle.adapter.specs.Device.{Device}
 use Rattle.adapter.specs.Rules.{IsOn}
-use Rattle.agreement.specs.Links.{SparesRegister}
+use Rattle.refinement.specs.Links.{SparesRegister}
 use Rattle.error_recovery.specs.Recovery.{IsRecovering}
 use Rattle.server_history.specs.Below.{LawsBelow}
 use Rattle.server_history.proofs.recovery_turn.LinkResets.{recovering_spares}

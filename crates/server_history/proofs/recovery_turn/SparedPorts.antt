@@ -7,18 +7,18 @@ use Rattle.std.proofs.lemmas.List.Elements.{All-contains, All-contains_itself, A
 use Rattle.ata_types.specs.declared.Port.{Port}
 use Rattle.ata_types.specs.declared.request.Reply.{Reply}
 use Rattle.ata_types.specs.declared.request.RequestId.{RequestId}
-use Rattle.block_machine.specs.Due.{mark_waiting, of_port, with_none, with_waiting}
+use Rattle.block_machine.specs.Due.{mark_waiting, of_port, without_request, with_waiting}
 use Rattle.block_machine.specs.declared.due.Unanswered.{Unanswered}
 use Rattle.server_history.proofs.state.ListMembers.{map_in}
-use Rattle.host_boot.specs.declared.Found.TheVariants.{Unserved}
-use Rattle.request_queue.specs.Entries.{Held, IsInOrder, asks, asks_of, due_ids, is_of}
-use Rattle.request_queue.specs.Fates.{Holdings, MeetFates, MeetsFate, fate_of}
-use Rattle.request_queue.specs.declared.Entry.{Entry}
-use Rattle.request_queue.specs.declared.fate.Fate.{Fate}
-use Rattle.request_queue.specs.declared.fate.Fate.TheVariants.{Ends, GoesAgain, Waits}
+use Rattle.host_boot.specs.declared.ProbeResult.TheVariants.{Unserved}
+use Rattle.request_queue.specs.Entries.{Held, BookIsInOrder, asks, asks_of, due_ids, is_of}
+use Rattle.request_queue.specs.Dispositions.{Holdings, AreResolved, IsResolved, disposition_of}
+use Rattle.request_queue.specs.declared.PendingRequest.{PendingRequest}
+use Rattle.request_queue.specs.declared.disposition.Disposition.{Disposition}
+use Rattle.request_queue.specs.declared.disposition.Disposition.TheVariants.{Complete, Requeue, Wait}
 use Rattle.server_history.specs.Below.{LawsBelow}
-use Rattle.server_history.specs.Mended.{IsMended, HasMetFates, MendsPort, holdings_of, requests_of}
-use Rattle.server_history.specs.Server.{Server, IsKept, mode_in, no_slots, plain_mode, slots_at}
+use Rattle.server_history.specs.ErrorHandling.{IsErrorHandled, HasResolved, HandlesPortError, holdings_of, requests_of}
+use Rattle.server_history.specs.Server.{ServerState, InCallInvariant, mode_in, no_slots, plain_mode, slots_at}
 use Rattle.server_history.specs.Turns.{LeavesOthers}
 use Rattle.server_history.proofs.plain_calls.IssueRounds.{each_apart, each_settings, each_slots}
 use Rattle.server_history.proofs.healthy_turn.AnswersAndIssues.{answers_apart, answers_order, answers_settings, answers_slots}
@@ -66,22 +66,22 @@ module _ (q : Port) (id : RequestId) where
   abbrev stays : Unanswered → Bool
   stays r = not (r.id.0 == id.0)
 
-  none_apart : (list : List Unanswered) → IsNoneOf q id list → of_port q (with_none id list) ≡ of_port q list
+  none_apart : (list : List Unanswered) → IsNoneOf q id list → of_port q (without_request id list) ≡ of_port q list
   none_apart [] none = refl
   none_apart (r ∷ list) none =
-      let more : of_port q (with_none id list) ≡ of_port q list = none_apart list (All-tail (λ r. r.port ≡ q → r.id ≢ id) r list none) in
+      let more : of_port q (without_request id list) ≡ of_port q list = none_apart list (All-tail (λ r. r.port ≡ q → r.id ≢ id) r list none) in
       ⊎_elim
       (λ (here : its r ≡ true).
       let differs = All-head (λ r. r.port ≡ q → r.id ≢ id) r list none (passing q r here) in
-      ap (filter its) (cond-true (stays r) (r ∷ with_none id list) (with_none id list) (ap not (ne_eqb r.id.0 id.0 (λ is. differs (ap (λ (n : ℕ). record { 0 = n }) is)))))
-      ∙ cond-true (its r) (r ∷ of_port q (with_none id list)) (of_port q (with_none id list)) here
+      ap (filter its) (cond-true (stays r) (r ∷ without_request id list) (without_request id list) (ap not (ne_eqb r.id.0 id.0 (λ is. differs (ap (λ (n : ℕ). record { 0 = n }) is)))))
+      ∙ cond-true (its r) (r ∷ of_port q (without_request id list)) (of_port q (without_request id list)) here
       ∙ ap (λ (rest : List Unanswered). r ∷ rest) more ∙ sym (cond-true (its r) (r ∷ of_port q list) (of_port q list) here))
       (λ (other : its r ≡ false). ⊎_elim
       (λ (left : stays r ≡ true).
-      ap (filter its) (cond-true (stays r) (r ∷ with_none id list) (with_none id list) left)
-      ∙ cond-false (its r) (r ∷ of_port q (with_none id list)) (of_port q (with_none id list)) other ∙ more ∙ sym (cond-false (its r) (r ∷ of_port q list) (of_port q list) other))
+      ap (filter its) (cond-true (stays r) (r ∷ without_request id list) (without_request id list) left)
+      ∙ cond-false (its r) (r ∷ of_port q (without_request id list)) (of_port q (without_request id list)) other ∙ more ∙ sym (cond-false (its r) (r ∷ of_port q list) (of_port q list) other))
       (λ (gone : stays r ≡ false).
-      ap (filter its) (cond-false (stays r) (r ∷ with_none id list) (with_none id list) gone) ∙ more ∙ sym (cond-false (its r) (r ∷ of_port q list) (of_port q list) other))
+      ap (filter its) (cond-false (stays r) (r ∷ without_request id list) (without_request id list) gone) ∙ more ∙ sym (cond-false (its r) (r ∷ of_port q list) (of_port q list) other))
       (cases_Bool (stays r)))
       (cases_Bool (its r))
 
@@ -92,42 +92,42 @@ module _ (q : Port) (id : RequestId) where
       (All-weaker (λ (r : Unanswered). r.port ≡ q → r.id ≢ other) (λ (r : Unanswered). (mark_waiting id r).port ≡ q → (mark_waiting id r).id ≢ other)
       (λ r is here same. is (sym (still_of r).0 ∙ here) (sym (still_of r).1 ∙ same)) list none)
 
-  none_none : (other : RequestId) (list : List Unanswered) → IsNoneOf q other list → IsNoneOf q other (with_none id list)
+  none_none : (other : RequestId) (list : List Unanswered) → IsNoneOf q other list → IsNoneOf q other (without_request id list)
   none_none other list none = All-filter stays (λ (r : Unanswered). r.port ≡ q → r.id ≢ other) list none
 
 module _ (laws : LawsBelow) (q : Port) where
   -- one request met its fate
-  one_apart : (e : Held) (fate : Fate) (replies : List Reply) (old new : Holdings) → MeetsFate e fate replies old new → IsNoneOf q e.entry.id (asks_of old.book)
+  one_apart : (e : Held) (disposition : Disposition) (replies : List Reply) (old new : Holdings) → IsResolved e disposition replies old new → IsNoneOf q e.entry.id (asks_of old.book)
       → (of_port q (asks_of new.book) ≡ of_port q (asks_of old.book)) × ((id : RequestId) → IsNoneOf q id (asks_of old.book) → IsNoneOf q id (asks_of new.book))
-  one_apart e Waits replies old new meets none =
+  one_apart e Wait replies old new meets none =
       let same : asks_of new.book ≡ asks_of old.book = ap (λ (h : Holdings). asks_of h.book) meets.1 in
       (ap (of_port q) same, λ id is. subst (IsNoneOf q id) (sym same) is)
-  one_apart e GoesAgain replies old new meets none =
+  one_apart e Requeue replies old new meets none =
       let same : asks_of new.book ≡ with_waiting e.entry.id (asks_of old.book) = ap (λ (h : Holdings). asks_of h.book) meets.1 ∙ laws.asks_requeued old.book e.entry.id in
       (ap (of_port q) same ∙ waiting_apart q e.entry.id (asks_of old.book) none, λ id is. subst (IsNoneOf q id) (sym same) (waiting_none q e.entry.id id (asks_of old.book) is))
-  one_apart e (Ends outcome) replies old new meets none =
-      let same : asks_of new.book ≡ with_none e.entry.id (asks_of old.book) = ap asks_of meets.1 ∙ laws.asks_answered old.book e.entry.id in
+  one_apart e (Complete outcome) replies old new meets none =
+      let same : asks_of new.book ≡ without_request e.entry.id (asks_of old.book) = ap asks_of meets.1 ∙ laws.asks_answered old.book e.entry.id in
       (ap (of_port q) same ∙ none_apart q e.entry.id (asks_of old.book) none, λ id is. subst (IsNoneOf q id) (sym same) (none_none q e.entry.id id (asks_of old.book) is))
 
   -- and so did these
-  pub fates_apart : (fate : Entry → Fate) (requests : List Held) (replies : List Reply) (old new : Holdings) → MeetFates fate requests replies old new → All (λ (e : Held). IsNoneOf q e.entry.id (asks_of old.book)) requests
+  pub fates_apart : (disposition : PendingRequest → Disposition) (requests : List Held) (replies : List Reply) (old new : Holdings) → AreResolved disposition requests replies old new → All (λ (e : Held). IsNoneOf q e.entry.id (asks_of old.book)) requests
       → of_port q (asks_of new.book) ≡ of_port q (asks_of old.book)
-  fates_apart fate [] replies old new meets none = ap (λ (h : Holdings). of_port q (asks_of h.book)) meets.1
-  fates_apart fate (e ∷ requests) replies old new (mid, its, later, split, one, more) none =
-      let x = one_apart e (fate e.entry) its old mid one (All-head (λ (e : Held). IsNoneOf q e.entry.id (asks_of old.book)) e requests none) in
-      fates_apart fate requests later mid new more
+  fates_apart disposition [] replies old new meets none = ap (λ (h : Holdings). of_port q (asks_of h.book)) meets.1
+  fates_apart disposition (e ∷ requests) replies old new (mid, its, later, split, one, more) none =
+      let x = one_apart e (disposition e.entry) its old mid one (All-head (λ (e : Held). IsNoneOf q e.entry.id (asks_of old.book)) e requests none) in
+      fates_apart disposition requests later mid new more
       (All-weaker (λ (e : Held). IsNoneOf q e.entry.id (asks_of old.book)) (λ (e : Held). IsNoneOf q e.entry.id (asks_of mid.book)) (λ e is. x.1 e.entry.id is) requests
       (All-tail (λ (e : Held). IsNoneOf q e.entry.id (asks_of old.book)) e requests none))
       ∙ x.0
 
   -- no request of one port has the id of one of another
-  pub none_of_one : (port : Port) (book : List Held) → q ≢ port → IsInOrder book → (e : Held) → Contains book e × (e.entry.port ≡ port) → IsNoneOf q e.entry.id (asks_of book)
+  pub none_of_one : (port : Port) (book : List Held) → q ≢ port → BookIsInOrder book → (e : Held) → Contains book e × (e.entry.port ≡ port) → IsNoneOf q e.entry.id (asks_of book)
   none_of_one port book ne order e its = All-weaker (Contains (asks_of book)) (λ (r : Unanswered). r.port ≡ q → r.id ≢ e.entry.id) (λ r there is same.
       let y = map_in (λ (x : Held). asks x.entry) book r there in
       let one : y.0 ≡ e = laws.one book y.0 e order y.1 its.0 (sym (ap (λ (u : Unanswered). u.id) y.2) ∙ same) in
       ne (sym is ∙ ap (λ (u : Unanswered). u.port) y.2 ∙ ap (λ (x : Held). x.entry.port) one ∙ its.1)) (asks_of book) (All-contains_itself (asks_of book))
 
-  pub none_of_port : (port : Port) (book : List Held) → q ≢ port → IsInOrder book → All (λ (e : Held). IsNoneOf q e.entry.id (asks_of book)) (requests_of port book)
+  pub none_of_port : (port : Port) (book : List Held) → q ≢ port → BookIsInOrder book → All (λ (e : Held). IsNoneOf q e.entry.id (asks_of book)) (requests_of port book)
   none_of_port port book ne order =
       All-weaker (Contains (requests_of port book)) (λ (e : Held). IsNoneOf q e.entry.id (asks_of book)) (λ e here. none_of_one port book ne order e (booked e here, its_port e here)) (requests_of port book)
       (All-contains_itself (requests_of port book))
@@ -140,14 +140,14 @@ module _ (laws : LawsBelow) (q : Port) where
 
 -- ---- the whole
 
-module _ (laws : LawsBelow) (port : Port) (replies : List Reply) (old new : Server) (k : IsKept old) (r : MendsPort port replies old new) (kept : IsKept r.mid) where
-  abbrev a : HasMetFates port r.later old r.mid
+module _ (laws : LawsBelow) (port : Port) (replies : List Reply) (old new : ServerState) (k : InCallInvariant old) (r : HandlesPortError port replies old new) (kept : InCallInvariant r.mid) where
+  abbrev a : HasResolved port r.later old r.mid
   a = r.settled
 
-  abbrev x : IsMended port old a.mid a.device
-  x = a.mended
+  abbrev x : IsErrorHandled port old a.mid a.device
+  x = a.error_handled
 
-  abbrev from : Server
+  abbrev from : ServerState
   from = record old { device = x.found }
 
   abbrev ids : List RequestId
@@ -160,23 +160,23 @@ module _ (laws : LawsBelow) (port : Port) (replies : List Reply) (old new : Serv
   issued_as : new ≡ record r.mid { device = new.device; slots = new.slots; book = new.book }
   issued_as = each_settings laws port ids r.mid new r.issued
 
-  other_of : {X : Type 0} (list : Server → List X) (d : X) (put : X) → list r.mid ≡ set (list a.mid) port.0 put → list new ≡ list r.mid → list a.mid ≡ list old → (q : ℕ) → q ≢ port.0 → get_or (list new) q d ≡ get_or (list old) q d
+  other_of : {X : Type 0} (list : ServerState → List X) (d : X) (put : X) → list r.mid ≡ set (list a.mid) port.0 put → list new ≡ list r.mid → list a.mid ≡ list old → (q : ℕ) → q ≢ port.0 → get_or (list new) q d ≡ get_or (list old) q d
   other_of {X} list d put is later early q ne =
       ap (λ (xs : List X). get_or xs q d) (later ∙ is) ∙ get_or-set_other (list a.mid) port.0 q put d ne ∙ ap (λ (xs : List X). get_or xs q d) early
 
   pub leaves_others : LeavesOthers port old new
   leaves_others = record {
-    grants = ap (λ (n : Server). n.grants) issued_as ∙ ap (λ (n : Server). n.grants) a.server ∙ ap (λ (n : Server). n.grants) answered_as;
-    wanted = ap (λ (n : Server). n.wanted) issued_as ∙ ap (λ (n : Server). n.wanted) a.server ∙ ap (λ (n : Server). n.wanted) answered_as;
-    last = ap (λ (n : Server). n.last) issued_as ∙ ap (λ (n : Server). n.last) a.server ∙ ap (λ (n : Server). n.last) answered_as;
-    found = other_of (λ (n : Server). n.ports) Unserved a.found (ap (λ (n : Server). n.ports) a.server) (ap (λ (n : Server). n.ports) issued_as) (ap (λ (n : Server). n.ports) answered_as);
-    remembered = other_of (λ (n : Server). n.remembered) None (Some a.was) (ap (λ (n : Server). n.remembered) a.server) (ap (λ (n : Server). n.remembered) issued_as) (ap (λ (n : Server). n.remembered) answered_as);
-    modes = other_of (λ (n : Server). n.modes) plain_mode a.mode (ap (λ (n : Server). n.modes) a.server) (ap (λ (n : Server). n.modes) issued_as) (ap (λ (n : Server). n.modes) answered_as);
-    slots = λ q ne. each_slots laws port ids r.mid new r.issued q ne ∙ ap (λ (n : Server). slots_at n.slots q) a.server ∙ get_or-set_other a.mid.slots port.0 q a.slots no_slots ne
+    grants = ap (λ (n : ServerState). n.grants) issued_as ∙ ap (λ (n : ServerState). n.grants) a.server ∙ ap (λ (n : ServerState). n.grants) answered_as;
+    wanted = ap (λ (n : ServerState). n.wanted) issued_as ∙ ap (λ (n : ServerState). n.wanted) a.server ∙ ap (λ (n : ServerState). n.wanted) answered_as;
+    last = ap (λ (n : ServerState). n.last) issued_as ∙ ap (λ (n : ServerState). n.last) a.server ∙ ap (λ (n : ServerState). n.last) answered_as;
+    found = other_of (λ (n : ServerState). n.ports) Unserved a.found (ap (λ (n : ServerState). n.ports) a.server) (ap (λ (n : ServerState). n.ports) issued_as) (ap (λ (n : ServerState). n.ports) answered_as);
+    remembered = other_of (λ (n : ServerState). n.remembered) None (Some a.was) (ap (λ (n : ServerState). n.remembered) a.server) (ap (λ (n : ServerState). n.remembered) issued_as) (ap (λ (n : ServerState). n.remembered) answered_as);
+    modes = other_of (λ (n : ServerState). n.modes) plain_mode a.mode (ap (λ (n : ServerState). n.modes) a.server) (ap (λ (n : ServerState). n.modes) issued_as) (ap (λ (n : ServerState). n.modes) answered_as);
+    slots = λ q ne. each_slots laws port ids r.mid new r.issued q ne ∙ ap (λ (n : ServerState). slots_at n.slots q) a.server ∙ get_or-set_other a.mid.slots port.0 q a.slots no_slots ne
         ∙ answers_slots laws port x.done x.requests from a.mid x.each q ne;
     book = λ q ne.
         each_apart laws port ids r.mid new kept.ordered r.issued q ne
-        ∙ ap (λ (n : Server). of_port q (asks_of n.book)) a.server
-        ∙ fates_apart laws q (fate_of a.failed a.prospect) (requests_of port a.mid.book) r.later (holdings_of port a.mid) a.now a.meets (none_of_port laws q port a.mid.book ne (answers_order laws port x.done x.requests from a.mid k.ordered x.each))
+        ∙ ap (λ (n : ServerState). of_port q (asks_of n.book)) a.server
+        ∙ fates_apart laws q (disposition_of a.failed a.revalidation) (requests_of port a.mid.book) r.later (holdings_of port a.mid) a.now a.meets (none_of_port laws q port a.mid.book ne (answers_order laws port x.done x.requests from a.mid k.ordered x.each))
         ∙ answers_apart laws port x.done x.requests from a.mid k.ordered x.each q ne;
   }

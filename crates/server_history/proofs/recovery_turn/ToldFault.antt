@@ -14,36 +14,36 @@ use Rattle.ata_types.specs.declared.request.RequestId.{RequestId}
 use Rattle.hba_regs.specs.Bits.{bit}
 use Rattle.adapter.specs.Commands.{Meaning, is_queued}
 use Rattle.adapter.specs.Rules.{InUse}
-use Rattle.agreement.specs.Driven.{AnyUse, IsFollowed}
-use Rattle.agreement.specs.Facts.{ShowsFault}
-use Rattle.agreement.specs.Slots.{IsFree, IsServed, ServesRequest, Use}
+use Rattle.refinement.specs.Driven.{AnyUse, IsSimulated}
+use Rattle.refinement.specs.Facts.{ShowsFault}
+use Rattle.refinement.specs.Slots.{IsEmptySlot, RelatesSlot, ServesRequest, SlotState}
 use Rattle.block_machine.specs.Events.{AllMay, answers_of, reply_of}
-use Rattle.block_machine.specs.Histories.{IsReached}
+use Rattle.block_machine.specs.Histories.{IsReachable}
 use Rattle.block_machine.specs.Left.{after}
 use Rattle.block_machine.specs.State.{Machine, Pending}
 use Rattle.block_machine.specs.Steps.{Answer, May, Step}
 use Rattle.server_history.proofs.state.ListMembers.{contains_cases, contains_here, map_in, in_filter}
 use Rattle.driver_history.specs.Histories.{IsAnsweredFaulty, IsIssuedOn}
-use Rattle.error_log.specs.declared.Failure.{Failure}
+use Rattle.error_log.specs.declared.FailedSlot.{FailedSlot}
 use Rattle.error_recovery.specs.Recovery.{MayRecover, Rests, TellsRecovery}
 use Rattle.error_recovery.specs.declared.Next.{Next}
 use Rattle.error_recovery.specs.declared.Next.TheVariants as next
-use Rattle.host_boot.specs.Taken.{found_of}
-use Rattle.port_look.specs.Looks.{IsLooking}
-use Rattle.port_look.specs.declared.Trouble.{Trouble}
-use Rattle.port_look.specs.declared.Trouble.TheVariants.{Failed as Fails}
+use Rattle.host_boot.specs.Taken.{probe_result_of}
+use Rattle.port_events.specs.Looks.{IsLooking}
+use Rattle.port_events.specs.declared.PortError.{PortError}
+use Rattle.port_events.specs.declared.PortError.TheVariants.{TaskFileError}
 use Rattle.request_queue.specs.Entries.{Held, is_of}
-use Rattle.request_queue.specs.Fates.{Holdings, MeetFates, MeetsFate, fate_of, fate_on, reply_to}
-use Rattle.request_queue.specs.declared.Entry.{Entry}
-use Rattle.request_queue.specs.declared.fate.Failed.{Failed}
-use Rattle.request_queue.specs.declared.fate.Fate.{Fate}
-use Rattle.request_queue.specs.declared.fate.Fate.TheVariants.{Ends}
-use Rattle.request_queue.specs.declared.fate.Prospect.{Prospect}
-use Rattle.slots.specs.declared.Use.{Use as SlotUse}
+use Rattle.request_queue.specs.Dispositions.{Holdings, AreResolved, IsResolved, disposition_of, disposition_on, reply_to}
+use Rattle.request_queue.specs.declared.PendingRequest.{PendingRequest}
+use Rattle.request_queue.specs.declared.disposition.FailedRequest.{FailedRequest}
+use Rattle.request_queue.specs.declared.disposition.Disposition.{Disposition}
+use Rattle.request_queue.specs.declared.disposition.Disposition.TheVariants.{Complete}
+use Rattle.request_queue.specs.declared.disposition.Revalidation.{Revalidation}
+use Rattle.slots.specs.declared.SlotUse.{SlotUse}
 use Rattle.server_history.specs.Below.{LawsBelow}
-use Rattle.server_history.specs.Mended.{IsFailed, IsFoundOut, IsMended, HasMetFates, MendsPort, holdings_of, requests_of, TellsMending}
+use Rattle.server_history.specs.ErrorHandling.{IsFailed, IsFoundOut, IsErrorHandled, HasResolved, HandlesPortError, holdings_of, requests_of, TellsErrorHandling}
 use Rattle.server_history.specs.Served.{AnswersEach, is_used}
-use Rattle.server_history.specs.Server.{Server, IsKept, IsMachineOf, ports_of, slots_at, state_of, used_for}
+use Rattle.server_history.specs.Server.{ServerState, InCallInvariant, IsMachineOf, ports_of, slots_at, state_of, used_for}
 use Rattle.server_history.specs.Turns.{IsOfTurn}
 use Rattle.server_history.proofs.healthy_turn.OneAnswer.{answer_kept}
 use Rattle.server_history.proofs.recovery_turn.MendedPort.{next_dead, state_new}
@@ -63,28 +63,28 @@ use Rattle.server_history.proofs.state.FirstMembers.{nowhere}
 -- ---- what wasn't done
 
 -- a slot that wasn't found done is used still
-left_used : (laws : LawsBelow) (port : Port) → port.0 < 4 → (done : ℕ) (requests : List Held) (old new : Server) → IsKept old → state_of (found_of old.ports port.0) ≡ ReadyState → AreOver port done old.device
+left_used : (laws : LawsBelow) (port : Port) → port.0 < 4 → (done : ℕ) (requests : List Held) (old new : ServerState) → InCallInvariant old → state_of (probe_result_of old.ports port.0) ≡ ReadyState → AreOver port done old.device
     → AnswersEach port done requests old new → (slot : ℕ) (used : SlotUse) → bit done slot ≡ false → used_for old.slots port.0 slot ≡ Some used → used_for new.slots port.0 slot ≡ Some used
-left_used laws port low done [] old new k ready over none slot used clear is = ap (λ (n : Server). used_for n.slots port.0 slot) none ∙ is
+left_used laws port low done [] old new k ready over none slot used clear is = ap (λ (n : ServerState). used_for n.slots port.0 slot) none ∙ is
 left_used laws port low done (e ∷ requests) old new k ready over (mid, one, its, more) slot used clear is =
     let four = k.four in
     let places = (k.slots port.0 low).places in
     let small = one.small in
     left_used laws port low done requests mid new (answer_kept laws old mid port e k ready one (over one.slot one.small its)) (ready_on laws port done e old mid one ready) (over_on laws port done e old mid one over) more slot used clear
-    (ap (λ (n : Server). used_for n.slots port.0 slot) one.server
+    (ap (λ (n : ServerState). used_for n.slots port.0 slot) one.server
     ∙ placed_other old.slots port.0 one.slot None (omega (arith, four, low)) (omega (arith, places, small)) port.0 slot (λ _ same. false≢true (sym clear ∙ ap (bit done) same ∙ its)) ∙ is)
 
 -- ---- what is told
 
 -- who ends is told so
-fate_told : (fate : Entry → Fate) (requests : List Held) (replies : List Reply) (old new : Holdings) → MeetFates fate requests replies old new → (e : Held) (o : Outcome) → Contains requests e → fate e.entry ≡ Ends o
+fate_told : (disposition : PendingRequest → Disposition) (requests : List Held) (replies : List Reply) (old new : Holdings) → AreResolved disposition requests replies old new → (e : Held) (o : Outcome) → Contains requests e → disposition e.entry ≡ Complete o
     → Contains replies (reply_to e o)
-fate_told fate [] replies old new none e o here ends = absurd (nowhere e here)
-fate_told fate (request ∷ requests) replies old new (mid, its, later, split, meets, more) e o here ends = subst (λ (list : List Reply). Contains list (reply_to e o)) (sym split) (⊎_elim
+fate_told disposition [] replies old new none e o here ends = absurd (nowhere e here)
+fate_told disposition (request ∷ requests) replies old new (mid, its, later, split, meets, more) e o here ends = subst (λ (list : List Reply). Contains list (reply_to e o)) (sym split) (⊎_elim
     (λ (same : e ≡ request).
-    let m : MeetsFate request (Ends o) its old mid = subst (λ (f : Fate). MeetsFate request f its old mid) (ap (λ (h : Held). fate h.entry) (sym same) ∙ ends) meets in
+    let m : IsResolved request (Complete o) its old mid = subst (λ (f : Disposition). IsResolved request f its old mid) (ap (λ (h : Held). disposition h.entry) (sym same) ∙ ends) meets in
     Contains-append_left its later (reply_to e o) (subst (λ (list : List Reply). Contains list (reply_to e o)) (sym m.0) (contains_here (reply_to request o) [] (reply_to e o) (ap (λ (h : Held). reply_to h o) same))))
-    (λ (there : Contains requests e). Contains-append_right its later (reply_to e o) (fate_told fate requests later mid new more e o there ends))
+    (λ (there : Contains requests e). Contains-append_right its later (reply_to e o) (fate_told disposition requests later mid new more e o there ends))
     (contains_cases request requests e here))
 
 -- who is answered in a turn was unanswered when it began
@@ -96,35 +96,35 @@ answer_stood laws port m (step ∷ steps) may own e o here = ⊎_elim
     (contains_cases step steps (Answer e o) here)
 
 -- the one that failed is told its error
-failed_fate : (its : Failed) (failed : Option Failed) (prospect : Prospect) (e : Entry) → failed ≡ Some its → its.id ≡ e.id → fate_of failed prospect e ≡ Ends (outcome.DeviceError its.status its.error)
-failed_fate its failed prospect e is same =
-    ap (λ (f : Option Failed). fate_of f prospect e) is
-    ∙ ap (λ (b : Bool). if b then Ends (outcome.DeviceError its.status its.error) else fate_on prospect e) (eq-eqb its.id.0 e.id.0 (ap (λ (i : RequestId). i.0) same))
+failed_fate : (its : FailedRequest) (failed : Option FailedRequest) (revalidation : Revalidation) (e : PendingRequest) → failed ≡ Some its → its.id ≡ e.id → disposition_of failed revalidation e ≡ Complete (outcome.DeviceError its.status its.error)
+failed_fate its failed revalidation e is same =
+    ap (λ (f : Option FailedRequest). disposition_of f revalidation e) is
+    ∙ ap (λ (b : Bool). if b then Complete (outcome.DeviceError its.status its.error) else disposition_on revalidation e) (eq-eqb its.id.0 e.id.0 (ap (λ (i : RequestId). i.0) same))
 
 -- ---- the whole
 
-module _ (laws : LawsBelow) (port : Port) (replies : List Reply) (old new : Server) (k : IsKept old) (ready : state_of (found_of old.ports port.0) ≡ ReadyState) (r : MendsPort port replies old new)
-    (looks : IsFollowed (IsLooking port) AnyUse old.device r.settled.mended.seen) (kept : IsKept r.mid) (m : Machine) (reached : IsReached m) (is : IsMachineOf old m)
+module _ (laws : LawsBelow) (port : Port) (replies : List Reply) (old new : ServerState) (k : InCallInvariant old) (ready : state_of (probe_result_of old.ports port.0) ≡ ReadyState) (r : HandlesPortError port replies old new)
+    (looks : IsSimulated (IsLooking port) AnyUse old.device r.settled.error_handled.seen) (kept : InCallInvariant r.mid) (m : Machine) (reached : IsReachable m) (is : IsMachineOf old m)
     (d : DecidesTurn port replies old new r (evidence_by r.settled) m) where
-  abbrev a : HasMetFates port r.later old r.mid
+  abbrev a : HasResolved port r.later old r.mid
   a = r.settled
 
-  abbrev x : IsMended port old a.mid a.device
-  x = a.mended
+  abbrev x : IsErrorHandled port old a.mid a.device
+  x = a.error_handled
 
-  abbrev from : Server
+  abbrev from : ServerState
   from = record old { device = x.found }
 
   low : port.0 < 4
   low = (ready_found old port.0 k ready).0
 
-  from_kept : IsKept from
+  from_kept : InCallInvariant from
   from_kept = found_kept laws port replies old new k ready r looks kept
 
-  then_kept : IsKept a.mid
+  then_kept : InCallInvariant a.mid
   then_kept = mid_kept laws port r.later old r.mid k ready a looks
 
-  then_ready : state_of (found_of a.mid.ports port.0) ≡ ReadyState
+  then_ready : state_of (probe_result_of a.mid.ports port.0) ≡ ReadyState
   then_ready = mid_ready laws port r.later old r.mid k ready a looks
 
   -- a request that was answered so
@@ -135,18 +135,18 @@ module _ (laws : LawsBelow) (port : Port) (replies : List Reply) (old new : Serv
       sym w.request ∙ ap (λ (y : Pending). y.request) one
 
   -- the port's last fault was of a slot that is in use still
-  module _ (failing : x.trouble ≡ Fails) (slot : ℕ) (used : SlotUse) (its : used_for old.slots port.0 slot ≡ Some used) (plain : used.queued ≡ false) where
-    healed : TellsRecovery port x.outstanding x.queued x.result x.mends.accesses a.mid.device a.device
-    healed = subst (λ (t : Trouble). TellsMending t port x.outstanding x.queued x.result x.mends.accesses a.mid.device a.device) failing x.tells
+  module _ (failing : x.port_error ≡ TaskFileError) (slot : ℕ) (used : SlotUse) (its : used_for old.slots port.0 slot ≡ Some used) (plain : used.queued ≡ false) where
+    healed : TellsRecovery port x.outstanding x.queued x.result x.handling.accesses a.mid.device a.device
+    healed = subst (λ (t : PortError). TellsErrorHandling t port x.outstanding x.queued x.result x.handling.accesses a.mid.device a.device) failing x.tells
 
     is_zero : slot ≡ 0
     is_zero = (k.alone port.0 slot used its plain).0
 
     fault : ShowsFault (drop (x.found.port port.0).notes.st_set_at x.found.tape) (x.found.port port.0) port.0
-    fault = let may : MayRecover port.0 x.found = may_recover laws old x.seen x.found port x.mask x.done k ready (subst (λ (t : Trouble). IsFoundOut port t old.device x.seen) failing x.finds) looks x.reads in may.recorded.fault may.halted
+    fault = let may : MayRecover port.0 x.found = may_recover laws old x.seen x.found port x.mask x.done k ready (subst (λ (t : PortError). IsFoundOut port t old.device x.seen) failing x.finds) looks x.reads in may.recorded.fault may.halted
 
-    unused_free : (other : ℕ) → other ≢ 0 → IsFree (x.found.port port.0) other
-    unused_free other ne = subst (λ (u : Use). IsServed from_kept.machine x.found.memory x.found.tape (x.found.port port.0) port.0 other u)
+    unused_free : (other : ℕ) → other ≢ 0 → IsEmptySlot (x.found.port port.0) other
+    unused_free other ne = subst (λ (u : SlotState). RelatesSlot from_kept.machine x.found.memory x.found.tape (x.found.port port.0) port.0 other u)
         (free_unused from from_kept.machine port.0 from_kept.stands ready other ((k.alone port.0 slot used its plain).1 other ne)) (from_kept.stands.knows.agrees.slot port.0 other)
 
     over_idle : (other : ℕ) → (x.found.port port.0).ci other ≡ false → (x.found.port port.0).taken other ≡ None → InUse (x.found.port port.0) other → ⊥
@@ -184,33 +184,33 @@ module _ (laws : LawsBelow) (port : Port) (replies : List Reply) (old new : Serv
     in_its = in_filter (λ (y : Held). is_of port y.entry) a.mid.book request.request request.there (eq-eqb request.request.entry.port.0 port.0 request.port_is)
 
     module _ (e : Pending) (here : Contains m.book e) (id_is : used.id ≡ e.request.id) where
-      told : (its_failure : Failure) → x.result.failed ≡ Some its_failure → IsAnsweredFaulty e d.steps
-      told its_failure named = by (subst (λ (f : Option Failure). IsFailed (slots_at a.mid.slots port.0) f a.failed) named a.names)
+      told : (its_failure : FailedSlot) → x.result.failed ≡ Some its_failure → IsAnsweredFaulty e d.steps
+      told its_failure named = by (subst (λ (f : Option FailedSlot). IsFailed (slots_at a.mid.slots port.0) f a.failed) named a.names)
         where
           zero_named : its_failure.slot.0 ≡ 0
-          zero_named = (subst (λ (queued : Bool). Rests queued port x.outstanding x.mends.accesses a.mid.device a.device (Some its_failure)) mid_queued
-              (subst (Rests x.queued port x.outstanding x.mends.accesses a.mid.device a.device) named x.mends.tells.rests)).slot_is
+          zero_named = (subst (λ (queued : Bool). Rests queued port x.outstanding x.handling.accesses a.mid.device a.device (Some its_failure)) mid_queued
+              (subst (Rests x.queued port x.outstanding x.handling.accesses a.mid.device a.device) named x.handling.tells.rests)).slot_is
 
           by : IsFailed (slots_at a.mid.slots port.0) (Some its_failure) a.failed → IsAnsweredFaulty e d.steps
           by (other, at, names) =
               let z : Some other ≡ Some used = sym at ∙ ap (used_for a.mid.slots port.0) (zero_named ∙ sym is_zero) ∙ still in
               let same : other ≡ used = cc in
-              let failed : Failed = record { id = other.id; status = its_failure.status; error = its_failure.error } in
+              let failed : FailedRequest = record { id = other.id; status = its_failure.status; error = its_failure.error } in
               let o : Outcome = outcome.DeviceError its_failure.status its_failure.error in
-              let fate = failed_fate failed a.failed a.prospect request.request.entry names (ap (λ (u : SlotUse). u.id) same ∙ sym request.id_is) in
-              let reply = fate_told (fate_of a.failed a.prospect) (requests_of port a.mid.book) r.later (holdings_of port a.mid) a.now a.meets request.request o in_its fate in
-              let w = map_in reply_of d.fates.tells.answers (reply_to request.request o) (subst (λ (list : List Reply). Contains list (reply_to request.request o)) d.fates.tells.told reply) in
-              let there = answers_there d.fates.fates w.0 (Contains-permutation d.fates.tells.answers (answers_of d.fates.fates) w.0 d.fates.tells.same w.1) in
+              let disposition = failed_fate failed a.failed a.revalidation request.request.entry names (ap (λ (u : SlotUse). u.id) same ∙ sym request.id_is) in
+              let reply = fate_told (disposition_of a.failed a.revalidation) (requests_of port a.mid.book) r.later (holdings_of port a.mid) a.now a.meets request.request o in_its disposition in
+              let w = map_in reply_of d.dispositions.tells.answers (reply_to request.request o) (subst (λ (list : List Reply). Contains list (reply_to request.request o)) d.dispositions.tells.told reply) in
+              let there = answers_there d.dispositions.dispositions w.0 (Contains-permutation d.dispositions.tells.answers (answers_of d.dispositions.dispositions) w.0 d.dispositions.tells.same w.1) in
               let o_is : w.0.1 ≡ o = ap (λ (y : Reply). y.outcome) (sym w.2) in
               let in_steps : Contains d.steps (Answer w.0.0 o) = subst (λ (y : Outcome). Contains d.steps (Answer w.0.0 y)) o_is (subst (λ (steps : List Step). Contains steps (Answer w.0.0 w.0.1)) (sym d.steps_are)
-              (Contains-append_right d.issuing.steps (until_issues d.fates) (Answer w.0.0 w.0.1) (Contains-append_left d.fates.fates _ (Answer w.0.0 w.0.1) there))) in
+              (Contains-append_right d.issuing.steps (until_issues d.dispositions) (Answer w.0.0 w.0.1) (Contains-append_left d.dispositions.dispositions _ (Answer w.0.0 w.0.1) there))) in
               let its_id : w.0.0.request.id ≡ e.request.id = ap (λ (y : Reply). y.id) (sym w.2) ∙ request.id_is ∙ id_is in
               (w.0.0, its_failure.status, its_failure.error, answered e here w.0.0 o in_steps its_id, in_steps)
 
       faulty : IsAnsweredFaulty e d.steps ⊎ ((ports_of new).state port ≡ DeadState)
       faulty = by x.result.next refl
         where
-          by_failed : x.result.next ≢ next.Dead → (f : Option Failure) → x.result.failed ≡ f → IsAnsweredFaulty e d.steps
+          by_failed : x.result.next ≢ next.Dead → (f : Option FailedSlot) → x.result.failed ≡ f → IsAnsweredFaulty e d.steps
           by_failed lives None none = absurd (healed.told mid_queued outstanding lives none)
           by_failed lives (Some its_failure) named = told its_failure named
 
@@ -220,7 +220,7 @@ module _ (laws : LawsBelow) (port : Port) (replies : List Reply) (old new : Serv
           by next.Dead same = inr (state_new laws port replies old new k ready r looks kept ∙ ap state_of (next_dead laws port replies old new k ready r looks kept same))
 
   -- a plain request that is outstanding is told its fault
-  pub faulting : x.trouble ≡ Fails → (e : Pending) (slot : ℕ) → IsIssuedOn port m e → e.ended ≡ false → (s : ServesRequest m old.device.memory (old.device.port port.0) port.0 slot e.request.id) → is_queued s.command.operation ≡ false
+  pub faulting : x.port_error ≡ TaskFileError → (e : Pending) (slot : ℕ) → IsIssuedOn port m e → e.ended ≡ false → (s : ServesRequest m old.device.memory (old.device.port port.0) port.0 slot e.request.id) → is_queued s.command.operation ≡ false
       → IsAnsweredFaulty e d.steps ⊎ ((ports_of new).state port ≡ DeadState)
   faulting failing e slot own unended says plain = ⊎_elim
       (λ (same : slot ≡ h.slot). faulty failing h.slot h.used h.used_is (its_kind same) e own.here h.id_is)

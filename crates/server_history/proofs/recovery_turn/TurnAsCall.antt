@@ -5,21 +5,21 @@ use Rattle.ata_types.specs.declared.Port.{Port}
 use Rattle.ata_types.specs.declared.PortState.TheVariants as shown
 use Rattle.ata_types.specs.declared.PortState.TheVariants.{Ready as ReadyState}
 use Rattle.ata_types.specs.declared.request.Reply.{Reply}
-use Rattle.agreement.specs.Driven.{AnyUse, IsFollowed}
-use Rattle.agreement.specs.Errors.{IsFatalOf}
-use Rattle.agreement.specs.Recovering.{WorksPlainly}
+use Rattle.refinement.specs.Driven.{AnyUse, IsSimulated}
+use Rattle.refinement.specs.Errors.{IsFatalOf}
+use Rattle.refinement.specs.Recovering.{WorksPlainly}
 use Rattle.block_machine.specs.Events.{Service}
-use Rattle.block_machine.specs.Histories.{IsReached}
+use Rattle.block_machine.specs.Histories.{IsReachable}
 use Rattle.block_machine.specs.State.{Machine}
 use Rattle.driver_history.specs.Histories.{IsUnfitOrForeign, HasFaultAlone}
-use Rattle.host_boot.specs.Taken.{found_of}
-use Rattle.port_look.specs.Looks.{IsLooking}
-use Rattle.port_look.specs.declared.Trouble.{Trouble}
-use Rattle.port_look.specs.declared.Trouble.TheVariants.{Broken, Failed, Hung, Lost}
+use Rattle.host_boot.specs.Taken.{probe_result_of}
+use Rattle.port_events.specs.Looks.{IsLooking}
+use Rattle.port_events.specs.declared.PortError.{PortError}
+use Rattle.port_events.specs.declared.PortError.TheVariants.{BusError, TaskFileError, TimedOut, LinkChanged}
 use Rattle.server_history.specs.Below.{LawsBelow}
-use Rattle.server_history.specs.Mended.{AreQueued, MendsPort}
-use Rattle.server_history.specs.Server.{Server, IsKept, IsMachineOf, ports_of, slots_at, state_of}
-use Rattle.server_history.specs.Turns.{HeedsTrouble, InService, TiesTurn, instant_of}
+use Rattle.server_history.specs.ErrorHandling.{AreQueued, HandlesPortError}
+use Rattle.server_history.specs.Server.{ServerState, InCallInvariant, IsMachineOf, ports_of, slots_at, state_of}
+use Rattle.server_history.specs.Turns.{HeedsPortErrors, InService, TurnCorresponds, server_instant}
 use Rattle.server_history.proofs.recovery_turn.DecidedSteps.{DecidesTurn}
 use Rattle.server_history.proofs.recovery_turn.TurnEvidence.{IsEvident}
 use Rattle.server_history.proofs.recovery_turn.ToldFault.{faulting}
@@ -34,11 +34,11 @@ use Rattle.server_history.proofs.recovery_turn.TurnParts.{evidence_by, fatal_of,
 use Rattle.server_history.proofs.state.PortSlots.{ready_found}
 use Rattle.server_history.proofs.recovery_turn.HealthyPort.{going_well}
 use Rattle.server_history.proofs.state.FirstMembers.{first_here}
-use Rattle.agreement.specs.Links.{IsPlugging}
+use Rattle.refinement.specs.Links.{IsPlugging}
 
-module _ (laws : LawsBelow) (port : Port) (replies : List Reply) (old new : Server) (k : IsKept old) (ready : state_of (found_of old.ports port.0) ≡ ReadyState) (r : MendsPort port replies old new)
-    (looks : IsFollowed (IsLooking port) AnyUse old.device r.settled.mended.seen) (kept : IsKept r.mid) (evident : IsEvident port replies old new r)
-    (m : Machine) (reached : IsReached m) (is : IsMachineOf old m)
+module _ (laws : LawsBelow) (port : Port) (replies : List Reply) (old new : ServerState) (k : InCallInvariant old) (ready : state_of (probe_result_of old.ports port.0) ≡ ReadyState) (r : HandlesPortError port replies old new)
+    (looks : IsSimulated (IsLooking port) AnyUse old.device r.settled.error_handled.seen) (kept : InCallInvariant r.mid) (evident : IsEvident port replies old new r)
+    (m : Machine) (reached : IsReachable m) (is : IsMachineOf old m)
     (d : DecidesTurn port replies old new r (evidence_by r.settled) m) where
   -- the port was ready when the turn began
   not_absent : (ports_of old).state port ≡ shown.Absent → ⊥
@@ -50,51 +50,51 @@ module _ (laws : LawsBelow) (port : Port) (replies : List Reply) (old new : Serv
       (λ unfit. let z : ReadyState ≡ shown.Unfit unfit.0 = sym ready ∙ unfit.1 in absurd cc)
       bad
 
-  then_kept : IsKept r.settled.mid
+  then_kept : InCallInvariant r.settled.mid
   then_kept = mid_kept laws port r.later old r.mid k ready r.settled looks
 
-  then_ready : state_of (found_of r.settled.mid.ports port.0) ≡ ReadyState
+  then_ready : state_of (probe_result_of r.settled.mid.ports port.0) ≡ ReadyState
   then_ready = mid_ready laws port r.later old r.mid k ready r.settled looks
 
   -- with plain commands outstanding, it has worked on plain ones alone
-  plainly : r.settled.mended.queued ≡ false → WorksPlainly (r.settled.mid.device.port port.0)
-  plainly plain = works_plainly laws r.settled.mid then_kept port then_ready (subst (λ (queued : Bool). AreQueued queued (slots_at r.settled.mid.slots port.0)) plain r.settled.mended.alike) ((then_kept.behind port.0 (ready_found old port.0 k ready).0).halts then_ready)
+  plainly : r.settled.error_handled.queued ≡ false → WorksPlainly (r.settled.mid.device.port port.0)
+  plainly plain = works_plainly laws r.settled.mid then_kept port then_ready (subst (λ (queued : Bool). AreQueued queued (slots_at r.settled.mid.slots port.0)) plain r.settled.error_handled.alike) ((then_kept.behind port.0 (ready_found old port.0 k ready).0).halts then_ready)
 
   -- where TFES alone was shown, and no fatal error came, a command had failed
-  failing : r.settled.mended.trouble ≢ Hung → HasFaultAlone port (instant_of old m) new.device → r.settled.mended.trouble ≡ Failed
-  failing unhung alone = by r.settled.mended.trouble refl
+  failing : r.settled.error_handled.port_error ≢ TimedOut → HasFaultAlone port (server_instant old m) new.device → r.settled.error_handled.port_error ≡ TaskFileError
+  failing unhung alone = by r.settled.error_handled.port_error refl
     where
-      by : (t : Trouble) → r.settled.mended.trouble ≡ t → r.settled.mended.trouble ≡ Failed
-      by Failed is = is
-      by Broken is =
-          let here : Contains (fatal_of port r.settled.mended.trouble (old.device.port port.0)) port = subst (λ (t : Trouble). Contains (fatal_of port t (old.device.port port.0)) port) (sym is) (first_here port []) in
+      by : (t : PortError) → r.settled.error_handled.port_error ≡ t → r.settled.error_handled.port_error ≡ TaskFileError
+      by TaskFileError is = is
+      by BusError is =
+          let here : Contains (fatal_of port r.settled.error_handled.port_error (old.device.port port.0)) port = subst (λ (t : PortError). Contains (fatal_of port t (old.device.port port.0)) port) (sym is) (first_here port []) in
           absurd (⊎_elim alone.shows.fatal (gains_none (IsFatalOf port.0) old.device new.device alone.fatal.gained alone.fatal.tape alone.fatal.none) ((evident.evidenced Service m).fatal_only here).1)
-      by Lost is =
-          let here : Contains (gone_of port r.settled.mended.trouble (old.device.port port.0)) port = subst (λ (t : Trouble). Contains (gone_of port t (old.device.port port.0)) port) (sym is) (first_here port []) in
+      by LinkChanged is =
+          let here : Contains (gone_of port r.settled.error_handled.port_error (old.device.port port.0)) port = subst (λ (t : PortError). Contains (gone_of port t (old.device.port port.0)) port) (sym is) (first_here port []) in
           absurd (⊎_elim alone.shows.change
           (λ more. ⊎_elim (λ (out : (old.device.port port.0).ssts_det ≢ 3). out alone.shows.device) (gains_none (IsPlugging port.0) old.device new.device alone.plugged.gained alone.plugged.tape alone.plugged.none) more)
           ((evident.evidenced Service m).gone_only here).1)
-      by Hung is = absurd (unhung is)
+      by TimedOut is = absurd (unhung is)
 
   -- what a call does of trouble
-  pub heeds_trouble : HeedsTrouble port evident.accesses (instant_of old m) (evidence_by r.settled) (ports_of new) new.device
+  pub heeds_trouble : HeedsPortErrors port evident.accesses (server_instant old m) (evidence_by r.settled) (ports_of new) new.device
   heeds_trouble = record {
-    trouble = lasting laws port replies old new k ready r looks kept evident.parts m;
+    port_error = lasting laws port replies old new k ready r looks kept evident.parts m;
     well = going_well laws port replies old new k ready r looks kept evident plainly m;
   }
 
-  pub ties_recovered : r.settled.mended.trouble ≢ Hung → TiesTurn InService port replies evident.accesses old new m (evidence_by r.settled) d.steps
+  pub ties_recovered : r.settled.error_handled.port_error ≢ TimedOut → TurnCorresponds InService port replies evident.accesses old new m (evidence_by r.settled) d.steps
   ties_recovered unhung = record {
     finds = λ _ e issued. finding laws port replies old new k ready r looks kept evident m reached is d;
     faults = λ alone e slot issued unended says plain. faulting laws port replies old new k ready r looks kept m reached is d (failing unhung alone) e slot issued unended says plain;
-    tries = λ _ _. record {
+    probes = λ _ _. record {
       shown = λ absent. absurd (not_absent absent);
       absent = λ absent. absurd (not_absent absent);
       missing = λ bad. absurd (not_bad bad);
       changed = λ bad. absurd (not_bad bad);
     };
     boots = reboots laws port replies old new k ready r looks kept evident m;
-    trouble = heeds_trouble.trouble;
+    port_error = heeds_trouble.port_error;
     well = heeds_trouble.well;
     heeds = λ _. serves_ready laws port replies old new k ready r looks kept evident m reached is d unhung;
   }

@@ -13,13 +13,13 @@ use Rattle.adapter.specs.Access.{Access, DoesAll}
 use Rattle.adapter.specs.Device.{Device}
 use Rattle.adapter.specs.declared.command.Operation.TheVariants.{ReadLog}
 use Rattle.adapter.specs.declared.tape.Fault as tape_fault
-use Rattle.agreement.specs.Driven.{AnyUse, Grows, IsFollowed, IsOf, SendsNone}
-use Rattle.agreement.specs.Driver.{IsBacked}
-use Rattle.agreement.specs.Links.{SparesRegister}
+use Rattle.refinement.specs.Driven.{AnyUse, Grows, IsSimulated, IsOf, SendsNone}
+use Rattle.refinement.specs.Driver.{IsBacked}
+use Rattle.refinement.specs.Links.{SparesRegister}
 use Rattle.block_machine.specs.Events.{Ask, HadDisk, Served, ShowsDisk, changes_disk}
 use Rattle.adapter.specs.declared.access.DeviceStep.{DeviceStep}
 use Rattle.block_machine.specs.Left.{after}
-use Rattle.block_machine.specs.Ports.{Fault, IsServiced}
+use Rattle.block_machine.specs.Ports.{RequestFault, IsServiced}
 use Rattle.block_machine.specs.State.{Machine}
 use Rattle.block_machine.specs.Steps.{Step}
 use Rattle.server_history.proofs.state.ListMembers.{contains_cases}
@@ -29,23 +29,23 @@ use Rattle.error_recovery.specs.Evidence.{HasFailed}
 use Rattle.error_recovery.specs.Recovery.{EndsIn, Rests, TellsEngine}
 use Rattle.error_recovery.specs.declared.Next.{Next}
 use Rattle.error_recovery.specs.declared.Next.TheVariants as next
-use Rattle.error_log.specs.declared.Failure.{Failure}
-use Rattle.host_boot.specs.Taken.{found_of, wanted_of}
-use Rattle.host_boot.specs.declared.Found.TheVariants.{Ready, Unready}
+use Rattle.error_log.specs.declared.FailedSlot.{FailedSlot}
+use Rattle.host_boot.specs.Taken.{probe_result_of, wanted_of}
+use Rattle.host_boot.specs.declared.ProbeResult.TheVariants.{Ready, Unready}
 use Rattle.port_control.specs.Engines.{Sticks, Stops}
-use Rattle.port_look.specs.Looks.{IsLooking, LooksAt}
-use Rattle.port_look.specs.declared.Look.{Look}
+use Rattle.port_events.specs.Looks.{IsLooking, LooksAt}
+use Rattle.port_events.specs.declared.PortEvent.{PortEvent}
 use Rattle.request_queue.specs.Entries.{Held, asks_of, due_ids}
-use Rattle.request_queue.specs.declared.fate.Failed as failed_request
-use Rattle.request_queue.specs.declared.fate.Prospect.TheVariants.{DiskLost}
+use Rattle.request_queue.specs.declared.disposition.FailedRequest as failed_request
+use Rattle.request_queue.specs.declared.disposition.Revalidation.TheVariants.{DiskLost}
 use Rattle.slots.specs.Uses.{use_at}
-use Rattle.slots.specs.declared.Use.{Use as SlotUse}
+use Rattle.slots.specs.declared.SlotUse.{SlotUse}
 use Rattle.server_history.specs.Below.{LawsBelow}
 use Rattle.server_history.proofs.any_turn.ShownTrouble.{grows_over}
-use Rattle.server_history.specs.Mended.{IsFailed, IsFoundAfter, IsFoundOut, IsProspect, IsMended, HasMetFates, MendsPort}
+use Rattle.server_history.specs.ErrorHandling.{IsFailed, IsRevalidated, IsFoundOut, IsRevalidation, IsErrorHandled, HasResolved, HandlesPortError}
 use Rattle.server_history.specs.Served.{AnswersEach}
-use Rattle.server_history.specs.Server.{Server, IsKept, IsMachineOf, ports_of, slots_at, state_of, used_for, mode_in}
-use Rattle.server_history.specs.Turns.{IsOfCommand, LeavesOthers, NamesOnly, TellsFault, instant_of, moment_of}
+use Rattle.server_history.specs.Server.{ServerState, InCallInvariant, IsMachineOf, ports_of, slots_at, state_of, used_for, mode_in}
+use Rattle.server_history.specs.Turns.{IsOfCommand, LeavesOthers, NamesOnly, TellsFault, server_instant, server_moment}
 use Rattle.server_history.proofs.healthy_turn.OneAnswer.{answer_kept}
 use Rattle.server_history.proofs.recovery_turn.SparedPorts.{leaves_others}
 use Rattle.server_history.proofs.recovery_turn.MendedPort.{becomes, dead_found, dead_prospect, disk_same, interrupted, its, lost_is, names, ready_info, state_new, stuck_is, next_dead}
@@ -61,13 +61,13 @@ use Rattle.server_history.proofs.any_turn.ShownDevice.{had_disk, shows_device}
 use Rattle.server_history.proofs.state.PortSlots.{AreOver, ready_found}
 use Rattle.server_history.proofs.recovery_turn.TurnStretches.{TurnParts, accesses_in, done_over, found_is, found_kept, mid_device, turn_parts}
 use Rattle.server_history.proofs.state.FirstMembers.{nowhere}
-use Rattle.port_look.specs.declared.Look.TheVariants as look
-use Rattle.port_look.specs.declared.Trouble.{Trouble}
-use Rattle.port_look.specs.declared.Trouble.TheVariants.{Broken, Failed, Hung, Lost}
+use Rattle.port_events.specs.declared.PortEvent.TheVariants as look
+use Rattle.port_events.specs.declared.PortError.{PortError}
+use Rattle.port_events.specs.declared.PortError.TheVariants.{BusError, TaskFileError, TimedOut, LinkChanged}
 use Rattle.server_history.proofs.state.TurnAccesses.{look_list, look_does}
 use Rattle.host_boot.specs.Again.{BootsAgain}
 use Rattle.host_boot.specs.declared.Booted.{Booted}
-use Rattle.host_boot.specs.declared.Found.{Found}
+use Rattle.host_boot.specs.declared.ProbeResult.{ProbeResult}
 use Rattle.server_history.proofs.plain_calls.IssueRounds.{each_driven}
 
 -- ---- what recovery tells of the port's engine
@@ -92,20 +92,20 @@ module _ (laws : LawsBelow) (port : Port) (early part late : List Access) where
 -- ---- slots
 
 -- what a slot is used for once requests were answered, it was used for before
-pub slots_were : (laws : LawsBelow) (port : Port) → port.0 < 4 → (done : ℕ) (requests : List Held) (old new : Server) → IsKept old → state_of (found_of old.ports port.0) ≡ ReadyState → AreOver port done old.device → AnswersEach port done requests old new
+pub slots_were : (laws : LawsBelow) (port : Port) → port.0 < 4 → (done : ℕ) (requests : List Held) (old new : ServerState) → InCallInvariant old → state_of (probe_result_of old.ports port.0) ≡ ReadyState → AreOver port done old.device → AnswersEach port done requests old new
     → (slot : ℕ) (used : SlotUse) → used_for new.slots port.0 slot ≡ Some used → used_for old.slots port.0 slot ≡ Some used
-slots_were laws port low done [] old new k ready over none slot used is = ap (λ (n : Server). used_for n.slots port.0 slot) (sym none) ∙ is
+slots_were laws port low done [] old new k ready over none slot used is = ap (λ (n : ServerState). used_for n.slots port.0 slot) (sym none) ∙ is
 slots_were laws port low done (e ∷ requests) old new k ready over (mid, one, its, more) slot used is =
     let was = slots_were laws port low done requests mid new (answer_kept laws old mid port e k ready one (over one.slot one.small its)) (ready_on laws port done e old mid one ready) (over_on laws port done e old mid one over) more slot used is in
     let four = k.four in
     let places = (k.slots port.0 low).places in
     let small = one.small in
-    freed_was old.slots port.0 one.slot (omega (arith, four, low)) (omega (arith, places, small)) port.0 slot used (ap (λ (n : Server). used_for n.slots port.0 slot) (sym one.server) ∙ was)
+    freed_was old.slots port.0 one.slot (omega (arith, four, low)) (omega (arith, places, small)) port.0 slot used (ap (λ (n : ServerState). used_for n.slots port.0 slot) (sym one.server) ∙ was)
 
 -- ---- the whole
 
 -- What stands behind the turn, but for its steps: its accesses, what it leaves of the other ports, and its evidence. (Where the port shows a disk after it, the machine had one in the port, or one went or came.)
-pub record IsEvident (port : Port) (replies : List Reply) (old new : Server) (r : MendsPort port replies old new) : Type 0 where
+pub record IsEvident (port : Port) (replies : List Reply) (old new : ServerState) (r : HandlesPortError port replies old new) : Type 0 where
   pub parts : TurnParts port replies old new r
   pub accesses : List Access
   pub accesses_are : accesses ≡ accesses_in parts
@@ -113,24 +113,24 @@ pub record IsEvident (port : Port) (replies : List Reply) (old new : Server) (r 
   pub of : All (IsOf port) accesses
   pub own : All IsDriversOwn accesses
   pub others : LeavesOthers port old new
-  pub silent : (q : ℕ) → q ≢ port.0 → state_of (found_of old.ports q) ≢ DeadState → SendsNone q ReadLog old.device new.device
+  pub silent : (q : ℕ) → q ≢ port.0 → state_of (probe_result_of old.ports q) ≢ DeadState → SendsNone q ReadLog old.device new.device
   pub names : NamesOnly port (evidence_by r.settled)
   pub becomes : IsServiced (ports_of old) (evidence_by r.settled) (ports_of new) port
-  pub evidenced : (ask : Ask DeviceStep) (m : Machine) → IsEvidencedOf ask (Served replies) accesses (instant_of old m) (ports_of new) new.device (evidence_by r.settled) port
-  pub faults : (told : Fault) → Contains (evidence_by r.settled).faults told → TellsFault port accesses old new told
+  pub evidenced : (ask : Ask DeviceStep) (m : Machine) → IsEvidencedOf ask (Served replies) accesses (server_instant old m) (ports_of new) new.device (evidence_by r.settled) port
+  pub faults : (told : RequestFault) → Contains (evidence_by r.settled).faults told → TellsFault port accesses old new told
   pub had : (m : Machine) → IsMachineOf old m → (steps : List Step) → IsBacked old.device new.device m steps
-      → HadDisk (moment_of old m) steps (moment_of new (after m steps)) port
+      → HadDisk (server_moment old m) steps (server_moment new (after m steps)) port
 
-module _ (laws : LawsBelow) (port : Port) (replies : List Reply) (old new : Server) (k : IsKept old) (ready : state_of (found_of old.ports port.0) ≡ ReadyState) (r : MendsPort port replies old new)
-    (looks : IsFollowed (IsLooking port) AnyUse old.device r.settled.mended.seen) (kept : IsKept r.mid) where
-  abbrev a : HasMetFates port r.later old r.mid
+module _ (laws : LawsBelow) (port : Port) (replies : List Reply) (old new : ServerState) (k : InCallInvariant old) (ready : state_of (probe_result_of old.ports port.0) ≡ ReadyState) (r : HandlesPortError port replies old new)
+    (looks : IsSimulated (IsLooking port) AnyUse old.device r.settled.error_handled.seen) (kept : InCallInvariant r.mid) where
+  abbrev a : HasResolved port r.later old r.mid
   a = r.settled
 
-  abbrev x : IsMended port old a.mid a.device
-  x = a.mended
+  abbrev x : IsErrorHandled port old a.mid a.device
+  x = a.error_handled
 
   abbrev part : List Access
-  part = x.mends.accesses
+  part = x.handling.accesses
 
   low : port.0 < 4
   low = (ready_found old port.0 k ready).0
@@ -161,49 +161,49 @@ module _ (laws : LawsBelow) (port : Port) (replies : List Reply) (old new : Serv
       by (next.Running token) is = t.stuck dead (λ e. let z : next.Running token ≡ next.Dead = sym is ∙ e in cc)
       by (next.Restart token) is = t.stuck dead (λ e. let z : next.Restart token ≡ next.Dead = sym is ∙ e in cc)
       by next.Dead is =
-          let still : IsFoundAfter (wanted_of old.wanted port.0) port x.trouble a.was next.Dead a.device r.mid.device a.found = subst (λ (n : Next). IsFoundAfter (wanted_of old.wanted port.0) port x.trouble a.was n a.device r.mid.device a.found) is a.is in
-          ap (λ (s : Server). (s.device.port port.0).notes.engine_count) (t.unissued dead) ∙ ap (λ (d : Device). (d.port port.0).notes.engine_count) still.1
-          ∙ ends_stuck laws port [] [] [] x.queued x.result.next a.mid.device a.device x.mends.leaves.ends is
+          let still : IsRevalidated (wanted_of old.wanted port.0) port x.port_error a.was next.Dead a.device r.mid.device a.found = subst (λ (n : Next). IsRevalidated (wanted_of old.wanted port.0) port x.port_error a.was n a.device r.mid.device a.found) is a.is in
+          ap (λ (s : ServerState). (s.device.port port.0).notes.engine_count) (t.unissued dead) ∙ ap (λ (d : Device). (d.port port.0).notes.engine_count) still.1
+          ∙ ends_stuck laws port [] [] [] x.queued x.result.next a.mid.device a.device x.handling.leaves.ends is
 
-  evidenced : (ask : Ask DeviceStep) (m : Machine) → IsEvidencedOf ask (Served replies) (accesses_in t) (instant_of old m) (ports_of new) new.device (its laws port replies old new k ready r looks kept) port
+  evidenced : (ask : Ask DeviceStep) (m : Machine) → IsEvidencedOf ask (Served replies) (accesses_in t) (server_instant old m) (ports_of new) new.device (its laws port replies old new k ready r looks kept) port
   evidenced ask m = record {
     lost = λ here.
-        let other = lost_is port a.prospect here in
-        let e : IsProspect x.trouble a.was a.found DiskLost = subst (IsProspect x.trouble a.was a.found) other a.expects in
+        let other = lost_is port a.revalidation here in
+        let e : IsRevalidation x.port_error a.was a.found DiskLost = subst (IsRevalidation x.port_error a.was a.found) other a.expects in
         ⊎_elim
-        (λ lost. ⊎_elim (λ change. inl change) (λ more. inr (⊎_elim (λ out. inl out) (λ came. inr (inl came)) more)) (loss laws port old.device x.seen new.device k.on undue grown_seen x.trouble x.finds lost))
+        (λ lost. ⊎_elim (λ change. inl change) (λ more. inr (⊎_elim (λ out. inl out) (λ came. inr (inl came)) more)) (loss laws port old.device x.seen new.device k.on undue grown_seen x.port_error x.finds lost))
         (λ another. inr (inr (inr (
           (λ dead. e.0 (dead_found laws port replies old new k ready r looks kept dead)),
           (λ is same. let i = ready_info laws port replies old new k ready r looks kept is in another i.0 i.1 (disk_same laws port replies old new k ready r looks kept i.0 i.1 same)),
         ))))
         e.1;
-    gone_all = λ _ shows. gone_all laws port old.device x.seen new.device k.on undue grown_seen x.trouble x.finds shows;
-    gone_only = λ here. (ready, gone_only laws port old.device x.seen new.device k.on undue grown_seen x.trouble x.finds here);
-    failed_all = λ _ shows. failed_all laws port old.device x.seen new.device k.on undue grown_seen x.trouble shows;
-    failed_only = λ here. (ready, failed_only laws port old.device x.seen new.device k.on undue grown_seen x.trouble x.finds here);
-    fatal_all = λ _ fatal. fatal_all laws port old.device x.seen new.device k.on undue grown_seen x.trouble x.finds fatal;
-    fatal_only = λ here. (ready, fatal_only laws port old.device x.seen new.device k.on undue grown_seen x.trouble x.finds here);
+    gone_all = λ _ shows. gone_all laws port old.device x.seen new.device k.on undue grown_seen x.port_error x.finds shows;
+    gone_only = λ here. (ready, gone_only laws port old.device x.seen new.device k.on undue grown_seen x.port_error x.finds here);
+    failed_all = λ _ shows. failed_all laws port old.device x.seen new.device k.on undue grown_seen x.port_error shows;
+    failed_only = λ here. (ready, failed_only laws port old.device x.seen new.device k.on undue grown_seen x.port_error x.finds here);
+    fatal_all = λ _ fatal. fatal_all laws port old.device x.seen new.device k.on undue grown_seen x.port_error x.finds fatal;
+    fatal_only = λ here. (ready, fatal_only laws port old.device x.seen new.device k.on undue grown_seen x.port_error x.finds here);
     stopped_all = inr (interrupted laws port replies old new k ready r looks kept);
-    stopped_only = λ here. inl (engine_stops laws port t.early.accesses part t.late.accesses x.result.next x.mends.does.engine here);
+    stopped_only = λ here. inl (engine_stops laws port t.early.accesses part t.late.accesses x.result.next x.handling.does.engine here);
     stuck_only = λ here.
-        let dead = dead_prospect laws port replies old new k ready r looks kept (stuck_is port a.prospect here) in
-        inl (engine_sticks laws port t.early.accesses part t.late.accesses x.result.next x.mends.does.engine (t.sticks dead), counted dead);
+        let dead = dead_prospect laws port replies old new k ready r looks kept (stuck_is port a.revalidation here) in
+        inl (engine_sticks laws port t.early.accesses part t.late.accesses x.result.next x.handling.does.engine (t.sticks dead), counted dead);
   }
 
   -- ---- faults
 
   -- Where a queued command is named, the port runs, with the disk that it had.
-  module _ (its_failure : Failure) (named : x.result.failed ≡ Some its_failure) where
+  module _ (its_failure : FailedSlot) (named : x.result.failed ≡ Some its_failure) where
     runs_then : x.queued ≡ true → (a.found ≡ Ready a.was) × (r.mid.device ≡ a.device)
     runs_then queued = by x.result.next refl
       where
-        then_is : (then : Next) → x.result.next ≡ then → IsFoundAfter (wanted_of old.wanted port.0) port x.trouble a.was then a.device r.mid.device a.found
-        then_is then is = subst (λ (n : Next). IsFoundAfter (wanted_of old.wanted port.0) port x.trouble a.was n a.device r.mid.device a.found) is a.is
+        then_is : (then : Next) → x.result.next ≡ then → IsRevalidated (wanted_of old.wanted port.0) port x.port_error a.was then a.device r.mid.device a.found
+        then_is then is = subst (λ (n : Next). IsRevalidated (wanted_of old.wanted port.0) port x.port_error a.was n a.device r.mid.device a.found) is a.is
 
         by : (then : Next) → x.result.next ≡ then → (a.found ≡ Ready a.was) × (r.mid.device ≡ a.device)
         by (next.Running token) is = then_is (next.Running token) is
-        by (next.Restart token) is = let z : Some its_failure ≡ None = sym named ∙ x.mends.tells.unnamed token queued is in absurd cc
-        by next.Dead is = let z : Some its_failure ≡ None = sym named ∙ x.mends.tells.dead is in absurd cc
+        by (next.Restart token) is = let z : Some its_failure ≡ None = sym named ∙ x.handling.tells.unnamed token queued is in absurd cc
+        by next.Dead is = let z : Some its_failure ≡ None = sym named ∙ x.handling.tells.dead is in absurd cc
 
     lives_then : x.queued ≡ true → (ports_of new).state port ≢ DeadState
     lives_then queued dead = let z : ReadyState ≡ DeadState = sym (ap state_of (runs_then queued).0) ∙ sym (state_new laws port replies old new k ready r looks kept) ∙ dead in cc
@@ -237,25 +237,25 @@ module _ (laws : LawsBelow) (port : Port) (replies : List Reply) (old new : Serv
           served = slots_were laws port low x.done x.requests (record old { device = x.found }) a.mid (found_kept laws port replies old new k ready r looks kept) ready (done_over laws port replies old new k ready r looks kept) x.each its_failure.slot.0 used there;
           id_is = refl;
           its = subst (λ (queued : Bool). IsOfCommand queued port (accesses_in t) old.device new.device its_failure.slot.0 (record { id = used.id; status = its_failure.status; error = its_failure.error })) (sym alike)
-              (told_so x.queued refl (subst (Rests x.queued port x.outstanding part a.mid.device a.device) named x.mends.tells.rests) used.id);
+              (told_so x.queued refl (subst (Rests x.queued port x.outstanding part a.mid.device a.device) named x.handling.tells.rests) used.id);
           lives = λ queued. lives_then (sym alike ∙ queued);
         }
 
-  faults : (told : Fault) → Contains (faults_of a.failed) told → TellsFault port (accesses_in t) old new told
+  faults : (told : RequestFault) → Contains (faults_of a.failed) told → TellsFault port (accesses_in t) old new told
   faults told here = by a.failed refl here
     where
-      by_failure : (failed : failed_request.Failed) → a.failed ≡ Some failed → (o : Option Failure) → x.result.failed ≡ o → IsFailed (slots_at a.mid.slots port.0) o a.failed
+      by_failure : (failed : failed_request.FailedRequest) → a.failed ≡ Some failed → (o : Option FailedSlot) → x.result.failed ≡ o → IsFailed (slots_at a.mid.slots port.0) o a.failed
           → TellsFault port (accesses_in t) old new (record { id = failed.id; status = failed.status; error = failed.error })
       by_failure failed is None none names = let z : Some failed ≡ None = sym is ∙ names in absurd cc
       by_failure failed is (Some its_failure) named names =
           let same : failed ≡ record { id = names.0.id; status = its_failure.status; error = its_failure.error } = (let z : Some failed ≡ Some (record { id = names.0.id; status = its_failure.status; error = its_failure.error }) = sym is ∙ names.2 in cc) in
-          subst (λ (f : failed_request.Failed). TellsFault port (accesses_in t) old new (record { id = f.id; status = f.status; error = f.error })) (sym same) (tells_named its_failure named names.0 names.1)
+          subst (λ (f : failed_request.FailedRequest). TellsFault port (accesses_in t) old new (record { id = f.id; status = f.status; error = f.error })) (sym same) (tells_named its_failure named names.0 names.1)
 
-      by : (f : Option failed_request.Failed) → a.failed ≡ f → Contains (faults_of a.failed) told → TellsFault port (accesses_in t) old new told
-      by None is there = absurd (nowhere told (subst (λ (o : Option failed_request.Failed). Contains (faults_of o) told) is there))
+      by : (f : Option failed_request.FailedRequest) → a.failed ≡ f → Contains (faults_of a.failed) told → TellsFault port (accesses_in t) old new told
+      by None is there = absurd (nowhere told (subst (λ (o : Option failed_request.FailedRequest). Contains (faults_of o) told) is there))
       by (Some failed) is there =
-          let fault : Fault = record { id = failed.id; status = failed.status; error = failed.error } in
-          let same : told ≡ fault = ⊎_elim (λ e. e) (λ none. absurd (nowhere told none)) (contains_cases fault [] told (subst (λ (o : Option failed_request.Failed). Contains (faults_of o) told) is there)) in
+          let fault : RequestFault = record { id = failed.id; status = failed.status; error = failed.error } in
+          let same : told ≡ fault = ⊎_elim (λ e. e) (λ none. absurd (nowhere told none)) (contains_cases fault [] told (subst (λ (o : Option failed_request.FailedRequest). Contains (faults_of o) told) is there)) in
           subst (TellsFault port (accesses_in t) old new) (sym same) (by_failure failed is x.result.failed refl a.names)
 
   -- ---- disks
@@ -276,9 +276,9 @@ module _ (laws : LawsBelow) (port : Port) (replies : List Reply) (old new : Serv
     abbrev Had : Type 0
     Had = (m.present port ≡ true) ⊎ (list_any (changes_disk port) steps ≡ true)
 
-    had_seen : (told : Look) (l : LooksAt port told old.device x.seen) → (told ≡ look.Failed) ⊎ (told ≡ look.Broken) → Had
+    had_seen : (told : PortEvent) (l : LooksAt port told old.device x.seen) → (told ≡ look.TaskFileError) ⊎ (told ≡ look.BusError) → Had
     had_seen told l error =
-        had_at (look_list port l.causes l.own l.status) x.seen (look_does port told old.device x.seen l) (shows_device laws port old.device x.seen told l k.on (λ lost. ⊎_elim (λ (is : told ≡ look.Failed). let z : look.Lost ≡ look.Failed = sym lost ∙ is in cc) (λ (is : told ≡ look.Broken). let z : look.Lost ≡ look.Broken = sym lost ∙ is in cc) error)) grown_seen m stands steps backed
+        had_at (look_list port l.causes l.own l.status) x.seen (look_does port told old.device x.seen l) (shows_device laws port old.device x.seen told l k.on (λ lost. ⊎_elim (λ (is : told ≡ look.TaskFileError). let z : look.LinkChanged ≡ look.TaskFileError = sym lost ∙ is in cc) (λ (is : told ≡ look.BusError). let z : look.LinkChanged ≡ look.BusError = sym lost ∙ is in cc) error)) grown_seen m stands steps backed
 
     had_booted : (booted : Booted) → BootsAgain (wanted_of old.wanted port.0) port booted a.device r.mid.device → ShowsDisk (state_of booted.found) → Had
     had_booted booted b shows =
@@ -287,31 +287,31 @@ module _ (laws : LawsBelow) (port : Port) (replies : List Reply) (old new : Serv
         b shows grown_issuing m stands steps backed
 
     -- where no command had failed, the port was booted
-    had_stopped : x.trouble ≢ Failed → ShowsDisk (state_of a.found) → Had
+    had_stopped : x.port_error ≢ TaskFileError → ShowsDisk (state_of a.found) → Had
     had_stopped other shows = by x.result.next refl
       where
         by : (n : Next) → x.result.next ≡ n → Had
-        by (next.Running token) is = absurd ((given_up x.trouble port x.outstanding x.queued x.result x.mends.accesses a.mid.device a.device x.tells other).1 token is)
-        by next.Dead is = absurd (subst (λ (f : Found). ShowsDisk (state_of f)) (next_dead laws port replies old new k ready r looks kept is) shows)
+        by (next.Running token) is = absurd ((given_up x.port_error port x.outstanding x.queued x.result x.handling.accesses a.mid.device a.device x.tells other).1 token is)
+        by next.Dead is = absurd (subst (λ (f : ProbeResult). ShowsDisk (state_of f)) (next_dead laws port replies old new k ready r looks kept is) shows)
         by (next.Restart token) is = ⊎_elim
-            (λ boots. had_booted after.0 boots (subst (λ (f : Found). ShowsDisk (state_of f)) (sym after.1) shows))
-            (λ absent. absurd (subst (λ (f : Found). ShowsDisk (state_of f)) (sym after.1 ∙ absent.is) shows))
-            (boots_or_absent x.trouble (wanted_of old.wanted port.0) port after.0 a.device r.mid.device after.2)
+            (λ boots. had_booted after.0 boots (subst (λ (f : ProbeResult). ShowsDisk (state_of f)) (sym after.1) shows))
+            (λ absent. absurd (subst (λ (f : ProbeResult). ShowsDisk (state_of f)) (sym after.1 ∙ absent.is) shows))
+            (boots_or_absent x.port_error (wanted_of old.wanted port.0) port after.0 a.device r.mid.device after.2)
           where
-            after : IsFoundAfter (wanted_of old.wanted port.0) port x.trouble a.was (next.Restart token) a.device r.mid.device a.found
-            after = subst (λ (n : Next). IsFoundAfter (wanted_of old.wanted port.0) port x.trouble a.was n a.device r.mid.device a.found) is a.is
+            after : IsRevalidated (wanted_of old.wanted port.0) port x.port_error a.was (next.Restart token) a.device r.mid.device a.found
+            after = subst (λ (n : Next). IsRevalidated (wanted_of old.wanted port.0) port x.port_error a.was n a.device r.mid.device a.found) is a.is
 
-    had : HadDisk (moment_of old m) steps (moment_of new (after m steps)) port
-    had shows = by x.trouble refl x.finds
+    had : HadDisk (server_moment old m) steps (server_moment new (after m steps)) port
+    had shows = by x.port_error refl x.finds
       where
         shows_found : ShowsDisk (state_of a.found)
         shows_found = subst ShowsDisk (state_new laws port replies old new k ready r looks kept) shows
 
-        by : (trouble : Trouble) → x.trouble ≡ trouble → IsFoundOut port trouble old.device x.seen → Had
-        by Failed is l = had_seen look.Failed l (inl refl)
-        by Broken is l = had_seen look.Broken l (inr refl)
-        by Lost is l = had_stopped (λ failed. let z : Lost ≡ Failed = sym is ∙ failed in cc) shows_found
-        by Hung is same = had_stopped (λ failed. let z : Hung ≡ Failed = sym is ∙ failed in cc) shows_found
+        by : (port_error : PortError) → x.port_error ≡ port_error → IsFoundOut port port_error old.device x.seen → Had
+        by TaskFileError is l = had_seen look.TaskFileError l (inl refl)
+        by BusError is l = had_seen look.BusError l (inr refl)
+        by LinkChanged is l = had_stopped (λ failed. let z : LinkChanged ≡ TaskFileError = sym is ∙ failed in cc) shows_found
+        by TimedOut is same = had_stopped (λ failed. let z : TimedOut ≡ TaskFileError = sym is ∙ failed in cc) shows_found
 
   -- ---- all of it
 

@@ -4,39 +4,39 @@ use Rattle.std.specs.List.{All, AllZip, Contains}
 use Rattle.ata_types.specs.declared.Port.{Port}
 use Rattle.ata_types.specs.declared.request.Outcome.{Outcome}
 use Rattle.ata_types.specs.declared.request.Reply.{Reply}
-use Rattle.adapter.specs.Device.{Device, PortState}
-use Rattle.agreement.specs.Driver.{IsBacked}
+use Rattle.adapter.specs.Device.{Device, DevicePort}
+use Rattle.refinement.specs.Driver.{IsBacked}
 use Rattle.block_machine.specs.Events.{AllDevices, AllMay, Tells}
 use Rattle.block_machine.specs.Left.{after}
-use Rattle.block_machine.specs.Ports.{Evidence, Fault}
+use Rattle.block_machine.specs.Ports.{Evidence, RequestFault}
 use Rattle.block_machine.specs.State.{Machine, Pending}
 use Rattle.block_machine.specs.Steps.{Step, Again, Answer}
 use Rattle.error_recovery.specs.declared.Next.{Next}
 use Rattle.error_recovery.specs.declared.Next.TheVariants as next
 use Rattle.request_queue.specs.Entries.{Held}
-use Rattle.request_queue.specs.Fates.{fate_of}
+use Rattle.request_queue.specs.Dispositions.{disposition_of}
 use Rattle.request_queue.specs.Machine.{IsEntry}
-use Rattle.request_queue.specs.declared.fate.Failed.{Failed}
-use Rattle.request_queue.specs.declared.fate.Fate.TheVariants.{Ends, GoesAgain}
-use Rattle.request_queue.specs.declared.fate.Prospect.{Prospect}
-use Rattle.request_queue.specs.declared.fate.Prospect.TheVariants.{SameDisk, DiskLost, Dead}
-use Rattle.server_history.specs.Fates.{DecidesOn}
-use Rattle.server_history.specs.Mended.{IsMended, HasMetFates, requests_of}
+use Rattle.request_queue.specs.declared.disposition.FailedRequest.{FailedRequest}
+use Rattle.request_queue.specs.declared.disposition.Disposition.TheVariants.{Complete, Requeue}
+use Rattle.request_queue.specs.declared.disposition.Revalidation.{Revalidation}
+use Rattle.request_queue.specs.declared.disposition.Revalidation.TheVariants.{SameDisk, DiskLost, Dead}
+use Rattle.server_history.specs.Dispositions.{DecidesOn}
+use Rattle.server_history.specs.ErrorHandling.{IsErrorHandled, HasResolved, requests_of}
 use Rattle.server_history.specs.Served.{HasEnded, answers_in}
-use Rattle.server_history.specs.Server.{Server, IsMachineOf}
-use Rattle.port_look.specs.declared.Trouble.{Trouble}
-use Rattle.port_look.specs.declared.Trouble.TheVariants.{Broken, Hung, Lost}
+use Rattle.server_history.specs.Server.{ServerState, IsMachineOf}
+use Rattle.port_events.specs.declared.PortError.{PortError}
+use Rattle.port_events.specs.declared.PortError.TheVariants.{BusError, TimedOut, LinkChanged}
 use Rattle.server_history.proofs.state.CallEvidence.{shows_failure, shows_fatal, shows_loss}
 use Rattle.std.proofs.lemmas.Bool.{false≢true}
 use Rattle.server_history.proofs.state.FirstMembers.{first_here, nowhere}
 
 -- ---- its evidence
 
-abbrev pub faults_of : Option Failed → List Fault
+abbrev pub faults_of : Option FailedRequest → List RequestFault
 faults_of None = []
 faults_of (Some failed) = record { id = failed.id; status = failed.status; error = failed.error } ∷ []
 
-abbrev pub lost_of : Port → Prospect → List Port
+abbrev pub lost_of : Port → Revalidation → List Port
 lost_of port SameDisk = []
 lost_of port DiskLost = port ∷ []
 lost_of port Dead = []
@@ -46,7 +46,7 @@ stopped_of port (next.Running token) = port ∷ []
 stopped_of port (next.Restart token) = port ∷ []
 stopped_of port next.Dead = []
 
-abbrev pub stuck_of : Port → Prospect → List Port
+abbrev pub stuck_of : Port → Revalidation → List Port
 stuck_of port SameDisk = []
 stuck_of port DiskLost = []
 stuck_of port Dead = port ∷ []
@@ -64,42 +64,42 @@ named_if_is true port here = refl
 named_if_is false port here = absurd (nowhere port here)
 
 -- Its disk was lost. Where a request is hung, nobody looked: what is told is what the port showed when the turn began.
-abbrev pub gone_of : Port → Trouble → PortState → List Port
-gone_of port Lost p = port ∷ []
-gone_of port Hung p = named_if (shows_loss p) port
+abbrev pub gone_of : Port → PortError → DevicePort → List Port
+gone_of port LinkChanged p = port ∷ []
+gone_of port TimedOut p = named_if (shows_loss p) port
 gone_of port _ p = []
 
 -- A command had failed, or there was a fatal error. Where its disk was lost, or a request is hung, the port's errors are those that it showed when the turn began.
-abbrev pub failed_of : Port → Trouble → PortState → List Port
-failed_of port Lost p = named_if (shows_failure p) port
-failed_of port Hung p = named_if (shows_failure p) port
+abbrev pub failed_of : Port → PortError → DevicePort → List Port
+failed_of port LinkChanged p = named_if (shows_failure p) port
+failed_of port TimedOut p = named_if (shows_failure p) port
 failed_of port _ p = port ∷ []
 
-abbrev pub fatal_of : Port → Trouble → PortState → List Port
-fatal_of port Broken p = port ∷ []
-fatal_of port Lost p = named_if (shows_fatal p) port
-fatal_of port Hung p = named_if (shows_fatal p) port
+abbrev pub fatal_of : Port → PortError → DevicePort → List Port
+fatal_of port BusError p = port ∷ []
+fatal_of port LinkChanged p = named_if (shows_fatal p) port
+fatal_of port TimedOut p = named_if (shows_fatal p) port
 fatal_of port _ p = []
 
-abbrev pub evidence_of : Port → Trouble → PortState → Option Failed → Prospect → Next → Evidence
-evidence_of port trouble p failed prospect next = record {
+abbrev pub evidence_of : Port → PortError → DevicePort → Option FailedRequest → Revalidation → Next → Evidence
+evidence_of port port_error p failed revalidation next = record {
   faults = faults_of failed;
-  lost = lost_of port prospect;
-  gone = gone_of port trouble p;
-  failed = failed_of port trouble p;
-  fatal = fatal_of port trouble p;
+  lost = lost_of port revalidation;
+  gone = gone_of port port_error p;
+  failed = failed_of port port_error p;
+  fatal = fatal_of port port_error p;
   stopped = stopped_of port next;
-  stuck = stuck_of port prospect;
+  stuck = stuck_of port revalidation;
 }
 
 -- that of such a turn
-abbrev pub evidence_by : {port : Port} {later : List Reply} {old new : Server} → HasMetFates port later old new → Evidence
-evidence_by {port} {later} {old} a = evidence_of port a.mended.trouble (old.device.port port.0) a.failed a.prospect a.mended.result.next
+abbrev pub evidence_by : {port : Port} {later : List Reply} {old new : ServerState} → HasResolved port later old new → Evidence
+evidence_by {port} {later} {old} a = evidence_of port a.error_handled.port_error (old.device.port port.0) a.failed a.revalidation a.error_handled.result.next
 
 -- ---- its steps, but for those that issue
 
 -- The device's steps until the masks were read: those while the port was looked at, if it was, and then the others.
-pub record AddsFirst (port : Port) (old mid : Server) (new : Device) (r : IsMended port old mid new) (m : Machine) (first : List Step) : Type 0 where
+pub record AddsFirst (port : Port) (old mid : ServerState) (new : Device) (r : IsErrorHandled port old mid new) (m : Machine) (first : List Step) : Type 0 where
   pub looked : List Step
   pub later : List Step
   pub first_is : first ≡ later ++ looked
@@ -110,25 +110,25 @@ pub record AddsFirst (port : Port) (old mid : Server) (new : Device) (r : IsMend
 
 -- From a machine that stands for the old server: the device's steps until the masks were read, the answers of what was done, the device's steps while the
 -- port was recovered and booted, and those that decide on its other requests. They lead to a machine that stands for the new one.
-pub record AddsFates (port : Port) (later : List Reply) (old new : Server) (a : HasMetFates port later old new) (m : Machine) : Type 0 where
+pub record AddsFates (port : Port) (later : List Reply) (old new : ServerState) (a : HasResolved port later old new) (m : Machine) : Type 0 where
   pub first : List Step
   pub ended : List Pending
   pub middle : List Step
-  pub fates : List Step
+  pub dispositions : List Step
   pub first_only : AllDevices first
-  pub early : AddsFirst port old a.mid a.device a.mended m first
-  pub each : AllZip (HasEnded port) a.mended.requests ended
+  pub early : AddsFirst port old a.mid a.device a.error_handled m first
+  pub each : AllZip (HasEnded port) a.error_handled.requests ended
   pub middle_only : AllDevices middle
-  pub may : AllMay m (fates ++ (middle ++ (answers_in ended ++ first)))
-  pub backed : IsBacked old.device new.device m (fates ++ (middle ++ (answers_in ended ++ first)))
-  pub stands : IsMachineOf new (after m (fates ++ (middle ++ (answers_in ended ++ first))))
-  pub own : All (DecidesOn port) fates
-  pub answered : (e : Pending) (outcome : Outcome) → Contains fates (Answer e outcome)
-      → (request : Held) × Contains (requests_of port a.mid.book) request × IsEntry request e × (fate_of a.failed a.prospect request.entry ≡ Ends outcome)
-  pub again : (e : Pending) → Contains fates (Again e)
-      → (request : Held) × Contains (requests_of port a.mid.book) request × IsEntry request e × (fate_of a.failed a.prospect request.entry ≡ GoesAgain)
-  pub tells : Tells fates later
+  pub may : AllMay m (dispositions ++ (middle ++ (answers_in ended ++ first)))
+  pub backed : IsBacked old.device new.device m (dispositions ++ (middle ++ (answers_in ended ++ first)))
+  pub stands : IsMachineOf new (after m (dispositions ++ (middle ++ (answers_in ended ++ first))))
+  pub own : All (DecidesOn port) dispositions
+  pub answered : (e : Pending) (outcome : Outcome) → Contains dispositions (Answer e outcome)
+      → (request : Held) × Contains (requests_of port a.mid.book) request × IsEntry request e × (disposition_of a.failed a.revalidation request.entry ≡ Complete outcome)
+  pub again : (e : Pending) → Contains dispositions (Again e)
+      → (request : Held) × Contains (requests_of port a.mid.book) request × IsEntry request e × (disposition_of a.failed a.revalidation request.entry ≡ Requeue)
+  pub tells : Tells dispositions later
 
 -- all those steps
-abbrev pub until_issues : {port : Port} {later : List Reply} {old new : Server} {a : HasMetFates port later old new} {m : Machine} → AddsFates port later old new a m → List Step
-until_issues f = f.fates ++ (f.middle ++ (answers_in f.ended ++ f.first))
+abbrev pub until_issues : {port : Port} {later : List Reply} {old new : ServerState} {a : HasResolved port later old new} {m : Machine} → AddsFates port later old new a m → List Step
+until_issues f = f.dispositions ++ (f.middle ++ (answers_in f.ended ++ f.first))

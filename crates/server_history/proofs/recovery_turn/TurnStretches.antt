@@ -18,12 +18,12 @@ use Rattle.adapter.specs.Device.{Device}
 use Rattle.adapter.specs.declared.command.Operation.TheVariants.{ReadLog}
 use Rattle.adapter.specs.Memory.{changed}
 use Rattle.adapter.proofs.Changed.{changed_other, changed_same}
-use Rattle.agreement.specs.Acts.{AnySlots, ByDeviceAlone, InSlots, Performs, at as at_slots, steps_of}
-use Rattle.agreement.specs.Agrees.{port_at}
-use Rattle.agreement.specs.Driven.{AnyUse, IsDrivenBy, IsFollowed, SendsNone}
-use Rattle.agreement.specs.GivingUp.{given_up}
-use Rattle.agreement.specs.Links.{SparesRegister}
-use Rattle.agreement.specs.Slots.{Free, Own, Use}
+use Rattle.refinement.specs.Acts.{AnySlots, ByDeviceAlone, InSlots, Performs, at_slots, act_steps}
+use Rattle.refinement.specs.Relation.{port_at}
+use Rattle.refinement.specs.Driven.{AnyUse, IsDrivenBy, IsSimulated, SendsNone}
+use Rattle.refinement.specs.GivingUp.{given_up}
+use Rattle.refinement.specs.Links.{SparesRegister}
+use Rattle.refinement.specs.Slots.{Free, Own, SlotState}
 use Rattle.block_machine.specs.Due.{due_of}
 use Rattle.block_machine.specs.Left.{after}
 use Rattle.block_machine.specs.declared.due.Unanswered.{Unanswered}
@@ -32,20 +32,20 @@ use Rattle.driver_history.specs.Trace.{LeavesCommand, ReadsMasks, ResetsLink}
 use Rattle.error_recovery.specs.Recovery.{IsRecovering, LeavesSlots}
 use Rattle.error_recovery.specs.declared.Next.{Next}
 use Rattle.error_recovery.specs.declared.Next.TheVariants as next
-use Rattle.host_boot.specs.Taken.{found_of, wanted_of}
-use Rattle.host_boot.specs.declared.Found.TheVariants.{Unready, Unserved}
+use Rattle.host_boot.specs.Taken.{probe_result_of, wanted_of}
+use Rattle.host_boot.specs.declared.ProbeResult.TheVariants.{Unready, Unserved}
 use Rattle.port_control.specs.Engines.{Sticks}
 use Rattle.port_control.specs.declared.Stopped.{Stopped}
-use Rattle.port_look.specs.Looks.{IsLooking, LooksAt}
-use Rattle.port_look.specs.declared.Look.{Look}
-use Rattle.port_look.specs.declared.Look.TheVariants as look
+use Rattle.port_events.specs.Looks.{IsLooking, LooksAt}
+use Rattle.port_events.specs.declared.PortEvent.{PortEvent}
+use Rattle.port_events.specs.declared.PortEvent.TheVariants as look
 use Rattle.request_queue.specs.Entries.{Held, asks, asks_of, due_ids}
 use Rattle.server_history.specs.Below.{LawsBelow}
-use Rattle.server_history.specs.Mended.{IsFoundOut, IsMended, HasMetFates, MendsPort}
+use Rattle.server_history.specs.ErrorHandling.{IsFoundOut, IsErrorHandled, HasResolved, HandlesPortError}
 use Rattle.server_history.specs.Served.{IssuesEach, IssuesIn}
-use Rattle.server_history.specs.Server.{Server, IsKept, mode_in, state_of, used_for}
-use Rattle.port_look.specs.declared.Trouble.{Trouble}
-use Rattle.port_look.specs.declared.Trouble.TheVariants.{Broken, Failed, Hung, Lost}
+use Rattle.server_history.specs.Server.{ServerState, InCallInvariant, mode_in, state_of, used_for}
+use Rattle.port_events.specs.declared.PortError.{PortError}
+use Rattle.port_events.specs.declared.PortError.TheVariants.{BusError, TaskFileError, TimedOut, LinkChanged}
 use Rattle.server_history.proofs.state.TurnAccesses.{issuing_leaves, issuing_turns, look_does, look_list, look_turns, turn_leaves}
 use Rattle.server_history.proofs.plain_calls.Looks.{finding_kept, finding_silent, found_over, looking_kept, looking_silent}
 use Rattle.server_history.proofs.state.TransferAccesses.{both_read}
@@ -65,49 +65,49 @@ recovery_does port next.Dead accesses old new p = ⊎_elim (λ a. a.does) (λ b.
 
 -- The accesses of the turn: those until the masks were read, after which requests were answered; recovery's; and those after it, of a boot and of issues.
 -- No page of the log comes on another port that isn't dead.
-pub record TurnParts (port : Port) (replies : List Reply) (old new : Server) (r : MendsPort port replies old new) : Type 0 where
+pub record TurnParts (port : Port) (replies : List Reply) (old new : ServerState) (r : HandlesPortError port replies old new) : Type 0 where
   pub early : IsDrivenBy (IsEarlyPart port) old.device r.settled.mid.device
-  pub masks : ReadsMasks port r.settled.mended.reads.issued r.settled.mended.reads.active early.accesses
-  pub does : DoesAll r.settled.mended.mends.accesses r.settled.mid.device r.settled.device
-  pub kinds : All (IsPart port) r.settled.mended.mends.accesses
+  pub masks : ReadsMasks port r.settled.error_handled.reads.issued r.settled.error_handled.reads.active early.accesses
+  pub does : DoesAll r.settled.error_handled.handling.accesses r.settled.mid.device r.settled.device
+  pub kinds : All (IsPart port) r.settled.error_handled.handling.accesses
   pub late : IsDrivenBy (IsPart port) r.settled.device new.device
-  pub sticks : r.settled.found ≡ Unready DeadState → r.settled.mended.result.next ≢ next.Dead → Sticks port late.accesses
-  pub stuck : r.settled.found ≡ Unready DeadState → r.settled.mended.result.next ≢ next.Dead → (new.device.port port.0).notes.engine_count ≡ READINGS
-  pub resets : (token : Stopped) → r.settled.mended.result.next ≡ next.Restart token → r.settled.found ≢ Unready DeadState
-      → ((r.settled.mended.trouble ≡ Lost) × (r.settled.found ≡ Unready AbsentState)) ⊎ ResetsLink port late.accesses
-  pub unreset : ((token : Stopped) → r.settled.mended.result.next ≢ next.Restart token) → All (SparesRegister (Px port Sctl)) (early.accesses ++ (r.settled.mended.mends.accesses ++ late.accesses))
+  pub sticks : r.settled.found ≡ Unready DeadState → r.settled.error_handled.result.next ≢ next.Dead → Sticks port late.accesses
+  pub stuck : r.settled.found ≡ Unready DeadState → r.settled.error_handled.result.next ≢ next.Dead → (new.device.port port.0).notes.engine_count ≡ READINGS
+  pub resets : (token : Stopped) → r.settled.error_handled.result.next ≡ next.Restart token → r.settled.found ≢ Unready DeadState
+      → ((r.settled.error_handled.port_error ≡ LinkChanged) × (r.settled.found ≡ Unready AbsentState)) ⊎ ResetsLink port late.accesses
+  pub unreset : ((token : Stopped) → r.settled.error_handled.result.next ≢ next.Restart token) → All (SparesRegister (Px port Sctl)) (early.accesses ++ (r.settled.error_handled.handling.accesses ++ late.accesses))
   pub unissued : r.settled.found ≡ Unready DeadState → new ≡ r.mid
-  pub silent : (q : ℕ) → q ≢ port.0 → state_of (found_of old.ports q) ≢ DeadState → SendsNone q ReadLog old.device new.device
-  pub issuing_silent : state_of (found_of r.mid.ports port.0) ≢ DeadState → SendsNone port.0 ReadLog r.mid.device new.device
+  pub silent : (q : ℕ) → q ≢ port.0 → state_of (probe_result_of old.ports q) ≢ DeadState → SendsNone q ReadLog old.device new.device
+  pub issuing_silent : state_of (probe_result_of r.mid.ports port.0) ≢ DeadState → SendsNone port.0 ReadLog r.mid.device new.device
 
-abbrev pub accesses_in : {port : Port} {replies : List Reply} {old new : Server} {r : MendsPort port replies old new} → TurnParts port replies old new r → List Access
-accesses_in {port} {replies} {old} {new} {r} t = t.early.accesses ++ (r.settled.mended.mends.accesses ++ t.late.accesses)
+abbrev pub accesses_in : {port : Port} {replies : List Reply} {old new : ServerState} {r : HandlesPortError port replies old new} → TurnParts port replies old new r → List Access
+accesses_in {port} {replies} {old} {new} {r} t = t.early.accesses ++ (r.settled.error_handled.handling.accesses ++ t.late.accesses)
 
 -- a list with nobody in it
 nobody : {X : Type 0} (xs : List X) → ((x : X) → Contains xs x → ⊥) → xs ≡ []
 nobody [] none = refl
 nobody (x ∷ xs) none = absurd (none x (first_here x xs))
 
-module _ (laws : LawsBelow) (port : Port) (replies : List Reply) (old new : Server) (k : IsKept old) (ready : state_of (found_of old.ports port.0) ≡ ReadyState) (r : MendsPort port replies old new)
-    (looks : IsFollowed (IsLooking port) AnyUse old.device r.settled.mended.seen) (kept : IsKept r.mid) where
-  abbrev a : HasMetFates port r.later old r.mid
+module _ (laws : LawsBelow) (port : Port) (replies : List Reply) (old new : ServerState) (k : InCallInvariant old) (ready : state_of (probe_result_of old.ports port.0) ≡ ReadyState) (r : HandlesPortError port replies old new)
+    (looks : IsSimulated (IsLooking port) AnyUse old.device r.settled.error_handled.seen) (kept : InCallInvariant r.mid) where
+  abbrev a : HasResolved port r.later old r.mid
   a = r.settled
 
-  abbrev x : IsMended port old a.mid a.device
-  x = a.mended
+  abbrev x : IsErrorHandled port old a.mid a.device
+  x = a.error_handled
 
   low : port.0 < 4
   low = (ready_found old port.0 k ready).0
 
   -- ---- the server until recovery
 
-  abbrev from : Server
+  abbrev from : ServerState
   from = record old { device = x.found }
 
-  pub seen_kept : IsKept (record old { device = x.seen })
+  pub seen_kept : InCallInvariant (record old { device = x.seen })
   seen_kept = looking_kept old x.seen port k ready laws looks
 
-  pub found_kept : IsKept from
+  pub found_kept : InCallInvariant from
   found_kept = finding_kept (record old { device = x.seen }) x.found port seen_kept ready laws x.mask x.done x.reads
 
   answered_as : a.mid ≡ record from { table = a.mid.table; slots = a.mid.slots; book = a.mid.book }
@@ -117,14 +117,14 @@ module _ (laws : LawsBelow) (port : Port) (replies : List Reply) (old new : Serv
   pub done_over : AreOver port x.done x.found
   done_over = found_over (record old { device = x.seen }) x.found port seen_kept ready laws x.mask x.done x.reads x.its
 
-  pub mid_kept : IsKept a.mid
+  pub mid_kept : InCallInvariant a.mid
   mid_kept = answers_kept laws port x.done x.requests from a.mid found_kept ready done_over x.each
 
   pub mid_device : a.mid.device ≡ x.found
-  mid_device = ap (λ (n : Server). n.device) answered_as
+  mid_device = ap (λ (n : ServerState). n.device) answered_as
 
-  mid_found : (q : ℕ) → found_of a.mid.ports q ≡ found_of old.ports q
-  mid_found q = ap (λ (n : Server). found_of n.ports q) answered_as
+  mid_found : (q : ℕ) → probe_result_of a.mid.ports q ≡ probe_result_of old.ports q
+  mid_found q = ap (λ (n : ServerState). probe_result_of n.ports q) answered_as
 
   -- ---- accesses
 
@@ -134,20 +134,20 @@ module _ (laws : LawsBelow) (port : Port) (replies : List Reply) (old new : Serv
 
   -- those of a look; where a request is hung there are none
   looking : IsDrivenBy IsLookingOn old.device x.seen
-  looking = by x.trouble x.finds
+  looking = by x.port_error x.finds
     where
-      looked : (told : Look) → LooksAt port told old.device x.seen → IsDrivenBy IsLookingOn old.device x.seen
+      looked : (told : PortEvent) → LooksAt port told old.device x.seen → IsDrivenBy IsLookingOn old.device x.seen
       looked told l = record {
         accesses = look_list port l.causes l.own l.status;
         all = look_does port told old.device x.seen l;
         only = λ i d small. let t = look_turns port l.causes l.own l.status l.alone i d small in let leaves = turn_leaves port port _ t in ((t.1, leaves.0), leaves.1);
       }
 
-      by : (trouble : Trouble) → IsFoundOut port trouble old.device x.seen → IsDrivenBy IsLookingOn old.device x.seen
-      by Failed l = looked look.Failed l
-      by Broken l = looked look.Broken l
-      by Lost l = looked look.Lost l
-      by Hung same = subst (IsDrivenBy IsLookingOn old.device) (sym same) (record { accesses = []; all = refl; only = All-nil IsLookingOn })
+      by : (port_error : PortError) → IsFoundOut port port_error old.device x.seen → IsDrivenBy IsLookingOn old.device x.seen
+      by TaskFileError l = looked look.TaskFileError l
+      by BusError l = looked look.BusError l
+      by LinkChanged l = looked look.LinkChanged l
+      by TimedOut same = subst (IsDrivenBy IsLookingOn old.device) (sym same) (record { accesses = []; all = refl; only = All-nil IsLookingOn })
 
   looking_early : All (IsEarlyPart port) looking.accesses
   looking_early = All-weaker IsLookingOn (IsEarlyPart port) (λ access is. is.0) looking.accesses looking.only
@@ -186,8 +186,8 @@ module _ (laws : LawsBelow) (port : Port) (replies : List Reply) (old new : Serv
     running = All-weaker (IsEarlyPart port) (LeavesCommand port) (λ access is. is.1) looking.accesses looking_early;
   }
 
-  afterwards : AfterList port x.trouble x.result.next a.found a.device r.mid.device
-  afterwards = after_list laws port low (wanted_of old.wanted port.0) x.trouble a.was x.result.next a.device r.mid.device a.found a.is
+  afterwards : AfterList port x.port_error x.result.next a.found a.device r.mid.device
+  afterwards = after_list laws port low (wanted_of old.wanted port.0) x.port_error a.was x.result.next a.device r.mid.device a.found a.is
 
   each : IsDrivenBy (IssuesIn port) r.mid.device new.device
   each = each_driven laws port (due_ids (mode_in r.mid port) port (asks_of r.mid.book)) r.mid new r.issued
@@ -200,7 +200,7 @@ module _ (laws : LawsBelow) (port : Port) (replies : List Reply) (old new : Serv
   issuing_spares = All-weaker (IssuesIn port) (SparesRegister (Px port Sctl)) (λ access is. (issuing_leaves port port access is).1) each.accesses each.only
 
   -- nothing is issued on a dead port, of which there are no requests
-  none_issued : state_of (found_of r.mid.ports port.0) ≡ DeadState → new ≡ r.mid
+  none_issued : state_of (probe_result_of r.mid.ports port.0) ≡ DeadState → new ≡ r.mid
   none_issued dead = subst (λ (ids : List RequestId). IssuesEach port ids r.mid new) (ap (λ (us : List Unanswered). map (λ (u : Unanswered). u.id) us) (nobody (due_of (mode_in r.mid port) port (asks_of r.mid.book)) none)) r.issued
     where
       none : (u : Unanswered) → Contains (due_of (mode_in r.mid port) port (asks_of r.mid.book)) u → ⊥
@@ -208,7 +208,7 @@ module _ (laws : LawsBelow) (port : Port) (replies : List Reply) (old new : Serv
           let due = (laws.exact (mode_in r.mid port) port (asks_of r.mid.book) u (laws.own (mode_in r.mid port) port (asks_of r.mid.book) u here)).0 here in
           let e = map_in (λ (y : Held). asks y.entry) r.mid.book u due.here in
           let its : e.0.entry.port ≡ port = sym (ap (λ (v : Unanswered). v.port) e.2) ∙ laws.own (mode_in r.mid port) port (asks_of r.mid.book) u here in
-          let z : ReadyState ≡ DeadState = sym (of_ready r.mid kept e.0 e.1) ∙ ap (λ (q : Port). state_of (found_of r.mid.ports q.0)) its ∙ dead in
+          let z : ReadyState ≡ DeadState = sym (of_ready r.mid kept e.0 e.1) ∙ ap (λ (q : Port). state_of (probe_result_of r.mid.ports q.0)) its ∙ dead in
           absurd cc
 
   -- ---- what the port is then
@@ -219,36 +219,36 @@ module _ (laws : LawsBelow) (port : Port) (replies : List Reply) (old new : Serv
       (λ within. within.1)
       (leb_tells (length old.ports) port.0)
 
-  pub found_is : found_of r.mid.ports port.0 ≡ a.found
+  pub found_is : probe_result_of r.mid.ports port.0 ≡ a.found
   found_is =
-      let many : length a.mid.ports ≡ length old.ports = ap (λ (n : Server). length n.ports) answered_as in
+      let many : length a.mid.ports ≡ length old.ports = ap (λ (n : ServerState). length n.ports) answered_as in
       let within : port.0 < length a.mid.ports = (let small = listed in omega (arith, small, many)) in
-      ap (λ (n : Server). found_of n.ports port.0) a.server ∙ get_or-set_same a.mid.ports port.0 a.found Unserved within
+      ap (λ (n : ServerState). probe_result_of n.ports port.0) a.server ∙ get_or-set_same a.mid.ports port.0 a.found Unserved within
 
   -- ---- no page of the log
 
-  module _ (q : ℕ) (other : q ≢ port.0) (lives : state_of (found_of old.ports q) ≢ DeadState) where
+  module _ (q : ℕ) (other : q ≢ port.0) (lives : state_of (probe_result_of old.ports q) ≢ DeadState) where
     -- its slot 0 has no command of the driver's own
     none_own : mid_kept.stands.uses q 0 ≡ Own ReadLog → ⊥
-    none_own = not_own (found_of a.mid.ports q) (used_for a.mid.slots q 0) (mid_kept.stands.uses q 0) ReadLog (λ dead. lives (ap state_of (sym (mid_found q) ∙ dead))) (mid_kept.stands.used q 0)
+    none_own = not_own (probe_result_of a.mid.ports q) (used_for a.mid.slots q 0) (mid_kept.stands.uses q 0) ReadLog (λ dead. lives (ap state_of (sym (mid_found q) ∙ dead))) (mid_kept.stands.used q 0)
 
     -- nor has it once the port's slots were given up
     given : (token : Stopped) → x.result.next ≡ next.Restart token → (g : IsGivenUp port a.device) × (g.uses q 0 ≡ Own ReadLog → ⊥)
     given token is =
         let m = mid_kept.machine in
         let s : InSlots = record { uses = mid_kept.stands.uses; parked = mid_kept.stands.parked } in
-        let p : Performs x.mends.accesses AnySlots (given_up port.0) ByDeviceAlone a.mid.device a.device = subst (λ (n : Next). LeavesSlots port.0 n x.mends.accesses a.mid.device a.device) is x.mends.does.slots in
+        let p : Performs x.handling.accesses AnySlots (given_up port.0) ByDeviceAlone a.mid.device a.device = subst (λ (n : Next). LeavesSlots port.0 n x.handling.accesses a.mid.device a.device) is x.handling.does.slots in
         let c = p.comes s m mid_kept.reached mid_kept.stands.knows tt in
         let g = laws.slots.acts_go c.acts (at_slots s a.mid.device) (at_slots (given_up port.0 s) a.device) m mid_kept.stands.knows c.done in (
           record {
             uses = changed s.uses port.0 (λ slot. Free);
             parked = (given_up port.0 s).parked;
-            machine = after m (steps_of c.acts);
-            free = λ slot. ap (λ (f : ℕ → Use). f slot) (changed_same s.uses port.0 (λ slot. Free));
-            reached = laws.basic.reached m (steps_of c.acts) mid_kept.reached g.may;
+            machine = after m (act_steps c.acts);
+            free = λ slot. ap (λ (f : ℕ → SlotState). f slot) (changed_same s.uses port.0 (λ slot. Free));
+            reached = laws.basic.reached m (act_steps c.acts) mid_kept.reached g.may;
             knows = g.knows;
           },
-          λ own. none_own (ap (λ (f : ℕ → Use). f 0) (sym (changed_other s.uses port.0 (λ slot. Free) q other)) ∙ own),
+          λ own. none_own (ap (λ (f : ℕ → SlotState). f 0) (sym (changed_other s.uses port.0 (λ slot. Free) q other)) ∙ own),
         )
 
     early_silent : SendsNone q ReadLog old.device a.mid.device
@@ -257,11 +257,11 @@ module _ (laws : LawsBelow) (port : Port) (replies : List Reply) (old new : Serv
         (finding_silent (record old { device = x.seen }) x.found port seen_kept ready laws x.mask x.done x.reads q ReadLog refl (λ dead. lives (ap state_of dead))))
 
     recovery_silent : SendsNone q ReadLog a.mid.device a.device
-    recovery_silent = x.mends.leaves.others (port_at q) ReadLog other refl
+    recovery_silent = x.handling.leaves.others (port_at q) ReadLog other refl
         (mid_kept.stands.uses, none_own, record { machine = mid_kept.machine; parked = mid_kept.stands.parked; reached = mid_kept.reached; knows = mid_kept.stands.knows })
 
-    later_found : found_of r.mid.ports q ≡ found_of old.ports q
-    later_found = ap (λ (n : Server). found_of n.ports q) a.server ∙ get_or-set_other a.mid.ports port.0 q a.found Unserved other ∙ mid_found q
+    later_found : probe_result_of r.mid.ports q ≡ probe_result_of old.ports q
+    later_found = ap (λ (n : ServerState). probe_result_of n.ports q) a.server ∙ get_or-set_other a.mid.ports port.0 q a.found Unserved other ∙ mid_found q
 
     whole_silent : SendsNone q ReadLog old.device new.device
     whole_silent =
@@ -287,7 +287,7 @@ module _ (laws : LawsBelow) (port : Port) (replies : List Reply) (old new : Serv
   late_sticks dead lives = laws.sticks_then afterwards.driven.accesses issuing.accesses port (afterwards.sticks dead lives)
 
   late_resets : (token : Stopped) → x.result.next ≡ next.Restart token → a.found ≢ Unready DeadState
-      → ((x.trouble ≡ Lost) × (a.found ≡ Unready AbsentState)) ⊎ ResetsLink port late.accesses
+      → ((x.port_error ≡ LinkChanged) × (a.found ≡ Unready AbsentState)) ⊎ ResetsLink port late.accesses
   unfolding late
   late_resets token is lives = ⊎_elim (λ absent. inl absent) (λ resets. inr (resets_more port [] afterwards.driven.accesses issuing.accesses resets issuing_spares)) (afterwards.resets token is lives)
 
@@ -299,15 +299,15 @@ module _ (laws : LawsBelow) (port : Port) (replies : List Reply) (old new : Serv
   turn_parts = record {
     early = early;
     masks = masks;
-    does = recovery_does port.0 x.result.next x.mends.accesses a.mid.device a.device x.mends.does.slots;
-    kinds = All-weaker (IsRecovering port) (IsPart port) (recovering_part laws port low) x.mends.accesses x.mends.does.only;
+    does = recovery_does port.0 x.result.next x.handling.accesses a.mid.device a.device x.handling.does.slots;
+    kinds = All-weaker (IsRecovering port) (IsPart port) (recovering_part laws port low) x.handling.accesses x.handling.does.only;
     late = late;
     sticks = late_sticks;
-    stuck = λ dead lives. ap (λ (n : Server). (n.device.port port.0).notes.engine_count) (dead_unissued dead) ∙ afterwards.stuck dead lives;
+    stuck = λ dead lives. ap (λ (n : ServerState). (n.device.port port.0).notes.engine_count) (dead_unissued dead) ∙ afterwards.stuck dead lives;
     resets = late_resets;
-    unreset = λ never. All-append (SparesRegister (Px port Sctl)) early.accesses (x.mends.accesses ++ late.accesses) early_spares
-        (All-append (SparesRegister (Px port Sctl)) x.mends.accesses late.accesses
-        (All-weaker (IsRecovering port) (SparesRegister (Px port Sctl)) (recovering_spares laws port) x.mends.accesses x.mends.does.only) (late_spares never));
+    unreset = λ never. All-append (SparesRegister (Px port Sctl)) early.accesses (x.handling.accesses ++ late.accesses) early_spares
+        (All-append (SparesRegister (Px port Sctl)) x.handling.accesses late.accesses
+        (All-weaker (IsRecovering port) (SparesRegister (Px port Sctl)) (recovering_spares laws port) x.handling.accesses x.handling.does.only) (late_spares never));
     unissued = dead_unissued;
     silent = whole_silent;
     issuing_silent = λ lives. each_silent laws port (due_ids (mode_in r.mid port) port (asks_of r.mid.book)) r.mid new kept r.issued port.0 ReadLog refl (λ dead. lives (ap state_of dead));

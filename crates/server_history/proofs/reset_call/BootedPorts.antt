@@ -9,13 +9,13 @@ use Rattle.hba_regs.specs.declared.reg.Reg.TheVariants.{Px}
 use Rattle.adapter.specs.Access.{Access}
 use Rattle.adapter.specs.Access.Access.{Loading, Reading, Storing, Writing}
 use Rattle.adapter.specs.Device.{Device}
-use Rattle.agreement.specs.Agrees.{port_at}
-use Rattle.agreement.specs.Driven.{IsControl, IsDrivenBy}
+use Rattle.refinement.specs.Relation.{port_at}
+use Rattle.refinement.specs.Driven.{IsControl, IsDrivenBy}
 use Rattle.driver_history.specs.Parts.{HasTurnIn, IsOfOther, all_of}
 use Rattle.driver_history.specs.Trace.{ResetsLink}
-use Rattle.host_boot.specs.Taken.{GoesThrough, GoThrough, found_of}
-use Rattle.host_boot.specs.declared.Found.{Found}
-use Rattle.host_boot.specs.declared.Found.TheVariants.{Unserved, Ready, Unready}
+use Rattle.host_boot.specs.Taken.{GoesThrough, GoThrough, probe_result_of}
+use Rattle.host_boot.specs.declared.ProbeResult.{ProbeResult}
+use Rattle.host_boot.specs.declared.ProbeResult.TheVariants.{Unserved, Ready, Unready}
 use Rattle.port_boot.specs.States.{EndsEarly, EndsLate, GetsReady, IsEarly, IsLate, IsOfBoot}
 use Rattle.port_control.specs.Engines.{Sticks}
 use Rattle.port_control.specs.Ports.{WritesCommand}
@@ -26,17 +26,17 @@ use Rattle.server_history.proofs.recovery_turn.LinkResets.{ResetsBy, early_reset
 -- ---- one port
 
 -- What was done of a port that was found to be this. One that is ready got so once it was stopped. Its link was reset, unless it is dead: then one of its engines was seen to be stuck.
-abbrev pub DidBoot : Port → Found → List Access → Device → Device → Type 0
+abbrev pub DidBoot : Port → ProbeResult → List Access → Device → Device → Type 0
 DidBoot port Unserved accesses old new = Unit {0}
 DidBoot port (Ready info) accesses old new = ResetsLink port accesses × ((stopped : Device) × IsDrivenBy (IsControl WritesCommand port) old stopped × GetsReady port stopped new)
 DidBoot port (Unready state) accesses old new = (state ≡ DeadState → Sticks port accesses) × (state ≢ DeadState → state ≢ ReadyState → ResetsLink port accesses)
 
 -- an access of the port's boot, if it is served
-abbrev pub IsBootOf : Port → Found → Access → Type 0
+abbrev pub IsBootOf : Port → ProbeResult → Access → Type 0
 IsBootOf port found access = (found ≢ Unserved) × IsOfBoot port access
 
 -- it was done by such a list of accesses
-abbrev BootsBy : Port → Found → Device → Device → Type 0
+abbrev BootsBy : Port → ProbeResult → Device → Device → Type 0
 BootsBy port found old new = (driven : IsDrivenBy (IsBootOf port found) old new) × DidBoot port found driven.accesses old new
 
 pub command_boots : (port : Port) (access : Access) → IsControl WritesCommand port access → IsOfBoot port access
@@ -48,7 +48,7 @@ command_boots port (Loading at bytes) is = absurd is
 command_boots port (Storing at bytes) is = absurd is
 
 module _ (laws : LawsBelow) where
-  module _ (port : Port) (found : Found) (served : found ≢ Unserved) (old stopped new : Device) (stops : IsDrivenBy (IsControl WritesCommand port) old stopped) where
+  module _ (port : Port) (found : ProbeResult) (served : found ≢ Unserved) (old stopped new : Device) (stops : IsDrivenBy (IsControl WritesCommand port) old stopped) where
     -- the stop, and then a boot
     then_boots : IsDrivenBy (IsOfBoot port) stopped new → IsDrivenBy (IsBootOf port found) old new
     then_boots boot = record {
@@ -81,7 +81,7 @@ module _ (laws : LawsBelow) where
         by_early : (n ≡ 7) ⊎ (n ≡ 8) → BootsBy port (Unready (Unfit n)) old new
         by_early is = resets_by (Unfit n) other (early_resets laws port (Unfit n) stopped new (early is))
 
-  boots_by : (port : Port) (found : Found) (old new : Device) → GoesThrough port found old new → BootsBy port found old new
+  boots_by : (port : Port) (found : ProbeResult) (old new : Device) → GoesThrough port found old new → BootsBy port found old new
   boots_by port Unserved old new same = (record { accesses = []; all = same; only = All-nil (IsBootOf port Unserved) }, tt)
   boots_by port (Ready info) old new (stopped, stops, boot, ready, news) =
       let r = reset_by port (Ready info) (λ e. let z : Ready info ≡ Unserved = e in cc) old stopped new stops (ready_resets laws port stopped new ready) in (r.0, (r.1, (stopped, stops, ready)))
@@ -97,26 +97,26 @@ module _ (laws : LawsBelow) where
 -- ---- ports one after another
 
 -- an access of the boot of one of these ports, which is served; the first of them has this number
-abbrev pub IsOfFound : ℕ → List Found → Access → Type 0
-IsOfFound first ports access = (port : Port) × (k : ℕ) × (port.0 ≡ first + k) × IsBootOf port (found_of ports k) access
+abbrev pub IsOfFound : ℕ → List ProbeResult → Access → Type 0
+IsOfFound first ports access = (port : Port) × (k : ℕ) × (port.0 ≡ first + k) × IsBootOf port (probe_result_of ports k) access
 
 -- a port's part of these accesses
-pub record TookTurn (port : Port) (found : Found) (accesses : List Access) (old new : Device) : Type 0 where
+pub record TookTurn (port : Port) (found : ProbeResult) (accesses : List Access) (old new : Device) : Type 0 where
   pub turn : HasTurnIn port old new
   pub all : all_of turn ≡ accesses
   pub did : DidBoot port found turn.turn turn.start turn.end
 
 -- These ports went their way, by accesses of which each has a part.
-pub record WentBy (first : ℕ) (ports : List Found) (old new : Device) : Type 0 where
+pub record WentBy (first : ℕ) (ports : List ProbeResult) (old new : Device) : Type 0 where
   pub driven : IsDrivenBy (IsOfFound first ports) old new
-  pub each : (port : Port) (k : ℕ) → port.0 ≡ first + k → k < length ports → TookTurn port (found_of ports k) driven.accesses old new
+  pub each : (port : Port) (k : ℕ) → port.0 ≡ first + k → k < length ports → TookTurn port (probe_result_of ports k) driven.accesses old new
 
 module _ (laws : LawsBelow) where
-  of_other : (port : Port) (first : ℕ) (ports : List Found) → port.0 < first → (access : Access) → IsOfFound first ports access → IsOfOther port access
+  of_other : (port : Port) (first : ℕ) (ports : List ProbeResult) → port.0 < first → (access : Access) → IsOfFound first ports access → IsOfOther port access
   of_other port first ports before access (q, k, at, its) = (q, (λ same. absurd (omega (arith, before, same, at))), laws.booting_of q access its.1)
 
   -- the first of them
-  module _ (first : ℕ) (found : Found) (rest : List Found) (old mid new : Device) (way : GoesThrough (port_at first) found old mid) (more : WentBy (first + 1) rest mid new) where
+  module _ (first : ℕ) (found : ProbeResult) (rest : List ProbeResult) (old mid new : Device) (way : GoesThrough (port_at first) found old mid) (more : WentBy (first + 1) rest mid new) where
     one : BootsBy (port_at first) found old mid
     one = boots_by laws (port_at first) found old mid way
 
@@ -148,7 +148,7 @@ module _ (laws : LawsBelow) where
       did = one.1;
     })
 
-    turn_later : (port : Port) (k : ℕ) → port.0 ≡ (first + 1) + k → k < length rest → TookTurn port (found_of rest k) all.accesses old new
+    turn_later : (port : Port) (k : ℕ) → port.0 ≡ (first + 1) + k → k < length rest → TookTurn port (probe_result_of rest k) all.accesses old new
     unfolding all
     turn_later port k at small = record {
       turn = record {
@@ -169,16 +169,16 @@ module _ (laws : LawsBelow) where
       did = t.did;
     }
       where
-        t : TookTurn port (found_of rest k) more.driven.accesses mid new
+        t : TookTurn port (probe_result_of rest k) more.driven.accesses mid new
         t = more.each port k at small
 
     went_more : WentBy first (found ∷ rest) old new
     went_more = record { driven = all; each = each }
       where
-        each : (port : Port) (k : ℕ) → port.0 ≡ first + k → k < length (found ∷ rest) → TookTurn port (found_of (found ∷ rest) k) all.accesses old new
+        each : (port : Port) (k : ℕ) → port.0 ≡ first + k → k < length (found ∷ rest) → TookTurn port (probe_result_of (found ∷ rest) k) all.accesses old new
         each port zero at small = turn_here port (omega (arith, at))
         each port (suc k) at small = turn_later port k (omega (arith, at)) (omega (arith, small))
 
-  pub went_by : (first : ℕ) (ports : List Found) (old new : Device) → GoThrough first ports old new → WentBy first ports old new
+  pub went_by : (first : ℕ) (ports : List ProbeResult) (old new : Device) → GoThrough first ports old new → WentBy first ports old new
   went_by first [] old new same = record { driven = record { accesses = []; all = same; only = All-nil (IsOfFound first []) }; each = λ port k at small. absurd (omega (arith, small)) }
   went_by first (found ∷ rest) old new (mid, way, more) = went_more first found rest old mid new way (went_by (first + 1) rest mid new more)

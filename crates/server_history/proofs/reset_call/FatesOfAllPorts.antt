@@ -9,10 +9,10 @@ use Rattle.std.specs.List.{All, AllPairs, Contains}
 use Rattle.std.specs.List.Sorted.{IsPermutation}
 use Rattle.adapter.specs.Device.{Device}
 use Rattle.adapter.specs.declared.command.Operation.TheVariants.{Identify}
-use Rattle.agreement.specs.Agrees.{port_at}
-use Rattle.agreement.specs.Driven.{known}
-use Rattle.agreement.specs.Driver.{IsBacked, Knows}
-use Rattle.agreement.specs.Slots.{Free, Own, Serves, Uses}
+use Rattle.refinement.specs.Relation.{port_at}
+use Rattle.refinement.specs.Driven.{known}
+use Rattle.refinement.specs.Driver.{IsBacked, DriverRelation}
+use Rattle.refinement.specs.Slots.{Free, Own, Serves, SlotStates}
 use Rattle.ata_types.specs.declared.Port.{Port}
 use Rattle.ata_types.specs.declared.PortState.TheVariants.{Dead}
 use Rattle.ata_types.specs.declared.request.ClientId.{ClientId}
@@ -22,36 +22,36 @@ use Rattle.ata_types.specs.declared.request.Reply.{Reply}
 use Rattle.ata_types.specs.declared.request.RequestId.{RequestId}
 use Rattle.server_history.proofs.state.ListMembers.{contains_there, in_filter}
 use Rattle.block_machine.specs.Events.{AllMay, IsToldBefore, answers_of, reply_of}
-use Rattle.block_machine.specs.Histories.{IsReached}
+use Rattle.block_machine.specs.Histories.{IsReachable}
 use Rattle.block_machine.specs.Left.{after}
 use Rattle.block_machine.specs.State.{Machine, Pending}
 use Rattle.block_machine.specs.Steps.{Again, Answer, Step}
 use Rattle.dma_frames.specs.Loan.{Lending}
 use Rattle.dma_frames.specs.Table.{lent_to, owner_of}
-use Rattle.host_boot.specs.Taken.{IsLeft as SlotLeft, found_of}
-use Rattle.host_boot.specs.declared.Found.{Found}
-use Rattle.host_boot.specs.declared.Found.TheVariants.{Unready}
+use Rattle.host_boot.specs.Taken.{IsUnusedOrDead, probe_result_of}
+use Rattle.host_boot.specs.declared.ProbeResult.{ProbeResult}
+use Rattle.host_boot.specs.declared.ProbeResult.TheVariants.{Unready}
 use Rattle.identify.specs.declared.DiskInfo.{DiskInfo}
-use Rattle.request_queue.specs.Entries.{Held, IsAccepted, IsEarlier, IsInOrder, is_of, requeued}
-use Rattle.request_queue.specs.Fates.{Holdings, MeetFates, MeetsFate, fate_of}
+use Rattle.request_queue.specs.Entries.{Held, IsAccepted, IsEarlier, BookIsInOrder, is_of, requeued_entry}
+use Rattle.request_queue.specs.Dispositions.{Holdings, AreResolved, IsResolved, disposition_of}
 use Rattle.request_queue.specs.Machine.{IsBook, IsEntry}
-use Rattle.request_queue.specs.declared.Entry.{Entry}
-use Rattle.request_queue.specs.declared.fate.Fate.{Fate}
-use Rattle.request_queue.specs.declared.fate.Fate.TheVariants.{Ends, GoesAgain, Waits}
-use Rattle.request_queue.specs.declared.fate.Prospect.{Prospect}
-use Rattle.request_queue.specs.declared.fate.Prospect.TheVariants.{Dead as NoEnd, DiskLost, SameDisk}
+use Rattle.request_queue.specs.declared.PendingRequest.{PendingRequest}
+use Rattle.request_queue.specs.declared.disposition.Disposition.{Disposition}
+use Rattle.request_queue.specs.declared.disposition.Disposition.TheVariants.{Complete, Requeue, Wait}
+use Rattle.request_queue.specs.declared.disposition.Revalidation.{Revalidation}
+use Rattle.request_queue.specs.declared.disposition.Revalidation.TheVariants.{Dead as NoEnd, DiskLost, SameDisk}
 use Rattle.server_history.proofs.recovery_turn.MendedMachine.{deciding_leaves}
 use Rattle.server_history.proofs.any_turn.JoinedParts.{all_pairs_append, answers_append, answers_there}
 use Rattle.server_history.proofs.state.FirstMembers.{first_here, nowhere}
-use Rattle.server_history.proofs.fates.MoreKeptLoans.{more_kept}
-use Rattle.server_history.proofs.fates.FittingFates.{fits_each, kept_dead_alone}
-use Rattle.server_history.proofs.fates.MetFates.{meet, none_parked}
-use Rattle.server_history.proofs.fates.RemainingBook.{IsLeft, WasIn, ends_of, fated, marked_from, was_itself, was_more}
+use Rattle.server_history.proofs.dispositions.MoreKeptLoans.{more_kept}
+use Rattle.server_history.proofs.dispositions.FittingFates.{fits_each, kept_dead_alone}
+use Rattle.server_history.proofs.dispositions.MetFates.{meet, none_parked}
+use Rattle.server_history.proofs.dispositions.RemainingBook.{IsLeft, WasIn, ends_of, fated, marked_from, was_itself, was_more}
 use Rattle.server_history.specs.Below.{LawsBelow}
-use Rattle.server_history.specs.Fates.{DecidesOn, MayMeet, MeetsInMachine, keeps_fate}
-use Rattle.server_history.specs.Mended.{holdings_of, requests_of}
-use Rattle.server_history.specs.Resets.{IsProspectAnew, SettlePorts, SettlesPort, with_holdings}
-use Rattle.server_history.specs.Server.{AreKept, Server, kept_at, remembered_at, HasTrueMark}
+use Rattle.server_history.specs.Dispositions.{DecidesOn, MayMeet, MeetsInMachine, keeps_fate}
+use Rattle.server_history.specs.ErrorHandling.{holdings_of, requests_of}
+use Rattle.server_history.specs.Resets.{IsResetRevalidation, SettlePorts, SettlesPort, with_holdings}
+use Rattle.server_history.specs.Server.{AreKept, ServerState, kept_at, remembered_at, HasTrueMark}
 use Rattle.server_history.proofs.state.RevokedMarks.{tells_of}
 
 -- ---- a port's requests
@@ -66,40 +66,40 @@ pub in_requests : (port : Port) (book : List Held) (e : Held) → Contains book 
 in_requests port book e here same = in_filter (λ (x : Held). is_of port x.entry) book e here (eq-eqb e.entry.port.0 port.0 same)
 
 -- one that is none of those that meet their fates stays as it is
-fates_spare : LawsBelow → (fate : Entry → Fate) (requests : List Held) (replies : List Reply) (old new : Holdings) → MeetFates fate requests replies old new → (e : Held) → Contains old.book e
+fates_spare : LawsBelow → (disposition : PendingRequest → Disposition) (requests : List Held) (replies : List Reply) (old new : Holdings) → AreResolved disposition requests replies old new → (e : Held) → Contains old.book e
     → ((r : Held) → Contains requests r → e.entry.id ≢ r.entry.id) → Contains new.book e
-fates_spare laws fate [] replies old new (none, is) e here apart = subst (λ (h : Holdings). Contains h.book e) (sym is) here
-fates_spare laws fate (request ∷ requests) replies old new (mid, its, later, split, meets, more) e here apart =
-    fates_spare laws fate requests later mid new more e (spared (fate request.entry) meets) (λ r there. apart r (contains_there request requests r there))
+fates_spare laws disposition [] replies old new (none, is) e here apart = subst (λ (h : Holdings). Contains h.book e) (sym is) here
+fates_spare laws disposition (request ∷ requests) replies old new (mid, its, later, split, meets, more) e here apart =
+    fates_spare laws disposition requests later mid new more e (spared (disposition request.entry) meets) (λ r there. apart r (contains_there request requests r there))
   where
     differs : e.entry.id ≢ request.entry.id
     differs = apart request (first_here request requests)
 
-    spared : (f : Fate) → MeetsFate request f its old mid → Contains mid.book e
-    spared Waits m = subst (λ (h : Holdings). Contains h.book e) (sym m.1) here
-    spared GoesAgain m = subst (λ (h : Holdings). Contains h.book e) (sym m.1) (laws.others old.book request.entry.id requeued e here differs)
-    spared (Ends o) m = subst (λ (book : List Held). Contains book e) (sym m.1) ((laws.left old.book request.entry.id e).1 (here, differs))
+    spared : (f : Disposition) → IsResolved request f its old mid → Contains mid.book e
+    spared Wait m = subst (λ (h : Holdings). Contains h.book e) (sym m.1) here
+    spared Requeue m = subst (λ (h : Holdings). Contains h.book e) (sym m.1) (laws.others old.book request.entry.id requeued_entry e here differs)
+    spared (Complete o) m = subst (λ (book : List Held). Contains book e) (sym m.1) ((laws.left old.book request.entry.id e).1 (here, differs))
 
 -- a slot that was left so serves no request
-pub serves_none : (ports : List Found) (uses : Uses) (port slot : ℕ) → SlotLeft ports uses port slot → (id : RequestId) → uses port slot ≡ Serves id → ⊥
+pub serves_none : (ports : List ProbeResult) (uses : SlotStates) (port slot : ℕ) → IsUnusedOrDead ports uses port slot → (id : RequestId) → uses port slot ≡ Serves id → ⊥
 serves_none ports uses port slot (inl free) id serves = let z : Free ≡ Serves id = sym free ∙ serves in absurd cc
 serves_none ports uses port slot (inr (zero_is, own, dead)) id serves = let z : Own Identify ≡ Serves id = sym own ∙ ap (uses port) (sym zero_is) ∙ serves in absurd cc
 
 -- ---- what is so on the way
 
 -- the port is ready with the disk that it had
-abbrev pub HasItsDisk : List (Option DiskInfo) → List Found → ℕ → Type 0
-HasItsDisk remembered ports port = IsProspectAnew (remembered_at remembered port) (found_of ports port) SameDisk
+abbrev pub HasItsDisk : List (Option DiskInfo) → List ProbeResult → ℕ → Type 0
+HasItsDisk remembered ports port = IsResetRevalidation (remembered_at remembered port) (probe_result_of ports port) SameDisk
 
 -- The requests of ports below this number met their fates: what is parked of the others is issued, and of those none is, but of dead ones; and who is left of them is of a ready port
 -- that has its disk.
-pub record IsFatedTo (n : ℕ) (c : Server) (m : Machine) : Type 0 where
+pub record IsFatedTo (n : ℕ) (c : ServerState) (m : Machine) : Type 0 where
   pub four_kept : length c.kept ≡ 4
-  pub uses : Uses
-  pub left : (port slot : ℕ) → SlotLeft c.ports uses port slot
+  pub uses : SlotStates
+  pub left : (port slot : ℕ) → IsUnusedOrDead c.ports uses port slot
   pub parked : ℕ → List RequestId
-  pub knows : Knows m (known uses parked c.device)
-  pub unparked : (port : ℕ) → port < n → found_of c.ports port ≢ Unready Dead → parked port ≡ []
+  pub knows : DriverRelation m (known uses parked c.device)
+  pub unparked : (port : ℕ) → port < n → probe_result_of c.ports port ≢ Unready Dead → parked port ≡ []
   pub its : (port : ℕ) → n ≤ port → (id : RequestId) → Contains (parked port) id
       → (e : Held) × Contains c.book e × (e.entry.id ≡ id) × (e.entry.issued ≡ true) × (e.entry.port.0 ≡ port)
   pub book : IsBook c.book m.book
@@ -109,19 +109,19 @@ pub record IsFatedTo (n : ℕ) (c : Server) (m : Machine) : Type 0 where
   pub owner : (frame : Frame) → m.owner frame ≡ owner_of c.table frame
   pub lent : (frame : Frame) → m.lent frame ≡ lent_to c.table frame
   pub next : m.next ≡ c.last + 1
-  pub ordered : IsInOrder c.book
+  pub ordered : BookIsInOrder c.book
   pub accepted : All (IsAccepted c.table) c.book
   pub marked : All (HasTrueMark c.grants) c.book
   pub alive : (e : Held) → Contains c.book e → e.entry.port.0 < n → HasItsDisk c.remembered c.ports e.entry.port.0
 
 -- ---- one port
 
-module _ (laws : LawsBelow) (n : ℕ) (low : n < 4) (replies : List Reply) (old mid : Server) (m : Machine) (reached : IsReached m) (s : SettlesPort (port_at n) replies old mid) (at : IsFatedTo n old m) where
+module _ (laws : LawsBelow) (n : ℕ) (low : n < 4) (replies : List Reply) (old mid : ServerState) (m : Machine) (reached : IsReachable m) (s : SettlesPort (port_at n) replies old mid) (at : IsFatedTo n old m) where
   abbrev port : Port
   port = port_at n
 
-  abbrev fate : Entry → Fate
-  fate = fate_of None s.prospect
+  abbrev disposition : PendingRequest → Disposition
+  disposition = disposition_of None s.revalidation
 
   abbrev its : List Held
   its = requests_of port old.book
@@ -129,10 +129,10 @@ module _ (laws : LawsBelow) (n : ℕ) (low : n < 4) (replies : List Reply) (old 
   abbrev was : Option DiskInfo
   was = remembered_at old.remembered n
 
-  abbrev found : Found
-  found = found_of old.ports n
+  abbrev found : ProbeResult
+  found = probe_result_of old.ports n
 
-  may_meet : MayMeet port fate its (holdings_of port old) (known at.uses at.parked old.device) m
+  may_meet : MayMeet port disposition its (holdings_of port old) (known at.uses at.parked old.device) m
   may_meet = record {
     reached = reached;
     knows = at.knows;
@@ -146,11 +146,11 @@ module _ (laws : LawsBelow) (n : ℕ) (low : n < 4) (replies : List Reply) (old 
     unserved = λ e here never q slot serves. serves_none old.ports at.uses q slot (at.left q slot) e.entry.id serves;
   }
 
-  pub met : MeetsInMachine port fate its replies (holdings_of port old) s.now (known at.uses at.parked old.device) m
-  met = meet laws port fate its (fits_each None s.prospect its) replies (holdings_of port old) s.now (known at.uses at.parked old.device) m may_meet s.meets
+  pub met : MeetsInMachine port disposition its replies (holdings_of port old) s.now (known at.uses at.parked old.device) m
+  met = meet laws port disposition its (fits_each None s.revalidation its) replies (holdings_of port old) s.now (known at.uses at.parked old.device) m may_meet s.meets
 
-  pub left : IsLeft port fate its (holdings_of port old) s.now
-  left = fated laws port fate its (fits_each None s.prospect its) replies (holdings_of port old) s.now
+  pub left : IsLeft port disposition its (holdings_of port old) s.now
+  left = fated laws port disposition its (fits_each None s.revalidation its) replies (holdings_of port old) s.now
       (record { here = of_requests port old.book; earlier = may_meet.earlier; ordered = at.ordered; accepted = at.accepted }) s.meets
 
   abbrev z : Machine
@@ -160,29 +160,29 @@ module _ (laws : LawsBelow) (n : ℕ) (low : n < 4) (replies : List Reply) (old 
 
   -- they are of a dead port
   dies : (e : Pending) → Contains met.held e → (e.request.port ≡ port) × (found ≡ Unready Dead)
-  dies e here = (x.2.port ∙ (of_requests port old.book x.0 x.1).1, by s.prospect refl)
+  dies e here = (x.2.port ∙ (of_requests port old.book x.0 x.1).1, by s.revalidation refl)
     where
-      x : (request : Held) × Contains its request × IsEntry request e × (keeps_fate (fate request.entry) request.entry ≡ true)
+      x : (request : Held) × Contains its request × IsEntry request e × (keeps_fate (disposition request.entry) request.entry ≡ true)
       x = met.whose e here
 
-      lives : s.prospect ≢ NoEnd → ⊥
-      lives other = false≢true (sym (kept_dead_alone None s.prospect x.0.entry other) ∙ x.3)
+      lives : s.revalidation ≢ NoEnd → ⊥
+      lives other = false≢true (sym (kept_dead_alone None s.revalidation x.0.entry other) ∙ x.3)
 
-      by : (p : Prospect) → s.prospect ≡ p → found ≡ Unready Dead
+      by : (p : Revalidation) → s.revalidation ≡ p → found ≡ Unready Dead
       by SameDisk same = absurd (lives (λ dead. let y : SameDisk ≡ NoEnd = sym same ∙ dead in absurd cc))
       by DiskLost same = absurd (lives (λ dead. let y : DiskLost ≡ NoEnd = sym same ∙ dead in absurd cc))
-      by NoEnd same = subst (IsProspectAnew was found) same s.expects
+      by NoEnd same = subst (IsResetRevalidation was found) same s.expects
 
-  quiet : found ≢ Unready Dead → (e : Entry) → keeps_fate (fate e) e ≡ false
-  quiet lives e = kept_dead_alone None s.prospect e (λ dead. lives (subst (IsProspectAnew was found) dead s.expects))
+  quiet : found ≢ Unready Dead → (e : PendingRequest) → keeps_fate (disposition e) e ≡ false
+  quiet lives e = kept_dead_alone None s.revalidation e (λ dead. lives (subst (IsResetRevalidation was found) dead s.expects))
 
   -- where no loan is kept, none is parked
-  none_left : ((e : Entry) → keeps_fate (fate e) e ≡ false) → met.parked n ≡ []
+  none_left : ((e : PendingRequest) → keeps_fate (disposition e) e ≡ false) → met.parked n ≡ []
   none_left none =
-      none_parked port fate its (fits_each None s.prospect its) replies (holdings_of port old) s.now (known at.uses at.parked old.device) m met none
+      none_parked port disposition its (fits_each None s.revalidation its) replies (holdings_of port old) s.now (known at.uses at.parked old.device) m met none
       (λ id here. let w = at.its n (omega arith) id here in (w.0, in_requests port old.book w.0 w.1 w.4, w.2, w.3))
 
-  abbrev new : Server
+  abbrev new : ServerState
   new = with_holdings port s.now old
 
   are_kept : AreKept new.ports new.kept z.kept
@@ -199,7 +199,7 @@ module _ (laws : LawsBelow) (n : ℕ) (low : n < 4) (replies : List Reply) (old 
       let other : q ≢ n = λ same. omega (arith, high, same) in
       let w = at.its q (omega (arith, high)) id (subst (λ (ids : List RequestId). Contains ids id) (met.others q other) here) in (
         w.0,
-        fates_spare laws fate its replies (holdings_of port old) s.now s.meets w.0 w.1 (λ r there same.
+        fates_spare laws disposition its replies (holdings_of port old) s.now s.meets w.0 w.1 (λ r there same.
             let o = of_requests port old.book r there in
             let one : w.0 ≡ r = laws.one old.book w.0 r at.ordered w.1 o.0 same in
             other (sym w.4 ∙ ap (λ (x : Held). x.entry.port.0) one ∙ ap (λ (p : Port). p.0) o.1)),
@@ -210,19 +210,19 @@ module _ (laws : LawsBelow) (n : ℕ) (low : n < 4) (replies : List Reply) (old 
 
   alive_then : (e : Held) → Contains s.now.book e → e.entry.port.0 < n + 1 → HasItsDisk old.remembered old.ports e.entry.port.0
   alive_then e here lt = ⊎_elim
-      (λ (same : e.entry.port.0 ≡ n). subst (HasItsDisk old.remembered old.ports) (sym same) (by same s.prospect refl s.expects))
+      (λ (same : e.entry.port.0 ≡ n). subst (HasItsDisk old.remembered old.ports) (sym same) (by same s.revalidation refl s.expects))
       (λ (ne : e.entry.port.0 ≢ n). subst (λ (p : Port). HasItsDisk old.remembered old.ports p.0) (sym w.port) (at.alive w.was w.there (let own = ap (λ (p : Port). p.0) w.port in omega (arith, lt, ne, own))))
       (cases_eq e.entry.port.0 n)
     where
       w : WasIn old.book e
       w = left.from e here
 
-      none : e.entry.port.0 ≡ n → (s.prospect ≡ SameDisk → ⊥) → ⊥
+      none : e.entry.port.0 ≡ n → (s.revalidation ≡ SameDisk → ⊥) → ⊥
       none own other =
-          let end = ends_of None s.prospect other w.was.entry in
+          let end = ends_of None s.revalidation other w.was.entry in
           left.gone w.was end.0 (in_requests port old.book w.was w.there (ap (λ (p : Port). p.0) (sym w.port) ∙ own)) end.1 e here w.id
 
-      by : e.entry.port.0 ≡ n → (p : Prospect) → s.prospect ≡ p → IsProspectAnew was found p → HasItsDisk old.remembered old.ports n
+      by : e.entry.port.0 ≡ n → (p : Revalidation) → s.revalidation ≡ p → IsResetRevalidation was found p → HasItsDisk old.remembered old.ports n
       by own SameDisk is x = x
       by own DiskLost is x = absurd (none own (λ same. let y : DiskLost ≡ SameDisk = sym is ∙ same in absurd cc))
       by own NoEnd is x = absurd (none own (λ same. let y : NoEnd ≡ SameDisk = sym is ∙ same in absurd cc))
@@ -231,14 +231,14 @@ module _ (laws : LawsBelow) (n : ℕ) (low : n < 4) (replies : List Reply) (old 
   leaves = deciding_leaves port m met.steps met.own
 
   pub fated_one : IsFatedTo (n + 1) mid z
-  fated_one = subst (λ (c : Server). IsFatedTo (n + 1) c z) (sym s.server) (record {
+  fated_one = subst (λ (c : ServerState). IsFatedTo (n + 1) c z) (sym s.server) (record {
     four_kept = length-set old.kept n s.now.kept ∙ at.four_kept;
     uses = at.uses;
     left = at.left;
     parked = met.parked;
     knows = met.knows;
     unparked = λ q lt lives. ⊎_elim
-        (λ (same : q ≡ n). ap met.parked same ∙ none_left (quiet (λ dead. lives (ap (found_of old.ports) same ∙ dead))))
+        (λ (same : q ≡ n). ap met.parked same ∙ none_left (quiet (λ dead. lives (ap (probe_result_of old.ports) same ∙ dead))))
         (λ (ne : q ≢ n). met.others q ne ∙ at.unparked q (omega (arith, lt, ne)) lives)
         (cases_eq q n);
     its = its_then;
@@ -258,27 +258,27 @@ module _ (laws : LawsBelow) (n : ℕ) (low : n < 4) (replies : List Reply) (old 
 -- ---- one port after another
 
 -- The request, which was in the book, has this fate, by what its port is.
-pub record HasFate (c : Server) (e : Pending) (f : Fate) : Type 0 where
+pub record HasFate (c : ServerState) (e : Pending) (f : Disposition) : Type 0 where
   pub request : Held
   pub entry : IsEntry request e
   pub from : WasIn c.book request
-  pub prospect : Prospect
-  pub expects : IsProspectAnew (remembered_at c.remembered e.request.port.0) (found_of c.ports e.request.port.0) prospect
-  pub fate : fate_of None prospect request.entry ≡ f
+  pub revalidation : Revalidation
+  pub expects : IsResetRevalidation (remembered_at c.remembered e.request.port.0) (probe_result_of c.ports e.request.port.0) revalidation
+  pub disposition : disposition_of None revalidation request.entry ≡ f
 
 -- a step that decides on a request of some port
 abbrev pub Decides : Step → Type 0
 Decides step = (port : Port) × DecidesOn port step
 
 -- Requests of so many ports, of which the first has this number, met their fates by steps that decide on them; these are told by port, and then by id.
-pub record AreFated (n : ℕ) (found : List Found) (replies : List Reply) (old new : Server) (m : Machine) : Type 0 where
+pub record AreFated (n : ℕ) (found : List ProbeResult) (replies : List Reply) (old new : ServerState) (m : Machine) : Type 0 where
   pub steps : List Step
   pub may : AllMay m steps
   pub backed : (d : Device) → IsBacked d d m steps
   pub fated : IsFatedTo (n + length found) new (after m steps)
   pub decides : All Decides steps
-  pub answered : (e : Pending) (o : Outcome) → Contains steps (Answer e o) → HasFate old e (Ends o)
-  pub again : (e : Pending) → Contains steps (Again e) → HasFate old e GoesAgain
+  pub answered : (e : Pending) (o : Outcome) → Contains steps (Answer e o) → HasFate old e (Complete o)
+  pub again : (e : Pending) → Contains steps (Again e) → HasFate old e Requeue
   pub answers : List (Pending × Outcome)
   pub permuted : IsPermutation answers (answers_of steps)
   pub ordered : AllPairs IsToldBefore answers
@@ -288,13 +288,13 @@ pub record AreFated (n : ℕ) (found : List Found) (replies : List Reply) (old n
   pub owners : new.table.owners ≡ old.table.owners
   pub settings : new ≡ record old { table = new.table; kept = new.kept; book = new.book }
 
-module _ (laws : LawsBelow) (n : ℕ) (low : n < 4) (found : Found) (rest : List Found) (replies its later : List Reply) (split : replies ≡ its ++ later) (old mid new : Server) (m : Machine) (reached : IsReached m)
+module _ (laws : LawsBelow) (n : ℕ) (low : n < 4) (found : ProbeResult) (rest : List ProbeResult) (replies its later : List Reply) (split : replies ≡ its ++ later) (old mid new : ServerState) (m : Machine) (reached : IsReachable m)
     (s : SettlesPort (port_at n) its old mid) (at : IsFatedTo n old m) where
-  abbrev one : MeetsInMachine (port_at n) (fate_of None s.prospect) (requests_of (port_at n) old.book) its (holdings_of (port_at n) old) s.now (known at.uses at.parked old.device) m
+  abbrev one : MeetsInMachine (port_at n) (disposition_of None s.revalidation) (requests_of (port_at n) old.book) its (holdings_of (port_at n) old) s.now (known at.uses at.parked old.device) m
   one = met laws n low its old mid m reached s at
 
   -- a request of the port has its fate
-  its_fate : (e : Pending) (f : Fate) → (request : Held) × Contains (requests_of (port_at n) old.book) request × IsEntry request e × (fate_of None s.prospect request.entry ≡ f) → HasFate old e f
+  its_fate : (e : Pending) (f : Disposition) → (request : Held) × Contains (requests_of (port_at n) old.book) request × IsEntry request e × (disposition_of None s.revalidation request.entry ≡ f) → HasFate old e f
   its_fate e f (request, here, entry, is) =
       let its = of_requests (port_at n) old.book request here in
       let own : e.request.port ≡ port_at n = entry.port ∙ its.1 in
@@ -302,25 +302,25 @@ module _ (laws : LawsBelow) (n : ℕ) (low : n < 4) (found : Found) (rest : List
         request = request;
         entry = entry;
         from = was_itself old.book request its.0;
-        prospect = s.prospect;
-        expects = subst (λ (p : Port). IsProspectAnew (remembered_at old.remembered p.0) (found_of old.ports p.0) s.prospect) (sym own) s.expects;
-        fate = is;
+        revalidation = s.revalidation;
+        expects = subst (λ (p : Port). IsResetRevalidation (remembered_at old.remembered p.0) (probe_result_of old.ports p.0) s.revalidation) (sym own) s.expects;
+        disposition = is;
       }
 
-  one_left : IsLeft (port_at n) (fate_of None s.prospect) (requests_of (port_at n) old.book) (holdings_of (port_at n) old) s.now
+  one_left : IsLeft (port_at n) (disposition_of None s.revalidation) (requests_of (port_at n) old.book) (holdings_of (port_at n) old) s.now
   one_left = left laws n low its old mid m reached s at
 
   mid_from : (e : Held) → Contains mid.book e → WasIn old.book e
-  mid_from e here = one_left.from e (subst (λ (c : Server). Contains c.book e) s.server here)
+  mid_from e here = one_left.from e (subst (λ (c : ServerState). Contains c.book e) s.server here)
 
-  as_before : (e : Pending) (f : Fate) → HasFate mid e f → HasFate old e f
+  as_before : (e : Pending) (f : Disposition) → HasFate mid e f → HasFate old e f
   as_before e f has = record {
     request = has.request;
     entry = has.entry;
     from = was_more old.book mid.book has.request mid_from has.from;
-    prospect = has.prospect;
-    expects = subst (λ (c : Server). IsProspectAnew (remembered_at c.remembered e.request.port.0) (found_of c.ports e.request.port.0) has.prospect) s.server has.expects;
-    fate = has.fate;
+    revalidation = has.revalidation;
+    expects = subst (λ (c : ServerState). IsResetRevalidation (remembered_at c.remembered e.request.port.0) (probe_result_of c.ports e.request.port.0) has.revalidation) s.server has.expects;
+    disposition = has.disposition;
   }
 
   -- those that are told first are of this port
@@ -338,8 +338,8 @@ module _ (laws : LawsBelow) (n : ℕ) (low : n < 4) (found : Found) (rest : List
     backed = λ d. laws.backed_parts d d d m one.steps r.steps (one.backed d) (r.backed d);
     fated = subst (IsFatedTo (n + length (found ∷ rest)) new) (sym (laws.basic.joined m r.steps one.steps)) (subst (λ (k : ℕ). IsFatedTo k new (after (after m one.steps) r.steps)) (omega arith) r.fated);
     decides = All-append Decides r.steps one.steps r.decides (All-weaker (DecidesOn (port_at n)) Decides (λ step is. (port_at n, is)) one.steps one.own);
-    answered = λ e o here. ⊎_elim (λ late. as_before e (Ends o) (r.answered e o late)) (λ early. its_fate e (Ends o) (one.answered e o early)) (Contains-append_cases r.steps one.steps (Answer e o) here);
-    again = λ e here. ⊎_elim (λ late. as_before e GoesAgain (r.again e late)) (λ early. its_fate e GoesAgain (one.again e early)) (Contains-append_cases r.steps one.steps (Again e) here);
+    answered = λ e o here. ⊎_elim (λ late. as_before e (Complete o) (r.answered e o late)) (λ early. its_fate e (Complete o) (one.answered e o early)) (Contains-append_cases r.steps one.steps (Answer e o) here);
+    again = λ e here. ⊎_elim (λ late. as_before e Requeue (r.again e late)) (λ early. its_fate e Requeue (one.again e early)) (Contains-append_cases r.steps one.steps (Again e) here);
     answers = one.tells.answers ++ r.answers;
     permuted = subst (IsPermutation (one.tells.answers ++ r.answers)) (sym (answers_append r.steps one.steps))
         (IsPermutation-trans _ _ _ (IsPermutation-append_comm one.tells.answers r.answers) (IsPermutation-append _ _ _ _ r.permuted one.tells.same));
@@ -352,17 +352,17 @@ module _ (laws : LawsBelow) (n : ℕ) (low : n < 4) (found : Found) (rest : List
         (All-weaker (λ a. n + 1 ≤ a.0.request.port.0) (λ a. n ≤ a.0.request.port.0) (λ a is. omega (arith, is)) r.answers r.high);
     told = split ∙ ap (λ (list : List Reply). list ++ later) one.tells.told ∙ ap (λ (list : List Reply). map reply_of one.tells.answers ++ list) r.told ∙ sym (map-append reply_of one.tells.answers r.answers);
     from = λ e here. was_more old.book mid.book e (λ x there. mid_from x there) (r.from e here);
-    owners = r.owners ∙ ap (λ (c : Server). c.table.owners) s.server ∙ one_left.owners;
-    settings = r.settings ∙ ap (λ (c : Server). record c { table = new.table; kept = new.kept; book = new.book }) s.server;
+    owners = r.owners ∙ ap (λ (c : ServerState). c.table.owners) s.server ∙ one_left.owners;
+    settings = r.settings ∙ ap (λ (c : ServerState). record c { table = new.table; kept = new.kept; book = new.book }) s.server;
   }
 
-pub fate_all : LawsBelow → (found : List Found) (n : ℕ) → n + length found ≤ 4 → (replies : List Reply) (old new : Server) → SettlePorts n found replies old new → (m : Machine) → IsReached m → IsFatedTo n old m
+pub fate_all : LawsBelow → (found : List ProbeResult) (n : ℕ) → n + length found ≤ 4 → (replies : List Reply) (old new : ServerState) → SettlePorts n found replies old new → (m : Machine) → IsReachable m → IsFatedTo n old m
     → AreFated n found replies old new m
 fate_all laws [] n few replies old new (none, same) m reached at = record {
   steps = [];
   may = tt;
   backed = λ d. laws.backed_none d m;
-  fated = subst (λ (c : Server). IsFatedTo (n + 0) c m) (sym same) (subst (λ (k : ℕ). IsFatedTo k old m) (omega arith) at);
+  fated = subst (λ (c : ServerState). IsFatedTo (n + 0) c m) (sym same) (subst (λ (k : ℕ). IsFatedTo k old m) (omega arith) at);
   decides = All-nil Decides;
   answered = λ e o here. absurd (nowhere (Answer e o) here);
   again = λ e here. absurd (nowhere (Again e) here);
@@ -371,9 +371,9 @@ fate_all laws [] n few replies old new (none, same) m reached at = record {
   ordered = λ i j d lt below. absurd (omega (arith, lt, below));
   high = All-nil (λ a. n ≤ a.0.request.port.0);
   told = none;
-  from = λ e here. was_itself old.book e (subst (λ (c : Server). Contains c.book e) same here);
-  owners = ap (λ (c : Server). c.table.owners) same;
-  settings = same ∙ ap (λ (c : Server). record old { table = c.table; kept = c.kept; book = c.book }) (sym same);
+  from = λ e here. was_itself old.book e (subst (λ (c : ServerState). Contains c.book e) same here);
+  owners = ap (λ (c : ServerState). c.table.owners) same;
+  settings = same ∙ ap (λ (c : ServerState). record old { table = c.table; kept = c.kept; book = c.book }) (sym same);
 }
 fate_all laws (found ∷ rest) n few replies old new (mid, its, later, split, one, more) m reached at =
     let low : n < 4 = omega (arith, few) in

@@ -6,16 +6,16 @@ use Rattle.adapter.specs.Access.Access.{Loading, Reading, Storing, Writing}
 use Rattle.adapter.specs.Device.{Device}
 use Rattle.adapter.specs.Idle.{IsIdle}
 use Rattle.adapter.specs.Rules.{IsOn}
-use Rattle.agreement.specs.Agrees.{port_at}
-use Rattle.agreement.specs.Driven.{Grows, IsControl, IsDrivenBy, IsOf}
+use Rattle.refinement.specs.Relation.{port_at}
+use Rattle.refinement.specs.Driven.{Grows, IsControl, IsDrivenBy, IsOf}
 use Rattle.ata_types.specs.declared.Port.{Port}
 use Rattle.ata_types.specs.declared.PortState.{PortState as ShownState}
 use Rattle.ata_types.specs.declared.PortState.TheVariants.{Ready as ReadyState}
 use Rattle.block_machine.specs.Events.{ShowsDisk}
 use Rattle.hba_regs.specs.declared.reg.Reg.TheVariants.{Cap, Ghc, Pi}
-use Rattle.host_boot.specs.Taken.{GoThrough, GoesOver, GoesThrough, IsSurvey, found_of}
-use Rattle.host_boot.specs.declared.Found.{Found}
-use Rattle.host_boot.specs.declared.Found.TheVariants.{Ready, Unready, Unserved}
+use Rattle.host_boot.specs.Taken.{GoThrough, GoesOver, GoesThrough, IsSurvey, probe_result_of}
+use Rattle.host_boot.specs.declared.ProbeResult.{ProbeResult}
+use Rattle.host_boot.specs.declared.ProbeResult.TheVariants.{Ready, Unready, Unserved}
 use Rattle.port_boot.specs.States.{IsOfBoot}
 use Rattle.port_control.specs.Ports.{WritesCommand}
 use Rattle.server_history.proofs.state.DrivenAccesses.{by_none, driven_as}
@@ -63,7 +63,7 @@ module _ (laws : LawsBelow) where
     only = All-append (IsOf port) early.accesses late.accesses early.only late.only;
   }
 
-  through_of : (port : Port) (found : Found) (old new : Device) → GoesThrough port found old new → IsDrivenBy (IsOf port) old new
+  through_of : (port : Port) (found : ProbeResult) (old new : Device) → GoesThrough port found old new → IsDrivenBy (IsOf port) old new
   through_of port Unserved old new same = subst (IsDrivenBy (IsOf port) old) (sym same) (by_none (IsOf port) old)
   through_of port (Ready info) old new (stopped, stops, boots, gets, shows) = of_both port old stopped new (stopping_of port old stopped stops) (boot_of port stopped new boots)
   through_of port (Unready state) old new (stopped, stops, boots, first, last, sticks) = of_both port old stopped new (stopping_of port old stopped stops) (boot_of port stopped new boots)
@@ -72,7 +72,7 @@ module _ (laws : LawsBelow) where
   sees_saw port old new s = record { seen = s.seen; accesses = s.early.accesses; does = s.early.all; present = s.own s.shows; later = grows_over laws s.late.accesses s.seen new s.late.all }
 
   -- one that finds a disk
-  through_saw : (port : Port) (found : Found) (old new : Device) → IsOn old → ((state : ShownState) → found ≡ Unready state → state ≢ ReadyState) → ShowsDisk (state_of found) → GoesThrough port found old new → SawDisk port old new
+  through_saw : (port : Port) (found : ProbeResult) (old new : Device) → IsOn old → ((state : ShownState) → found ≡ Unready state → state ≢ ReadyState) → ShowsDisk (state_of found) → GoesThrough port found old new → SawDisk port old new
   through_saw port Unserved old new on other shows way = absurd shows
   through_saw port (Ready info) old new on other shows (stopped, stops, boots, gets, news) =
       let driven = stopping_of port old stopped stops in
@@ -84,18 +84,18 @@ module _ (laws : LawsBelow) where
 
   -- ---- one port after another
 
-  go_grows : (first : ℕ) (ports : List Found) (old new : Device) → GoThrough first ports old new → Grows old new
+  go_grows : (first : ℕ) (ports : List ProbeResult) (old new : Device) → GoThrough first ports old new → Grows old new
   go_grows first [] old new same = subst (Grows old) (sym same) (laws.looks.tape.grows_none old)
   go_grows first (found ∷ rest) old new (mid, way, more) =
       let driven = through_of (port_at first) found old mid way in
       laws.looks.tape.grows_more old mid new (grows_over laws driven.accesses old mid driven.all) (go_grows (first + 1) rest mid new more)
 
-  go_saw : (port : Port) (found : Found) → ((state : ShownState) → found ≡ Unready state → state ≢ ReadyState) → ShowsDisk (state_of found)
-      → (first : ℕ) (ports : List Found) (k : ℕ) (old new : Device) → port.0 ≡ first + k → found_of ports k ≡ found → IsOn old → GoThrough first ports old new → SawDisk port old new
-  go_saw port found other shows first [] k old new at is on way = absurd (let none : ShowsDisk (state_of Unserved) = subst (λ (f : Found). ShowsDisk (state_of f)) (sym is) shows in none)
+  go_saw : (port : Port) (found : ProbeResult) → ((state : ShownState) → found ≡ Unready state → state ≢ ReadyState) → ShowsDisk (state_of found)
+      → (first : ℕ) (ports : List ProbeResult) (k : ℕ) (old new : Device) → port.0 ≡ first + k → probe_result_of ports k ≡ found → IsOn old → GoThrough first ports old new → SawDisk port old new
+  go_saw port found other shows first [] k old new at is on way = absurd (let none : ShowsDisk (state_of Unserved) = subst (λ (f : ProbeResult). ShowsDisk (state_of f)) (sym is) shows in none)
   go_saw port found other shows first (one ∷ rest) zero old new at is on (mid, way, more) =
       let same : port_at first ≡ port = ap port_at (sym (at ∙ (omega arith))) in
-      let own : GoesThrough port found old mid = subst (λ (p : Port). GoesThrough p found old mid) same (subst (λ (f : Found). GoesThrough (port_at first) f old mid) is way) in
+      let own : GoesThrough port found old mid = subst (λ (p : Port). GoesThrough p found old mid) same (subst (λ (f : ProbeResult). GoesThrough (port_at first) f old mid) is way) in
       saw_after port old mid new (go_grows (first + 1) rest mid new more) (through_saw port found old mid on other shows own)
   go_saw port found other shows first (one ∷ rest) (suc k) old new at is on (mid, way, more) =
       let driven = through_of (port_at first) one old mid way in
@@ -112,8 +112,8 @@ module _ (laws : LawsBelow) where
   survey_of port (Loading at bytes) is = absurd is
   survey_of port (Storing at bytes) is = absurd is
 
-pub taken_saw : (laws : ResetLaws) (port : Port) (found : Found) → ((state : ShownState) → found ≡ Unready state → state ≢ ReadyState) → ShowsDisk (state_of found) → (ports : List Found) (old new : Device) → IsIdle old
-    → found_of ports port.0 ≡ found → GoesOver ports old new → SawDisk port old new
+pub taken_saw : (laws : ResetLaws) (port : Port) (found : ProbeResult) → ((state : ShownState) → found ≡ Unready state → state ≢ ReadyState) → ShowsDisk (state_of found) → (ports : List ProbeResult) (old new : Device) → IsIdle old
+    → probe_result_of ports port.0 ≡ found → GoesOver ports old new → SawDisk port old new
 taken_saw laws port found other shows ports old new rest is way =
     let below : LawsBelow = laws.below in
     let on = laws.below.switches_on 0x80000000 old way.switched rest.no_reset refl refl way.switches in

@@ -3,48 +3,48 @@ use Rattle.std.proofs.Common.{Bool, List, [], ap, arith, false, if◌then◌else
 use Rattle.std.proofs.lemmas.Bool.{cases_Bool, cases_eq, cases_lt, false≢true}
 use Rattle.std.proofs.lemmas.List.Elements.{All-append, All-cons, All-nil}
 use Rattle.std.specs.List.{All, Contains, list_any}
-use Rattle.agreement.specs.Agrees.{port_at}
-use Rattle.agreement.specs.Driver.{IsBacked}
+use Rattle.refinement.specs.Relation.{port_at}
+use Rattle.refinement.specs.Driver.{IsBacked}
 use Rattle.ata_types.specs.declared.Port.{Port}
 use Rattle.ata_types.specs.declared.PortState.TheVariants.{Absent, Ready as ReadyState}
 use Rattle.ata_types.specs.declared.request.RequestId.{RequestId}
 use Rattle.server_history.proofs.state.ListMembers.{map_in}
 use Rattle.block_machine.specs.Due.{NoneDue, due_of, of_port}
-use Rattle.block_machine.specs.Events.{AllMay, IsDevices, IsIssuedIn, IssuesLast, issues_it}
-use Rattle.block_machine.specs.Histories.{IsReached}
+use Rattle.block_machine.specs.Events.{AllMay, IsByDevice, IsIssuedIn, IssuesLast, issues_it}
+use Rattle.block_machine.specs.Histories.{IsReachable}
 use Rattle.block_machine.specs.Left.{after}
 use Rattle.block_machine.specs.Ports.{Ports}
 use Rattle.block_machine.specs.State.{Machine, unanswered}
 use Rattle.block_machine.specs.Steps.{Issue, Step}
-use Rattle.block_machine.specs.declared.due.Mode.{Mode}
+use Rattle.block_machine.specs.declared.due.QueueMode.{QueueMode}
 use Rattle.block_machine.specs.declared.due.Unanswered.{Unanswered}
 use Rattle.driver_history.specs.Histories.{IssuesDue}
-use Rattle.host_boot.specs.Taken.{found_of}
-use Rattle.host_boot.specs.declared.Found.{Found}
-use Rattle.host_boot.specs.declared.Found.TheVariants.{Ready, Unready, Unserved}
+use Rattle.host_boot.specs.Taken.{probe_result_of}
+use Rattle.host_boot.specs.declared.ProbeResult.{ProbeResult}
+use Rattle.host_boot.specs.declared.ProbeResult.TheVariants.{Ready, Unready, Unserved}
 use Rattle.identify.specs.declared.DiskInfo.{DiskInfo}
-use Rattle.request_queue.specs.Entries.{Held, asks, asks_of, at, due_ids, has_id, issue}
+use Rattle.request_queue.specs.Entries.{Held, asks, asks_of, at_entry, due_ids, has_id, issue}
 use Rattle.server_history.proofs.state.DueRequests.{same_book}
 use Rattle.server_history.proofs.any_turn.JoinedParts.{ready_or_not}
 use Rattle.server_history.proofs.recovery_turn.CallPart.{none_due_unready}
-use Rattle.server_history.proofs.fates.RemainingBook.{WasIn, was_itself, was_more}
+use Rattle.server_history.proofs.dispositions.RemainingBook.{WasIn, was_itself, was_more}
 use Rattle.server_history.proofs.plain_calls.IssueRounds.{AreIssued, any_append, dues, dues_carried, each_apart, each_done, each_issued, each_kept, each_settings, issued_parts, last_on, or_none}
 use Rattle.server_history.proofs.state.PortSlots.{ready_found}
 use Rattle.server_history.specs.Below.{LawsBelow}
 use Rattle.server_history.specs.Resets.{IssuePorts}
 use Rattle.server_history.specs.Served.{IssuesAll, IssuesEach, IssuesOnly}
-use Rattle.server_history.specs.Server.{IsKept, IsMachineOf, IsSettled, Server, mode_in, ports_of, state_of}
+use Rattle.server_history.specs.Server.{InCallInvariant, IsMachineOf, SettledInvariant, ServerState, mode_in, ports_of, state_of}
 
 -- the step is the device's, or issues a request of a ready port in the port's mode
 abbrev pub IsReissue : Ports → Step → Type 0
 IsReissue ports (Issue mode e) = (ports.state e.request.port ≡ ReadyState) × (ports.mode e.request.port ≡ mode)
-IsReissue ports step = IsDevices step
+IsReissue ports step = IsByDevice step
 
-reissue_device : (ports : Ports) (step : Step) → IsDevices step → IsReissue ports step
+reissue_device : (ports : Ports) (step : Step) → IsByDevice step → IsReissue ports step
 reissue_device ports (Issue mode e) is = absurd is
 reissue_device ports step is = is
 
-only_reissues : (ports : Ports) (mode : Mode) (port : Port) → ports.state port ≡ ReadyState → ports.mode port ≡ mode → (steps : List Step) → IssuesOnly mode port steps → All (IsReissue ports) steps
+only_reissues : (ports : Ports) (mode : QueueMode) (port : Port) → ports.state port ≡ ReadyState → ports.mode port ≡ mode → (steps : List Step) → IssuesOnly mode port steps → All (IsReissue ports) steps
 only_reissues ports mode port ready its [] only = All-nil (IsReissue ports)
 only_reissues ports mode port ready its (Issue other e ∷ steps) only =
     All-cons (IsReissue ports) (Issue other e) steps (ap ports.state only.1 ∙ ready, ap ports.mode only.1 ∙ its ∙ sym only.0) (only_reissues ports mode port ready its steps only.2)
@@ -52,33 +52,33 @@ only_reissues ports mode port ready its (step ∷ steps) only = All-cons (IsReis
 
 -- ---- who was in the book
 
-issued_was : (id : RequestId) (book : List Held) (e : Held) → Contains (map (at id issue) book) e → WasIn book e
+issued_was : (id : RequestId) (book : List Held) (e : Held) → Contains (map (at_entry id issue) book) e → WasIn book e
 issued_was id book e here =
-    let w = map_in (at id issue) book e here in
+    let w = map_in (at_entry id issue) book e here in
     subst (WasIn book) (sym w.2) (by w.0 w.1 (has_id id w.0))
   where
     by : (x : Held) → Contains book x → (b : Bool) → WasIn book (if b then record x { entry = issue x.entry } else x)
     by x here true = record { was = x; there = here; id = refl; client = refl; grant = refl; port = refl; op = refl; revoked = refl; waiting = λ waits. absurd (false≢true (sym waits)) }
     by x here false = was_itself book x here
 
-each_from : (port : Port) (ids : List RequestId) (old new : Server) → IssuesEach port ids old new → (e : Held) → Contains new.book e → WasIn old.book e
-each_from port [] old new none e here = was_itself old.book e (subst (λ (c : Server). Contains c.book e) none here)
+each_from : (port : Port) (ids : List RequestId) (old new : ServerState) → IssuesEach port ids old new → (e : Held) → Contains new.book e → WasIn old.book e
+each_from port [] old new none e here = was_itself old.book e (subst (λ (c : ServerState). Contains c.book e) none here)
 each_from port (id ∷ ids) old new (mid, one, more) e here =
-    was_more old.book mid.book e (λ x there. issued_was id old.book x (subst (λ (c : Server). Contains c.book x) one.server there)) (each_from port ids mid new more e here)
+    was_more old.book mid.book e (λ x there. issued_was id old.book x (subst (λ (c : ServerState). Contains c.book x) one.server there)) (each_from port ids mid new more e here)
 
 -- ---- so far
 
-module _ (laws : LawsBelow) (old : Server) (k : IsKept old) (m : Machine) (reached : IsReached m) (is : IsMachineOf old m) where
+module _ (laws : LawsBelow) (old : ServerState) (k : InCallInvariant old) (m : Machine) (reached : IsReachable m) (is : IsMachineOf old m) where
   abbrev IsReady : Port → Type 0
-  IsReady port = state_of (found_of old.ports port.0) ≡ ReadyState
+  IsReady port = state_of (probe_result_of old.ports port.0) ≡ ReadyState
 
   -- On the ready ports below this number what was due was issued, which led to this server.
-  pub record AreReissued (n : ℕ) (c : Server) : Type 0 where
+  pub record AreReissued (n : ℕ) (c : ServerState) : Type 0 where
     pub steps : List Step
     pub may : AllMay m steps
     pub backed : IsBacked old.device c.device m steps
     pub stands : IsMachineOf c (after m steps)
-    pub kept : IsKept c
+    pub kept : InCallInvariant c
     pub settings : c ≡ record old { device = c.device; slots = c.slots; book = c.book }
     pub only : All (IsReissue (ports_of old)) steps
     pub last : IssuesLast steps
@@ -104,7 +104,7 @@ module _ (laws : LawsBelow) (old : Server) (k : IsKept old) (m : Machine) (reach
   }
 
   -- a port that isn't ready is passed over
-  pub passed_over : (n : ℕ) (c : Server) → (state_of (found_of old.ports n) ≢ ReadyState) → AreReissued n c → AreReissued (n + 1) c
+  pub passed_over : (n : ℕ) (c : ServerState) → (state_of (probe_result_of old.ports n) ≢ ReadyState) → AreReissued n c → AreReissued (n + 1) c
   passed_over n c unready a = record {
     steps = a.steps;
     may = a.may;
@@ -123,12 +123,12 @@ module _ (laws : LawsBelow) (old : Server) (k : IsKept old) (m : Machine) (reach
       below : (port : Port) → port.0 < n + 1 → IsReady port → port.0 < n
       below port lt ready = ⊎_elim
           (λ (less : port.0 < n). less)
-          (λ (most : n ≤ port.0). absurd (unready (ap (λ (q : ℕ). state_of (found_of old.ports q)) (let same : n ≡ port.0 = omega (arith, lt, most) in same) ∙ ready)))
+          (λ (most : n ≤ port.0). absurd (unready (ap (λ (q : ℕ). state_of (probe_result_of old.ports q)) (let same : n ≡ port.0 = omega (arith, lt, most) in same) ∙ ready)))
           (cases_lt port.0 n)
 
   -- ---- one more port
 
-  module _ (n : ℕ) (ready : state_of (found_of old.ports n) ≡ ReadyState) (c mid : Server) (a : AreReissued n c) (issues : IssuesAll (port_at n) c mid) where
+  module _ (n : ℕ) (ready : state_of (probe_result_of old.ports n) ≡ ReadyState) (c mid : ServerState) (a : AreReissued n c) (issues : IssuesAll (port_at n) c mid) where
     abbrev port : Port
     port = port_at n
 
@@ -138,7 +138,7 @@ module _ (laws : LawsBelow) (old : Server) (k : IsKept old) (m : Machine) (reach
     abbrev stood : Machine
     stood = after m a.steps
 
-    then_reached : IsReached stood
+    then_reached : IsReachable stood
     then_reached = laws.basic.reached m a.steps reached a.may
 
     x : AreIssued port ids c mid stood
@@ -151,7 +151,7 @@ module _ (laws : LawsBelow) (old : Server) (k : IsKept old) (m : Machine) (reach
     all_is = laws.basic.joined m x.steps a.steps
 
     mode_same : (q : Port) → mode_in c q ≡ mode_in old q
-    mode_same q = ap (λ (s : Server). mode_in s q) a.settings
+    mode_same q = ap (λ (s : ServerState). mode_in s q) a.settings
 
     -- one that is due is of the port
     its : (id : RequestId) → Contains ids id → (e : Held) × Contains c.book e × (e.entry.id ≡ id) × (e.entry.port ≡ port)
@@ -186,7 +186,7 @@ module _ (laws : LawsBelow) (old : Server) (k : IsKept old) (m : Machine) (reach
     apart_same q ne = each_apart laws port ids c mid a.kept.ordered issues q (λ same. ne (ap (λ (p : Port). p.0) same))
 
     none_of_it : NoneDue (mode_in old port) (asks_of mid.book) port
-    none_of_it = subst (λ (mode : Mode). NoneDue mode (asks_of mid.book) port) (mode_same port) (each_done laws port (mode_in c port) ids c mid issues (laws.in_turn (mode_in c port) port (asks_of c.book) (laws.asked c.book a.kept.ordered)))
+    none_of_it = subst (λ (mode : QueueMode). NoneDue mode (asks_of mid.book) port) (mode_same port) (each_done laws port (mode_in c port) ids c mid issues (laws.in_turn (mode_in c port) port (asks_of c.book) (laws.asked c.book a.kept.ordered)))
 
     none_then : (q : Port) → q.0 < n + 1 → IsReady q → NoneDue (mode_in old q) (asks_of mid.book) q
     none_then q lt its_ready = ⊎_elim
@@ -225,7 +225,7 @@ module _ (laws : LawsBelow) (old : Server) (k : IsKept old) (m : Machine) (reach
         (cases_Bool (list_any (issues_it r.id) x.steps))
 
     dues_here : IssuesDue (mode_in old port) all (after m all) port
-    dues_here = subst (λ (mode : Mode). IssuesDue mode all (after m all) port) (mode_same port)
+    dues_here = subst (λ (mode : QueueMode). IssuesDue mode all (after m all) port) (mode_same port)
         (dues_carried laws (mode_in c port) x.steps all (after stood x.steps) (after m all) port (ap (of_port port) last_machine) alike_here
         (dues laws port c mid a.kept issues stood x port (λ ne. absurd (ne refl))))
 
@@ -252,7 +252,7 @@ module _ (laws : LawsBelow) (old : Server) (k : IsKept old) (m : Machine) (reach
       backed = laws.backed_parts old.device c.device mid.device m a.steps x.steps a.backed x.backed;
       stands = subst (IsMachineOf mid) (sym all_is) x.stands;
       kept = each_kept laws port ids c mid a.kept issues;
-      settings = each_settings laws port ids c mid issues ∙ ap (λ (s : Server). record s { device = mid.device; slots = mid.slots; book = mid.book }) a.settings;
+      settings = each_settings laws port ids c mid issues ∙ ap (λ (s : ServerState). record s { device = mid.device; slots = mid.slots; book = mid.book }) a.settings;
       only = All-append (IsReissue (ports_of old)) x.steps a.steps (only_reissues (ports_of old) (mode_in c port) port ready (sym (mode_same port)) x.steps x.only) a.only;
       last = last_on (mode_in c port) port x.steps a.steps x.only x.last a.last apart;
       from = λ e here. was_more old.book c.book e a.from (each_from port ids c mid issues e here);
@@ -263,40 +263,40 @@ module _ (laws : LawsBelow) (old : Server) (k : IsKept old) (m : Machine) (reach
 
   -- ---- all ports
 
-  not_ready : (found : Found) (n : ℕ) → found_of old.ports n ≡ found → (state_of found ≢ ReadyState) → state_of (found_of old.ports n) ≢ ReadyState
-  not_ready found n at other ready = other (ap state_of (sym at) ∙ ready)
+  not_ready : (found : ProbeResult) (n : ℕ) → probe_result_of old.ports n ≡ found → (state_of found ≢ ReadyState) → state_of (probe_result_of old.ports n) ≢ ReadyState
+  not_ready found n at_entry other ready = other (ap state_of (sym at_entry) ∙ ready)
 
-  pub reissue_all : (found : List Found) (n : ℕ) → ((i : ℕ) → found_of old.ports (n + i) ≡ found_of found i) → (c new : Server) → AreReissued n c → IssuePorts n found c new → AreReissued (n + length found) new
-  reissue_all [] n at c new a same = subst (λ (q : ℕ). AreReissued q new) (omega arith) (subst (AreReissued n) (sym same) a)
-  reissue_all (Ready info ∷ rest) n at c new a (mid, issues, more) =
-      let here : found_of old.ports n ≡ Ready info = ap (found_of old.ports) (omega arith) ∙ at 0 in
+  pub reissue_all : (found : List ProbeResult) (n : ℕ) → ((i : ℕ) → probe_result_of old.ports (n + i) ≡ probe_result_of found i) → (c new : ServerState) → AreReissued n c → IssuePorts n found c new → AreReissued (n + length found) new
+  reissue_all [] n at_entry c new a same = subst (λ (q : ℕ). AreReissued q new) (omega arith) (subst (AreReissued n) (sym same) a)
+  reissue_all (Ready info ∷ rest) n at_entry c new a (mid, issues, more) =
+      let here : probe_result_of old.ports n ≡ Ready info = ap (probe_result_of old.ports) (omega arith) ∙ at_entry 0 in
       subst (λ (q : ℕ). AreReissued q new) (omega arith)
-      (reissue_all rest (n + 1) (λ i. ap (found_of old.ports) (omega arith) ∙ at (suc i)) mid new (reissued_more n (ap state_of here) c mid a issues) more)
-  reissue_all (Unserved ∷ rest) n at c new a more =
-      let here : found_of old.ports n ≡ Unserved = ap (found_of old.ports) (omega arith) ∙ at 0 in
+      (reissue_all rest (n + 1) (λ i. ap (probe_result_of old.ports) (omega arith) ∙ at_entry (suc i)) mid new (reissued_more n (ap state_of here) c mid a issues) more)
+  reissue_all (Unserved ∷ rest) n at_entry c new a more =
+      let here : probe_result_of old.ports n ≡ Unserved = ap (probe_result_of old.ports) (omega arith) ∙ at_entry 0 in
       subst (λ (q : ℕ). AreReissued q new) (omega arith)
-      (reissue_all rest (n + 1) (λ i. ap (found_of old.ports) (omega arith) ∙ at (suc i)) c new
+      (reissue_all rest (n + 1) (λ i. ap (probe_result_of old.ports) (omega arith) ∙ at_entry (suc i)) c new
       (passed_over n c (not_ready Unserved n here (λ ready. let z : Absent ≡ ReadyState = ready in absurd cc)) a) more)
-  reissue_all (Unready state ∷ rest) n at c new a more =
-      let here : found_of old.ports n ≡ Unready state = ap (found_of old.ports) (omega arith) ∙ at 0 in
+  reissue_all (Unready state ∷ rest) n at_entry c new a more =
+      let here : probe_result_of old.ports n ≡ Unready state = ap (probe_result_of old.ports) (omega arith) ∙ at_entry 0 in
       subst (λ (q : ℕ). AreReissued q new) (omega arith)
-      (reissue_all rest (n + 1) (λ i. ap (found_of old.ports) (omega arith) ∙ at (suc i)) c new
+      (reissue_all rest (n + 1) (λ i. ap (probe_result_of old.ports) (omega arith) ∙ at_entry (suc i)) c new
       (passed_over n c (λ ready. unready (ready_found old n k ready).1 here) a) more)
     where
-      unready : (info : DiskInfo) × (found_of old.ports n ≡ Ready info) → found_of old.ports n ≡ Unready state → ⊥
+      unready : (info : DiskInfo) × (probe_result_of old.ports n ≡ Ready info) → probe_result_of old.ports n ≡ Unready state → ⊥
       unready (info, one) other = let z : Ready info ≡ Unready state = sym one ∙ other in absurd cc
 
   -- once all four ports had their turn, nothing is due
-  pub settled_then : (new : Server) → AreReissued 4 new → IsSettled new
+  pub settled_then : (new : ServerState) → AreReissued 4 new → SettledInvariant new
   settled_then new a = record {
     kept = a.kept;
     issued = λ port. ⊎_elim
-        (λ (ready : IsReady port). subst (λ (mode : Mode). NoneDue mode (asks_of new.book) port) (sym (ap (λ (s : Server). mode_in s port) a.settings)) (a.none port (ready_found old port.0 k ready).0 ready))
-        (λ unready. none_due_unready new a.kept port (λ ready. unready (ap (λ (s : Server). state_of (found_of s.ports port.0)) (sym a.settings) ∙ ready)) (mode_in new port))
-        (ready_or_not (state_of (found_of old.ports port.0)));
+        (λ (ready : IsReady port). subst (λ (mode : QueueMode). NoneDue mode (asks_of new.book) port) (sym (ap (λ (s : ServerState). mode_in s port) a.settings)) (a.none port (ready_found old port.0 k ready).0 ready))
+        (λ unready. none_due_unready new a.kept port (λ ready. unready (ap (λ (s : ServerState). state_of (probe_result_of s.ports port.0)) (sym a.settings) ∙ ready)) (mode_in new port))
+        (ready_or_not (state_of (probe_result_of old.ports port.0)));
   }
 
   -- so it is of a server's ports
-  pub all_reissued : (found : List Found) → old.ports ≡ found → length found ≡ 4 → (new : Server) → IssuePorts 0 found old new → AreReissued 4 new
+  pub all_reissued : (found : List ProbeResult) → old.ports ≡ found → length found ≡ 4 → (new : ServerState) → IssuePorts 0 found old new → AreReissued 4 new
   all_reissued found same four new issues = subst (λ (q : ℕ). AreReissued q new) (omega (arith, four))
-      (reissue_all found 0 (λ i. ap (λ (ports : List Found). found_of ports (0 + i)) same ∙ ap (found_of found) (omega arith)) old new none_yet issues)
+      (reissue_all found 0 (λ i. ap (λ (ports : List ProbeResult). probe_result_of ports (0 + i)) same ∙ ap (probe_result_of found) (omega arith)) old new none_yet issues)

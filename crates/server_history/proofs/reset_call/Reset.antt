@@ -7,8 +7,8 @@ use Rattle.std.specs.List.{All, Contains, list_any}
 use Rattle.std.specs.List.Sorted.{IsPermutation}
 use Rattle.adapter.specs.Device.{Device}
 use Rattle.adapter.specs.declared.access.DeviceStep.{DeviceStep}
-use Rattle.agreement.specs.Driven.{Grows}
-use Rattle.agreement.specs.Driver.{IsBacked}
+use Rattle.refinement.specs.Driven.{Grows}
+use Rattle.refinement.specs.Driver.{IsBacked}
 use Rattle.ata_types.specs.declared.Port.{Port}
 use Rattle.ata_types.specs.declared.PortState.{PortState as ShownState}
 use Rattle.ata_types.specs.declared.PortState.TheVariants.{Absent, Dead, Ready as ReadyState}
@@ -17,27 +17,27 @@ use Rattle.ata_types.specs.declared.request.Reply.{Reply}
 use Rattle.ata_types.specs.declared.request.RequestId.{RequestId}
 use Rattle.server_history.proofs.state.ListMembers.{contains_cases}
 use Rattle.block_machine.specs.Due.{of_port}
-use Rattle.block_machine.specs.Events.{AllLawful, AllMay, AnswersReset, Belong, FindsAnother, GivesUp, HadDisk, IsLawful, IsRebooted, IssuesLast, KeepsDisks, Moment, NoneKeepsIssue, ReleasesOnce, Reset, ShowsDisk, Tells, UnplugsAll, WasIssued, WasReset, answers_of, issues_it, IsReadyAgain}
-use Rattle.block_machine.specs.Histories.{Happening, Instant, IsReached, now}
+use Rattle.block_machine.specs.Events.{AllLawful, AllMay, AnswersReset, Belong, FindsAnother, EndsUndone, HadDisk, IsLawful, IsRebooted, IssuesLast, KeepsDisks, AbstractState, NoneKeepsIssue, ReleasesOnce, Reset, ShowsDisk, Tells, UnplugsAll, WasIssued, WasReset, answers_of, issues_it, IsReadyAgain}
+use Rattle.block_machine.specs.Histories.{Happening, JointState, IsReachable, now}
 use Rattle.block_machine.specs.Left.{after}
 use Rattle.block_machine.specs.Ports.{MayBecome, Ports, SameDisk}
 use Rattle.block_machine.specs.State.{Machine, Pending, unanswered}
 use Rattle.block_machine.specs.Steps.{Again, Answer, Release, Step}
-use Rattle.block_machine.specs.declared.due.Mode.{Mode}
+use Rattle.block_machine.specs.declared.due.QueueMode.{QueueMode}
 use Rattle.driver_history.specs.Evidence.{IsEvidenced, IsEvidencedOf}
-use Rattle.driver_history.specs.Histories.{BootsAnew, IssuesDue, LosesNoTrouble, RunsWellAnew, ServesPort, TiesPort}
+use Rattle.driver_history.specs.Histories.{BootsAnew, IssuesDue, LosesNoPortError, RunsWellAnew, IsPortServed, PortCorresponds}
 use Rattle.driver_history.specs.Trace.{IsOfPorts}
 use Rattle.hba_regs.specs.Bits.{bit}
-use Rattle.host_boot.specs.Taken.{IsServed, StandsBehind, StillStandsBehind, found_of, wanted_of}
-use Rattle.host_boot.specs.declared.Found.{Found}
-use Rattle.host_boot.specs.declared.Found.TheVariants.{Ready, Unready, Unserved}
+use Rattle.host_boot.specs.Taken.{IsServed, StandsBehind, StillStandsBehind, probe_result_of, wanted_of}
+use Rattle.host_boot.specs.declared.ProbeResult.{ProbeResult}
+use Rattle.host_boot.specs.declared.ProbeResult.TheVariants.{Ready, Unready, Unserved}
 use Rattle.identify.specs.declared.DiskInfo.{DiskInfo}
-use Rattle.request_queue.specs.Entries.{Held, at}
+use Rattle.request_queue.specs.Entries.{Held, at_entry}
 use Rattle.request_queue.specs.Machine.{IsEntry}
-use Rattle.request_queue.specs.declared.fate.Fate.{Fate}
-use Rattle.request_queue.specs.declared.fate.Fate.TheVariants.{Ends, GoesAgain}
-use Rattle.request_queue.specs.declared.fate.Prospect.{Prospect}
-use Rattle.request_queue.specs.declared.fate.Prospect.TheVariants.{Dead as NoEnd, DiskLost, SameDisk as Same}
+use Rattle.request_queue.specs.declared.disposition.Disposition.{Disposition}
+use Rattle.request_queue.specs.declared.disposition.Disposition.TheVariants.{Complete, Requeue}
+use Rattle.request_queue.specs.declared.disposition.Revalidation.{Revalidation}
+use Rattle.request_queue.specs.declared.disposition.Revalidation.TheVariants.{Dead as NoEnd, DiskLost, SameDisk as Same}
 use Rattle.server_history.proofs.state.AnswerSteps.{no_answer}
 use Rattle.server_history.proofs.state.DueRequests.{none_due}
 use Rattle.server_history.proofs.start.NewServer.{kept_fit}
@@ -48,7 +48,7 @@ use Rattle.server_history.proofs.any_turn.JoinedParts.{answers_append}
 use Rattle.server_history.proofs.state.FirstMembers.{nowhere}
 use Rattle.server_history.proofs.healthy_turn.CallPart.{devices_answers, none_last}
 use Rattle.server_history.proofs.start.TakenOverPorts.{none_past}
-use Rattle.server_history.proofs.fates.FateReasons.{Why, why, why_again}
+use Rattle.server_history.proofs.dispositions.FateReasons.{Why, why, why_again}
 use Rattle.server_history.proofs.reset_call.ResetSteps.{KeepsLoans, answered_issued, decided_belong, decided_lawful, decided_none, decides_keeps, devices_keep, issued_from, last_then, none_released, reissue_keeps, reissued_answers, reissued_belong, reissued_lawful}
 use Rattle.server_history.proofs.reset_call.ServerAfterReset.{device_then, its_disk, its_fated, its_reissued, its_retaken, keeps_all, ports_are, settled_at_last, stands_regained, unused_then, wanted_then, z_reached}
 use Rattle.server_history.proofs.reset_call.IssuesOfAllPorts.{AreReissued, IsReissue}
@@ -60,29 +60,29 @@ use Rattle.server_history.proofs.state.PortSlots.{issued_has, of_ready, ready_fo
 use Rattle.server_history.proofs.any_turn.TurnsInOrder.{belong_join, lawful_join}
 use Rattle.server_history.proofs.state.PairedLists.{at_right}
 use Rattle.server_history.specs.Ended.{ResetLaws}
-use Rattle.server_history.specs.Histories.{Adds, Leads}
+use Rattle.server_history.specs.Histories.{ExtendsSettled, LeadsToServer}
 use Rattle.server_history.proofs.reset_call.ResetDevice.{IsRebootedBy}
-use Rattle.server_history.specs.Resets.{IsProspectAnew, IsTakenAgain, IssuePorts, ResetsServer, SettlePorts}
-use Rattle.server_history.specs.Server.{IsKept, IsMachineOf, IsSettled, Server, disk_in, disk_of, is_served, mode_in, ports_of, remembered_at, sectors_of, serial_of, state_of}
-use Rattle.server_history.specs.Stalled.{KeepsBooks}
-use Rattle.server_history.specs.Turns.{instant_of, moment_of}
+use Rattle.server_history.specs.Resets.{IsResetRevalidation, IsTakenAgain, IssuePorts, ResetsServer, SettlePorts}
+use Rattle.server_history.specs.Server.{InCallInvariant, IsMachineOf, SettledInvariant, ServerState, disk_in, last_disk_of, is_served, mode_in, ports_of, remembered_at, last_sectors_of, last_serial_of, state_of}
+use Rattle.server_history.specs.Stalled.{BookInvariant}
+use Rattle.server_history.specs.Turns.{server_instant, server_moment}
 use Rattle.ata_types.specs.declared.request.Outcome.TheVariants as outcome
 
 -- a port that is found in the state of a dead one is dead
-dead_found : (found : Found) → state_of found ≡ Dead → found ≡ Unready Dead
+dead_found : (found : ProbeResult) → state_of found ≡ Dead → found ≡ Unready Dead
 dead_found Unserved is = let z : Absent ≡ Dead = is in absurd cc
 dead_found (Ready info) is = let z : ReadyState ≡ Dead = is in absurd cc
 dead_found (Unready state) is = ap Unready is
 
 -- what doesn't run shows the disk that is remembered
-remembers : (found : Found) (remembered : Option DiskInfo) → state_of found ≢ ReadyState → disk_of found remembered ≡ remembered
+remembers : (found : ProbeResult) (remembered : Option DiskInfo) → state_of found ≢ ReadyState → last_disk_of found remembered ≡ remembered
 remembers Unserved remembered other = refl
 remembers (Ready info) remembered other = absurd (other refl)
 remembers (Unready state) remembered other = refl
 
-module _ (laws : ResetLaws) (s taken settled new : Server) (replies : List Reply) (booked : KeepsBooks s) (takes : IsTakenAgain s taken) (settles : SettlePorts 0 taken.ports replies taken settled) (issues : IssuePorts 0 taken.ports settled new)
-    (by : IsRebootedBy s new replies) (first : Instant Device) (past : List (Happening Device DeviceStep)) (leads : Leads first past s) where
-  abbrev was : Moment
+module _ (laws : ResetLaws) (s taken settled new : ServerState) (replies : List Reply) (booked : BookInvariant s) (takes : IsTakenAgain s taken) (settles : SettlePorts 0 taken.ports replies taken settled) (issues : IssuePorts 0 taken.ports settled new)
+    (by : IsRebootedBy s new replies) (first : JointState Device) (past : List (Happening Device DeviceStep)) (leads : LeadsToServer first past s) where
+  abbrev was : AbstractState
   was = (now first past).moment
 
   abbrev m : Machine
@@ -94,7 +94,7 @@ module _ (laws : ResetLaws) (s taken settled new : Server) (replies : List Reply
   same : was.ports ≡ ports_of s
   same = leads.stands.ports_are
 
-  reached : IsReached m
+  reached : IsReachable m
   reached = laws.below.basic.history_reached s.wanted first past leads.history
 
   -- ---- its steps
@@ -114,7 +114,7 @@ module _ (laws : ResetLaws) (s taken settled new : Server) (replies : List Reply
   abbrev z : Machine
   z = after (after m begun) f.steps
 
-  abbrev kept : IsKept settled
+  abbrev kept : InCallInvariant settled
   kept = keeps_all laws s taken settled booked takes replies settles m reached is
 
   abbrev stands : IsMachineOf settled z
@@ -152,136 +152,136 @@ module _ (laws : ResetLaws) (s taken settled new : Server) (replies : List Reply
   -- ---- ports
 
   ports_new : ports_of new ≡ ports_of settled
-  ports_new = ap (λ (c : Server). ports_of c) a.settings
+  ports_new = ap (λ (c : ServerState). ports_of c) a.settings
 
-  found_new : (port : ℕ) → found_of new.ports port ≡ found_of settled.ports port
-  found_new port = ap (λ (c : Server). found_of c.ports port) a.settings
+  found_new : (port : ℕ) → probe_result_of new.ports port ≡ probe_result_of settled.ports port
+  found_new port = ap (λ (c : ServerState). probe_result_of c.ports port) a.settings
 
-  found_taken : (port : ℕ) → found_of settled.ports port ≡ found_of taken.ports port
-  found_taken port = ap (λ (c : Server). found_of c.ports port) f.settings
+  found_taken : (port : ℕ) → probe_result_of settled.ports port ≡ probe_result_of taken.ports port
+  found_taken port = ap (λ (c : ServerState). probe_result_of c.ports port) f.settings
 
   -- the disk that is remembered is the one that the port was last ready with
   remembered_new : (port : Port) → remembered_at new.remembered port.0 ≡ disk_in s port
-  remembered_new port = ap (λ (c : Server). remembered_at c.remembered port.0) (a.settings ∙ ap (λ (c : Server). record c { device = new.device; slots = new.slots; book = new.book }) f.settings) ∙ takes.remembered port.0
+  remembered_new port = ap (λ (c : ServerState). remembered_at c.remembered port.0) (a.settings ∙ ap (λ (c : ServerState). record c { device = new.device; slots = new.slots; book = new.book }) f.settings) ∙ takes.remembered port.0
 
   -- with another state than Ready it shows the same disk
   shows_same : (port : Port) → (ports_of new).state port ≢ ReadyState → SameDisk (ports_of s) (ports_of new) port
   shows_same port other =
-      let disk : disk_in new port ≡ disk_in s port = remembers (found_of new.ports port.0) (remembered_at new.remembered port.0) other ∙ remembered_new port in
-      (ap serial_of disk, ap sectors_of disk)
+      let disk : disk_in new port ≡ disk_in s port = remembers (probe_result_of new.ports port.0) (remembered_at new.remembered port.0) other ∙ remembered_new port in
+      (ap last_serial_of disk, ap last_sectors_of disk)
 
   -- a port is served as it was
-  served_same : (port : ℕ) → is_served (found_of taken.ports port) ≡ is_served (found_of s.ports port)
+  served_same : (port : ℕ) → is_served (probe_result_of taken.ports port) ≡ is_served (probe_result_of s.ports port)
   served_same port = ⊎_elim
       (λ (low : port < 4). by_device low)
-      (λ (high : 4 ≤ port). ap is_served (ap (λ (ports : List Found). found_of ports port) (ports_are laws s taken settled booked takes replies settles m reached is)
+      (λ (high : 4 ≤ port). ap is_served (ap (λ (ports : List ProbeResult). probe_result_of ports port) (ports_are laws s taken settled booked takes replies settles m reached is)
       ∙ none_past takes.host.ports port (let four = takes.four in omega (arith, four, high)))
-      ∙ sym (not_served port high (is_served (found_of s.ports port)) refl))
+      ∙ sym (not_served port high (is_served (probe_result_of s.ports port)) refl))
       (cases_lt port 4)
     where
-      not_served : (q : ℕ) → 4 ≤ q → (b : Bool) → is_served (found_of s.ports q) ≡ b → is_served (found_of s.ports q) ≡ false
+      not_served : (q : ℕ) → 4 ≤ q → (b : Bool) → is_served (probe_result_of s.ports q) ≡ b → is_served (probe_result_of s.ports q) ≡ false
       not_served q high false its = its
       not_served q high true its = let low = booked.few q its in absurd (omega (arith, low, high))
 
       pi_same : taken.device.pi ≡ s.device.pi
       pi_same = takes.takes.same.pi ∙ takes.resets.same.pi
 
-      by_device : port < 4 → is_served (found_of taken.ports port) ≡ is_served (found_of s.ports port)
-      by_device low = alike (found_of takes.host.ports port) (ap (λ (ports : List Found). found_of ports port) (ports_are laws s taken settled booked takes replies settles m reached is)) (takes.takes.stands port low)
+      by_device : port < 4 → is_served (probe_result_of taken.ports port) ≡ is_served (probe_result_of s.ports port)
+      by_device low = alike (probe_result_of takes.host.ports port) (ap (λ (ports : List ProbeResult). probe_result_of ports port) (ports_are laws s taken settled booked takes replies settles m reached is)) (takes.takes.stands port low)
         where
-          over : IsServed (wanted_of s.wanted port) port taken.device → is_served (found_of s.ports port) ≡ true
+          over : IsServed (wanted_of s.wanted port) port taken.device → is_served (probe_result_of s.ports port) ≡ true
           over served = (booked.served port low).1 (served.0, ap (λ (pi : ℕ). bit pi port) (sym pi_same) ∙ served.1)
 
-          none : (IsServed (wanted_of s.wanted port) port taken.device → ⊥) → is_served (found_of s.ports port) ≡ false
+          none : (IsServed (wanted_of s.wanted port) port taken.device → ⊥) → is_served (probe_result_of s.ports port) ≡ false
           none not = ⊎_elim
-              (λ (so : is_served (found_of s.ports port) ≡ true). let served = (booked.served port low).0 so in absurd (not (served.0, ap (λ (pi : ℕ). bit pi port) pi_same ∙ served.1)))
-              (λ (not_so : is_served (found_of s.ports port) ≡ false). not_so)
-              (cases_Bool (is_served (found_of s.ports port)))
+              (λ (so : is_served (probe_result_of s.ports port) ≡ true). let served = (booked.served port low).0 so in absurd (not (served.0, ap (λ (pi : ℕ). bit pi port) pi_same ∙ served.1)))
+              (λ (not_so : is_served (probe_result_of s.ports port) ≡ false). not_so)
+              (cases_Bool (is_served (probe_result_of s.ports port)))
 
-          alike : (found : Found) → found_of taken.ports port ≡ found → StandsBehind (wanted_of s.wanted port) found port taken.device → is_served (found_of taken.ports port) ≡ is_served (found_of s.ports port)
-          alike Unserved at stood = ap is_served at ∙ sym (none stood.0)
-          alike (Ready info) at stood = ap is_served at ∙ sym (over stood.0)
-          alike (Unready state) at stood = ap is_served at ∙ sym (over stood.0)
+          alike : (found : ProbeResult) → probe_result_of taken.ports port ≡ found → StandsBehind (wanted_of s.wanted port) found port taken.device → is_served (probe_result_of taken.ports port) ≡ is_served (probe_result_of s.ports port)
+          alike Unserved at_entry stood = ap is_served at_entry ∙ sym (none stood.0)
+          alike (Ready info) at_entry stood = ap is_served at_entry ∙ sym (over stood.0)
+          alike (Unready state) at_entry stood = ap is_served at_entry ∙ sym (over stood.0)
 
   -- ---- who has a fate
 
   -- it is of a port that was served
-  of_served : (e : Pending) (fate : Fate) → HasFate taken e fate → (ports_of s).served e.request.port ≡ true
-  of_served e fate has =
-      let here : Contains s.book has.from.was = subst (λ (book : List Held). Contains book has.from.was) (ap (λ (c : Server). c.book) takes.server) has.from.there in
-      subst (λ (p : Port). is_served (found_of s.ports p.0) ≡ true) (sym (has.entry.port ∙ has.from.port))
-      (All-contains (λ (x : Held). is_served (found_of s.ports x.entry.port.0) ≡ true) s.book has.from.was booked.asked here)
+  of_served : (e : Pending) (disposition : Disposition) → HasFate taken e disposition → (ports_of s).served e.request.port ≡ true
+  of_served e disposition has =
+      let here : Contains s.book has.from.was = subst (λ (book : List Held). Contains book has.from.was) (ap (λ (c : ServerState). c.book) takes.server) has.from.there in
+      subst (λ (p : Port). is_served (probe_result_of s.ports p.0) ≡ true) (sym (has.entry.port ∙ has.from.port))
+      (All-contains (λ (x : Held). is_served (probe_result_of s.ports x.entry.port.0) ≡ true) s.book has.from.was booked.asked here)
 
   -- its port is what it expects
-  expects_new : (e : Pending) (fate : Fate) (has : HasFate taken e fate) → IsProspectAnew (disk_in s e.request.port) (found_of new.ports e.request.port.0) has.prospect
-  expects_new e fate has = subst (λ (found : Found). IsProspectAnew (disk_in s e.request.port) found has.prospect) (sym (found_new e.request.port.0 ∙ found_taken e.request.port.0))
-      (subst (λ (disk : Option DiskInfo). IsProspectAnew disk (found_of taken.ports e.request.port.0) has.prospect) (takes.remembered e.request.port.0) has.expects)
+  expects_new : (e : Pending) (disposition : Disposition) (has : HasFate taken e disposition) → IsResetRevalidation (disk_in s e.request.port) (probe_result_of new.ports e.request.port.0) has.revalidation
+  expects_new e disposition has = subst (λ (found : ProbeResult). IsResetRevalidation (disk_in s e.request.port) found has.revalidation) (sym (found_new e.request.port.0 ∙ found_taken e.request.port.0))
+      (subst (λ (disk : Option DiskInfo). IsResetRevalidation disk (probe_result_of taken.ports e.request.port.0) has.revalidation) (takes.remembered e.request.port.0) has.expects)
 
   -- a port with the disk that it had
-  module _ (port : Port) (expects : IsProspectAnew (disk_in s port) (found_of new.ports port.0) Same) where
+  module _ (port : Port) (expects : IsResetRevalidation (disk_in s port) (probe_result_of new.ports port.0) Same) where
     is_ready : (ports_of new).state port ≡ ReadyState
     is_ready = ap state_of expects.3
 
     same_disk : SameDisk (ports_of s) (ports_of new) port
     same_disk =
-        let now_is : disk_in new port ≡ Some expects.1 = ap (λ (found : Found). disk_of found (remembered_at new.remembered port.0)) expects.3 in
-        (ap serial_of now_is ∙ expects.4.0 ∙ sym (ap serial_of expects.2), ap sectors_of now_is ∙ expects.4.1 ∙ sym (ap sectors_of expects.2))
+        let now_is : disk_in new port ≡ Some expects.1 = ap (λ (found : ProbeResult). last_disk_of found (remembered_at new.remembered port.0)) expects.3 in
+        (ap last_serial_of now_is ∙ expects.4.0 ∙ sym (ap last_serial_of expects.2), ap last_sectors_of now_is ∙ expects.4.1 ∙ sym (ap last_sectors_of expects.2))
 
   -- one with another
-  module _ (port : Port) (expects : IsProspectAnew (disk_in s port) (found_of new.ports port.0) DiskLost) where
+  module _ (port : Port) (expects : IsResetRevalidation (disk_in s port) (probe_result_of new.ports port.0) DiskLost) where
     not_dead : (ports_of new).state port ≢ Dead
-    not_dead dead = expects.0 (dead_found (found_of new.ports port.0) dead)
+    not_dead dead = expects.0 (dead_found (probe_result_of new.ports port.0) dead)
 
     other_disk : (ports_of new).state port ≡ ReadyState → SameDisk (ports_of s) (ports_of new) port → ⊥
     other_disk ready alike = by_disk (disk_in s port) refl
       where
-        new_kept : IsKept new
+        new_kept : InCallInvariant new
         new_kept = a.kept
 
-        found : (port.0 < 4) × ((info : DiskInfo) × (found_of new.ports port.0 ≡ Ready info))
+        found : (port.0 < 4) × ((info : DiskInfo) × (probe_result_of new.ports port.0 ≡ Ready info))
         found = ready_found new port.0 new_kept ready
 
         info : DiskInfo
         info = found.1.0
 
         now_is : disk_in new port ≡ Some info
-        now_is = ap (λ (x : Found). disk_of x (remembered_at new.remembered port.0)) found.1.1
+        now_is = ap (λ (x : ProbeResult). last_disk_of x (remembered_at new.remembered port.0)) found.1.1
 
         fit : StillStandsBehind (wanted_of new.wanted port.0) (Ready info) port.0 new.device
-        fit = subst (λ (x : Found). StillStandsBehind (wanted_of new.wanted port.0) x port.0 new.device) found.1.1 (new_kept.behind port.0 found.0).behind
+        fit = subst (λ (x : ProbeResult). StillStandsBehind (wanted_of new.wanted port.0) x port.0 new.device) found.1.1 (new_kept.behind port.0 found.0).behind
 
-        serials : info.serial ≡ serial_of (disk_in s port)
-        serials = sym (ap serial_of now_is) ∙ alike.0
+        serials : info.serial ≡ last_serial_of (disk_in s port)
+        serials = sym (ap last_serial_of now_is) ∙ alike.0
 
-        counts : info.sectors ≡ sectors_of (disk_in s port)
-        counts = sym (ap sectors_of now_is) ∙ alike.1
+        counts : info.sectors ≡ last_sectors_of (disk_in s port)
+        counts = sym (ap last_sectors_of now_is) ∙ alike.1
 
         by_disk : (disk : Option DiskInfo) → disk_in s port ≡ disk → ⊥
-        by_disk None at =
+        by_disk None at_entry =
             let long = fit.1.fit.tells.serial.size in
-            let short : length info.serial ≡ 0 = ap (λ (serial : List ℕ). length serial) (serials ∙ ap serial_of at) in omega (arith, long, short)
-        by_disk (Some before) at = expects.1 before info at found.1.1 (serials ∙ ap serial_of at, counts ∙ ap sectors_of at)
+            let short : length info.serial ≡ 0 = ap (λ (serial : List ℕ). length serial) (serials ∙ ap last_serial_of at_entry) in omega (arith, long, short)
+        by_disk (Some before) at_entry = expects.1 before info at_entry found.1.1 (serials ∙ ap last_serial_of at_entry, counts ∙ ap last_sectors_of at_entry)
 
   -- ---- what its steps are
 
   again_ready : (e : Pending) → Contains f.steps (Again e) → (ports_of new).state e.request.port ≡ ReadyState
   again_ready e here =
       let has = f.again e here in
-      is_ready e.request.port (subst (IsProspectAnew (disk_in s e.request.port) (found_of new.ports e.request.port.0)) (why_again None has.prospect has.request.entry has.fate) (expects_new e GoesAgain has))
+      is_ready e.request.port (subst (IsResetRevalidation (disk_in s e.request.port) (probe_result_of new.ports e.request.port.0)) (why_again None has.revalidation has.request.entry has.disposition) (expects_new e Requeue has))
 
-  gives_up : (e : Pending) (o : Outcome) → Contains f.steps (Answer e o) → GivesUp o
+  gives_up : (e : Pending) (o : Outcome) → Contains f.steps (Answer e o) → EndsUndone o
   gives_up e o here =
       let has = f.answered e o here in
       ⊎_elim
       (λ named. let none : None ≡ Some named.0 = named.1 in absurd cc)
       (λ rest. ⊎_elim
-      (λ aborted. subst GivesUp (sym aborted.3) tt)
+      (λ aborted. subst EndsUndone (sym aborted.3) tt)
       (λ rest. ⊎_elim
-      (λ gone. subst GivesUp (sym gone.1) tt)
-      (λ rest. ⊎_elim (λ dead. subst GivesUp (sym dead.1) tt) (λ revoked. subst GivesUp (sym revoked.3) tt) rest)
+      (λ gone. subst EndsUndone (sym gone.1) tt)
+      (λ rest. ⊎_elim (λ dead. subst EndsUndone (sym dead.1) tt) (λ revoked. subst EndsUndone (sym revoked.3) tt) rest)
       rest)
       rest)
-      (why None has.prospect has.request.entry o has.fate)
+      (why None has.revalidation has.request.entry o has.disposition)
 
   begun_belong : Belong {D = DeviceStep} Reset (ports_of new) begun
   begun_belong = belong_join Reset (ports_of new) r.second (Release ∷ r.first) (devices_belong {D = DeviceStep} Reset (ports_of new) r.second r.second_only)
@@ -310,7 +310,7 @@ module _ (laws : ResetLaws) (s taken settled new : Server) (replies : List Reply
   answer_in e o here = ⊎_elim
       (λ late. absurd (All-contains (IsReissue (ports_of settled)) a.steps (Answer e o) a.only late))
       (λ rest. ⊎_elim
-      (λ fate. fate)
+      (λ disposition. disposition)
       (λ early. ⊎_elim
       (λ second. absurd (no_answer r.second r.second_only e o second))
       (λ release. ⊎_elim
@@ -328,25 +328,25 @@ module _ (laws : ResetLaws) (s taken settled new : Server) (replies : List Reply
   was_issued e o here = answered_issued laws.below (ports_of new) m base base_belong base_may base_none e o (Contains-append_left f.steps begun (Answer e o) here)
 
   is_lawful : (e : Pending) (o : Outcome) → Contains f.steps (Answer e o) → IsLawful was by.evidence (ports_of new) e o
-  is_lawful e o here = because (why None has.prospect has.request.entry o has.fate)
+  is_lawful e o here = because (why None has.revalidation has.request.entry o has.disposition)
     where
-      has : HasFate taken e (Ends o)
+      has : HasFate taken e (Complete o)
       has = f.answered e o here
 
       stopped : Contains by.evidence.stopped e.request.port
-      stopped = by.stopped e.request.port (of_served e (Ends o) has)
+      stopped = by.stopped e.request.port (of_served e (Complete o) has)
 
-      expects : (p : Prospect) → has.prospect ≡ p → IsProspectAnew (disk_in s e.request.port) (found_of new.ports e.request.port.0) p
-      expects p at = subst (IsProspectAnew (disk_in s e.request.port) (found_of new.ports e.request.port.0)) at (expects_new e (Ends o) has)
+      expects : (p : Revalidation) → has.revalidation ≡ p → IsResetRevalidation (disk_in s e.request.port) (probe_result_of new.ports e.request.port.0) p
+      expects p at_entry = subst (IsResetRevalidation (disk_in s e.request.port) (probe_result_of new.ports e.request.port.0)) at_entry (expects_new e (Complete o) has)
 
-      goes_on : has.prospect ≡ Same → IsReadyAgain was by.evidence (ports_of new) e.request.port
+      goes_on : has.revalidation ≡ Same → IsReadyAgain was by.evidence (ports_of new) e.request.port
       goes_on as_before = (
         is_ready e.request.port (expects Same as_before),
         stopped,
         subst (λ (ports : Ports). SameDisk ports (ports_of new) e.request.port) (sym same) (same_disk e.request.port (expects Same as_before)),
       )
 
-      because : Why None has.prospect has.request.entry o → IsLawful was by.evidence (ports_of new) e o
+      because : Why None has.revalidation has.request.entry o → IsLawful was by.evidence (ports_of new) e o
       because (inl named) = let none : None ≡ Some named.0 = named.1 in absurd cc
       because (inr (inl aborted)) = subst (IsLawful was by.evidence (ports_of new) e) (sym aborted.3) (
         was_issued e o here (has.entry.issued ∙ aborted.1),
@@ -354,7 +354,7 @@ module _ (laws : ResetLaws) (s taken settled new : Server) (replies : List Reply
         goes_on aborted.0,
       )
       because (inr (inr (inl gone))) = subst (IsLawful was by.evidence (ports_of new) e) (sym gone.1) (
-        by.lost_all e.request.port (of_served e (Ends o) has) (not_dead e.request.port (expects DiskLost gone.0)) (other_disk e.request.port (expects DiskLost gone.0)),
+        by.lost_all e.request.port (of_served e (Complete o) has) (not_dead e.request.port (expects DiskLost gone.0)) (other_disk e.request.port (expects DiskLost gone.0)),
         stopped,
       )
       because (inr (inr (inr (inl dead)))) = subst (IsLawful was by.evidence (ports_of new) e) (sym dead.1) (ap state_of (expects NoEnd dead.0))
@@ -363,7 +363,7 @@ module _ (laws : ResetLaws) (s taken settled new : Server) (replies : List Reply
   lawful : AllLawful was by.evidence (ports_of new) steps
   lawful = lawful_join was by.evidence (ports_of new) a.steps base (reissued_lawful (ports_of settled) was by.evidence (ports_of new) a.steps a.only)
       (lawful_join was by.evidence (ports_of new) f.steps begun
-      (decided_lawful was by.evidence (ports_of new) f.steps f.decides is_lawful (λ e here. by.stopped e.request.port (of_served e GoesAgain (f.again e here))))
+      (decided_lawful was by.evidence (ports_of new) f.steps f.decides is_lawful (λ e here. by.stopped e.request.port (of_served e Requeue (f.again e here))))
       (lawful_join was by.evidence (ports_of new) r.second (Release ∷ r.first) (devices_lawful was by.evidence (ports_of new) r.second r.second_only) (devices_lawful was by.evidence (ports_of new) r.first r.first_only)))
 
   -- ---- what it says and does
@@ -391,31 +391,31 @@ module _ (laws : ResetLaws) (s taken settled new : Server) (replies : List Reply
   }
 
   -- where one is told that its disk has gone, its port has another, or none
-  unplugged_expects : (e : Pending) → Contains steps (Answer e outcome.Unplugged) → IsProspectAnew (disk_in s e.request.port) (found_of new.ports e.request.port.0) DiskLost
-  unplugged_expects e here = because (why None has.prospect has.request.entry outcome.Unplugged has.fate)
+  unplugged_expects : (e : Pending) → Contains steps (Answer e outcome.Unplugged) → IsResetRevalidation (disk_in s e.request.port) (probe_result_of new.ports e.request.port.0) DiskLost
+  unplugged_expects e here = because (why None has.revalidation has.request.entry outcome.Unplugged has.disposition)
     where
-      has : HasFate taken e (Ends outcome.Unplugged)
+      has : HasFate taken e (Complete outcome.Unplugged)
       has = f.answered e outcome.Unplugged (answer_in e outcome.Unplugged here)
 
-      because : Why None has.prospect has.request.entry outcome.Unplugged → IsProspectAnew (disk_in s e.request.port) (found_of new.ports e.request.port.0) DiskLost
+      because : Why None has.revalidation has.request.entry outcome.Unplugged → IsResetRevalidation (disk_in s e.request.port) (probe_result_of new.ports e.request.port.0) DiskLost
       because (inl x) = let y : outcome.Unplugged ≡ outcome.DeviceError x.0.status x.0.error = x.3 in absurd cc
       because (inr (inl x)) = let y : outcome.Unplugged ≡ outcome.Aborted = x.3 in absurd cc
-      because (inr (inr (inl x))) = subst (IsProspectAnew (disk_in s e.request.port) (found_of new.ports e.request.port.0)) x.0 (expects_new e (Ends outcome.Unplugged) has)
+      because (inr (inr (inl x))) = subst (IsResetRevalidation (disk_in s e.request.port) (probe_result_of new.ports e.request.port.0)) x.0 (expects_new e (Complete outcome.Unplugged) has)
       because (inr (inr (inr (inl x)))) = let y : outcome.Unplugged ≡ outcome.PortDead = x.1 in absurd cc
       because (inr (inr (inr (inr x)))) = let y : outcome.Unplugged ≡ outcome.Revoked = x.3 in absurd cc
 
-  dead_expects : (e : Pending) → Contains steps (Answer e outcome.PortDead) → found_of new.ports e.request.port.0 ≡ Unready Dead
-  dead_expects e here = because (why None has.prospect has.request.entry outcome.PortDead has.fate)
+  dead_expects : (e : Pending) → Contains steps (Answer e outcome.PortDead) → probe_result_of new.ports e.request.port.0 ≡ Unready Dead
+  dead_expects e here = because (why None has.revalidation has.request.entry outcome.PortDead has.disposition)
     where
-      has : HasFate taken e (Ends outcome.PortDead)
+      has : HasFate taken e (Complete outcome.PortDead)
       has = f.answered e outcome.PortDead (answer_in e outcome.PortDead here)
 
-      because : Why None has.prospect has.request.entry outcome.PortDead → found_of new.ports e.request.port.0 ≡ Unready Dead
+      because : Why None has.revalidation has.request.entry outcome.PortDead → probe_result_of new.ports e.request.port.0 ≡ Unready Dead
       because (inl x) = let y : outcome.PortDead ≡ outcome.DeviceError x.0.status x.0.error = x.3 in absurd cc
       because (inr (inl x)) = let y : outcome.PortDead ≡ outcome.Aborted = x.3 in absurd cc
       because (inr (inr (inl x))) = let y : outcome.PortDead ≡ outcome.Unplugged = x.1 in absurd cc
       because (inr (inr (inr (inr x)))) = let y : outcome.PortDead ≡ outcome.Revoked = x.3 in absurd cc
-      because (inr (inr (inr (inl x)))) = subst (IsProspectAnew (disk_in s e.request.port) (found_of new.ports e.request.port.0)) x.0 (expects_new e (Ends outcome.PortDead) has)
+      because (inr (inr (inr (inl x)))) = subst (IsResetRevalidation (disk_in s e.request.port) (probe_result_of new.ports e.request.port.0)) x.0 (expects_new e (Complete outcome.PortDead) has)
 
   -- who is left is of a port that has its disk
   left_has : (e : Pending) → Contains (after m steps).book e → HasItsDisk settled.remembered settled.ports e.request.port.0
@@ -424,18 +424,18 @@ module _ (laws : ResetLaws) (s taken settled new : Server) (replies : List Reply
       let w = a.from h.0 h.1 in
       subst (λ (p : Port). HasItsDisk settled.remembered settled.ports p.0) (sym (h.2.port ∙ w.port)) (its_disk laws s taken settled booked takes replies settles m reached is w.was w.there)
 
-  left_expects : (e : Pending) → Contains (after m steps).book e → IsProspectAnew (disk_in s e.request.port) (found_of new.ports e.request.port.0) Same
+  left_expects : (e : Pending) → Contains (after m steps).book e → IsResetRevalidation (disk_in s e.request.port) (probe_result_of new.ports e.request.port.0) Same
   left_expects e here =
       let has = left_has e here in
-      (has.0, has.1, sym (remembered_new e.request.port) ∙ ap (λ (c : Server). remembered_at c.remembered e.request.port.0) a.settings ∙ has.2, found_new e.request.port.0 ∙ has.3, has.4)
+      (has.0, has.1, sym (remembered_new e.request.port) ∙ ap (λ (c : ServerState). remembered_at c.remembered e.request.port.0) a.settings ∙ has.2, found_new e.request.port.0 ∙ has.3, has.4)
 
   unplugs : UnplugsAll steps (after m steps)
   unplugs = record {
     emptied = λ e other here there own.
         let lost = unplugged_expects e here in
-        let has = subst (λ (p : Port). IsProspectAnew (disk_in s p) (found_of new.ports p.0) Same) own (left_expects other there) in
+        let has = subst (λ (p : Port). IsResetRevalidation (disk_in s p) (probe_result_of new.ports p.0) Same) own (left_expects other there) in
         lost.1 has.0 has.1 has.2 has.3 has.4;
-    alike = λ e other here there own. (unplugged_expects e here).0 (ap (λ (p : Port). found_of new.ports p.0) (sym own) ∙ dead_expects other there);
+    alike = λ e other here there own. (unplugged_expects e here).0 (ap (λ (p : Port). probe_result_of new.ports p.0) (sym own) ∙ dead_expects other there);
   }
 
   finds : FindsAnother steps (ports_of s) (ports_of new)
@@ -451,7 +451,7 @@ module _ (laws : ResetLaws) (s taken settled new : Server) (replies : List Reply
       none_before : WasIssued z e.request.id → ⊥
       none_before w =
           let h = at_right IsEntry settled.book z.book stands.book w.pending w.here in
-          let ready : state_of (found_of settled.ports w.pending.request.port.0) ≡ ReadyState = ap (λ (p : Port). state_of (found_of settled.ports p.0)) h.2.port ∙ of_ready settled kept h.0 h.1 in
+          let ready : state_of (probe_result_of settled.ports w.pending.request.port.0) ≡ ReadyState = ap (λ (p : Port). state_of (probe_result_of settled.ports p.0)) h.2.port ∙ of_ready settled kept h.0 h.1 in
           let slot = issued_has settled z w.pending.request.port stands kept ready w.pending w.here refl w.issued in
           let y : None ≡ Some slot.used = sym (unused_then laws s taken settled booked takes replies settles m reached is w.pending.request.port.0 slot.slot) ∙ slot.used_is in absurd cc
 
@@ -466,26 +466,26 @@ module _ (laws : ResetLaws) (s taken settled new : Server) (replies : List Reply
     keeps = shows_same port;
   }
 
-  abbrev end : Moment
+  abbrev end : AbstractState
   end = record { machine = after m steps; ports = ports_of new }
 
-  new_settled : IsSettled new
+  new_settled : SettledInvariant new
   new_settled = settled_at_last laws s taken settled booked takes replies settles m reached is new issues
 
   -- ---- the disks that it shows
 
   -- a port that shows a disk had one in at some moment
-  had : (port : Port) → HadDisk (moment_of s m) steps end port
+  had : (port : Port) → HadDisk (server_moment s m) steps end port
   had port shows = had_disk laws.below port s saw.seen new.device m saw.accesses saw.does saw.present is (laws.below.looks.tape.grows_more saw.seen taken.device new.device saw.later grows) steps backed
     where
-      found_is : found_of new.ports port.0 ≡ found_of takes.host.ports port.0
-      found_is = found_new port.0 ∙ found_taken port.0 ∙ ap (λ (ports : List Found). found_of ports port.0) (ports_are laws s taken settled booked takes replies settles m reached is)
+      found_is : probe_result_of new.ports port.0 ≡ probe_result_of takes.host.ports port.0
+      found_is = found_new port.0 ∙ found_taken port.0 ∙ ap (λ (ports : List ProbeResult). probe_result_of ports port.0) (ports_are laws s taken settled booked takes replies settles m reached is)
 
-      never : (state : ShownState) → found_of takes.host.ports port.0 ≡ Unready state → state ≢ ReadyState
-      never state at ready = ⊎_elim
+      never : (state : ShownState) → probe_result_of takes.host.ports port.0 ≡ Unready state → state ≢ ReadyState
+      never state at_entry ready = ⊎_elim
           (λ (low : port.0 < 4). (subst (λ (x : ShownState). StandsBehind (wanted_of s.wanted port.0) (Unready x) port.0 taken.device) ready
-          (subst (λ (x : Found). StandsBehind (wanted_of s.wanted port.0) x port.0 taken.device) at (takes.takes.stands port.0 low))).1)
-          (λ (high : 4 ≤ port.0). absurd (let four = takes.four in let y : Unserved ≡ Unready state = sym (none_past takes.host.ports port.0 (omega (arith, four, high))) ∙ at in cc))
+          (subst (λ (x : ProbeResult). StandsBehind (wanted_of s.wanted port.0) x port.0 taken.device) at_entry (takes.takes.stands port.0 low))).1)
+          (λ (high : 4 ≤ port.0). absurd (let four = takes.four in let y : Unserved ≡ Unready state = sym (none_past takes.host.ports port.0 (omega (arith, four, high))) ∙ at_entry in cc))
           (cases_lt port.0 4)
 
       grows : Grows taken.device new.device
@@ -493,12 +493,12 @@ module _ (laws : ResetLaws) (s taken settled new : Server) (replies : List Reply
 
       saw : SawDisk port s.device taken.device
       saw = saw_before laws.below port takes.resets.followed.driven.accesses s.device takes.idle taken.device takes.resets.followed.driven.all
-          (taken_saw laws port (found_of takes.host.ports port.0) never (subst (λ (x : Found). ShowsDisk (state_of x)) found_is shows) takes.host.ports takes.idle taken.device takes.resets.idle refl takes.takes.way)
+          (taken_saw laws port (probe_result_of takes.host.ports port.0) never (subst (λ (x : ProbeResult). ShowsDisk (state_of x)) found_is shows) takes.host.ports takes.idle taken.device takes.resets.idle refl takes.takes.way)
 
-  reboots : (port : Port) → IsRebooted (moment_of s m) by.evidence steps end port
+  reboots : (port : Port) → IsRebooted (server_moment s m) by.evidence steps end port
   reboots port = record { emptied = none_waits port; becomes = becomes port; anew = anew port; stopped = by.stopped port; disk = had port }
 
-  answered : AnswersReset (moment_of s m) by.evidence steps replies end
+  answered : AnswersReset (server_moment s m) by.evidence steps replies end
   answered = record {
     tells = tells;
     releases = releases;
@@ -508,11 +508,11 @@ module _ (laws : ResetLaws) (s taken settled new : Server) (replies : List Reply
     reboots = reboots;
   }
 
-  was_is : moment_of s m ≡ was
+  was_is : server_moment s m ≡ was
   was_is = ap (λ (ports : Ports). record { machine = m; ports = ports }) (sym same)
 
-  instant_is : instant_of s m ≡ with_device s.device (now first past)
-  instant_is = ap (λ (moment : Moment). record { device = s.device; moment = moment }) was_is
+  instant_is : server_instant s m ≡ with_device s.device (now first past)
+  instant_is = ap (λ (moment : AbstractState). record { device = s.device; moment = moment }) was_is
 
   disks : KeepsDisks was end
   disks e o here there same_id = subst (λ (ports : Ports). SameDisk ports (ports_of new) e.request.port) (sym same) (same_disk e.request.port (left_expects e here))
@@ -520,42 +520,42 @@ module _ (laws : ResetLaws) (s taken settled new : Server) (replies : List Reply
   evidenced : IsEvidenced Reset (WasReset (Some replies)) by.accesses (with_device s.device (now first past)) (ports_of new) new.device by.evidence
   evidenced = record {
     faults = λ told here. absurd (nowhere told (subst (λ list. Contains list told) by.faults here));
-    port = λ port. subst (λ (old : Instant Device). IsEvidencedOf Reset (WasReset (Some replies)) by.accesses old (ports_of new) new.device by.evidence port) instant_is (by.evidenced m port);
+    port = λ port. subst (λ (old : JointState Device). IsEvidencedOf Reset (WasReset (Some replies)) by.accesses old (ports_of new) new.device by.evidence port) instant_is (by.evidenced m port);
   }
 
-  port_part : (port : Port) → TiesPort (with_device s.device (now first past)) (happening_with by.evidence new.device Reset (WasReset (Some replies)) steps (ports_of new)) by.accesses port
+  port_part : (port : Port) → PortCorresponds (with_device s.device (now first past)) (happening_with by.evidence new.device Reset (WasReset (Some replies)) steps (ports_of new)) by.accesses port
   port_part port = record {
     finds = tt;
     faults = tt;
-    tries = tt;
-    boots = subst (λ (old : Instant Device). BootsAnew Reset (WasReset (Some replies)) by.accesses old (ports_of new) new.device port) instant_is (by.boots m port);
-    trouble = subst (λ (old : Instant Device). LosesNoTrouble by.evidence old (ports_of new) new.device port) instant_is (by.trouble m port);
-    well = subst (λ (old : Instant Device). RunsWellAnew by.evidence by.accesses old (ports_of new) new.device port) instant_is (by.well m port);
+    probes = tt;
+    boots = subst (λ (old : JointState Device). BootsAnew Reset (WasReset (Some replies)) by.accesses old (ports_of new) new.device port) instant_is (by.boots m port);
+    port_error = subst (λ (old : JointState Device). LosesNoPortError by.evidence old (ports_of new) new.device port) instant_is (by.port_error m port);
+    well = subst (λ (old : JointState Device). RunsWellAnew by.evidence by.accesses old (ports_of new) new.device port) instant_is (by.well m port);
     heeds = tt;
   }
 
   due_then : (port : Port) → (ports_of new).state port ≡ ReadyState → IssuesDue (mode_in new port) steps (after m steps) port
   due_then port ready =
-      let there : state_of (found_of settled.ports port.0) ≡ ReadyState = sym (ap state_of (found_new port.0)) ∙ ready in
-      subst (λ (mode : Mode). IssuesDue mode steps (after m steps) port) (sym (ap (λ (c : Server). mode_in c port) a.settings))
+      let there : state_of (probe_result_of settled.ports port.0) ≡ ReadyState = sym (ap state_of (found_new port.0)) ∙ ready in
+      subst (λ (mode : QueueMode). IssuesDue mode steps (after m steps) port) (sym (ap (λ (c : ServerState). mode_in c port) a.settings))
       (dues_carried laws.below (mode_in settled port) a.steps steps (after z a.steps) (after m steps) port (ap (λ (n : Machine). of_port port (map unanswered n.book)) (sym whole_is))
       (λ u here own. sym (any_append (issues_it u.id) a.steps base ∙ ap (λ (b : Bool). list_any (issues_it u.id) a.steps || b) (base_none u.id) ∙ or_none (list_any (issues_it u.id) a.steps)))
       (a.dues port (ready_found settled port.0 kept there).0 there))
 
-  pub reset_event : (h : Happening Device DeviceStep) × (h.event.ask ≡ Reset) × (h.event.said ≡ WasReset (Some replies)) × Leads first (h ∷ past) new
+  pub reset_event : (h : Happening Device DeviceStep) × (h.event.ask ≡ Reset) × (h.event.said ≡ WasReset (Some replies)) × LeadsToServer first (h ∷ past) new
   reset_event =
       lead_with laws.below first past s new Reset (WasReset (Some replies)) by.evidence steps
-      (ap (λ (c : Server). c.wanted) a.settings ∙ wanted_then laws s taken settled booked takes replies settles m reached is) leads (holding new a.kept) (kept_fit new a.kept)
+      (ap (λ (c : ServerState). c.wanted) a.settings ∙ wanted_then laws s taken settled booked takes replies settles m reached is) leads (holding new a.kept) (kept_fit new a.kept)
       may belong last lawful disks
-      (subst (λ (old : Moment). AnswersReset old by.evidence steps replies end) was_is answered)
+      (subst (λ (old : AbstractState). AnswersReset old by.evidence steps replies end) was_is answered)
       tt
       by.accesses
-      (by.does, by.own, subst (λ (ports : Ports). All (IsOfPorts (ServesPort ports)) by.accesses) (sym same) by.of, by.begins, by.tells)
+      (by.does, by.own, subst (λ (ports : Ports). All (IsOfPorts (IsPortServed ports)) by.accesses) (sym same) by.of, by.begins, by.tells)
       evidenced due_then port_part backed stands_new
 
 -- ---- the whole
 
-pub resets_add_given : ResetLaws → (s new : Server) (replies : List Reply) → IsRebootedBy s new replies → KeepsBooks s → ResetsServer replies s new → Adds s new Reset (WasReset (Some replies))
+pub resets_add_given : ResetLaws → (s new : ServerState) (replies : List Reply) → IsRebootedBy s new replies → BookInvariant s → ResetsServer replies s new → ExtendsSettled s new Reset (WasReset (Some replies))
 resets_add_given laws s new replies by booked resets = record {
   settled = settled_at_last laws s resets.taken resets.settled booked resets.takes replies resets.settles booked.machine booked.reached booked.stands new resets.issues;
   adds = λ first past leads. reset_event laws s resets.taken resets.settled new replies booked resets.takes resets.settles resets.issues by first past leads;

@@ -13,19 +13,19 @@ use Rattle.adapter.specs.Access.Access.{Loading, Reading, Storing, Writing}
 use Rattle.adapter.specs.Device.{Device}
 use Rattle.adapter.specs.Rules.{IsOn}
 use Rattle.adapter.specs.Steps.{Steps}
-use Rattle.agreement.specs.Agrees.{port_at}
-use Rattle.agreement.specs.Driven.{Grows, IsControl, IsDrivenBy, IsOf}
-use Rattle.agreement.specs.Errors.{IsFatalOf}
-use Rattle.agreement.specs.Facts.{IsFaultOf, RunsWell}
-use Rattle.agreement.specs.Links.{PlugsNone, SparesRegister}
+use Rattle.refinement.specs.Relation.{port_at}
+use Rattle.refinement.specs.Driven.{Grows, IsControl, IsDrivenBy, IsOf}
+use Rattle.refinement.specs.Errors.{IsFatalOf}
+use Rattle.refinement.specs.Facts.{IsFaultOf, RunsWell}
+use Rattle.refinement.specs.Links.{PlugsNone, SparesRegister}
 use Rattle.error_recovery.specs.Evidence.{GainsRunning, ShowsTrouble}
-use Rattle.driver_history.specs.Histories.{IsOnAndTells, ServesPort}
+use Rattle.driver_history.specs.Histories.{IsOnAndTells, IsPortServed}
 use Rattle.driver_history.specs.Parts.{HasTurnIn, IsOfOther}
 use Rattle.driver_history.specs.Trace.{IsDriversOwn, IsOfPorts, ResetsLink}
 use Rattle.host_boot.specs.Resets.{BeginsReset, IsOfReset}
-use Rattle.host_boot.specs.Taken.{GoesOver, IsServed, IsSurvey, StandsBehind, found_of, wanted_of}
-use Rattle.host_boot.specs.declared.Found.{Found}
-use Rattle.host_boot.specs.declared.Found.TheVariants.{Unserved, Ready, Unready}
+use Rattle.host_boot.specs.Taken.{GoesOver, IsServed, IsSurvey, StandsBehind, probe_result_of, wanted_of}
+use Rattle.host_boot.specs.declared.ProbeResult.{ProbeResult}
+use Rattle.host_boot.specs.declared.ProbeResult.TheVariants.{Unserved, Ready, Unready}
 use Rattle.identify.specs.declared.DiskInfo.{DiskInfo}
 use Rattle.port_boot.specs.States.{GetsReady, IsOfBoot}
 use Rattle.port_control.specs.Engines.{Sticks}
@@ -34,8 +34,8 @@ use Rattle.request_queue.specs.Entries.{asks_of, due_ids}
 use Rattle.server_history.specs.Below.{LawsBelow}
 use Rattle.server_history.specs.Resets.{IsTakenAgain, IssuePorts, ResetsServer, SettlePorts}
 use Rattle.server_history.specs.Served.{IssuesIn}
-use Rattle.server_history.specs.Server.{Server, is_served, mode_in, ports_of}
-use Rattle.server_history.specs.Stalled.{KeepsBooks}
+use Rattle.server_history.specs.Server.{ServerState, is_served, mode_in, ports_of}
+use Rattle.server_history.specs.Stalled.{BookInvariant}
 use Rattle.server_history.proofs.reset_call.BootedPorts.{DidBoot, IsOfFound, TookTurn, WentBy, command_boots, went_by}
 use Rattle.server_history.proofs.state.TurnAccesses.{issuing_turns}
 use Rattle.server_history.proofs.state.DrivenAccesses.{driven_as}
@@ -50,31 +50,31 @@ use Rattle.server_history.proofs.recovery_turn.HealthyPort.{ready_well}
 -- ---- what is left of the server
 
 -- while requests meet their fates
-pub settles_as : (port : ℕ) (found : List Found) (replies : List Reply) (old new : Server) → SettlePorts port found replies old new → new ≡ record old { table = new.table; kept = new.kept; book = new.book }
-settles_as port [] replies old new is = is.1 ∙ ap (λ (n : Server). record old { table = n.table; kept = n.kept; book = n.book }) (sym is.1)
+pub settles_as : (port : ℕ) (found : List ProbeResult) (replies : List Reply) (old new : ServerState) → SettlePorts port found replies old new → new ≡ record old { table = new.table; kept = new.kept; book = new.book }
+settles_as port [] replies old new is = is.1 ∙ ap (λ (n : ServerState). record old { table = n.table; kept = n.kept; book = n.book }) (sym is.1)
 settles_as port (found ∷ rest) replies old new (mid, its, later, are, one, more) =
-    settles_as (port + 1) rest later mid new more ∙ ap (λ (n : Server). record n { table = new.table; kept = new.kept; book = new.book }) one.server
+    settles_as (port + 1) rest later mid new more ∙ ap (λ (n : ServerState). record n { table = new.table; kept = new.kept; book = new.book }) one.server
 
 -- an access that issues requests of one of these ports, which is ready; the first of them has this number
-abbrev pub IsOfReady : ℕ → List Found → Access → Type 0
-IsOfReady first ports access = (port : Port) × (k : ℕ) × (info : DiskInfo) × (port.0 ≡ first + k) × (found_of ports k ≡ Ready info) × IssuesIn port access
+abbrev pub IsOfReady : ℕ → List ProbeResult → Access → Type 0
+IsOfReady first ports access = (port : Port) × (k : ℕ) × (info : DiskInfo) × (port.0 ≡ first + k) × (probe_result_of ports k ≡ Ready info) × IssuesIn port access
 
-ready_later : (first : ℕ) (found : Found) (rest : List Found) (access : Access) → IsOfReady (first + 1) rest access → IsOfReady first (found ∷ rest) access
+ready_later : (first : ℕ) (found : ProbeResult) (rest : List ProbeResult) (access : Access) → IsOfReady (first + 1) rest access → IsOfReady first (found ∷ rest) access
 ready_later first found rest access (port, k, info, at, is, its) = (port, suc k, info, (omega (arith, at)), is, its)
 
 module _ (laws : LawsBelow) where
   -- while what is due is issued
-  pub issues_as : (port : ℕ) (found : List Found) (old new : Server) → IssuePorts port found old new → new ≡ record old { device = new.device; slots = new.slots; book = new.book }
-  issues_as port [] old new none = none ∙ ap (λ (n : Server). record old { device = n.device; slots = n.slots; book = n.book }) (sym none)
+  pub issues_as : (port : ℕ) (found : List ProbeResult) (old new : ServerState) → IssuePorts port found old new → new ≡ record old { device = new.device; slots = new.slots; book = new.book }
+  issues_as port [] old new none = none ∙ ap (λ (n : ServerState). record old { device = n.device; slots = n.slots; book = n.book }) (sym none)
   issues_as port (Ready info ∷ rest) old new (mid, all, more) =
       issues_as (port + 1) rest mid new more
-      ∙ ap (λ (n : Server). record n { device = new.device; slots = new.slots; book = new.book }) (each_settings laws (port_at port) (due_ids (mode_in old (port_at port)) (port_at port) (asks_of old.book)) old mid all)
+      ∙ ap (λ (n : ServerState). record n { device = new.device; slots = new.slots; book = new.book }) (each_settings laws (port_at port) (due_ids (mode_in old (port_at port)) (port_at port) (asks_of old.book)) old mid all)
   issues_as port (Unserved ∷ rest) old new more = issues_as (port + 1) rest old new more
   issues_as port (Unready state ∷ rest) old new more = issues_as (port + 1) rest old new more
 
   -- and the accesses of that
-  pub issues_driven : (first : ℕ) (found : List Found) (old new : Server) → IssuePorts first found old new → IsDrivenBy (IsOfReady first found) old.device new.device
-  issues_driven first [] old new none = record { accesses = []; all = ap (λ (n : Server). n.device) none; only = All-nil (IsOfReady first []) }
+  pub issues_driven : (first : ℕ) (found : List ProbeResult) (old new : ServerState) → IssuePorts first found old new → IsDrivenBy (IsOfReady first found) old.device new.device
+  issues_driven first [] old new none = record { accesses = []; all = ap (λ (n : ServerState). n.device) none; only = All-nil (IsOfReady first []) }
   issues_driven first (Ready info ∷ rest) old new (mid, all, more) =
       let early = each_driven laws (port_at first) (due_ids (mode_in old (port_at first)) (port_at first) (asks_of old.book)) old mid all in
       let late = issues_driven (first + 1) rest mid new more in
@@ -195,16 +195,16 @@ other_leaves laws port access (at, apart, is) = (
 
 -- ---- the whole
 
-served_if : (found : Found) → found ≢ Unserved → is_served found ≡ true
+served_if : (found : ProbeResult) → found ≢ Unserved → is_served found ≡ true
 served_if Unserved other = absurd (other refl)
 served_if (Ready info) other = refl
 served_if (Unready state) other = refl
 
-module _ (laws : LawsBelow) (s new : Server) (replies : List Reply) (k : KeepsBooks s) (r : ResetsServer replies s new) where
+module _ (laws : LawsBelow) (s new : ServerState) (replies : List Reply) (k : BookInvariant s) (r : ResetsServer replies s new) where
   abbrev t : IsTakenAgain s r.taken
   t = r.takes
 
-  abbrev pub ports : List Found
+  abbrev pub ports : List ProbeResult
   ports = t.host.ports
 
   abbrev way : GoesOver ports t.idle r.taken.device
@@ -213,7 +213,7 @@ module _ (laws : LawsBelow) (s new : Server) (replies : List Reply) (k : KeepsBo
   -- ---- what it is then
 
   ports_taken : r.taken.ports ≡ ports
-  ports_taken = ap (λ (n : Server). n.ports) t.server
+  ports_taken = ap (λ (n : ServerState). n.ports) t.server
 
   settled : r.settled ≡ record r.taken { table = r.settled.table; kept = r.settled.kept; book = r.settled.book }
   settled = settles_as 0 r.taken.ports replies r.taken r.settled r.settles
@@ -222,10 +222,10 @@ module _ (laws : LawsBelow) (s new : Server) (replies : List Reply) (k : KeepsBo
   issued = issues_as laws 0 r.taken.ports r.settled new r.issues
 
   pub ports_new : new.ports ≡ ports
-  ports_new = ap (λ (n : Server). n.ports) issued ∙ ap (λ (n : Server). n.ports) settled ∙ ports_taken
+  ports_new = ap (λ (n : ServerState). n.ports) issued ∙ ap (λ (n : ServerState). n.ports) settled ∙ ports_taken
 
   device_settled : r.settled.device ≡ r.taken.device
-  device_settled = ap (λ (n : Server). n.device) settled
+  device_settled = ap (λ (n : ServerState). n.device) settled
 
   -- ---- its accesses
 
@@ -234,7 +234,7 @@ module _ (laws : LawsBelow) (s new : Server) (replies : List Reply) (k : KeepsBo
 
   pub issues : IsDrivenBy (IsOfReady 0 ports) r.taken.device new.device
   issues = subst (λ (d : Device). IsDrivenBy (IsOfReady 0 ports) d new.device) device_settled
-      (subst (λ (found : List Found). IsDrivenBy (IsOfReady 0 found) r.settled.device new.device) ports_taken (issues_driven laws 0 r.taken.ports r.settled new r.issues))
+      (subst (λ (found : List ProbeResult). IsDrivenBy (IsOfReady 0 found) r.settled.device new.device) ports_taken (issues_driven laws 0 r.taken.ports r.settled new r.issues))
 
   abbrev first : List Access
   first = t.resets.followed.driven.accesses
@@ -270,33 +270,33 @@ module _ (laws : LawsBelow) (s new : Server) (replies : List Reply) (k : KeepsBo
 
   -- ---- whose they are
 
-  pub low_of : (port : Port) (n : ℕ) → port.0 ≡ 0 + n → found_of ports n ≢ Unserved → port.0 < 4
-  low_of port n at other = let listed = is_listed ports n (served_if (found_of ports n) other) in let four = t.four in omega (arith, at, listed, four)
+  pub low_of : (port : Port) (n : ℕ) → port.0 ≡ 0 + n → probe_result_of ports n ≢ Unserved → port.0 < 4
+  low_of port n at other = let listed = is_listed ports n (served_if (probe_result_of ports n) other) in let four = t.four in omega (arith, at, listed, four)
 
-  served_then : (port : ℕ) → port < 4 → (found : Found) → found ≢ Unserved → StandsBehind (wanted_of s.wanted port) found port r.taken.device → IsServed (wanted_of s.wanted port) port s.device
+  served_then : (port : ℕ) → port < 4 → (found : ProbeResult) → found ≢ Unserved → StandsBehind (wanted_of s.wanted port) found port r.taken.device → IsServed (wanted_of s.wanted port) port s.device
   served_then port low Unserved other stands = absurd (other refl)
   served_then port low (Ready info) other stands = (stands.0.0, ap (λ (pi : ℕ). bit pi port) (sym t.resets.same.pi) ∙ ap (λ (pi : ℕ). bit pi port) (sym t.takes.same.pi) ∙ stands.0.1)
   served_then port low (Unready state) other stands = (stands.0.0, ap (λ (pi : ℕ). bit pi port) (sym t.resets.same.pi) ∙ ap (λ (pi : ℕ). bit pi port) (sym t.takes.same.pi) ∙ stands.0.1)
 
   -- a port that was found to be anything was served before
-  pub was_served : (port : ℕ) → port < 4 → found_of ports port ≢ Unserved → is_served (found_of s.ports port) ≡ true
-  was_served port low other = (k.served port low).1 (served_then port low (found_of ports port) other (t.takes.stands port low))
+  pub was_served : (port : ℕ) → port < 4 → probe_result_of ports port ≢ Unserved → is_served (probe_result_of s.ports port) ≡ true
+  was_served port low other = (k.served port low).1 (served_then port low (probe_result_of ports port) other (t.takes.stands port low))
 
   -- and one that was served is found to be something
-  pub is_found : (port : ℕ) → is_served (found_of s.ports port) ≡ true → found_of ports port ≢ Unserved
+  pub is_found : (port : ℕ) → is_served (probe_result_of s.ports port) ≡ true → probe_result_of ports port ≢ Unserved
   is_found port served unserved =
       let low = k.few port served in
       let its = (k.served port low).0 served in
-      (subst (λ (f : Found). StandsBehind (wanted_of s.wanted port) f port r.taken.device) unserved (t.takes.stands port low)).0
+      (subst (λ (f : ProbeResult). StandsBehind (wanted_of s.wanted port) f port r.taken.device) unserved (t.takes.stands port low)).0
       (its.0, ap (λ (pi : ℕ). bit pi port) t.takes.same.pi ∙ ap (λ (pi : ℕ). bit pi port) t.resets.same.pi ∙ its.1)
 
   number_is : (port : Port) (n : ℕ) → port.0 ≡ 0 + n → n ≡ port.0
   number_is port n at = omega (arith, at)
 
-  serves : (port : Port) (n : ℕ) → port.0 ≡ 0 + n → found_of ports n ≢ Unserved → ServesPort (ports_of s) port
-  serves port n at other = was_served port.0 (low_of port n at other) (subst (λ (q : ℕ). found_of ports q ≢ Unserved) (number_is port n at) other)
+  serves : (port : Port) (n : ℕ) → port.0 ≡ 0 + n → probe_result_of ports n ≢ Unserved → IsPortServed (ports_of s) port
+  serves port n at other = was_served port.0 (low_of port n at other) (subst (λ (q : ℕ). probe_result_of ports q ≢ Unserved) (number_is port n at) other)
 
-  ready_other : (n : ℕ) (info : DiskInfo) → found_of ports n ≡ Ready info → found_of ports n ≢ Unserved
+  ready_other : (n : ℕ) (info : DiskInfo) → probe_result_of ports n ≡ Ready info → probe_result_of ports n ≢ Unserved
   ready_other n info is unserved = let z : Ready info ≡ Unserved = sym is ∙ unserved in cc
 
   pub own : All IsDriversOwn accesses
@@ -304,10 +304,10 @@ module _ (laws : LawsBelow) (s new : Server) (replies : List Reply) (k : KeepsBo
       (λ access (port, n, at, its). (booting_part laws port (low_of port n at its.0) access its.1).0) tt
       (λ access (port, n, info, at, is, its). (issuing_turns laws port (low_of port n at (ready_other n info is)) access its).1.0)
 
-  pub of : All (IsOfPorts (ServesPort (ports_of s))) accesses
-  of = each (IsOfPorts (ServesPort (ports_of s))) (reset_of (ServesPort (ports_of s))) tt (survey_of (ServesPort (ports_of s)))
-      (λ access (port, n, at, its). its_of (ServesPort (ports_of s)) port (serves port n at its.0) access (laws.booting_of port access its.1)) tt
-      (λ access (port, n, info, at, is, its). its_of (ServesPort (ports_of s)) port (serves port n at (ready_other n info is)) access (laws.issuing_of port its.0 access its.2))
+  pub of : All (IsOfPorts (IsPortServed (ports_of s))) accesses
+  of = each (IsOfPorts (IsPortServed (ports_of s))) (reset_of (IsPortServed (ports_of s))) tt (survey_of (IsPortServed (ports_of s)))
+      (λ access (port, n, at, its). its_of (IsPortServed (ports_of s)) port (serves port n at its.0) access (laws.booting_of port access its.1)) tt
+      (λ access (port, n, info, at, is, its). its_of (IsPortServed (ports_of s)) port (serves port n at (ready_other n info is)) access (laws.issuing_of port its.0 access its.2))
 
   pub begins : BeginsReset accesses
   begins = record { rest = _; here = ap (λ (list : List Access). list ++ (Writing Ghc 0x80000000 ∷ (survey ++ (went.driven.accesses ++ last)))) t.resets.awaited.here }
@@ -336,7 +336,7 @@ module _ (laws : LawsBelow) (s new : Server) (replies : List Reply) (k : KeepsBo
   -- ---- a port
 
   module _ (port : Port) (low : port.0 < 4) where
-    pub turn : TookTurn port (found_of ports port.0) went.driven.accesses way.surveyed way.booted
+    pub turn : TookTurn port (probe_result_of ports port.0) went.driven.accesses way.surveyed way.booted
     turn = went.each port port.0 (omega arith) (let four = t.four in omega (arith, low, four))
 
     abbrev its : HasTurnIn port way.surveyed way.booted
@@ -358,9 +358,9 @@ module _ (laws : LawsBelow) (s new : Server) (replies : List Reply) (k : KeepsBo
         (laws.sticks_since survey (went.driven.accesses ++ last) port (laws.sticks_then went.driven.accesses last port part)))
 
     -- one that is ready
-    module _ (info : DiskInfo) (is : found_of ports port.0 ≡ Ready info) where
+    module _ (info : DiskInfo) (is : probe_result_of ports port.0 ≡ Ready info) where
       pub did : DidBoot port (Ready info) turn.turn.turn turn.turn.start turn.turn.end
-      did = subst (λ (f : Found). DidBoot port f turn.turn.turn turn.turn.start turn.turn.end) is turn.did
+      did = subst (λ (f : ProbeResult). DidBoot port f turn.turn.turn turn.turn.start turn.turn.end) is turn.did
 
       abbrev stopped : Device
       stopped = did.1.0

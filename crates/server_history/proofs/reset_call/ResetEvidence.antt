@@ -16,20 +16,20 @@ use Rattle.block_machine.specs.Events.{Reset, WasReset}
 use Rattle.block_machine.specs.Ports.{Evidence, Ports, SameDisk}
 use Rattle.block_machine.specs.State.{Machine}
 use Rattle.driver_history.specs.Evidence.{IsEvidencedOf}
-use Rattle.driver_history.specs.Histories.{LosesNoTrouble, RunsWellAnew, ServesPort}
+use Rattle.driver_history.specs.Histories.{LosesNoPortError, RunsWellAnew, IsPortServed}
 use Rattle.driver_history.specs.Parts.{IsOfOther}
 use Rattle.driver_history.specs.Trace.{IsOfPorts, LeavesEngine, ResetsLink}
-use Rattle.host_boot.specs.Taken.{StandsBehind, found_of, wanted_of}
-use Rattle.host_boot.specs.declared.Found.{Found}
-use Rattle.host_boot.specs.declared.Found.TheVariants.{Unserved, Ready, Unready}
+use Rattle.host_boot.specs.Taken.{StandsBehind, probe_result_of, wanted_of}
+use Rattle.host_boot.specs.declared.ProbeResult.{ProbeResult}
+use Rattle.host_boot.specs.declared.ProbeResult.TheVariants.{Unserved, Ready, Unready}
 use Rattle.identify.specs.declared.DiskInfo.{DiskInfo}
 use Rattle.port_control.specs.Engines.{Sticks}
 use Rattle.server_history.specs.Below.{LawsBelow}
 use Rattle.server_history.proofs.reset_call.ResetDevice.{IsRebootedBy}
 use Rattle.server_history.specs.Resets.{IsTakenAgain, ResetsServer}
-use Rattle.server_history.specs.Server.{Server, is_served, ports_of, state_of}
-use Rattle.server_history.specs.Stalled.{KeepsBooks}
-use Rattle.server_history.specs.Turns.{instant_of}
+use Rattle.server_history.specs.Server.{ServerState, is_served, ports_of, state_of}
+use Rattle.server_history.specs.Stalled.{BookInvariant}
+use Rattle.server_history.specs.Turns.{server_instant}
 use Rattle.server_history.proofs.recovery_turn.MendedPort.{dead_is}
 use Rattle.server_history.proofs.reset_call.BootedPorts.{DidBoot}
 use Rattle.server_history.proofs.state.DrivenAccesses.{by_one}
@@ -93,11 +93,11 @@ notes_over laws port (access ∷ list) old new on all (mid, does, rest) =
 
 -- ---- the whole
 
-module _ (laws : LawsBelow) (s new : Server) (replies : List Reply) (k : KeepsBooks s) (r : ResetsServer replies s new) where
+module _ (laws : LawsBelow) (s new : ServerState) (replies : List Reply) (k : BookInvariant s) (r : ResetsServer replies s new) where
   abbrev t : IsTakenAgain s r.taken
   t = r.takes
 
-  abbrev ports : List Found
+  abbrev ports : List ProbeResult
   ports = t.host.ports
 
   abbrev list : List Access
@@ -111,42 +111,42 @@ module _ (laws : LawsBelow) (s new : Server) (replies : List Reply) (k : KeepsBo
 
   -- ---- what a port is then
 
-  found_new : (port : ℕ) → found_of new.ports port ≡ found_of ports port
-  found_new port = ap (λ (found : List Found). found_of found port) (ports_new laws s new replies k r)
+  found_new : (port : ℕ) → probe_result_of new.ports port ≡ probe_result_of ports port
+  found_new port = ap (λ (found : List ProbeResult). probe_result_of found port) (ports_new laws s new replies k r)
 
-  low_found : (port : Port) → found_of ports port.0 ≢ Unserved → port.0 < 4
+  low_found : (port : Port) → probe_result_of ports port.0 ≢ Unserved → port.0 < 4
   low_found port other = low_of laws s new replies k r port port.0 (omega arith) other
 
-  dead_found : (port : Port) → new_ports.state port ≡ DeadState → found_of ports port.0 ≡ Unready DeadState
-  dead_found port dead = sym (found_new port.0) ∙ dead_is (found_of new.ports port.0) dead
+  dead_found : (port : Port) → new_ports.state port ≡ DeadState → probe_result_of ports port.0 ≡ Unready DeadState
+  dead_found port dead = sym (found_new port.0) ∙ dead_is (probe_result_of new.ports port.0) dead
 
   dead_low : (port : Port) → new_ports.state port ≡ DeadState → port.0 < 4
   dead_low port dead = low_found port (λ unserved. let z : Unready DeadState ≡ Unserved = sym (dead_found port dead) ∙ unserved in cc)
 
   -- no port is found unready in the state of a ready one
-  never_ready : (port : Port) → found_of ports port.0 ≡ Unready ReadyState → ⊥
+  never_ready : (port : Port) → probe_result_of ports port.0 ≡ Unready ReadyState → ⊥
   never_ready port is =
-      (subst (λ (f : Found). StandsBehind (wanted_of s.wanted port.0) f port.0 r.taken.device) is
+      (subst (λ (f : ProbeResult). StandsBehind (wanted_of s.wanted port.0) f port.0 r.taken.device) is
       (t.takes.stands port.0 (low_found port (λ unserved. let z : Unready ReadyState ≡ Unserved = sym is ∙ unserved in cc)))).1
 
-  ready_info : (port : Port) → new_ports.state port ≡ ReadyState → (info : DiskInfo) × (found_of ports port.0 ≡ Ready info)
-  ready_info port ready = by (found_of ports port.0) refl
+  ready_info : (port : Port) → new_ports.state port ≡ ReadyState → (info : DiskInfo) × (probe_result_of ports port.0 ≡ Ready info)
+  ready_info port ready = by (probe_result_of ports port.0) refl
     where
-      state_is : (f : Found) → found_of ports port.0 ≡ f → state_of f ≡ ReadyState
+      state_is : (f : ProbeResult) → probe_result_of ports port.0 ≡ f → state_of f ≡ ReadyState
       state_is f is = sym (ap state_of (found_new port.0 ∙ is)) ∙ ready
 
-      by : (f : Found) → found_of ports port.0 ≡ f → (info : DiskInfo) × (found_of ports port.0 ≡ Ready info)
+      by : (f : ProbeResult) → probe_result_of ports port.0 ≡ f → (info : DiskInfo) × (probe_result_of ports port.0 ≡ Ready info)
       by Unserved is = let z : Absent ≡ ReadyState = state_is Unserved is in absurd cc
       by (Ready info) is = (info, is)
       by (Unready state) is = absurd (never_ready port (is ∙ ap Unready (state_is (Unready state) is)))
 
-  ready_low : (port : Port) (info : DiskInfo) → found_of ports port.0 ≡ Ready info → port.0 < 4
+  ready_low : (port : Port) (info : DiskInfo) → probe_result_of ports port.0 ≡ Ready info → port.0 < 4
   ready_low port info is = low_found port (λ unserved. let z : Ready info ≡ Unserved = sym is ∙ unserved in cc)
 
   served_ready : (port : Port) → old_ports.state port ≡ ReadyState → old_ports.served port ≡ true
-  served_ready port ready = by (found_of s.ports port.0) refl
+  served_ready port ready = by (probe_result_of s.ports port.0) refl
     where
-      by : (f : Found) → found_of s.ports port.0 ≡ f → is_served (found_of s.ports port.0) ≡ true
+      by : (f : ProbeResult) → probe_result_of s.ports port.0 ≡ f → is_served (probe_result_of s.ports port.0) ≡ true
       by Unserved is = let z : Absent ≡ ReadyState = sym (ap state_of is) ∙ ready in absurd cc
       by (Ready info) is = ap is_served is
       by (Unready state) is = ap is_served is
@@ -200,7 +200,7 @@ module _ (laws : LawsBelow) (s new : Server) (replies : List Reply) (k : KeepsBo
     its_sticks : Sticks port list
     its_sticks =
         let part = turn laws s new replies k r port (dead_low port dead) in
-        sticks laws s new replies k r port (dead_low port dead) ((subst (λ (f : Found). DidBoot port f part.turn.turn part.turn.start part.turn.end) (dead_found port dead) part.did).0 refl)
+        sticks laws s new replies k r port (dead_low port dead) ((subst (λ (f : ProbeResult). DidBoot port f part.turn.turn part.turn.start part.turn.end) (dead_found port dead) part.did).0 refl)
 
     -- what is issued is of other ports
     others : (access : Access) → IsOfReady 0 ports access → IsOfOther port access
@@ -208,7 +208,7 @@ module _ (laws : LawsBelow) (s new : Server) (replies : List Reply) (k : KeepsBo
       q,
       (λ same.
           let number : n ≡ port.0 = omega (arith, at, same) in
-          let z : Ready info ≡ Unready DeadState = sym is ∙ ap (found_of ports) number ∙ dead_found port dead in
+          let z : Ready info ≡ Unready DeadState = sym is ∙ ap (probe_result_of ports) number ∙ dead_found port dead in
           cc),
       laws.issuing_of q its.0 access its.2,
     )
@@ -217,13 +217,13 @@ module _ (laws : LawsBelow) (s new : Server) (replies : List Reply) (k : KeepsBo
     counted =
         let issuing = issues laws s new replies k r in
         ap (λ (n : Notes). n.engine_count) (notes_over laws port issuing.accesses r.taken.device new.device t.takes.on (All-weaker (IsOfReady 0 ports) (IsOfOther port) others issuing.accesses issuing.only) issuing.all)
-        ∙ (subst (λ (f : Found). StandsBehind (wanted_of s.wanted port.0) f port.0 r.taken.device) (dead_found port dead) (t.takes.stands port.0 (dead_low port dead))).1.1
+        ∙ (subst (λ (f : ProbeResult). StandsBehind (wanted_of s.wanted port.0) f port.0 r.taken.device) (dead_found port dead) (t.takes.stands port.0 (dead_low port dead))).1.1
 
   -- ---- what is vouched for
 
-  evidenced : (m : Machine) (port : Port) → IsEvidencedOf Reset (WasReset (Some replies)) list (instant_of s m) new_ports new.device evidence port
+  evidenced : (m : Machine) (port : Port) → IsEvidencedOf Reset (WasReset (Some replies)) list (server_instant s m) new_ports new.device evidence port
   evidenced m port =
-      let told = evidenced_of four Reset (WasReset (Some replies)) [] (instant_of s m) new_ports new.device port (λ ready. in_four port (k.few port.0 (served_ready port ready))) (All-nil (LeavesEngine port)) in
+      let told = evidenced_of four Reset (WasReset (Some replies)) [] (server_instant s m) new_ports new.device port (λ ready. in_four port (k.few port.0 (served_ready port ready))) (All-nil (LeavesEngine port)) in
       record {
         lost = λ here. let lost = lost_only port here in inr (inr (inr (lost.1, lost.2)));
         gone_all = told.gone_all;
@@ -234,8 +234,8 @@ module _ (laws : LawsBelow) (s new : Server) (replies : List Reply) (k : KeepsBo
         fatal_only = told.fatal_only;
         stopped_all = ⊎_elim
             (λ (served : old_ports.served port ≡ true). inr (inl (stopped_all port served)))
-            (λ (none : old_ports.served port ≡ false). inl (All-weaker (IsOfPorts (ServesPort old_ports)) (LeavesEngine port)
-            (unserved_leaves (ServesPort old_ports) port (λ served. false≢true (sym none ∙ served))) list (of laws s new replies k r)))
+            (λ (none : old_ports.served port ≡ false). inl (All-weaker (IsOfPorts (IsPortServed old_ports)) (LeavesEngine port)
+            (unserved_leaves (IsPortServed old_ports) port (λ served. false≢true (sym none ∙ served))) list (of laws s new replies k r)))
             (cases_Bool (old_ports.served port));
         stopped_only = λ here. inr (tt, chosen_is old_ports.served four port here);
         stuck_only = λ here. let dead = stuck_only port here in inl (its_sticks port dead, counted port dead);
@@ -243,12 +243,12 @@ module _ (laws : LawsBelow) (s new : Server) (replies : List Reply) (k : KeepsBo
 
   -- each port that isn't dead was booted
   booted : (port : Port) → old_ports.served port ≡ true → (new_ports.state port ≡ DeadState) ⊎ ResetsLink port list
-  booted port served = by (found_of ports port.0) refl
+  booted port served = by (probe_result_of ports port.0) refl
     where
-      found : found_of ports port.0 ≢ Unserved
+      found : probe_result_of ports port.0 ≢ Unserved
       found = is_found laws s new replies k r port.0 served
 
-      by : (f : Found) → found_of ports port.0 ≡ f → (new_ports.state port ≡ DeadState) ⊎ ResetsLink port list
+      by : (f : ProbeResult) → probe_result_of ports port.0 ≡ f → (new_ports.state port ≡ DeadState) ⊎ ResetsLink port list
       by Unserved is = absurd (found is)
       by (Ready info) is = inr (resets laws s new replies k r port (low_found port found) (did laws s new replies k r port (low_found port found) info is).0)
       by (Unready state) is = ⊎_elim
@@ -256,11 +256,11 @@ module _ (laws : LawsBelow) (s new : Server) (replies : List Reply) (k : KeepsBo
           (λ (lives : state ≢ DeadState).
           let part = turn laws s new replies k r port (low_found port found) in
           inr (resets laws s new replies k r port (low_found port found)
-          ((subst (λ (f : Found). DidBoot port f part.turn.turn part.turn.start part.turn.end) is part.did).1 lives (λ ready. never_ready port (is ∙ ap Unready ready)))))
+          ((subst (λ (f : ProbeResult). DidBoot port f part.turn.turn part.turn.start part.turn.end) is part.did).1 lives (λ ready. never_ready port (is ∙ ap Unready ready)))))
           (dead_or_not state)
 
-  trouble : (m : Machine) (port : Port) → LosesNoTrouble evidence (instant_of s m) new_ports new.device port
-  trouble m port = record {
+  port_error : (m : Machine) (port : Port) → LosesNoPortError evidence (server_instant s m) new_ports new.device port
+  port_error m port = record {
     errors = λ ready _. inl (inl (stopped_all port (served_ready port ready)));
     changes = λ tends _. inl (inl (stopped_all port tends.0));
     fault = λ ready. let its = ready_info port ready in (shows laws s new replies k r port (ready_low port its.0 its.1) its.0 its.1).fault;
@@ -268,7 +268,7 @@ module _ (laws : LawsBelow) (s new : Server) (replies : List Reply) (k : KeepsBo
     disk = λ ready. let its = ready_info port ready in (shows laws s new replies k r port (ready_low port its.0 its.1) its.0 its.1).disk;
   }
 
-  well : (m : Machine) (port : Port) → RunsWellAnew evidence list (instant_of s m) new_ports new.device port
+  well : (m : Machine) (port : Port) → RunsWellAnew evidence list (server_instant s m) new_ports new.device port
   well m port _ ready none unfailed unbroken _ = let its = ready_info port ready in goes_well laws s new replies k r port (ready_low port its.0 its.1) its.0 its.1 none unfailed unbroken
 
   -- the device's part in a reset that ended
@@ -288,6 +288,6 @@ module _ (laws : LawsBelow) (s new : Server) (replies : List Reply) (k : KeepsBo
     stuck_only = stuck_only;
     lost_all = lost_all;
     boots = λ m. booted;
-    trouble = trouble;
+    port_error = port_error;
     well = well;
   }

@@ -8,11 +8,11 @@ use Rattle.ata_types.specs.declared.PortState.TheVariants.{Ready as ReadyState}
 use Rattle.ata_types.specs.declared.request.Outcome.{Outcome}
 use Rattle.ata_types.specs.declared.request.RequestId.{RequestId}
 use Rattle.server_history.proofs.state.ListMembers.{at_cases, contains_cases, contains_there, map_in, without_in}
-use Rattle.block_machine.specs.Events.{AllDevices, AllLawful, AllMay, Belong, GivesUp, IsDevices, IsIssuedIn, IsLawful, IssuesLast, Moment, Reset, WasIssued, answers_of, is_release, issues_it}
+use Rattle.block_machine.specs.Events.{AllDevices, AllLawful, AllMay, Belong, EndsUndone, IsByDevice, IsIssuedIn, IsLawful, IssuesLast, AbstractState, Reset, WasIssued, answers_of, is_release, issues_it}
 use Rattle.block_machine.specs.Left.{after}
 use Rattle.block_machine.specs.Ports.{Evidence, Ports}
 use Rattle.block_machine.specs.State.{Machine, Pending}
-use Rattle.block_machine.specs.Steps.{Again, Answer, Issue, May, Release, Step, at, issue, requeued}
+use Rattle.block_machine.specs.Steps.{Again, Answer, Issue, May, Release, Step, at, newly_issued, requeued}
 use Rattle.server_history.proofs.reset_call.FatesOfAllPorts.{Decides}
 use Rattle.server_history.proofs.state.FirstMembers.{first_here, nowhere}
 use Rattle.server_history.proofs.reset_call.IssuesOfAllPorts.{IsReissue}
@@ -28,7 +28,7 @@ decided_none id (Answer e o ∷ steps) all = decided_none id steps (All-tail Dec
 decided_none id (step ∷ steps) all = absurd (All-head Decides step steps all).1
 
 module _ (ports : Ports) where
-  pub decided_belong : (steps : List Step) → All Decides steps → ((e : Pending) (o : Outcome) → Contains steps (Answer e o) → GivesUp o) → ((e : Pending) → Contains steps (Again e) → ports.state e.request.port ≡ ReadyState)
+  pub decided_belong : (steps : List Step) → All Decides steps → ((e : Pending) (o : Outcome) → Contains steps (Answer e o) → EndsUndone o) → ((e : Pending) → Contains steps (Again e) → ports.state e.request.port ≡ ReadyState)
       → Belong {D = DeviceStep} Reset ports steps
   decided_belong [] all answer again = tt
   decided_belong (Again e ∷ steps) all answer again = (
@@ -41,7 +41,7 @@ module _ (ports : Ports) where
   )
   decided_belong (step ∷ steps) all answer again = absurd (All-head Decides step steps all).1
 
-pub decided_lawful : (old : Moment) (evidence : Evidence) (ports : Ports) (steps : List Step) → All Decides steps → ((e : Pending) (o : Outcome) → Contains steps (Answer e o) → IsLawful old evidence ports e o)
+pub decided_lawful : (old : AbstractState) (evidence : Evidence) (ports : Ports) (steps : List Step) → All Decides steps → ((e : Pending) (o : Outcome) → Contains steps (Answer e o) → IsLawful old evidence ports e o)
     → ((e : Pending) → Contains steps (Again e) → Contains evidence.stopped e.request.port) → AllLawful old evidence ports steps
 decided_lawful old evidence ports [] all answer again = tt
 decided_lawful old evidence ports (Again e ∷ steps) all answer again = (
@@ -62,7 +62,7 @@ module _ (ports : Ports) where
   reissued_belong (Issue mode e ∷ steps) all = (reissued_belong steps (All-tail (IsReissue ports) (Issue mode e) steps all), inr (All-head (IsReissue ports) (Issue mode e) steps all))
   reissued_belong (step ∷ steps) all = (reissued_belong steps (All-tail (IsReissue ports) step steps all), inl (All-head (IsReissue ports) step steps all))
 
-  pub reissued_lawful : (old : Moment) (evidence : Evidence) (later : Ports) (steps : List Step) → All (IsReissue ports) steps → AllLawful old evidence later steps
+  pub reissued_lawful : (old : AbstractState) (evidence : Evidence) (later : Ports) (steps : List Step) → All (IsReissue ports) steps → AllLawful old evidence later steps
   reissued_lawful old evidence later [] all = tt
   reissued_lawful old evidence later (Again e ∷ steps) all = absurd (All-head (IsReissue ports) (Again e) steps all)
   reissued_lawful old evidence later (Answer e o ∷ steps) all = absurd (All-head (IsReissue ports) (Answer e o) steps all)
@@ -104,13 +104,13 @@ module _ (laws : LawsBelow) (ports : Ports) (m : Machine) where
   pub issued_from : (steps : List Step) → Belong {D = DeviceStep} Reset ports steps → (z : Pending) → Contains (after m steps).book z → z.issued ≡ true → IsIssuedIn z.request.id steps ⊎ WasIssued m z.request.id
   issued_from [] b z here is = inr (record { pending = z; here = here; id_is = refl; issued = is })
   issued_from (Issue mode e ∷ steps) b z here is =
-      let w = map_in (at e.request.id issue) (after m steps).book z here in
+      let w = map_in (at e.request.id newly_issued) (after m steps).book z here in
       ⊎_elim
       (λ its. inl (or_left _ _ (eq-eqb e.request.id.0 z.request.id.0 (sym its.0 ∙ ap (λ (x : Pending). x.request.id.0) (sym its.1) ∙ ap (λ (x : Pending). x.request.id.0) (sym w.2)))))
       (λ other.
       let same : z ≡ w.0 = w.2 ∙ other.1 in
       ⊎_elim (λ late. inl (or_right _ _ late)) (λ was. inr was) (issued_from steps b.0 z (subst (Contains (after m steps).book) (sym same) w.1) is))
-      (at_cases e.request.id issue w.0)
+      (at_cases e.request.id newly_issued w.0)
   issued_from (Again e ∷ steps) b z here is =
       let w = map_in (at e.request.id requeued) (after m steps).book z here in
       ⊎_elim
@@ -122,7 +122,7 @@ module _ (laws : LawsBelow) (ports : Ports) (m : Machine) where
   issued_from (Answer e o ∷ steps) b z here is = issued_from steps b.0 z (without_in e.request.id (after m steps).book z here).0 is
   issued_from (Release ∷ steps) b z here is = issued_from steps b.0 z here is
   issued_from (step ∷ steps) b z here is =
-      let device : IsDevices step = ⊎_elim (λ own. own) (λ none. absurd none) b.1 in
+      let device : IsByDevice step = ⊎_elim (λ own. own) (λ none. absurd none) b.1 in
       let spares = laws.basic.spares (after m steps) (step ∷ []) (tt, device) in
       let l = laws.basic.found_before (after m steps).book (after m (step ∷ steps)).book z spares.book here in
       let id : z.request.id ≡ l.0.request.id = ap (λ r. r.id) l.2.request in

@@ -8,26 +8,26 @@ use Rattle.std.specs.Prelude.{filter}
 use Rattle.adapter.specs.Access.{Access}
 use Rattle.adapter.specs.Device.{Device}
 use Rattle.adapter.specs.Idle.{IsIdle}
-use Rattle.agreement.specs.Acts.{steps_of}
-use Rattle.agreement.specs.Driven.{IsFollowedTo, known}
-use Rattle.agreement.specs.Driver.{IsBacked, Known, Knows}
-use Rattle.agreement.specs.Slots.{Free, Serves, Uses}
-use Rattle.agreement.specs.Spares.{SparesBook}
+use Rattle.refinement.specs.Acts.{act_steps}
+use Rattle.refinement.specs.Driven.{IsSimulatedTo, known}
+use Rattle.refinement.specs.Driver.{IsBacked, DriverState, DriverRelation}
+use Rattle.refinement.specs.Slots.{Free, Serves, SlotStates}
+use Rattle.refinement.specs.Spares.{SparesBook}
 use Rattle.ata_types.specs.declared.request.ClientId.{ClientId}
 use Rattle.ata_types.specs.declared.request.Frame.{Frame}
 use Rattle.ata_types.specs.declared.request.RequestId.{RequestId}
 use Rattle.server_history.proofs.state.ListMembers.{into_map, map_in, none_of, in_filter}
 use Rattle.block_machine.specs.Confined.{WithinLimits}
 use Rattle.block_machine.specs.Events.{AllDevices, AllMay}
-use Rattle.block_machine.specs.Histories.{IsReached}
+use Rattle.block_machine.specs.Histories.{IsReachable}
 use Rattle.block_machine.specs.Left.{after}
 use Rattle.block_machine.specs.State.{Machine, Pending}
 use Rattle.block_machine.specs.Steps.{Release, Step, after_step, is_lent_to}
 use Rattle.dma_frames.specs.Loan.{Lending}
 use Rattle.dma_frames.specs.Table.{Table, lent_to, owner_of}
 use Rattle.host_boot.specs.Taken.{unused}
-use Rattle.host_boot.specs.declared.Found.{Found}
-use Rattle.request_queue.specs.Entries.{Held, IsAccepted, IsInOrder}
+use Rattle.host_boot.specs.declared.ProbeResult.{ProbeResult}
+use Rattle.request_queue.specs.Entries.{Held, IsAccepted, BookIsInOrder}
 use Rattle.request_queue.specs.Machine.{IsBook, IsEntry}
 use Rattle.server_history.proofs.plain_calls.Acceptances.{any_in}
 use Rattle.server_history.proofs.state.HistorySteps.{book_on, still_kept}
@@ -36,27 +36,27 @@ use Rattle.server_history.proofs.state.PairedLists.{at_left}
 use Rattle.server_history.specs.Below.{LawsBelow}
 use Rattle.server_history.specs.Ended.{ResetLaws}
 use Rattle.server_history.specs.Kept.{IsKeptIn, TakesBack}
-use Rattle.server_history.specs.Mended.{requests_of}
+use Rattle.server_history.specs.ErrorHandling.{requests_of}
 use Rattle.server_history.specs.Resets.{IsTakenAgain, MaySettle}
-use Rattle.server_history.specs.Server.{AreKept, IsMachineOf, Server, kept_at}
-use Rattle.server_history.specs.Stalled.{KeepsBooks}
+use Rattle.server_history.specs.Server.{AreKept, IsMachineOf, ServerState, kept_at}
+use Rattle.server_history.specs.Stalled.{BookInvariant}
 
 -- ---- stretches of the device
 
 -- The machine follows by steps of the device alone.
-pub record IsStretch (k later : Known) (m : Machine) : Type 0 where
+pub record IsStretch (k later : DriverState) (m : Machine) : Type 0 where
   pub steps : List Step
   pub only : AllDevices steps
   pub may : AllMay m steps
   pub backed : IsBacked k.device later.device m steps
-  pub knows : Knows (after m steps) later
+  pub knows : DriverRelation (after m steps) later
 
-pub stretch : {May : Access → Type 0} {Fits : Uses → Type 0} {next : Uses → Uses} {old new : Device} → LawsBelow → IsFollowedTo May Fits next old new → (uses : Uses) (parked : ℕ → List RequestId) → Fits uses → (m : Machine) → IsReached m
-    → Knows m (known uses parked old) → IsStretch (known uses parked old) (known (next uses) parked new) m
+pub stretch : {May : Access → Type 0} {Fits : SlotStates → Type 0} {next : SlotStates → SlotStates} {old new : Device} → LawsBelow → IsSimulatedTo May Fits next old new → (uses : SlotStates) (parked : ℕ → List RequestId) → Fits uses → (m : Machine) → IsReachable m
+    → DriverRelation m (known uses parked old) → IsStretch (known uses parked old) (known (next uses) parked new) m
 stretch {May} {Fits} {next} {old} {new} laws a uses parked fits m reached knows =
     let c = a.comes (record { uses = uses; parked = parked }) m reached knows fits in
     let g = laws.slots.acts_go c.acts (known uses parked old) (known (next uses) parked new) m knows c.done in
-    record { steps = steps_of c.acts; only = c.tells.only; may = g.may; backed = g.backed; knows = g.knows }
+    record { steps = act_steps c.acts; only = c.tells.only; may = g.may; backed = g.backed; knows = g.knows }
 
 -- ---- an idle adapter
 
@@ -87,7 +87,7 @@ abbrev all_ids : Machine → ℕ → List RequestId
 all_ids m port = map (λ (e : Pending). e.request.id) m.book ++ map (λ (e : Pending). e.request.id) m.kept
 
 -- Where the adapter is idle, every slot was given up.
-gives_up : (k : Known) (m : Machine) → Knows m k → IsIdle k.device → Knows m (known unused (all_ids m) k.device)
+gives_up : (k : DriverState) (m : Machine) → DriverRelation m k → IsIdle k.device → DriverRelation m (known unused (all_ids m) k.device)
 gives_up k m knows rest = record {
   agrees = record {
     slot = λ port slot. let p = rest.port port in record { issued = p.ci slot; free = p.taken slot; unarmed = p.sact slot };
@@ -105,7 +105,7 @@ gives_up k m knows rest = record {
 }
 
 -- Where none is kept, only issued requests have to be remembered as parked.
-parks_issued : (uses : Uses) (parked : ℕ → List RequestId) (d : Device) (m : Machine) → Knows m (known uses parked d) → m.kept ≡ [] → Knows m (known uses (issued_on m) d)
+parks_issued : (uses : SlotStates) (parked : ℕ → List RequestId) (d : Device) (m : Machine) → DriverRelation m (known uses parked d) → m.kept ≡ [] → DriverRelation m (known uses (issued_on m) d)
 parks_issued uses parked d m knows none = record {
   agrees = knows.agrees;
   have = λ port e moves own. inl (⊎_elim
@@ -117,7 +117,7 @@ parks_issued uses parked d m knows none = record {
 -- ---- the kept loans
 
 -- What the machine lends once the kept requests' frames are given back is what the server lends.
-module _ (laws : ResetLaws) (found : List Found) (kept : List (List Lending)) (table later : Table) (m : Machine) (reached : IsReached m) (lent : (frame : Frame) → m.lent frame ≡ lent_to table frame) (are : AreKept found kept m.kept)
+module _ (laws : ResetLaws) (found : List ProbeResult) (kept : List (List Lending)) (table later : Table) (m : Machine) (reached : IsReachable m) (lent : (frame : Frame) → m.lent frame ≡ lent_to table frame) (are : AreKept found kept m.kept)
     (back : TakesBack table later (IsKeptIn kept)) where
   limits : WithinLimits m
   limits = subst WithinLimits (sym reached.is) (laws.below.living.limits reached.first reached.past reached.starts reached.legal)
@@ -159,14 +159,14 @@ module _ (laws : ResetLaws) (found : List Found) (kept : List (List Lending)) (t
 -- ---- the whole
 
 -- The steps of the device until the adapter is idle, Release, and those while it is taken over; and what the machine has of the server then.
-pub record IsRetaken (s taken : Server) (uses : Uses) (m : Machine) : Type 0 where
+pub record IsRetaken (s taken : ServerState) (uses : SlotStates) (m : Machine) : Type 0 where
   pub first : List Step
   pub first_only : AllDevices first
   pub second : List Step
   pub second_only : AllDevices second
   pub may : AllMay m (second ++ Release ∷ first)
   pub backed : IsBacked s.device taken.device m (second ++ Release ∷ first)
-  pub knows : Knows (after m (second ++ Release ∷ first)) (known uses (issued_on (after m (second ++ Release ∷ first))) taken.device)
+  pub knows : DriverRelation (after m (second ++ Release ∷ first)) (known uses (issued_on (after m (second ++ Release ∷ first))) taken.device)
   pub book : IsBook s.book (after m (second ++ Release ∷ first)).book
   pub kept : (after m (second ++ Release ∷ first)).kept ≡ []
   pub rows : (after m (second ++ Release ∷ first)).rows ≡ s.grants
@@ -174,14 +174,14 @@ pub record IsRetaken (s taken : Server) (uses : Uses) (m : Machine) : Type 0 whe
   pub lent : (frame : Frame) → (after m (second ++ Release ∷ first)).lent frame ≡ lent_to taken.table frame
   pub next : (after m (second ++ Release ∷ first)).next ≡ s.last + 1
 
-module _ (laws : ResetLaws) (s taken : Server) (takes : IsTakenAgain s taken) (m : Machine) (reached : IsReached m) (is : IsMachineOf s m) where
+module _ (laws : ResetLaws) (s taken : ServerState) (takes : IsTakenAgain s taken) (m : Machine) (reached : IsReachable m) (is : IsMachineOf s m) where
   abbrev down : IsStretch (known is.uses is.parked s.device) (known is.uses is.parked takes.idle) m
   down = stretch laws.below takes.resets.followed is.uses is.parked tt m reached is.knows
 
   abbrev idle : Machine
   idle = after m down.steps
 
-  idle_reached : IsReached idle
+  idle_reached : IsReachable idle
   idle_reached = laws.below.basic.reached m down.steps reached down.may
 
   down_spares : SparesBook m idle
@@ -193,10 +193,10 @@ module _ (laws : ResetLaws) (s taken : Server) (takes : IsTakenAgain s taken) (m
   abbrev free : Machine
   free = after_step idle Release
 
-  free_reached : IsReached free
+  free_reached : IsReachable free
   free_reached = laws.below.basic.reached idle (Release ∷ []) idle_reached (tt, tt)
 
-  free_knows : Knows free (known unused (all_ids idle) takes.idle)
+  free_knows : DriverRelation free (known unused (all_ids idle) takes.idle)
   free_knows = laws.released (known unused (all_ids idle) takes.idle) idle (all_ids idle) idle_reached (gives_up (known is.uses is.parked takes.idle) idle down.knows takes.resets.idle)
       (λ e here port slot serves. let z : Free ≡ Serves e.request.id = serves in absurd cc) (λ port other here lives. here)
 
@@ -231,7 +231,7 @@ module _ (laws : ResetLaws) (s taken : Server) (takes : IsTakenAgain s taken) (m
     may = laws.below.basic.may m up.steps (Release ∷ down.steps) (down.may, tt) up.may;
     backed = laws.below.backed_parts s.device takes.idle taken.device m (Release ∷ down.steps) up.steps
         (laws.below.backed_parts s.device takes.idle takes.idle m down.steps (Release ∷ []) down.backed (laws.below.backed_own takes.idle idle Release (λ none. none))) up.backed;
-    knows = subst (λ (n : Machine). Knows n (known takes.takes.uses (issued_on n) taken.device)) (sym last_is) (parks_issued takes.takes.uses (all_ids idle) taken.device last up.knows none_kept);
+    knows = subst (λ (n : Machine). DriverRelation n (known takes.takes.uses (issued_on n) taken.device)) (sym last_is) (parks_issued takes.takes.uses (all_ids idle) taken.device last up.knows none_kept);
     book = subst (λ (n : Machine). IsBook s.book n.book) (sym last_is) (book_on s.book free.book last.book up_spares.book (book_on s.book m.book idle.book down_spares.book is.book));
     kept = ap (λ (n : Machine). n.kept) last_is ∙ none_kept;
     rows = ap (λ (n : Machine). n.rows) last_is ∙ up_spares.rows ∙ down_spares.rows ∙ is.rows;
@@ -263,7 +263,7 @@ accepted_then old new entries m limits book lent owners accepted i d small =
           sym (lent g) ∙ ap m.lent (get_or_default y.0.request.asked.frames.items k f _ inside) ∙ limits.lent y.0 (inl y.1) k inside ∙ ap Some y.2.id);
     }
 
-module _ (laws : ResetLaws) (s taken : Server) (booked : KeepsBooks s) (takes : IsTakenAgain s taken) where
+module _ (laws : ResetLaws) (s taken : ServerState) (booked : BookInvariant s) (takes : IsTakenAgain s taken) where
   its : IsRetaken s taken takes.takes.uses booked.machine
   its = retaken laws s taken takes booked.machine booked.reached booked.stands
 
@@ -276,7 +276,7 @@ module _ (laws : ResetLaws) (s taken : Server) (booked : KeepsBooks s) (takes : 
       subst WithinLimits (sym r.is) (laws.below.living.limits r.first r.past r.starts r.legal)
 
   pub book_same : taken.book ≡ s.book
-  book_same = ap (λ (t : Server). t.book) takes.server
+  book_same = ap (λ (t : ServerState). t.book) takes.server
 
   pub accepted_still : All (IsAccepted taken.table) s.book
   accepted_still = accepted_then s.table taken.table s.book end end_limits its.book its.lent takes.back.owners booked.accepted
@@ -284,7 +284,7 @@ module _ (laws : ResetLaws) (s taken : Server) (booked : KeepsBooks s) (takes : 
   pub may_settle : MaySettle taken
   may_settle = record {
     four_kept = takes.four_kept;
-    ordered = subst IsInOrder (sym book_same) booked.ordered;
+    ordered = subst BookIsInOrder (sym book_same) booked.ordered;
     accepted = subst (All (IsAccepted taken.table)) (sym book_same) accepted_still;
     places = λ port. subst (λ (book : List Held). length (kept_at taken.kept port.0) + count_by (λ (e : Held). e.entry.issued) (requests_of port book) ≤ 32) (sym book_same)
         (subst (λ (loans : List Lending). length loans + count_by (λ (e : Held). e.entry.issued) (requests_of port s.book) ≤ 32) (sym (takes.unkept port.0)) (let few = booked.places port in omega (arith, few)));

@@ -4,37 +4,37 @@ use Rattle.std.proofs.lemmas.Bool.{cases_lt}
 use Rattle.std.proofs.lemmas.List.Elements.{All-contains, All-contains_itself, All-weaker}
 use Rattle.std.specs.List.{All, Contains}
 use Rattle.adapter.specs.Device.{Device}
-use Rattle.agreement.specs.Agrees.{port_at}
+use Rattle.refinement.specs.Relation.{port_at}
 use Rattle.ata_types.specs.declared.Port.{Port}
 use Rattle.ata_types.specs.declared.PortState.TheVariants.{Dead, Ready as ReadyState}
 use Rattle.ata_types.specs.declared.request.ClientId.{ClientId}
 use Rattle.ata_types.specs.declared.request.Reply.{Reply}
 use Rattle.ata_types.specs.declared.request.RequestId.{RequestId}
-use Rattle.block_machine.specs.Histories.{IsReached}
+use Rattle.block_machine.specs.Histories.{IsReachable}
 use Rattle.block_machine.specs.Left.{IsRow, after}
 use Rattle.block_machine.specs.State.{Machine}
 use Rattle.block_machine.specs.Steps.{Release, Step}
-use Rattle.host_boot.specs.Taken.{IsLeft as SlotLeft, IsLeft as SlotLeft, TakesOver, found_of, wanted_of}
-use Rattle.host_boot.specs.declared.Found.{Found}
-use Rattle.host_boot.specs.declared.Found.TheVariants.{Unready}
+use Rattle.host_boot.specs.Taken.{IsUnusedOrDead, IsUnusedOrDead, TakesOver, probe_result_of, wanted_of}
+use Rattle.host_boot.specs.declared.ProbeResult.{ProbeResult}
+use Rattle.host_boot.specs.declared.ProbeResult.TheVariants.{Unready}
 use Rattle.identify.specs.declared.wanted.Wanted.{Wanted}
 use Rattle.request_queue.specs.Entries.{Held}
 use Rattle.request_queue.specs.Machine.{IsBook, IsEntry}
 use Rattle.server_history.proofs.start.NewServer.{left_as, none_are_kept}
 use Rattle.server_history.proofs.failed_reset.ServerBook.{all_settle_on}
 use Rattle.server_history.proofs.reset_call.FatesOfAllPorts.{AreFated, HasItsDisk, IsFatedTo, fate_all}
-use Rattle.server_history.proofs.fates.MetFates.{nobody}
+use Rattle.server_history.proofs.dispositions.MetFates.{nobody}
 use Rattle.server_history.proofs.start.TakenOverPorts.{behind, four, ports_on, served_there}
 use Rattle.server_history.proofs.reset_call.IssuesOfAllPorts.{AreReissued, all_reissued, settled_then}
-use Rattle.server_history.proofs.fates.RemainingBook.{WasIn}
+use Rattle.server_history.proofs.dispositions.RemainingBook.{WasIn}
 use Rattle.server_history.proofs.reset_call.RetakenMachine.{IsRetaken, issued_in, issued_on, may_settle, retaken}
 use Rattle.server_history.specs.Ended.{ResetLaws}
 use Rattle.server_history.proofs.state.PairedLists.{at_right}
 use Rattle.server_history.specs.Resets.{IsTakenAgain, IssuePorts, MaySettle, SettlePorts}
-use Rattle.server_history.specs.Server.{HasSlots, IsKept, IsMachineOf, IsSettled, Server, is_served, mode_at, mode_found, state_of, used_for, HasTrueMark}
-use Rattle.server_history.specs.Stalled.{KeepsBooks}
+use Rattle.server_history.specs.Server.{HasSlots, InCallInvariant, IsMachineOf, SettledInvariant, ServerState, is_served, mode_at, mode_found, state_of, used_for, HasTrueMark}
+use Rattle.server_history.specs.Stalled.{BookInvariant}
 
-module _ (laws : ResetLaws) (s taken settled : Server) (booked : KeepsBooks s) (takes : IsTakenAgain s taken) (replies : List Reply) (settles : SettlePorts 0 taken.ports replies taken settled) (m : Machine) (reached : IsReached m)
+module _ (laws : ResetLaws) (s taken settled : ServerState) (booked : BookInvariant s) (takes : IsTakenAgain s taken) (replies : List Reply) (settles : SettlePorts 0 taken.ports replies taken settled) (m : Machine) (reached : IsReachable m)
     (is : IsMachineOf s m) where
   pub its_retaken : IsRetaken s taken takes.takes.uses m
   its_retaken = retaken laws s taken takes m reached is
@@ -45,13 +45,13 @@ module _ (laws : ResetLaws) (s taken settled : Server) (booked : KeepsBooks s) (
   abbrev pub mid : Machine
   mid = after m base
 
-  mid_reached : IsReached mid
+  mid_reached : IsReachable mid
   mid_reached = laws.below.basic.reached m base reached its_retaken.may
 
   -- ---- what was taken over
 
   pub ports_are : taken.ports ≡ takes.host.ports
-  ports_are = ap (λ (c : Server). c.ports) takes.server
+  ports_are = ap (λ (c : ServerState). c.ports) takes.server
 
   may : MaySettle taken
   may = may_settle laws s taken booked takes
@@ -60,29 +60,29 @@ module _ (laws : ResetLaws) (s taken settled : Server) (booked : KeepsBooks s) (
   begin = record {
     four_kept = takes.four_kept;
     uses = takes.takes.uses;
-    left = λ port slot. subst (λ (ports : List Found). SlotLeft ports takes.takes.uses port slot) (sym ports_are) (takes.takes.left port slot);
+    left = λ port slot. subst (λ (ports : List ProbeResult). IsUnusedOrDead ports takes.takes.uses port slot) (sym ports_are) (takes.takes.left port slot);
     parked = issued_on mid;
     knows = its_retaken.knows;
     unparked = λ port lt. absurd (omega (arith, lt));
     its = λ port high id here.
         let p = issued_in mid port id here in
         let h = at_right IsEntry s.book mid.book its_retaken.book p.0 p.1 in
-        (h.0, subst (λ (book : List Held). Contains book h.0) (sym (ap (λ (c : Server). c.book) takes.server)) h.1, sym h.2.id ∙ p.2, sym h.2.issued ∙ p.3, ap (λ (q : Port). q.0) (sym h.2.port) ∙ p.4);
-    book = subst (λ (book : List Held). IsBook book mid.book) (sym (ap (λ (c : Server). c.book) takes.server)) its_retaken.book;
+        (h.0, subst (λ (book : List Held). Contains book h.0) (sym (ap (λ (c : ServerState). c.book) takes.server)) h.1, sym h.2.id ∙ p.2, sym h.2.issued ∙ p.3, ap (λ (q : Port). q.0) (sym h.2.port) ∙ p.4);
+    book = subst (λ (book : List Held). IsBook book mid.book) (sym (ap (λ (c : ServerState). c.book) takes.server)) its_retaken.book;
     kept = none_are_kept taken.ports taken.kept mid.kept its_retaken.kept takes.unkept;
     unkept = λ port high. takes.unkept port;
-    rows = its_retaken.rows ∙ sym (ap (λ (c : Server). c.grants) takes.server);
+    rows = its_retaken.rows ∙ sym (ap (λ (c : ServerState). c.grants) takes.server);
     owner = λ frame. its_retaken.owner frame ∙ ap (λ (owners : List (Option ClientId)). get_or owners frame.0 None) (sym takes.back.owners);
     lent = its_retaken.lent;
-    next = its_retaken.next ∙ ap (λ (k : ℕ). k + 1) (sym (ap (λ (c : Server). c.last) takes.server));
+    next = its_retaken.next ∙ ap (λ (k : ℕ). k + 1) (sym (ap (λ (c : ServerState). c.last) takes.server));
     ordered = may.ordered;
     accepted = may.accepted;
-    marked = subst (λ (c : Server). All (HasTrueMark c.grants) c.book) (sym takes.server) booked.marked;
+    marked = subst (λ (c : ServerState). All (HasTrueMark c.grants) c.book) (sym takes.server) booked.marked;
     alive = λ e here lt. absurd (omega (arith, lt));
   }
 
   many : length taken.ports ≡ 4
-  many = ap (λ (ports : List Found). length ports) ports_are ∙ takes.four
+  many = ap (λ (ports : List ProbeResult). length ports) ports_are ∙ takes.four
 
   pub its_fated : AreFated 0 taken.ports replies taken settled mid
   its_fated = fate_all laws.below taken.ports 0 (let few = many in omega (arith, few)) replies taken settled settles mid mid_reached begin
@@ -96,21 +96,21 @@ module _ (laws : ResetLaws) (s taken settled : Server) (booked : KeepsBooks s) (
   -- ---- the machine
 
   pub ports_then : settled.ports ≡ takes.host.ports
-  ports_then = ap (λ (c : Server). c.ports) its_fated.settings ∙ ports_are
+  ports_then = ap (λ (c : ServerState). c.ports) its_fated.settings ∙ ports_are
 
   pub unused_then : (port slot : ℕ) → used_for settled.slots port slot ≡ None
-  unused_then port slot = ap (λ (c : Server). used_for c.slots port slot) its_fated.settings ∙ takes.unused port slot
+  unused_then port slot = ap (λ (c : ServerState). used_for c.slots port slot) its_fated.settings ∙ takes.unused port slot
 
   -- who is left was unanswered before
   pub was_in : (e : Held) → Contains settled.book e → WasIn s.book e
-  was_in e here = subst (λ (book : List Held). WasIn book e) (ap (λ (c : Server). c.book) takes.server) (its_fated.from e here)
+  was_in e here = subst (λ (book : List Held). WasIn book e) (ap (λ (c : ServerState). c.book) takes.server) (its_fated.from e here)
 
   pub low : (e : Held) → Contains settled.book e → e.entry.port.0 < 4
   low e here =
       let w = was_in e here in
-      subst (λ (p : Port). p.0 < 4) (sym w.port) (booked.few w.was.entry.port.0 (All-contains (λ (x : Held). is_served (found_of s.ports x.entry.port.0) ≡ true) s.book w.was booked.asked w.there))
+      subst (λ (p : Port). p.0 < 4) (sym w.port) (booked.few w.was.entry.port.0 (All-contains (λ (x : Held). is_served (probe_result_of s.ports x.entry.port.0) ≡ true) s.book w.was booked.asked w.there))
 
-  unparked : (port : ℕ) → found_of settled.ports port ≢ Unready Dead → all_fated.parked port ≡ []
+  unparked : (port : ℕ) → probe_result_of settled.ports port ≢ Unready Dead → all_fated.parked port ≡ []
   unparked port lives = ⊎_elim
       (λ (below : port < 4). all_fated.unparked port below lives)
       (λ (high : 4 ≤ port). nobody (all_fated.parked port) (λ id here.
@@ -134,16 +134,16 @@ module _ (laws : ResetLaws) (s taken settled : Server) (booked : KeepsBooks s) (
     next = all_fated.next;
   }
 
-  pub z_reached : IsReached z
+  pub z_reached : IsReachable z
   z_reached = laws.below.basic.reached mid its_fated.steps mid_reached its_fated.may
 
   -- ---- what it keeps
 
   pub wanted_then : settled.wanted ≡ s.wanted
-  wanted_then = ap (λ (c : Server). c.wanted) its_fated.settings ∙ ap (λ (c : Server). c.wanted) takes.server
+  wanted_then = ap (λ (c : ServerState). c.wanted) its_fated.settings ∙ ap (λ (c : ServerState). c.wanted) takes.server
 
   pub device_then : settled.device ≡ taken.device
-  device_then = ap (λ (c : Server). c.device) its_fated.settings
+  device_then = ap (λ (c : ServerState). c.device) its_fated.settings
 
   over : TakesOver settled.wanted takes.host takes.idle settled.device
   over = subst (λ (d : Device). TakesOver settled.wanted takes.host takes.idle d) (sym device_then) (subst (λ (wanted : List Wanted). TakesOver wanted takes.host takes.idle taken.device) (sym wanted_then) takes.takes)
@@ -154,27 +154,27 @@ module _ (laws : ResetLaws) (s taken settled : Server) (booked : KeepsBooks s) (
   pub its_disk : (e : Held) → Contains settled.book e → HasItsDisk settled.remembered settled.ports e.entry.port.0
   its_disk e here = all_fated.alive e here (low e here)
 
-  pub keeps_all : IsKept settled
+  pub keeps_all : InCallInvariant settled
   keeps_all = record {
     on = over.on;
     room = let room = booked.room in let size = size_then in omega (arith, room, size);
     there = λ port served.
         let below = four laws.taken settled takes.host takes.idle takes.resets.idle over ports_then takes.four port served in
-        (below, served_there (wanted_of settled.wanted port) (found_of settled.ports port) port settled.device (behind laws.taken settled takes.host takes.idle takes.resets.idle over ports_then takes.four port below) served);
+        (below, served_there (wanted_of settled.wanted port) (probe_result_of settled.ports port) port settled.device (behind laws.taken settled takes.host takes.idle takes.resets.idle over ports_then takes.four port below) served);
     behind = ports_on laws.taken settled takes.host takes.idle takes.resets.idle over ports_then takes.four;
-    four = ap (λ (c : Server). length c.slots) its_fated.settings ∙ takes.four_slots;
-    four_modes = ap (λ (c : Server). length c.modes) its_fated.settings ∙ takes.four_modes;
-    four_remembered = ap (λ (c : Server). length c.remembered) its_fated.settings ∙ takes.four_remembered;
+    four = ap (λ (c : ServerState). length c.slots) its_fated.settings ∙ takes.four_slots;
+    four_modes = ap (λ (c : ServerState). length c.modes) its_fated.settings ∙ takes.four_modes;
+    four_remembered = ap (λ (c : ServerState). length c.remembered) its_fated.settings ∙ takes.four_remembered;
     four_kept = all_fated.four_kept;
     few_kept = λ port. let p = (all_settle_on laws.below taken.ports 0 (let few = many in omega (arith, few)) replies taken settled settles (may_settle laws s taken booked takes)).places (port_at port) in omega (arith, p);
-    modes = λ port below. subst (λ (c : Server). mode_at c.modes port ≡ mode_found c.device.cap (found_of c.ports port)) (sym its_fated.settings)
-        (takes.modes port below ∙ ap (λ (ports : List Found). mode_found taken.device.cap (found_of ports port)) (sym ports_are));
-    slots = λ port below. subst (λ (c : Server). HasSlots c.ports c.modes c.slots port) (sym its_fated.settings)
+    modes = λ port below. subst (λ (c : ServerState). mode_at c.modes port ≡ mode_found c.device.cap (probe_result_of c.ports port)) (sym its_fated.settings)
+        (takes.modes port below ∙ ap (λ (ports : List ProbeResult). mode_found taken.device.cap (probe_result_of ports port)) (sym ports_are));
+    slots = λ port below. subst (λ (c : ServerState). HasSlots c.ports c.modes c.slots port) (sym its_fated.settings)
         (record { places = takes.places port below; usable = takes.usable port below; unused = λ slot high. takes.unused port slot });
     kinds = λ port slot used e its. absurd (let y : None ≡ Some used = sym (unused_then port.0 slot) ∙ its in cc);
     commands = λ port slot used its. absurd (let y : None ≡ Some used = sym (unused_then port slot) ∙ its in cc);
     alone = λ port slot used its. absurd (let y : None ≡ Some used = sym (unused_then port slot) ∙ its in cc);
-    rows = subst (All IsRow) (sym (ap (λ (c : Server). c.grants) its_fated.settings ∙ ap (λ (c : Server). c.grants) takes.server)) booked.rows;
+    rows = subst (All IsRow) (sym (ap (λ (c : ServerState). c.grants) its_fated.settings ∙ ap (λ (c : ServerState). c.grants) takes.server)) booked.rows;
     owners = λ frame client own.
         let o = booked.owners frame client (ap (λ (list : List (Option ClientId)). get_or list frame.0 None) (sym (its_fated.owners ∙ takes.back.owners)) ∙ own) in
         (o.0, subst (λ (n : ℕ). 4096 * frame.0 + 4096 ≤ n) (sym size_then) o.1);
@@ -186,9 +186,9 @@ module _ (laws : ResetLaws) (s taken settled : Server) (booked : KeepsBooks s) (
         let w = was_in e here in
         let most = All-contains (λ (x : Held). x.entry.id.0 ≤ s.last) s.book w.was booked.handed_out w.there in
         let id = ap (λ (i : RequestId). i.0) w.id in
-        let last = ap (λ (c : Server). c.last) its_fated.settings ∙ ap (λ (c : Server). c.last) takes.server in omega (arith, most, id, last))
+        let last = ap (λ (c : ServerState). c.last) its_fated.settings ∙ ap (λ (c : ServerState). c.last) takes.server in omega (arith, most, id, last))
         settled.book (All-contains_itself settled.book);
-    ready = All-weaker (Contains settled.book) (λ (e : Held). state_of (found_of settled.ports e.entry.port.0) ≡ ReadyState)
+    ready = All-weaker (Contains settled.book) (λ (e : Held). state_of (probe_result_of settled.ports e.entry.port.0) ≡ ReadyState)
         (λ e here. ap state_of (its_disk e here).3) settled.book (All-contains_itself settled.book);
     machine = z;
     reached = z_reached;
@@ -197,9 +197,9 @@ module _ (laws : ResetLaws) (s taken settled : Server) (booked : KeepsBooks s) (
 
   -- ---- what is due is issued
 
-  module _ (new : Server) (issues : IssuePorts 0 taken.ports settled new) where
+  module _ (new : ServerState) (issues : IssuePorts 0 taken.ports settled new) where
     pub its_reissued : AreReissued laws.below settled keeps_all z z_reached stands_regained 4 new
-    its_reissued = all_reissued laws.below settled keeps_all z z_reached stands_regained taken.ports (ap (λ (c : Server). c.ports) its_fated.settings) many new issues
+    its_reissued = all_reissued laws.below settled keeps_all z z_reached stands_regained taken.ports (ap (λ (c : ServerState). c.ports) its_fated.settings) many new issues
 
-    pub settled_at_last : IsSettled new
+    pub settled_at_last : SettledInvariant new
     settled_at_last = settled_then laws.below settled keeps_all z z_reached stands_regained new its_reissued

@@ -13,28 +13,28 @@ use Rattle.ata_types.specs.declared.request.Reply.{Reply}
 use Rattle.ata_types.specs.declared.request.RequestId.{RequestId}
 use Rattle.adapter.specs.Device.{Device}
 use Rattle.adapter.specs.declared.access.DeviceStep.{DeviceStep}
-use Rattle.agreement.specs.Driven.{IsDrivenBy}
-use Rattle.agreement.specs.Links.{SparesRegister}
+use Rattle.refinement.specs.Driven.{IsDrivenBy}
+use Rattle.refinement.specs.Links.{SparesRegister}
 use Rattle.block_machine.specs.Due.{NoneDue}
-use Rattle.block_machine.specs.Events.{AnswersRevoke, Moment, RevokeOf, WasRevoked, answers_of, issues_it}
-use Rattle.block_machine.specs.Histories.{Instant, IsReached, now}
+use Rattle.block_machine.specs.Events.{AnswersRevoke, AbstractState, RevokeOf, WasRevoked, answers_of, issues_it}
+use Rattle.block_machine.specs.Histories.{JointState, IsReachable, now}
 use Rattle.block_machine.specs.Left.{IsRow, after}
 use Rattle.block_machine.specs.Ports.{Ports}
 use Rattle.block_machine.specs.Rules.{without_row}
 use Rattle.block_machine.specs.State as machine
 use Rattle.block_machine.specs.State.{Machine}
 use Rattle.block_machine.specs.Steps.{Step, Answer}
-use Rattle.block_machine.specs.declared.due.Mode.{Mode}
+use Rattle.block_machine.specs.declared.due.QueueMode.{QueueMode}
 use Rattle.driver_history.specs.Histories.{IssuesDue, IssuesOn}
 use Rattle.driver_history.specs.Trace.{ClearsNone, LeavesEngine}
 use Rattle.hba_regs.specs.declared.reg.Reg.TheVariants.{Ghc}
-use Rattle.host_boot.specs.Taken.{found_of}
+use Rattle.host_boot.specs.Taken.{probe_result_of}
 use Rattle.request_queue.specs.Entries.{asks_of, due_ids}
 use Rattle.server_history.specs.Below.{LawsBelow}
-use Rattle.server_history.specs.Histories.{Adds, AddsEvent}
+use Rattle.server_history.specs.Histories.{ExtendsSettled, ExtendsHistory}
 use Rattle.server_history.specs.Revoked.{RevokesGrant}
 use Rattle.server_history.specs.Served.{IssuesAll, IssuesEach, IssuesIn}
-use Rattle.server_history.specs.Server.{IsKept, IsMachineOf, IsSettled, Server, mode_in, ports_of, state_of}
+use Rattle.server_history.specs.Server.{InCallInvariant, IsMachineOf, SettledInvariant, ServerState, mode_in, ports_of, state_of}
 use Rattle.server_history.proofs.any_turn.JoinedParts.{ready_or_not}
 use Rattle.server_history.proofs.plain_calls.Acceptances.{issuing_clears_none, issuing_spares_host}
 use Rattle.server_history.proofs.plain_calls.IssueRounds.{AreIssued, any_append, belong_on, dues, dues_carried, each_driven, each_issued, each_settings, last_on, lawful_on, or_none, settled}
@@ -51,17 +51,17 @@ use Rattle.server_history.proofs.state.FirstMembers.{nowhere}
 use Rattle.server_history.proofs.state.HistorySteps.{IsHolding, holding, lead_by, ports_same, with_device}
 use Rattle.server_history.proofs.state.TurnAccesses.{issuing_is, issuing_leaves}
 
-module _ (laws : LawsBelow) (s : Server) (client : ClientId) (number : ℕ) (replies : List Reply) (mid : Server) (r : RevokesEach client number replies s mid) where
+module _ (laws : LawsBelow) (s : ServerState) (client : ClientId) (number : ℕ) (replies : List Reply) (mid : ServerState) (r : RevokesEach client number replies s mid) where
   abbrev port : Port
   port = r.has.0.port
 
   -- the server once those that waited are answered
-  abbrev then_is : Server
+  abbrev then_is : ServerState
   then_is = with_revoked client number mid.table r.now.book s
 
   -- ---- what is said of it
 
-  module _ (new : Server) (new_is : ports_of new ≡ ports_of s) (rows_are : new.grants ≡ then_is.grants) (old : Moment) (ports_are : old.ports ≡ ports_of s) (h : MayRevoke s old.machine) (late : List Step)
+  module _ (new : ServerState) (new_is : ports_of new ≡ ports_of s) (rows_are : new.grants ≡ then_is.grants) (old : AbstractState) (ports_are : old.ports ≡ ports_of s) (h : MayRevoke s old.machine) (late : List Step)
       (none : (e : machine.Pending) (o : Outcome) → Contains late (Answer e o) → ⊥) (unanswered : answers_of (late ++ revoked.steps laws s client number replies mid r old.machine h) ≡ answers_of (revoked.steps laws s client number replies mid r old.machine h))
       (stands : IsMachineOf new (after old.machine (late ++ revoked.steps laws s client number replies mid r old.machine h)))
       (issued : (q : Port) → (ports_of new).state q ≡ ReadyState → NoneDue (mode_in new q) (asks_of new.book) q) where
@@ -85,9 +85,9 @@ module _ (laws : LawsBelow) (s : Server) (client : ClientId) (number : ℕ) (rep
 
   -- ---- where the port isn't ready, nothing is issued, and there is no access
 
-  module _ (holds : IsHolding then_is) (goes : GoesTo s s.device) (unready : state_of (found_of s.ports port.0) ≢ ReadyState)
-      (issued : (q : Port) → (ports_of s).state q ≡ ReadyState → NoneDue (mode_in s q) (asks_of r.now.book) q) (may : (m : Machine) → IsReached m → IsMachineOf s m → MayRevoke s m) where
-    pub quiet_event : AddsEvent s then_is (RevokeOf client number) (WasRevoked (Some replies))
+  module _ (holds : IsHolding then_is) (goes : GoesTo s s.device) (unready : state_of (probe_result_of s.ports port.0) ≢ ReadyState)
+      (issued : (q : Port) → (ports_of s).state q ≡ ReadyState → NoneDue (mode_in s q) (asks_of r.now.book) q) (may : (m : Machine) → IsReachable m → IsMachineOf s m → MayRevoke s m) where
+    pub quiet_event : ExtendsHistory s then_is (RevokeOf client number) (WasRevoked (Some replies))
     quiet_event first past leads =
         lead_by laws first past s then_is (RevokeOf client number) (WasRevoked (Some replies)) steps refl refl leads holds
         (revoked.may laws s client number replies mid r m h)
@@ -100,11 +100,11 @@ module _ (laws : LawsBelow) (s : Server) (client : ClientId) (number : ℕ) (rep
         (refl, (revoked.has_row laws s client number replies mid r m h, All-nil (IssuesOn port), λ other. refl))
         (λ q. All-nil (LeavesEngine q))
         (λ q ready. none_issued then_is (after m steps) stands steps (revoked.issue_none laws s client number replies mid r m h) (mode_in s q) q (issued q ready))
-        (λ q. record { finds = tt; faults = tt; tries = tt; boots = tt; trouble = goes.trouble old.moment leads.stands.ports_are q; well = λ i. absurd (uninterrupted s.device old.moment.ports q i); heeds = uninterrupted s.device old.moment.ports q })
+        (λ q. record { finds = tt; faults = tt; probes = tt; boots = tt; port_error = goes.port_error old.moment leads.stands.ports_are q; well = λ i. absurd (uninterrupted s.device old.moment.ports q i); heeds = uninterrupted s.device old.moment.ports q })
         (revoked.backed laws s client number replies mid r m h)
         stands
       where
-        old : Instant Device
+        old : JointState Device
         old = now first past
 
         m : Machine
@@ -121,14 +121,14 @@ module _ (laws : LawsBelow) (s : Server) (client : ClientId) (number : ℕ) (rep
 
   -- ---- where it is ready
 
-  module _ (t : IsSettled s) where
-    abbrev k : IsKept s
+  module _ (t : SettledInvariant s) where
+    abbrev k : InCallInvariant s
     k = t.kept
 
-    may : (m : Machine) → IsReached m → IsMachineOf s m → MayRevoke s m
+    may : (m : Machine) → IsReachable m → IsMachineOf s m → MayRevoke s m
     may m was is = record { ordered = k.ordered; accepted = k.accepted; marked = k.marked; reached = was; stands = is }
 
-    kept : IsKept then_is
+    kept : InCallInvariant then_is
     kept = revoked_kept laws s client number replies mid r k
 
     apart : (q : Port) → q ≢ port → NoneDue (mode_in s q) (asks_of r.now.book) q
@@ -137,8 +137,8 @@ module _ (laws : LawsBelow) (s : Server) (client : ClientId) (number : ℕ) (rep
     port_low : port.0 < 4
     port_low = let low = (All-contains IsRow s.grants r.has.0 k.rows r.has.1).port in omega (arith, low)
 
-    module _ (new : Server) (issues : IssuesAll port then_is new) where
-      settles : IsSettled new
+    module _ (new : ServerState) (issues : IssuesAll port then_is new) where
+      settles : SettledInvariant new
       settles = settled laws port then_is new kept apart issues
 
       abbrev ids : List RequestId
@@ -148,28 +148,28 @@ module _ (laws : LawsBelow) (s : Server) (client : ClientId) (number : ℕ) (rep
       same = each_settings laws port ids then_is new issues
 
       -- nothing is due where it isn't ready
-      unissued : state_of (found_of s.ports port.0) ≢ ReadyState → new ≡ then_is
+      unissued : state_of (probe_result_of s.ports port.0) ≢ ReadyState → new ≡ then_is
       unissued other =
           subst (λ (list : List RequestId). IssuesEach port list then_is new)
           (unready_undue laws then_is kept port (λ info found. other (ap state_of found))) issues
 
-      quiet : state_of (found_of s.ports port.0) ≢ ReadyState → AddsEvent s new (RevokeOf client number) (WasRevoked (Some replies))
+      quiet : state_of (probe_result_of s.ports port.0) ≢ ReadyState → ExtendsHistory s new (RevokeOf client number) (WasRevoked (Some replies))
       quiet other =
-          subst (λ (n : Server). AddsEvent s n (RevokeOf client number) (WasRevoked (Some replies))) (sym (unissued other))
-          (quiet_event (holding then_is kept) (stays laws s k) other (λ q ready. (subst IsSettled (unissued other) settles).issued q) may)
+          subst (λ (n : ServerState). ExtendsHistory s n (RevokeOf client number) (WasRevoked (Some replies))) (sym (unissued other))
+          (quiet_event (holding then_is kept) (stays laws s k) other (λ q ready. (subst SettledInvariant (unissued other) settles).issued q) may)
 
-      module _ (ready : state_of (found_of s.ports port.0) ≡ ReadyState) where
+      module _ (ready : state_of (probe_result_of s.ports port.0) ≡ ReadyState) where
         driven : IsDrivenBy (IssuesIn port) s.device new.device
         driven = each_driven laws port ids then_is new issues
 
-        event : AddsEvent s new (RevokeOf client number) (WasRevoked (Some replies))
+        event : ExtendsHistory s new (RevokeOf client number) (WasRevoked (Some replies))
         event first past leads =
-            lead_by laws first past s new (RevokeOf client number) (WasRevoked (Some replies)) (x.steps ++ early) (ap (λ (n : Server). n.wanted) same) (ap ports_of same) leads (holding new settles.kept)
+            lead_by laws first past s new (RevokeOf client number) (WasRevoked (Some replies)) (x.steps ++ early) (ap (λ (n : ServerState). n.wanted) same) (ap ports_of same) leads (holding new settles.kept)
             (laws.basic.may m x.steps early (revoked.may laws s client number replies mid r m h) x.may)
             (belong_on mode port {D = DeviceStep} (RevokeOf client number) (ports_of new) (λ p own. (its_ready p own, its_mode p own)) x.steps early x.only (revoked.belong laws s client number replies mid r m h (ports_of new)))
             (last_on mode port x.steps early x.only x.last (revoked.last laws s client number replies mid r m h) (λ id late first_too. false≢true (sym (revoked.issue_none laws s client number replies mid r m h id) ∙ first_too)))
             (lawful_on mode port old.moment no_evidence (ports_of new) x.steps early x.only (revoked.lawful laws s client number replies mid r m h old.moment no_evidence (ports_of new)))
-            (answers new (ap ports_of same) (ap (λ (n : Server). n.grants) same) old.moment leads.stands.ports_are h x.steps (no_answer_issuing mode port x.steps x.only) (issuing_answers mode port x.steps early x.only) stands (λ q on. settles.issued q))
+            (answers new (ap ports_of same) (ap (λ (n : ServerState). n.grants) same) old.moment leads.stands.ports_are h x.steps (no_answer_issuing mode port x.steps x.only) (issuing_answers mode port x.steps early x.only) stands (λ q on. settles.issued q))
             tt
             driven.accesses
             (driven.all, (revoked.has_row laws s client number replies mid r m h, All-weaker (IssuesIn port) (IssuesOn port) (λ access here. issuing_is port port_low access here) driven.accesses driven.only, λ other. absurd (other its_state)))
@@ -178,9 +178,9 @@ module _ (laws : LawsBelow) (s : Server) (client : ClientId) (number : ℕ) (rep
             (λ q. record {
               finds = tt;
               faults = tt;
-              tries = tt;
+              probes = tt;
               boots = tt;
-              trouble = laws.calls.ordinary q (with_device s.device old) new.device driven.accesses (told_by s.device old.moment.ports) (ports_of new) k.on driven.all
+              port_error = laws.calls.ordinary q (with_device s.device old) new.device driven.accesses (told_by s.device old.moment.ports) (ports_of new) k.on driven.all
                   (All-weaker (IssuesIn port) (SparesRegister Ghc) (issuing_spares_host port) driven.accesses driven.only) (All-weaker (IssuesIn port) (ClearsNone q) (issuing_clears_none port q) driven.accesses driven.only);
               well = λ i. absurd (uninterrupted s.device old.moment.ports q i);
               heeds = uninterrupted s.device old.moment.ports q;
@@ -188,7 +188,7 @@ module _ (laws : LawsBelow) (s : Server) (client : ClientId) (number : ℕ) (rep
             (laws.backed_parts s.device s.device new.device m early x.steps (revoked.backed laws s client number replies mid r m h) x.backed)
             stands
           where
-            old : Instant Device
+            old : JointState Device
             old = now first past
 
             m : Machine
@@ -206,39 +206,39 @@ module _ (laws : LawsBelow) (s : Server) (client : ClientId) (number : ℕ) (rep
             stands : IsMachineOf new (after m (x.steps ++ early))
             stands = subst (IsMachineOf new) (sym (laws.basic.joined m x.steps early)) x.stands
 
-            mode : Mode
+            mode : QueueMode
             mode = mode_in s port
 
             its_state : old.moment.ports.state port ≡ ReadyState
             its_state = ap (λ (ports : Ports). ports.state port) leads.stands.ports_are ∙ ready
 
             its_mode : (p : machine.Pending) → p.request.port ≡ port → (ports_of new).mode p.request.port ≡ mode
-            its_mode p own = ap (mode_in new) own ∙ ap (λ (n : Server). mode_in n port) same
+            its_mode p own = ap (mode_in new) own ∙ ap (λ (n : ServerState). mode_in n port) same
 
             its_ready : (p : machine.Pending) → p.request.port ≡ port → (ports_of new).state p.request.port ≡ ReadyState
-            its_ready p own = ap (λ (q : Port). state_of (found_of new.ports q.0)) own ∙ ap (λ (n : Server). state_of (found_of n.ports port.0)) same ∙ ready
+            its_ready p own = ap (λ (q : Port). state_of (probe_result_of new.ports q.0)) own ∙ ap (λ (n : ServerState). state_of (probe_result_of n.ports port.0)) same ∙ ready
 
             mode_is : (q : Port) → mode_in new q ≡ mode_in s q
-            mode_is q = ap (λ (n : Server). mode_in n q) same
+            mode_is q = ap (λ (n : ServerState). mode_in n q) same
 
             due_now : (q : Port) → IssuesDue (mode_in new q) (x.steps ++ early) (after m (x.steps ++ early)) q
             due_now q =
-                subst (λ (takes : Mode). IssuesDue takes (x.steps ++ early) (after m (x.steps ++ early)) q) (sym (mode_is q))
+                subst (λ (takes : QueueMode). IssuesDue takes (x.steps ++ early) (after m (x.steps ++ early)) q) (sym (mode_is q))
                 (subst (λ (n : Machine). IssuesDue (mode_in s q) (x.steps ++ early) n q) (sym (laws.basic.joined m x.steps early))
                 (dues_carried laws (mode_in s q) x.steps (x.steps ++ early) (after (after m early) x.steps) (after (after m early) x.steps) q refl
                 (λ u here own. sym (any_append (issues_it u.id) x.steps early ∙ ap (λ (b : Bool). list_any (issues_it u.id) x.steps || b) (revoked.issue_none laws s client number replies mid r m h u.id) ∙ or_none (list_any (issues_it u.id) x.steps)))
                 (dues laws port then_is new kept issues (after m early) x q (apart q))))
 
-      pub adds : AddsEvent s new (RevokeOf client number) (WasRevoked (Some replies))
-      adds = ⊎_elim event quiet (ready_or_not (state_of (found_of s.ports port.0)))
+      pub adds : ExtendsHistory s new (RevokeOf client number) (WasRevoked (Some replies))
+      adds = ⊎_elim event quiet (ready_or_not (state_of (probe_result_of s.ports port.0)))
 
-revocation_by : (laws : LawsBelow) (s mid new : Server) (client : ClientId) (number : ℕ) (replies : List Reply) → IsSettled s → (each : RevokesEach client number replies s mid) → IssuesAll each.has.0.port mid new
-    → Adds s new (RevokeOf client number) (WasRevoked (Some replies))
+revocation_by : (laws : LawsBelow) (s mid new : ServerState) (client : ClientId) (number : ℕ) (replies : List Reply) → SettledInvariant s → (each : RevokesEach client number replies s mid) → IssuesAll each.has.0.port mid new
+    → ExtendsSettled s new (RevokeOf client number) (WasRevoked (Some replies))
 revocation_by laws s mid new client number replies t each i = record { settled = settles laws s client number replies mid each t new issues; adds = adds laws s client number replies mid each t new issues }
   where
     issues : IssuesAll each.has.0.port (with_revoked client number mid.table each.now.book s) new
-    issues = subst (λ (n : Server). IssuesAll each.has.0.port n new) each.server i
+    issues = subst (λ (n : ServerState). IssuesAll each.has.0.port n new) each.server i
 
-pub revocation : LawsBelow → (s mid new : Server) (client : ClientId) (number : ℕ) (replies : List Reply) → IsSettled s → (r : RevokesGrant client number replies s mid) → IssuesAll r.has.0.port mid new
-    → Adds s new (RevokeOf client number) (WasRevoked (Some replies))
+pub revocation : LawsBelow → (s mid new : ServerState) (client : ClientId) (number : ℕ) (replies : List Reply) → SettledInvariant s → (r : RevokesGrant client number replies s mid) → IssuesAll r.has.0.port mid new
+    → ExtendsSettled s new (RevokeOf client number) (WasRevoked (Some replies))
 revocation laws s mid new client number replies t r i = revocation_by laws s mid new client number replies t (revokes_each laws s mid client number replies t.kept.ordered t.kept.accepted r) i

@@ -6,11 +6,11 @@ use Rattle.std.proofs.lemmas.List.Elements.{All-contains}
 use Rattle.std.proofs.lemmas.List.Kept.{AllPairs-filter}
 use Rattle.ata_types.specs.declared.request.ClientId.{ClientId}
 use Rattle.ata_types.specs.declared.request.Outcome.TheVariants.{Aborted, Revoked}
-use Rattle.request_queue.specs.Entries.{Held, IsEarlier, IsInOrder, marked_under, waits_under}
-use Rattle.request_queue.specs.declared.Entry.{Entry}
+use Rattle.request_queue.specs.Entries.{Held, IsEarlier, BookIsInOrder, marked_under, waits_under}
+use Rattle.request_queue.specs.declared.PendingRequest.{PendingRequest}
 use Rattle.server_history.specs.Revoked.{without_grant}
-use Rattle.server_history.specs.Server.{HasTrueMark, Server, TellsGrant}
-use Rattle.server_history.proofs.fates.FittingFates.{AllFit, ends_fits}
+use Rattle.server_history.specs.Server.{HasTrueMark, ServerState, TellsGrant}
+use Rattle.server_history.proofs.dispositions.FittingFates.{AllFit, ends_fits}
 use Rattle.server_history.proofs.plain_calls.IssueRounds.{not_true}
 use Rattle.server_history.proofs.revoke_call.RevokedEach.{ends_revoked, waiting_under}
 use Rattle.server_history.proofs.state.ListMembers.{filter_in, in_filter, map_in}
@@ -40,27 +40,27 @@ module _ (client : ClientId) (number : ℕ) where
 
   -- who is under it is marked
   marked_is : (e : Held) → is_under client number e.entry.client e.entry.grant ≡ true → (mark e).entry.revoked ≡ true
-  marked_is e is = ap (λ (x : Entry). x.revoked) (cond-true (is_under client number e.entry.client e.entry.grant) (record (e.entry) { revoked = true }) e.entry is)
+  marked_is e is = ap (λ (x : PendingRequest). x.revoked) (cond-true (is_under client number e.entry.client e.entry.grant) (record (e.entry) { revoked = true }) e.entry is)
 
   -- what a waiting request of the grant is
-  pub record WaitsUnder (e : Entry) : Type 0 where
+  pub record WaitsUnder (e : PendingRequest) : Type 0 where
     pub waits : e.issued ≡ false
     pub client_is : e.client ≡ client
     pub grant_is : e.grant ≡ number
 
-  pub waits_as : (e : Entry) → waits_under client number e ≡ true → WaitsUnder e
+  pub waits_as : (e : PendingRequest) → waits_under client number e ≡ true → WaitsUnder e
   waits_as e is =
       let a = and_parts (not e.issued) (is_under client number e.client e.grant) is in
       let b = and_parts (e.client.0 == client.0) (e.grant == number) a.1 in
       record { waits = not_true e.issued a.0; client_is = ap (λ (n : ℕ). record { 0 = n }) (eqb-true e.client.0 client.0 b.0); grant_is = eqb-true e.grant number b.1 }
 
-  pub as_waits : (e : Entry) → e.issued ≡ false → e.client ≡ client → e.grant ≡ number → waits_under client number e ≡ true
+  pub as_waits : (e : PendingRequest) → e.issued ≡ false → e.client ≡ client → e.grant ≡ number → waits_under client number e ≡ true
   as_waits e waits its_client its_grant =
       and_from (not e.issued) (is_under client number e.client e.grant) (ap not waits)
       (and_from (e.client.0 == client.0) (e.grant == number) (eq-eqb e.client.0 client.0 (ap (λ (c : ClientId). c.0) its_client)) (eq-eqb e.grant number its_grant))
 
-  module _ (s : Server) where
-    abbrev pub old : Server
+  module _ (s : ServerState) where
+    abbrev pub old : ServerState
     old = without_grant client number s
 
     -- the requests that are told Revoked
@@ -97,7 +97,7 @@ module _ (client : ClientId) (number : ℕ) where
     pub fit : AllFit ends_revoked requests
     fit e there = ends_fits e.entry Revoked (λ is. let z : Revoked ≡ Aborted = is in absurd cc) (λ is. is_marked e there)
 
-    pub earlier : IsInOrder old.book → AllPairs IsEarlier requests
+    pub earlier : BookIsInOrder old.book → AllPairs IsEarlier requests
     earlier ordered = AllPairs-filter IsEarlier (λ (x : Held). waits_under client number x.entry) old.book ordered.ordered
 
     module _ (marked : All (HasTrueMark s.grants) s.book) where

@@ -6,37 +6,37 @@ use Rattle.ata_types.specs.declared.request.Outcome.TheVariants.{Revoked}
 use Rattle.ata_types.specs.declared.request.Reply.{Reply}
 use Rattle.block_machine.specs.Rules.{HasRow}
 use Rattle.dma_frames.specs.Table.{LendsOnly, Table}
-use Rattle.request_queue.specs.Entries.{Held, IsAccepted, IsInOrder, waits_under}
-use Rattle.request_queue.specs.Fates.{Holdings, MeetFates}
-use Rattle.request_queue.specs.declared.Entry.{Entry}
-use Rattle.request_queue.specs.declared.fate.Fate.{Fate}
-use Rattle.request_queue.specs.declared.fate.Fate.TheVariants.{Ends}
+use Rattle.request_queue.specs.Entries.{Held, IsAccepted, BookIsInOrder, waits_under}
+use Rattle.request_queue.specs.Dispositions.{Holdings, AreResolved}
+use Rattle.request_queue.specs.declared.PendingRequest.{PendingRequest}
+use Rattle.request_queue.specs.declared.disposition.Disposition.{Disposition}
+use Rattle.request_queue.specs.declared.disposition.Disposition.TheVariants.{Complete}
 use Rattle.server_history.specs.Below.{LawsBelow}
-use Rattle.server_history.specs.Mended.{holdings_of}
+use Rattle.server_history.specs.ErrorHandling.{holdings_of}
 use Rattle.server_history.specs.Revoked.{RevokesGrant, without_grant}
-use Rattle.server_history.specs.Server.{Server}
+use Rattle.server_history.specs.Server.{ServerState}
 
 -- each is told Revoked
-abbrev pub ends_revoked : Entry → Fate
-ends_revoked e = Ends Revoked
+abbrev pub ends_revoked : PendingRequest → Disposition
+ends_revoked e = Complete Revoked
 
 -- the requests that wait, and were accepted under this grant of the client
 abbrev pub waiting_under : ClientId → ℕ → List Held → List Held
 waiting_under client number book = filter (λ (e : Held). waits_under client number e.entry) book
 
 -- the server without the grant, with this book and these loans
-abbrev pub with_revoked : ClientId → ℕ → Table → List Held → Server → Server
+abbrev pub with_revoked : ClientId → ℕ → Table → List Held → ServerState → ServerState
 with_revoked client number table book s = record (without_grant client number s) { table = table; book = book }
 
 -- They met that fate one after another, and the table that this led to has the same lent as the server's.
-pub record RevokesEach (client : ClientId) (number : ℕ) (replies : List Reply) (s new : Server) : Type 0 where
+pub record RevokesEach (client : ClientId) (number : ℕ) (replies : List Reply) (s new : ServerState) : Type 0 where
   pub has : HasRow client number s.grants
   pub now : Holdings
-  pub meets : MeetFates ends_revoked (waiting_under client number (without_grant client number s).book) replies (holdings_of has.0.port (without_grant client number s)) now
+  pub meets : AreResolved ends_revoked (waiting_under client number (without_grant client number s).book) replies (holdings_of has.0.port (without_grant client number s)) now
   pub lends : LendsOnly now.table new.table [] None
   pub server : new ≡ with_revoked client number new.table now.book s
 
-abbrev pub revokes_each : LawsBelow → (s new : Server) (client : ClientId) (number : ℕ) (replies : List Reply) → IsInOrder s.book → All (IsAccepted s.table) s.book → RevokesGrant client number replies s new → RevokesEach client number replies s new
+abbrev pub revokes_each : LawsBelow → (s new : ServerState) (client : ClientId) (number : ℕ) (replies : List Reply) → BookIsInOrder s.book → All (IsAccepted s.table) s.book → RevokesGrant client number replies s new → RevokesEach client number replies s new
 revokes_each laws s new client number replies ordered accepted r =
     let old = without_grant client number s in
     let each = laws.answered_each (waits_under client number) Revoked (λ e. refl) (holdings_of r.has.0.port old) (laws.marked s.book client number ordered) (laws.still_marked s.table s.book client number accepted) replies (holdings_of r.has.0.port new) r.answers in

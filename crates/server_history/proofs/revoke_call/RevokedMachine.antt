@@ -14,28 +14,28 @@ use Rattle.ata_types.specs.declared.request.Outcome.TheVariants.{Revoked}
 use Rattle.ata_types.specs.declared.request.Reply.{Reply}
 use Rattle.ata_types.specs.declared.request.RequestId.{RequestId}
 use Rattle.adapter.specs.declared.access.DeviceStep.{DeviceStep}
-use Rattle.agreement.specs.Driven.{known}
-use Rattle.agreement.specs.Driver.{HasNoSlot, IsBacked, Known}
-use Rattle.block_machine.specs.Events.{AllLawful, AllMay, Belong, IsLawful, IssuesLast, Moment, RevokeOf, Tells, answers_of, issues_it}
-use Rattle.block_machine.specs.Histories.{IsReached}
+use Rattle.refinement.specs.Driven.{known}
+use Rattle.refinement.specs.Driver.{HasNoSlot, IsBacked, DriverState}
+use Rattle.block_machine.specs.Events.{AllLawful, AllMay, Belong, IsLawful, IssuesLast, AbstractState, RevokeOf, Tells, answers_of, issues_it}
+use Rattle.block_machine.specs.Histories.{IsReachable}
 use Rattle.block_machine.specs.Left.{after}
 use Rattle.block_machine.specs.Ports.{Evidence, Ports}
 use Rattle.block_machine.specs.Rules.{HasRow, IsUnder, without_row}
 use Rattle.block_machine.specs.State.{Machine, Pending}
 use Rattle.block_machine.specs.Steps.{Step, Again, Answer, Revoke, after_step}
-use Rattle.host_boot.specs.Taken.{found_of}
-use Rattle.request_queue.specs.Entries.{Held, IsAccepted, IsInOrder, asks_of}
+use Rattle.host_boot.specs.Taken.{probe_result_of}
+use Rattle.request_queue.specs.Entries.{Held, IsAccepted, BookIsInOrder, asks_of}
 use Rattle.request_queue.specs.Machine.{IsBook, IsEntry}
-use Rattle.request_queue.specs.declared.fate.Fate.TheVariants.{Ends, GoesAgain}
+use Rattle.request_queue.specs.declared.disposition.Disposition.TheVariants.{Complete, Requeue}
 use Rattle.server_history.specs.Below.{LawsBelow}
-use Rattle.server_history.specs.Fates.{DecidesOn, MayMeet, MeetsInMachine}
-use Rattle.server_history.specs.Mended.{holdings_of}
+use Rattle.server_history.specs.Dispositions.{DecidesOn, MayMeet, MeetsInMachine}
+use Rattle.server_history.specs.ErrorHandling.{holdings_of}
 use Rattle.server_history.specs.Revoked.{without_grant}
-use Rattle.server_history.specs.Server.{AreKept, HasTrueMark, IsMachineOf, Server}
+use Rattle.server_history.specs.Server.{AreKept, HasTrueMark, IsMachineOf, ServerState}
 use Rattle.server_history.proofs.any_turn.JoinedParts.{answers_append}
 use Rattle.server_history.proofs.any_turn.TurnsInOrder.{belong_join, lawful_join}
-use Rattle.server_history.proofs.fates.MetFates.{meet, nobody}
-use Rattle.server_history.proofs.fates.RemainingBook.{IsLeft, fated, marked_as}
+use Rattle.server_history.proofs.dispositions.MetFates.{meet, nobody}
+use Rattle.server_history.proofs.dispositions.RemainingBook.{IsLeft, fated, marked_as}
 use Rattle.server_history.proofs.healthy_turn.CallPart.{none_last}
 use Rattle.server_history.proofs.plain_calls.AcceptableRequests.{on_its_port}
 use Rattle.server_history.proofs.plain_calls.IssueRounds.{any_append, or_none}
@@ -56,21 +56,21 @@ abbrev pub IsRevoked : Pending → Outcome → Type 0
 IsRevoked e o = (o ≡ Revoked) × (e.issued ≡ false)
 
 -- What it needs of the server's book, and of a machine: this is so whether or not the adapter is on.
-pub record MayRevoke (s : Server) (m : Machine) : Type 0 where
-  pub ordered : IsInOrder s.book
+pub record MayRevoke (s : ServerState) (m : Machine) : Type 0 where
+  pub ordered : BookIsInOrder s.book
   pub accepted : All (IsAccepted s.table) s.book
   pub marked : All (HasTrueMark s.grants) s.book
-  pub reached : IsReached m
+  pub reached : IsReachable m
   pub stands : IsMachineOf s m
 
-module _ (laws : LawsBelow) (s : Server) (client : ClientId) (number : ℕ) (replies : List Reply) (mid : Server) (r : RevokesEach client number replies s mid) (m : Machine) (may_revoke : MayRevoke s m) where
+module _ (laws : LawsBelow) (s : ServerState) (client : ClientId) (number : ℕ) (replies : List Reply) (mid : ServerState) (r : RevokesEach client number replies s mid) (m : Machine) (may_revoke : MayRevoke s m) where
   abbrev is : IsMachineOf s m
   is = may_revoke.stands
 
-  abbrev reached : IsReached m
+  abbrev reached : IsReachable m
   reached = may_revoke.reached
 
-  abbrev ordered : IsInOrder s.book
+  abbrev ordered : BookIsInOrder s.book
   ordered = may_revoke.ordered
 
   abbrev accepted : All (IsAccepted s.table) s.book
@@ -79,7 +79,7 @@ module _ (laws : LawsBelow) (s : Server) (client : ClientId) (number : ℕ) (rep
   abbrev marked : All (HasTrueMark s.grants) s.book
   marked = may_revoke.marked
 
-  abbrev old : Server
+  abbrev old : ServerState
   old = without_grant client number s
 
   abbrev port : Port
@@ -89,7 +89,7 @@ module _ (laws : LawsBelow) (s : Server) (client : ClientId) (number : ℕ) (rep
   requests = waiting_under client number old.book
 
   -- the server then
-  abbrev new : Server
+  abbrev new : ServerState
   new = with_revoked client number mid.table r.now.book s
 
   -- once the row is gone
@@ -102,7 +102,7 @@ module _ (laws : LawsBelow) (s : Server) (client : ClientId) (number : ℕ) (rep
   abbrev pub has_row : HasRow client number m.rows
   has_row = (r.has.0, row_there, r.has.2)
 
-  n_reached : IsReached n
+  n_reached : IsReachable n
   n_reached = laws.basic.reached m (Revoke client number ∷ []) reached (tt, has_row)
 
   n_rows : n.rows ≡ old.grants
@@ -111,7 +111,7 @@ module _ (laws : LawsBelow) (s : Server) (client : ClientId) (number : ℕ) (rep
   n_book : IsBook old.book n.book
   n_book = laws.revokes s.book m client number is.book
 
-  abbrev k : Known
+  abbrev k : DriverState
   k = known is.uses is.parked s.device
 
   -- those that wait under the grant are on its port
@@ -124,7 +124,7 @@ module _ (laws : LawsBelow) (s : Server) (client : ClientId) (number : ℕ) (rep
   pub here : (e : Held) → Contains requests e → Contains old.book e × (e.entry.port ≡ port)
   here e there = ((of_requests client number s e there).0, its_port e there)
 
-  old_ordered : IsInOrder old.book
+  old_ordered : BookIsInOrder old.book
   old_ordered = laws.marked s.book client number ordered
 
   old_accepted : All (IsAccepted s.table) old.book
@@ -202,7 +202,7 @@ module _ (laws : LawsBelow) (s : Server) (client : ClientId) (number : ℕ) (rep
         (λ (same : q ≡ port.0).
         ap met.parked same
         ∙ nobody (met.parked port.0) (λ id there.
-        nowhere id (subst (λ (ids : List RequestId). Contains ids id) (is.unparked port.0 (λ dead. alive (ap (found_of s.ports) same ∙ dead))) (met.still id there).0)))
+        nowhere id (subst (λ (ids : List RequestId). Contains ids id) (is.unparked port.0 (λ dead. alive (ap (probe_result_of s.ports) same ∙ dead))) (met.still id there).0)))
         (λ (other : q ≢ port.0). met.others q other ∙ is.unparked q alive)
         (cases_eq q port.0);
     knows = met.knows;
@@ -222,10 +222,10 @@ module _ (laws : LawsBelow) (s : Server) (client : ClientId) (number : ℕ) (rep
   its_step : (step : Step) → Contains met.steps step → DecidesOn port step → IsAnswerOf IsRevoked step
   its_step (Answer e o) there own =
       let x = met.answered e o there in
-      let same : Ends Revoked ≡ Ends o = x.3 in
+      let same : Complete Revoked ≡ Complete o = x.3 in
       let is : o ≡ Revoked = cc in
       (is, x.2.issued ∙ (of_requests client number s x.0 x.1).1.waits)
-  its_step (Again e) there own = let x = met.again e there in let same : Ends Revoked ≡ GoesAgain = x.3 in absurd cc
+  its_step (Again e) there own = let x = met.again e there in let same : Complete Revoked ≡ Requeue = x.3 in absurd cc
   its_step step there own = absurd own
 
   all_answers : All (IsAnswerOf IsRevoked) met.steps
@@ -240,7 +240,7 @@ module _ (laws : LawsBelow) (s : Server) (client : ClientId) (number : ℕ) (rep
   pub stands : IsMachineOf new (after m steps)
   stands = subst (IsMachineOf new) (sym joined) stands_z
 
-  pub reached_then : IsReached (after m steps)
+  pub reached_then : IsReachable (after m steps)
   reached_then = laws.basic.reached m steps reached may
 
   -- what is asked of another port is as it was
@@ -263,7 +263,7 @@ module _ (laws : LawsBelow) (s : Server) (client : ClientId) (number : ℕ) (rep
   pub last : IssuesLast steps
   last = none_last steps issue_none
 
-  pub lawful : (then_at : Moment) (evidence : Evidence) (ports : Ports) → AllLawful then_at evidence ports steps
+  pub lawful : (then_at : AbstractState) (evidence : Evidence) (ports : Ports) → AllLawful then_at evidence ports steps
   lawful then_at evidence ports = lawful_join then_at evidence ports met.steps (Revoke client number ∷ [])
       (answers_lawful IsRevoked then_at evidence ports (λ e o told. told_lawful e o told.0 told.1) met.steps all_answers) tt
     where

@@ -12,15 +12,15 @@ use Rattle.ata_types.specs.declared.request.RequestId.{RequestId}
 use Rattle.block_machine.specs.Due.{NoneDue, is_plain}
 use Rattle.block_machine.specs.Left.{IsRow, after}
 use Rattle.block_machine.specs.Rules.{is_under, without_row}
-use Rattle.host_boot.specs.Taken.{found_of}
+use Rattle.host_boot.specs.Taken.{probe_result_of}
 use Rattle.request_queue.specs.Entries.{Held, all_marked_under, asks_of, IsAccepted}
 use Rattle.server_history.specs.Below.{LawsBelow}
-use Rattle.server_history.specs.Mended.{holdings_of}
+use Rattle.server_history.specs.ErrorHandling.{holdings_of}
 use Rattle.server_history.specs.Revoked.{without_grant}
-use Rattle.server_history.specs.Server.{IsKept, Server, is_served, kept_at, mode_in, state_of}
-use Rattle.server_history.specs.Stalled.{IsStalled, KeepsBooks}
+use Rattle.server_history.specs.Server.{InCallInvariant, ServerState, is_served, kept_at, mode_in, state_of}
+use Rattle.server_history.specs.Stalled.{StuckInvariant, BookInvariant}
 use Rattle.server_history.proofs.failed_reset.StalledInstant.{booked_then}
-use Rattle.server_history.proofs.fates.RemainingBook.{IsLeft}
+use Rattle.server_history.proofs.dispositions.RemainingBook.{IsLeft}
 use Rattle.server_history.proofs.revoke_call.RevokedEach.{RevokesEach, ends_revoked, waiting_under, with_revoked}
 use Rattle.server_history.proofs.revoke_call.RevokedMachine as revoked
 use Rattle.server_history.proofs.revoke_call.RevokedMachine.{MayRevoke}
@@ -29,7 +29,7 @@ use Rattle.server_history.proofs.state.LoanCounts.{issued_of, marked_issued}
 use Rattle.dma_frames.specs.Table.{lent_to}
 use Rattle.ata_types.specs.declared.request.Frame.{Frame}
 
-module _ (laws : LawsBelow) (s : Server) (client : ClientId) (number : ℕ) (replies : List Reply) (mid : Server) (r : RevokesEach client number replies s mid) where
+module _ (laws : LawsBelow) (s : ServerState) (client : ClientId) (number : ℕ) (replies : List Reply) (mid : ServerState) (r : RevokesEach client number replies s mid) where
   -- grants are as a configuration may give them still
   rows_then : All IsRow s.grants → All IsRow (without_row client number s.grants)
   rows_then rows = All-filter (λ (row : GrantRow). not (is_under client number row.client row.number)) IsRow s.grants rows
@@ -40,7 +40,7 @@ module _ (laws : LawsBelow) (s : Server) (client : ClientId) (number : ℕ) (rep
 
   -- ---- a server whose adapter is on
 
-  module _ (k : IsKept s) where
+  module _ (k : InCallInvariant s) where
     pub may_revoke : MayRevoke s k.machine
     may_revoke = record { ordered = k.ordered; accepted = k.accepted; marked = k.marked; reached = k.reached; stands = k.stands }
 
@@ -50,7 +50,7 @@ module _ (laws : LawsBelow) (s : Server) (client : ClientId) (number : ℕ) (rep
     before : Left
     before = revoked.before laws s client number replies mid r k.machine may_revoke
 
-    pub revoked_kept : IsKept (with_revoked client number mid.table r.now.book s)
+    pub revoked_kept : InCallInvariant (with_revoked client number mid.table r.now.book s)
     revoked_kept = kept_then s s.device (without_row client number s.grants) mid.table s.slots r.now.book s.last k (rows_then k.rows) k.on (record { telling = refl; size = refl; cap = refl; pi = refl }) k.behind (r.lends.owners ∙ left.owners) k.four k.slots
         (λ q slot used e its here same.
         let b = before e here in
@@ -60,9 +60,9 @@ module _ (laws : LawsBelow) (s : Server) (client : ClientId) (number : ℕ) (rep
         let b = before e here in
         let low = All-contains (λ (x : Held). x.entry.id.0 ≤ s.last) s.book b.0 k.handed_out b.1 in
         let id = ap (λ (i : RequestId). i.0) b.2 in omega (arith, low, id)))
-        (revoked.each_left laws s client number replies mid r k.machine may_revoke (λ e. state_of (found_of s.ports e.entry.port.0) ≡ ReadyState) (λ e here.
+        (revoked.each_left laws s client number replies mid r k.machine may_revoke (λ e. state_of (probe_result_of s.ports e.entry.port.0) ≡ ReadyState) (λ e here.
         let b = before e here in
-        ap (λ (q : Port). state_of (found_of s.ports q.0)) b.3 ∙ All-contains (λ (x : Held). state_of (found_of s.ports x.entry.port.0) ≡ ReadyState) s.book b.0 k.ready b.1))
+        ap (λ (q : Port). state_of (probe_result_of s.ports q.0)) b.3 ∙ All-contains (λ (x : Held). state_of (probe_result_of s.ports x.entry.port.0) ≡ ReadyState) s.book b.0 k.ready b.1))
         (after k.machine (revoked.steps laws s client number replies mid r k.machine may_revoke)) (revoked.reached_then laws s client number replies mid r k.machine may_revoke)
         (revoked.stands laws s client number replies mid r k.machine may_revoke)
       where
@@ -75,14 +75,14 @@ module _ (laws : LawsBelow) (s : Server) (client : ClientId) (number : ℕ) (rep
 
   -- ---- one whose adapter is off
 
-  module _ (t : IsStalled s) where
-    abbrev b : KeepsBooks s
+  module _ (t : StuckInvariant s) where
+    abbrev b : BookInvariant s
     b = t.booked
 
     pub may_revoke_off : MayRevoke s b.machine
     may_revoke_off = record { ordered = b.ordered; accepted = b.accepted; marked = b.marked; reached = b.reached; stands = b.stands }
 
-    pub revoked_stalled : IsStalled (with_revoked client number mid.table r.now.book s)
+    pub revoked_stalled : StuckInvariant (with_revoked client number mid.table r.now.book s)
     revoked_stalled = record {
       booked = booked_then s (without_row client number s.grants) mid.table s.kept r.now.book b (rows_then b.rows) (r.lends.owners ∙ left.owners) b.four_kept
           (λ q.
@@ -95,9 +95,9 @@ module _ (laws : LawsBelow) (s : Server) (client : ClientId) (number : ℕ) (rep
           let x = revoked.before laws s client number replies mid r b.machine may_revoke_off e here in
           let low = All-contains (λ (y : Held). y.entry.id.0 ≤ s.last) s.book x.0 b.handed_out x.1 in
           let id = ap (λ (i : RequestId). i.0) x.2 in omega (arith, low, id)))
-          (revoked.each_left laws s client number replies mid r b.machine may_revoke_off (λ e. is_served (found_of s.ports e.entry.port.0) ≡ true) (λ e here.
+          (revoked.each_left laws s client number replies mid r b.machine may_revoke_off (λ e. is_served (probe_result_of s.ports e.entry.port.0) ≡ true) (λ e here.
           let x = revoked.before laws s client number replies mid r b.machine may_revoke_off e here in
-          ap (λ (q : Port). is_served (found_of s.ports q.0)) x.3 ∙ All-contains (λ (y : Held). is_served (found_of s.ports y.entry.port.0) ≡ true) s.book x.0 b.asked x.1))
+          ap (λ (q : Port). is_served (probe_result_of s.ports q.0)) x.3 ∙ All-contains (λ (y : Held). is_served (probe_result_of s.ports y.entry.port.0) ≡ true) s.book x.0 b.asked x.1))
           (after b.machine (revoked.steps laws s client number replies mid r b.machine may_revoke_off)) (revoked.reached_then laws s client number replies mid r b.machine may_revoke_off)
           (revoked.stands laws s client number replies mid r b.machine may_revoke_off);
       off = t.off;

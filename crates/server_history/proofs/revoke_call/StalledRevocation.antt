@@ -4,19 +4,19 @@ use Rattle.ata_types.specs.declared.request.ClientId.{ClientId}
 use Rattle.ata_types.specs.declared.request.Reply.{Reply}
 use Rattle.block_machine.specs.Events.{RevokeOf, WasRevoked}
 use Rattle.server_history.specs.Below.{LawsBelow}
-use Rattle.server_history.specs.Histories.{AddsStalled}
+use Rattle.server_history.specs.Histories.{ExtendsStuck}
 use Rattle.server_history.specs.Revoked.{RevokesGrant}
-use Rattle.server_history.specs.Server.{Server}
-use Rattle.server_history.specs.Stalled.{IsStalled}
+use Rattle.server_history.specs.Server.{ServerState}
+use Rattle.server_history.specs.Stalled.{StuckInvariant}
 use Rattle.server_history.proofs.failed_reset.StalledCalls.{goes}
 use Rattle.server_history.proofs.failed_reset.StalledInstant.{holds_off, never_ready}
 use Rattle.server_history.proofs.revoke_call.Revocation.{quiet_event}
 use Rattle.server_history.proofs.revoke_call.RevokedEach.{RevokesEach, revokes_each, with_revoked}
 use Rattle.server_history.proofs.revoke_call.RevokedServer.{revoked_stalled}
 
-pub stalled_revocation : LawsBelow → (s new : Server) (client : ClientId) (number : ℕ) (replies : List Reply) → IsStalled s → RevokesGrant client number replies s new
-    → AddsStalled s new (RevokeOf client number) (WasRevoked (Some replies))
-stalled_revocation laws s new client number replies t r = subst (λ (n : Server). AddsStalled s n (RevokeOf client number) (WasRevoked (Some replies))) (sym each.server) (record {
+pub stalled_revocation : LawsBelow → (s new : ServerState) (client : ClientId) (number : ℕ) (replies : List Reply) → StuckInvariant s → RevokesGrant client number replies s new
+    → ExtendsStuck s new (RevokeOf client number) (WasRevoked (Some replies))
+stalled_revocation laws s new client number replies t r = subst (λ (n : ServerState). ExtendsStuck s n (RevokeOf client number) (WasRevoked (Some replies))) (sym each.server) (record {
   stalled = off;
   adds = quiet_event laws s client number replies new each
       (holds_off (with_revoked client number new.table each.now.book s) off.booked off.dead off.off)
@@ -29,5 +29,5 @@ stalled_revocation laws s new client number replies t r = subst (λ (n : Server)
     each : RevokesEach client number replies s new
     each = revokes_each laws s new client number replies t.booked.ordered t.booked.accepted r
 
-    off : IsStalled (with_revoked client number new.table each.now.book s)
+    off : StuckInvariant (with_revoked client number new.table each.now.book s)
     off = revoked_stalled laws s client number replies new each t

@@ -12,50 +12,50 @@ use Rattle.ata_types.specs.declared.request.Frame.{Frame}
 use Rattle.ata_types.specs.declared.request.RequestId.{RequestId}
 use Rattle.adapter.specs.Device.{Device}
 use Rattle.adapter.specs.Idle.{IsIdle, TellsDisks}
-use Rattle.agreement.specs.Agrees.{SameSectors}
-use Rattle.agreement.specs.Returning.{may_return}
-use Rattle.agreement.specs.Driven.{known}
-use Rattle.agreement.specs.Driver.{Knows, idle}
-use Rattle.agreement.specs.Slots.{Free, Uses}
-use Rattle.agreement.specs.Spares.{AllFurther, SparesBook}
-use Rattle.agreement.proofs.relation.IdleAgreement.{idle_knows}
-use Rattle.agreement.proofs.steps.SparedBook.{steps_spare}
-use Rattle.block_machine.specs.Histories.{IsReached}
+use Rattle.refinement.specs.Relation.{SameSectors}
+use Rattle.refinement.specs.Returning.{may_return}
+use Rattle.refinement.specs.Driven.{known}
+use Rattle.refinement.specs.Driver.{DriverRelation, idle}
+use Rattle.refinement.specs.Slots.{Free, SlotStates}
+use Rattle.refinement.specs.Spares.{AllFurther, SparesBook}
+use Rattle.refinement.proofs.relation.IdleAgreement.{idle_knows}
+use Rattle.refinement.proofs.steps.SparedBook.{steps_spare}
+use Rattle.block_machine.specs.Histories.{IsReachable}
 use Rattle.block_machine.specs.Left.{after, IsRow, IsStart}
 use Rattle.block_machine.specs.Ports.{AreFit, IsMode}
-use Rattle.block_machine.specs.State.{Disk, Machine, Pending}
+use Rattle.block_machine.specs.State.{DiskBytes, Machine, Pending}
 use Rattle.block_machine.specs.Rules.{DifferInName}
 use Rattle.block_machine.proofs.HistoryLemmas.{reached_more}
 use Rattle.dma_frames.specs.Loan.{Lending}
 use Rattle.dma_frames.specs.Table.{owner_of}
-use Rattle.host_boot.specs.Taken.{StillStandsBehind, IsLeft, StandsBehind, TakesOver, found_of, wanted_of}
-use Rattle.host_boot.specs.declared.Found.{Found}
-use Rattle.host_boot.specs.declared.Found.TheVariants.{Unserved, Ready, Unready}
+use Rattle.host_boot.specs.Taken.{StillStandsBehind, IsUnusedOrDead, StandsBehind, TakesOver, probe_result_of, wanted_of}
+use Rattle.host_boot.specs.declared.ProbeResult.{ProbeResult}
+use Rattle.host_boot.specs.declared.ProbeResult.TheVariants.{Unserved, Ready, Unready}
 use Rattle.host_boot.specs.declared.Host.{Host}
-use Rattle.identify.specs.Page.{number_of}
+use Rattle.identify.specs.Page.{unfit_number}
 use Rattle.identify.specs.declared.Unfit.{Unfit as Fault}
 use Rattle.identify.specs.declared.Unfit.TheVariants as fault
 use Rattle.identify.specs.Wanted.{serial_of}
 use Rattle.identify.specs.declared.wanted.Wanted.{Wanted}
 use Rattle.port_boot.specs.States.{EndsAs, IsUnfit}
-use Rattle.agreement.specs.Facts.{RunsWell, Undisturbed}
+use Rattle.refinement.specs.Facts.{RunsWell, Undisturbed}
 use Rattle.server_history.proofs.state.PortSlots.{its_mode, ready_found, stood_mode}
 use Rattle.server_history.proofs.state.ServerInstant.{holds_with, slots}
 use Rattle.server_history.specs.Ended.{TakenLaws}
 use Rattle.server_history.specs.Histories.{HasBegun}
 use Rattle.block_machine.specs.Due.{NoneDue}
-use Rattle.request_queue.specs.Entries.{Held, IsAccepted, IsInOrder, asks_of}
+use Rattle.request_queue.specs.Entries.{Held, IsAccepted, BookIsInOrder, asks_of}
 use Rattle.request_queue.specs.Machine.{IsBook}
-use Rattle.slots.specs.Uses.{Uses as PortSlots}
-use Rattle.server_history.specs.Server.{Server, AreUsesOf, IsKept, IsMachineOf, IsNewServer, IsPortOf, IsSettled, IsUsedAs, is_served, AreKept, AreOfTwo, kept_at, mode_in, ports_of, state_of, use_of, used_for, HasTrueMark}
-use Rattle.agreement.proofs.driver.Stretches.{followed_adds}
+use Rattle.slots.specs.Uses.{PortSlots}
+use Rattle.server_history.specs.Server.{ServerState, AreUsesOf, InCallInvariant, IsMachineOf, IsNewServer, IsPortOf, SettledInvariant, IsUsedAs, is_served, AreKept, AreOfTwo, kept_at, mode_in, ports_of, state_of, use_of, used_for, HasTrueMark}
+use Rattle.refinement.proofs.driver.Stretches.{followed_adds}
 use Rattle.server_history.proofs.start.TakenOverPorts.{behind, found_is, four, none_past, ports_on, served_there}
 use Rattle.server_history.proofs.state.FirstMembers.{nowhere}
 
 -- ---- the machine of an idle device
 
 -- what a disk holds, or zeros where it doesn't tell
-abbrev told_bytes : Option (ℕ → List ℕ) → Disk
+abbrev told_bytes : Option (ℕ → List ℕ) → DiskBytes
 told_bytes None k b = 0
 told_bytes (Some told) k b = slice_index (told k) b
 
@@ -77,7 +77,7 @@ machine_of d rows owner = record {
 }
 
 machine_knows : (d : Device) (rows : List GrantRow) (owner : Frame → Option ClientId) → IsStart (machine_of d rows owner) → IsIdle d
-    → TellsDisks d → Knows (machine_of d rows owner) (idle d)
+    → TellsDisks d → DriverRelation (machine_of d rows owner) (idle d)
 machine_knows d rows owner start is told =
     idle_knows (machine_of d rows owner) d start is (λ q. record { present = refl; id = refl; size = refl }) (λ f b low small. refl) sectors (λ _ port k. refl)
   where
@@ -104,7 +104,7 @@ start_on m later s spares = record {
 -- ---- the ports
 
 -- a page's fault has a number from 1 to 6
-numbered : (f : Fault) → (1 ≤ number_of f) × (number_of f ≤ 9)
+numbered : (f : Fault) → (1 ≤ unfit_number f) × (unfit_number f ≤ 9)
 numbered fault.BadChecksum = (omega arith, omega arith)
 numbered fault.Word83 = (omega arith, omega arith)
 numbered fault.No48Bit = (omega arith, omega arith)
@@ -119,42 +119,42 @@ unfit_numbered n port d (inr (inr (inl (is, saw, count)))) = (omega (arith, is),
 unfit_numbered n port d (inr (inr (inr (page, has, (f, first, is))))) = let b = numbered f in (omega (arith, is, b.0), omega (arith, is, b.1))
 
 -- a cause to be unfit is one that there is
-cause_is : (wanted : Wanted) (found : Found) (port cause : ℕ) (d : Device) → StandsBehind wanted found port d → state_of found ≡ Unfit cause → (1 ≤ cause) × (cause ≤ 9)
+cause_is : (wanted : Wanted) (found : ProbeResult) (port cause : ℕ) (d : Device) → StandsBehind wanted found port d → state_of found ≡ Unfit cause → (1 ≤ cause) × (cause ≤ 9)
 cause_is wanted Unserved port cause d s is = absurd (let z : Absent ≡ Unfit cause = is in cc)
 cause_is wanted (Ready info) port cause d s is = absurd (let z : ReadyState ≡ Unfit cause = is in cc)
 cause_is wanted (Unready state) port cause d s is = unfit_numbered cause port d ((subst (λ (x : PortState). EndsAs (serial_of wanted) x port d) is s.1).1)
 
 -- what is known of ports at each moment of a call makes them fit
-pub kept_fit : (s : Server) → IsKept s → AreFit (ports_of s)
+pub kept_fit : (s : ServerState) → InCallInvariant s → AreFit (ports_of s)
 kept_fit s k = record {
   few = λ port served. (k.there port.0 served).0;
-  absent = λ port other. absent_is (found_of s.ports port.0) other;
+  absent = λ port other. absent_is (probe_result_of s.ports port.0) other;
   slots = λ port ready. (its_mode s port.0 k (ready_found s port.0 k ready).0).0;
-  causes = λ port cause is. caused (found_of s.ports port.0) port cause is refl;
+  causes = λ port cause is. caused (probe_result_of s.ports port.0) port cause is refl;
 }
   where
-    absent_is : (f : Found) → is_served f ≡ false → state_of f ≡ Absent
+    absent_is : (f : ProbeResult) → is_served f ≡ false → state_of f ≡ Absent
     absent_is Unserved other = refl
     absent_is (Ready info) other = absurd (false≢true (sym other))
     absent_is (Unready state) other = absurd (false≢true (sym other))
 
-    caused : (f : Found) (port : Port) (cause : ℕ) → state_of f ≡ Unfit cause → found_of s.ports port.0 ≡ f → (1 ≤ cause) × (cause ≤ 9)
+    caused : (f : ProbeResult) (port : Port) (cause : ℕ) → state_of f ≡ Unfit cause → probe_result_of s.ports port.0 ≡ f → (1 ≤ cause) × (cause ≤ 9)
     caused Unserved port cause is e = absurd (let z : Absent ≡ Unfit cause = is in cc)
     caused (Ready info) port cause is e = absurd (let z : ReadyState ≡ Unfit cause = is in cc)
     caused (Unready state) port cause is e =
         cause_is (wanted_of s.wanted port.0) (Unready state) port.0 cause s.device
-        (subst (λ (f : Found). StillStandsBehind (wanted_of s.wanted port.0) f port.0 s.device) e (k.behind port.0 (k.there port.0 (ap is_served e)).0).behind) is
+        (subst (λ (f : ProbeResult). StillStandsBehind (wanted_of s.wanted port.0) f port.0 s.device) e (k.behind port.0 (k.there port.0 (ap is_served e)).0).behind) is
 
 -- ---- slots
 
 -- a slot that was left as it was is used as a server without requests has it
-pub left_as : (ports found : List Found) (slots : List PortSlots) (uses : Uses) (port slot : ℕ) → found_of found port ≡ found_of ports port → used_for slots port slot ≡ None → IsLeft ports uses port slot
-    → IsUsedAs (found_of found port) (used_for slots port slot) (uses port slot)
+pub left_as : (ports found : List ProbeResult) (slots : List PortSlots) (uses : SlotStates) (port slot : ℕ) → probe_result_of found port ≡ probe_result_of ports port → used_for slots port slot ≡ None → IsUnusedOrDead ports uses port slot
+    → IsUsedAs (probe_result_of found port) (used_for slots port slot) (uses port slot)
 left_as ports found list uses port slot same none (inl free) = λ _. free ∙ sym (ap use_of none)
 left_as ports found list uses port slot same none (inr (zero_is, own, dead)) = λ alive. absurd (alive (same ∙ dead))
 
 -- where no request is kept, no loan is
-pub none_are_kept : (found : List Found) (kept : List (List Lending)) (requests : List Pending) → requests ≡ [] → ((port : ℕ) → kept_at kept port ≡ []) → AreKept found kept requests
+pub none_are_kept : (found : List ProbeResult) (kept : List (List Lending)) (requests : List Pending) → requests ≡ [] → ((port : ℕ) → kept_at kept port ≡ []) → AreKept found kept requests
 none_are_kept found kept requests none empty = record {
   dead = λ e here. absurd (nobody e here);
   loan = λ e here. absurd (nobody e here);
@@ -166,7 +166,7 @@ none_are_kept found kept requests none empty = record {
     nobody e here = nowhere e (subst (λ (es : List Pending). Contains es e) none here)
 
 -- no requests are in order
-none_in_order : IsInOrder []
+none_in_order : BookIsInOrder []
 none_in_order = record {
   ordered = λ i j d lt small. absurd (omega (arith, small));
   clients = λ k d small. absurd (omega (arith, small));
@@ -176,17 +176,17 @@ none_in_order = record {
 
 -- ---- the whole
 
-module _ (laws : TakenLaws) (s : Server) (host : Host) (d : Device) (is : IsIdle d) (told : TellsDisks d) (taken : TakesOver s.wanted host d s.device) (n : IsNewServer host s) where
+module _ (laws : TakenLaws) (s : ServerState) (host : Host) (d : Device) (is : IsIdle d) (told : TellsDisks d) (taken : TakesOver s.wanted host d s.device) (n : IsNewServer host s) where
   ports_as : (port : ℕ) → port < 4 → IsPortOf s.wanted s.ports port s.device
   ports_as port low = ports_on laws s host d is taken n.ports n.four port low
 
-  stood : (port : ℕ) → port < 4 → StandsBehind (wanted_of s.wanted port) (found_of s.ports port) port s.device
+  stood : (port : ℕ) → port < 4 → StandsBehind (wanted_of s.wanted port) (probe_result_of s.ports port) port s.device
   stood port low = behind laws s host d is taken n.ports n.four port low
 
-  found_as : (port : ℕ) → found_of s.ports port ≡ found_of host.ports port
+  found_as : (port : ℕ) → probe_result_of s.ports port ≡ probe_result_of host.ports port
   found_as port = found_is laws s host d is taken n.ports n.four port
 
-  low_as : (port : ℕ) → is_served (found_of s.ports port) ≡ true → port < 4
+  low_as : (port : ℕ) → is_served (probe_result_of s.ports port) ≡ true → port < 4
   low_as port served = four laws s host d is taken n.ports n.four port served
 
   abbrev first_machine : Machine
@@ -204,13 +204,13 @@ module _ (laws : TakenLaws) (s : Server) (host : Host) (d : Device) (is : IsIdle
     owned = λ frame client own. let c = n.clients frame client own in (c.0, c.1, (n.owners frame client own).0, c.2);
   }
 
-  reached_first : IsReached first_machine
+  reached_first : IsReachable first_machine
   reached_first = record { first = first_machine; past = []; starts = start; legal = tt; is = refl }
 
   uses_are : AreUsesOf s taken.uses
   uses_are port slot = left_as host.ports s.ports s.slots taken.uses port slot (found_as port) (n.unused port slot) (taken.left port slot)
 
-  stands_for : (m : Machine) → IsStart m → SparesBook first_machine m → Knows m (known taken.uses (λ port. []) s.device) → IsMachineOf s m
+  stands_for : (m : Machine) → IsStart m → SparesBook first_machine m → DriverRelation m (known taken.uses (λ port. []) s.device) → IsMachineOf s m
   stands_for m begun spares knows = record {
     uses = taken.uses;
     used = uses_are;
@@ -228,27 +228,27 @@ module _ (laws : TakenLaws) (s : Server) (host : Host) (d : Device) (is : IsIdle
   ports_fit : AreFit (ports_of s)
   ports_fit = record {
     few = λ port served. low_as port.0 served;
-    absent = λ port other. absent_is (found_of s.ports port.0) other;
+    absent = λ port other. absent_is (probe_result_of s.ports port.0) other;
     slots = λ port ready. ⊎_elim
-        (λ (low : port.0 < 4). subst IsMode (sym (n.modes port.0 low)) (stood_mode (wanted_of s.wanted port.0) (found_of s.ports port.0) port.0 s.device (ports_as port.0 low).behind).0)
+        (λ (low : port.0 < 4). subst IsMode (sym (n.modes port.0 low)) (stood_mode (wanted_of s.wanted port.0) (probe_result_of s.ports port.0) port.0 s.device (ports_as port.0 low).behind).0)
         (λ (high : 4 ≤ port.0). absurd (let z : Absent ≡ ReadyState = sym (ap state_of (found_as port.0 ∙ none_past host.ports port.0 (let l = n.four in omega (arith, l, high)))) ∙ ready in cc))
         (cases_lt port.0 4);
     causes = λ port cause is. ⊎_elim
-        (λ (low : port.0 < 4). cause_is (wanted_of s.wanted port.0) (found_of s.ports port.0) port.0 cause s.device (stood port.0 low) is)
+        (λ (low : port.0 < 4). cause_is (wanted_of s.wanted port.0) (probe_result_of s.ports port.0) port.0 cause s.device (stood port.0 low) is)
         (λ (high : 4 ≤ port.0). absurd (let z : Absent ≡ Unfit cause = sym (ap state_of (found_as port.0 ∙ none_past host.ports port.0 (let l = n.four in omega (arith, l, high)))) ∙ is in cc))
         (cases_lt port.0 4);
   }
     where
-      absent_is : (f : Found) → is_served f ≡ false → state_of f ≡ Absent
+      absent_is : (f : ProbeResult) → is_served f ≡ false → state_of f ≡ Absent
       absent_is Unserved other = refl
       absent_is (Ready info) other = absurd (false≢true (sym other))
       absent_is (Unready state) other = absurd (false≢true (sym other))
 
-  kept_by : (m : Machine) → IsReached m → IsMachineOf s m → IsKept s
+  kept_by : (m : Machine) → IsReachable m → IsMachineOf s m → InCallInvariant s
   kept_by m reached stands = record {
     on = taken.on;
     room = n.room;
-    there = λ port served. let low = low_as port served in (low, served_there (wanted_of s.wanted port) (found_of s.ports port) port s.device (stood port low) served);
+    there = λ port served. let low = low_as port served in (low, served_there (wanted_of s.wanted port) (probe_result_of s.ports port) port s.device (stood port low) served);
     behind = ports_as;
     rows = n.rows;
     owners = n.owners;
@@ -263,10 +263,10 @@ module _ (laws : TakenLaws) (s : Server) (host : Host) (d : Device) (is : IsIdle
     commands = λ port slot used is. absurd (let z : None ≡ Some used = sym (n.unused port slot) ∙ is in cc);
     alone = λ port slot used is. absurd (let z : None ≡ Some used = sym (n.unused port slot) ∙ is in cc);
     accepted = subst (λ (book : List Held). All (IsAccepted s.table) book) (sym n.book) (All-nil (IsAccepted s.table));
-    ordered = subst IsInOrder (sym n.book) none_in_order;
+    ordered = subst BookIsInOrder (sym n.book) none_in_order;
     marked = subst (λ (book : List Held). All (HasTrueMark s.grants) book) (sym n.book) (All-nil (HasTrueMark s.grants));
     handed_out = subst (λ (book : List Held). All (λ e. e.entry.id.0 ≤ s.last) book) (sym n.book) (All-nil (λ (e : Held). e.entry.id.0 ≤ s.last));
-    ready = subst (λ (book : List Held). All (λ e. state_of (found_of s.ports e.entry.port.0) ≡ ReadyState) book) (sym n.book) (All-nil (λ (e : Held). state_of (found_of s.ports e.entry.port.0) ≡ ReadyState));
+    ready = subst (λ (book : List Held). All (λ e. state_of (probe_result_of s.ports e.entry.port.0) ≡ ReadyState) book) (sym n.book) (All-nil (λ (e : Held). state_of (probe_result_of s.ports e.entry.port.0) ≡ ReadyState));
     machine = m;
     reached = reached;
     stands = stands;
@@ -276,15 +276,15 @@ module _ (laws : TakenLaws) (s : Server) (host : Host) (d : Device) (is : IsIdle
   none_due : (port : Port) → NoneDue (mode_in s port) (asks_of s.book) port
   none_due port = subst (λ (book : List Held). NoneDue (mode_in s port) (asks_of book) port) (sym n.book) (λ r own due. nowhere r due.here)
 
-  pub new_server : IsSettled s × HasBegun s
+  pub new_server : SettledInvariant s × HasBegun s
   new_server =
       let x = (followed_adds taken.followed (λ port slot. Free) (λ port. []) refl).adds first_machine reached_first (machine_knows d s.grants (owner_of s.table) start is told) in
       let later : Machine = after first_machine x.0 in
       let spares : SparesBook first_machine later = steps_spare first_machine x.0 x.3.only in
       let begun : IsStart later = start_on first_machine later start spares in
       let stands : IsMachineOf s later = stands_for later begun spares x.2 in
-      let reached : IsReached later = reached_more first_machine x.0 reached_first x.1 in
-      let kept : IsKept s = kept_by later reached stands in (
+      let reached : IsReachable later = reached_more first_machine x.0 reached_first x.1 in
+      let kept : InCallInvariant s = kept_by later reached stands in (
         record { kept = kept; issued = none_due },
         (
           record { device = s.device; moment = record { machine = later; ports = ports_of s } },
@@ -297,8 +297,8 @@ module _ (laws : TakenLaws) (s : Server) (host : Host) (d : Device) (is : IsIdle
 
 -- ---- a new server
 
-pub new_well : TakenLaws → (s : Server) (host : Host) (idle : Device) (port : Port) → IsKept s → IsIdle idle → TakesOver s.wanted host idle s.device → s.ports ≡ host.ports
-    → state_of (found_of s.ports port.0) ≡ ReadyState → Undisturbed port.0 idle s.device → RunsWell (s.device.port port.0)
+pub new_well : TakenLaws → (s : ServerState) (host : Host) (idle : Device) (port : Port) → InCallInvariant s → IsIdle idle → TakesOver s.wanted host idle s.device → s.ports ≡ host.ports
+    → state_of (probe_result_of s.ports port.0) ≡ ReadyState → Undisturbed port.0 idle s.device → RunsWell (s.device.port port.0)
 new_well laws s host idle port k rest taken same ready calm =
     let found = (ready_found s port.0 k ready).1 in
-    laws.well s.wanted host port.0 found.0 idle s.device rest taken (ap (λ (ports : List Found). found_of ports port.0) (sym same) ∙ found.1) calm
+    laws.well s.wanted host port.0 found.0 idle s.device rest taken (ap (λ (ports : List ProbeResult). probe_result_of ports port.0) (sym same) ∙ found.1) calm

@@ -3,33 +3,33 @@ use Rattle.std.proofs.Common.{List, [], ap, arith, false, length, refl, subst, s
 use Rattle.std.proofs.lemmas.Bool.{false≢true, cases_lt}
 use Rattle.adapter.specs.Device.{Device}
 use Rattle.adapter.specs.Idle.{IsIdle}
-use Rattle.agreement.specs.Facts.{IsRecorded}
-use Rattle.agreement.specs.Halting.{HaltsAsTaken}
-use Rattle.agreement.specs.Links.{HasDeviceOrNone}
+use Rattle.refinement.specs.Facts.{IsRecorded}
+use Rattle.refinement.specs.Halting.{HaltsAsTaken}
+use Rattle.refinement.specs.Links.{HasDeviceOrNone}
 use Rattle.ata_types.specs.declared.PortState.{PortState}
 use Rattle.ata_types.specs.declared.PortState.TheVariants.{Absent, Ready as ReadyState}
 use Rattle.driver_history.specs.Holds.{Runs}
 use Rattle.hba_regs.specs.Bits.{bit}
 use Rattle.host_boot.proofs.Leaving.{boots_begin}
-use Rattle.host_boot.specs.Taken.{FoundBadDisk, StandsBehind, TakesOver, found_of, wanted_of}
-use Rattle.host_boot.specs.declared.Found.{Found}
-use Rattle.host_boot.specs.declared.Found.TheVariants.{Ready, Unready, Unserved}
+use Rattle.host_boot.specs.Taken.{FoundBadDisk, StandsBehind, TakesOver, probe_result_of, wanted_of}
+use Rattle.host_boot.specs.declared.ProbeResult.{ProbeResult}
+use Rattle.host_boot.specs.declared.ProbeResult.TheVariants.{Ready, Unready, Unserved}
 use Rattle.host_boot.specs.declared.Host.{Host}
 use Rattle.identify.specs.Wanted.{serial_of}
 use Rattle.identify.specs.declared.DiskInfo.{DiskInfo}
 use Rattle.identify.specs.declared.wanted.Wanted.{Wanted}
 use Rattle.port_boot.specs.States.{EndsAs, ShowsOwnDisk}
 use Rattle.server_history.specs.Ended.{TakenLaws}
-use Rattle.server_history.specs.Server.{IsPortOf, Server, is_served, state_of}
+use Rattle.server_history.specs.Server.{IsPortOf, ServerState, is_served, state_of}
 
 -- ports past the fourth aren't served
-pub none_past : (ports : List Found) (port : ℕ) → length ports ≤ port → found_of ports port ≡ Unserved
+pub none_past : (ports : List ProbeResult) (port : ℕ) → length ports ≤ port → probe_result_of ports port ≡ Unserved
 none_past [] port long = refl
 none_past (f ∷ rest) zero long = absurd (omega (arith, long))
 none_past (f ∷ rest) (suc n) long = none_past rest n (omega (arith, long))
 
 -- what a ready port's boot leaves runs, with nothing queued
-ready_runs : (wanted : Wanted) (found : Found) (port : ℕ) (d : Device) → StandsBehind wanted found port d → ((info : DiskInfo) → found ≡ Ready info → IsRecorded d.tape (d.port port) port) → state_of found ≡ ReadyState
+ready_runs : (wanted : Wanted) (found : ProbeResult) (port : ℕ) (d : Device) → StandsBehind wanted found port d → ((info : DiskInfo) → found ≡ Ready info → IsRecorded d.tape (d.port port) port) → state_of found ≡ ReadyState
     → Runs port d × ((slot : ℕ) → (d.port port).sact slot ≡ false)
 ready_runs wanted Unserved port d s recorded is = absurd (let z : Absent ≡ ReadyState = is in cc)
 ready_runs wanted (Ready info) port d s recorded is = (
@@ -46,7 +46,7 @@ ready_runs wanted (Ready info) port d s recorded is = (
 ready_runs wanted (Unready state) port d s recorded is = absurd (subst (λ (x : PortState). EndsAs (serial_of wanted) x port d) is s.1)
 
 -- a port that is served is there
-pub served_there : (wanted : Wanted) (found : Found) (port : ℕ) (d : Device) → StandsBehind wanted found port d → is_served found ≡ true → bit d.pi port ≡ true
+pub served_there : (wanted : Wanted) (found : ProbeResult) (port : ℕ) (d : Device) → StandsBehind wanted found port d → is_served found ≡ true → bit d.pi port ≡ true
 served_there wanted Unserved port d s served = absurd (false≢true served)
 served_there wanted (Ready info) port d s served = s.0.1
 served_there wanted (Unready state) port d s served = s.0.1
@@ -54,49 +54,49 @@ served_there wanted (Unready state) port d s served = s.0.1
 -- ---- the whole
 
 -- The idle adapter was taken over, and the server has the ports as they were found.
-module _ (laws : TakenLaws) (s : Server) (host : Host) (d : Device) (is : IsIdle d) (taken : TakesOver s.wanted host d s.device) (same : s.ports ≡ host.ports) (many : length host.ports ≡ 4) where
-  pub found_is : (port : ℕ) → found_of s.ports port ≡ found_of host.ports port
-  found_is port = ap (λ (ports : List Found). found_of ports port) same
+module _ (laws : TakenLaws) (s : ServerState) (host : Host) (d : Device) (is : IsIdle d) (taken : TakesOver s.wanted host d s.device) (same : s.ports ≡ host.ports) (many : length host.ports ≡ 4) where
+  pub found_is : (port : ℕ) → probe_result_of s.ports port ≡ probe_result_of host.ports port
+  found_is port = ap (λ (ports : List ProbeResult). probe_result_of ports port) same
 
-  pub behind : (port : ℕ) → port < 4 → StandsBehind (wanted_of s.wanted port) (found_of s.ports port) port s.device
-  behind port below = subst (λ (f : Found). StandsBehind (wanted_of s.wanted port) f port s.device) (sym (found_is port)) (taken.stands port below)
+  pub behind : (port : ℕ) → port < 4 → StandsBehind (wanted_of s.wanted port) (probe_result_of s.ports port) port s.device
+  behind port below = subst (λ (f : ProbeResult). StandsBehind (wanted_of s.wanted port) f port s.device) (sym (found_is port)) (taken.stands port below)
 
-  pub four : (port : ℕ) → is_served (found_of s.ports port) ≡ true → port < 4
+  pub four : (port : ℕ) → is_served (probe_result_of s.ports port) ≡ true → port < 4
   four port served = ⊎_elim
       (λ (low : port < 4). low)
       (λ (high : 4 ≤ port). absurd (false≢true (sym (ap is_served (found_is port ∙ none_past host.ports port (let l = many in omega (arith, l, high)))) ∙ served)))
       (cases_lt port 4)
 
-  shown_as : (port : ℕ) (f : Found) → found_of s.ports port ≡ f → FoundBadDisk (state_of f) → HasDeviceOrNone (s.device.port port)
+  shown_as : (port : ℕ) (f : ProbeResult) → probe_result_of s.ports port ≡ f → FoundBadDisk (state_of f) → HasDeviceOrNone (s.device.port port)
   shown_as port Unserved e bad = absurd bad
   shown_as port (Ready info) e bad = absurd bad
   shown_as port (Unready state) e bad = laws.shown s.wanted host port state d s.device is taken bad (sym (found_is port) ∙ e)
 
-  own_as : (port : ℕ) (f : Found) → found_of s.ports port ≡ f → state_of f ≡ ReadyState → ShowsOwnDisk (s.device.port port)
+  own_as : (port : ℕ) (f : ProbeResult) → probe_result_of s.ports port ≡ f → state_of f ≡ ReadyState → ShowsOwnDisk (s.device.port port)
   own_as port Unserved e ready = let z : Absent ≡ ReadyState = ready in absurd cc
   own_as port (Ready info) e ready = laws.own s.wanted host port info d s.device is taken (sym (found_is port) ∙ e)
-  own_as port (Unready state) e ready = absurd (not_ready state ready (subst (λ (f : Found). StandsBehind (wanted_of s.wanted port) f port s.device) e (behind port (four port (ap is_served e)))))
+  own_as port (Unready state) e ready = absurd (not_ready state ready (subst (λ (f : ProbeResult). StandsBehind (wanted_of s.wanted port) f port s.device) e (behind port (four port (ap is_served e)))))
     where
       not_ready : (state : PortState) → state ≡ ReadyState → StandsBehind (wanted_of s.wanted port) (Unready state) port s.device → ⊥
       not_ready state same stands = (subst (λ (t : PortState). StandsBehind (wanted_of s.wanted port) (Unready t) port s.device) same stands).1
 
-  halts_as : (port : ℕ) → port < 4 → (f : Found) → found_of s.ports port ≡ f → state_of f ≡ ReadyState → HaltsAsTaken (s.device.port port)
+  halts_as : (port : ℕ) → port < 4 → (f : ProbeResult) → probe_result_of s.ports port ≡ f → state_of f ≡ ReadyState → HaltsAsTaken (s.device.port port)
   halts_as port below Unserved e ready = let z : Absent ≡ ReadyState = ready in absurd cc
   halts_as port below (Ready info) e ready = taken.halts port below info (sym (found_is port) ∙ e)
-  halts_as port below (Unready state) e ready = absurd (not_ready state ready (subst (λ (f : Found). StandsBehind (wanted_of s.wanted port) f port s.device) e (behind port below)))
+  halts_as port below (Unready state) e ready = absurd (not_ready state ready (subst (λ (f : ProbeResult). StandsBehind (wanted_of s.wanted port) f port s.device) e (behind port below)))
     where
       not_ready : (state : PortState) → state ≡ ReadyState → StandsBehind (wanted_of s.wanted port) (Unready state) port s.device → ⊥
       not_ready state same stands = (subst (λ (t : PortState). StandsBehind (wanted_of s.wanted port) (Unready t) port s.device) same stands).1
 
-  running : (port : ℕ) → port < 4 → state_of (found_of s.ports port) ≡ ReadyState → Runs port s.device × ((slot : ℕ) → (s.device.port port).sact slot ≡ false)
+  running : (port : ℕ) → port < 4 → state_of (probe_result_of s.ports port) ≡ ReadyState → Runs port s.device × ((slot : ℕ) → (s.device.port port).sact slot ≡ false)
   running port below =
-      ready_runs (wanted_of s.wanted port) (found_of s.ports port) port s.device (behind port below) (λ info found. laws.recorded s.wanted host port info d s.device is taken (sym (found_is port) ∙ found))
+      ready_runs (wanted_of s.wanted port) (probe_result_of s.ports port) port s.device (behind port below) (λ info found. laws.recorded s.wanted host port info d s.device is taken (sym (found_is port) ∙ found))
 
   pub ports_on : (port : ℕ) → port < 4 → IsPortOf s.wanted s.ports port s.device
   ports_on port below = record {
-    behind = boots_begin (wanted_of s.wanted port) (found_of s.ports port) port s.device (behind port below);
+    behind = boots_begin (wanted_of s.wanted port) (probe_result_of s.ports port) port s.device (behind port below);
     runs = λ ready. (running port below ready).0;
-    shown = shown_as port (found_of s.ports port) refl;
-    own = own_as port (found_of s.ports port) refl;
-    halts = halts_as port below (found_of s.ports port) refl;
+    shown = shown_as port (probe_result_of s.ports port) refl;
+    own = own_as port (probe_result_of s.ports port) refl;
+    halts = halts_as port below (probe_result_of s.ports port) refl;
   }

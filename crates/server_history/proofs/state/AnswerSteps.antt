@@ -9,8 +9,8 @@ use Rattle.ata_types.specs.declared.request.Outcome.TheVariants.{Ok}
 use Rattle.ata_types.specs.declared.request.Reply.{Reply}
 use Rattle.ata_types.specs.declared.request.RequestId.{RequestId}
 use Rattle.adapter.specs.declared.access.DeviceStep.{DeviceStep}
-use Rattle.block_machine.specs.declared.due.Mode.{Mode}
-use Rattle.block_machine.specs.Events.{AllDevices, AllLawful, AllMay, Ask, Belong, IsDevices, IsLawful, IsServers, Moment, answers_of, issues_it, reply_of}
+use Rattle.block_machine.specs.declared.due.QueueMode.{QueueMode}
+use Rattle.block_machine.specs.Events.{AllDevices, AllLawful, AllMay, Ask, Belong, IsByDevice, IsLawful, IsByServer, AbstractState, answers_of, issues_it, reply_of}
 use Rattle.block_machine.specs.Left.{after}
 use Rattle.block_machine.specs.Ports.{Evidence, Ports}
 use Rattle.block_machine.specs.State.{Pending, Machine}
@@ -36,18 +36,18 @@ may_parts laws m (step ∷ late) early may =
 pub no_answer : (steps : List Step) → AllDevices steps → (e : Pending) (o : Outcome) → Contains steps (Answer e o) → ⊥
 no_answer [] only e o here = nowhere (Answer e o) here
 no_answer (step ∷ steps) only e o here = ⊎_elim
-    (λ (is : Answer e o ≡ step). subst IsDevices (sym is) only.1)
+    (λ (is : Answer e o ≡ step). subst IsByDevice (sym is) only.1)
     (λ (there : Contains steps (Answer e o)). no_answer steps only.0 e o there)
     (contains_cases step steps (Answer e o) here)
 
-pub no_answer_issuing : (mode : Mode) (port : Port) (steps : List Step) → IssuesOnly mode port steps → (e : Pending) (o : Outcome) → Contains steps (Answer e o) → ⊥
+pub no_answer_issuing : (mode : QueueMode) (port : Port) (steps : List Step) → IssuesOnly mode port steps → (e : Pending) (o : Outcome) → Contains steps (Answer e o) → ⊥
 no_answer_issuing mode port [] only e o here = nowhere (Answer e o) here
 no_answer_issuing mode port (Issue its x ∷ steps) only e o here = ⊎_elim
     (λ (is : Answer e o ≡ Issue its x). absurd (let z : Answer e o ≡ Issue its x = is in cc))
     (λ (there : Contains steps (Answer e o)). no_answer_issuing mode port steps only.2 e o there)
     (contains_cases (Issue its x) steps (Answer e o) here)
 no_answer_issuing mode port (step ∷ steps) only e o here = ⊎_elim
-    (λ (is : Answer e o ≡ step). subst IsDevices (sym is) only.0)
+    (λ (is : Answer e o ≡ step). subst IsByDevice (sym is) only.0)
     (λ (there : Contains steps (Answer e o)). no_answer_issuing mode port steps only.1 e o there)
     (contains_cases step steps (Answer e o) here)
 
@@ -93,7 +93,7 @@ ended_stood laws m (x ∷ ended) may p here = ⊎_elim
     parts = may_parts laws m (answers_in ended) (Answer x Ok ∷ []) may
 
 -- nor do steps that issue requests
-pub issuing_answers : (mode : Mode) (port : Port) (late base : List Step) → IssuesOnly mode port late → answers_of (late ++ base) ≡ answers_of base
+pub issuing_answers : (mode : QueueMode) (port : Port) (late base : List Step) → IssuesOnly mode port late → answers_of (late ++ base) ≡ answers_of base
 issuing_answers mode port [] base only = refl
 issuing_answers mode port (Issue its e ∷ late) base only = issuing_answers mode port late base only.2
 issuing_answers mode port (Answer e o ∷ late) base only = absurd only.0
@@ -110,7 +110,7 @@ module _ (Told : Pending → Outcome → Type 0) where
   pub answer_told : (steps : List Step) → All (IsAnswerOf Told) steps → (e : Pending) (o : Outcome) → Contains steps (Answer e o) → Told e o
   answer_told steps all e o here = All-contains (IsAnswerOf Told) steps (Answer e o) all here
 
-  pub answers_belong : (ask : Ask DeviceStep) (ports : Ports) → ((e : Pending) (o : Outcome) → Told e o → IsServers ask ports (Answer e o)) → (steps : List Step) → All (IsAnswerOf Told) steps → Belong ask ports steps
+  pub answers_belong : (ask : Ask DeviceStep) (ports : Ports) → ((e : Pending) (o : Outcome) → Told e o → IsByServer ask ports (Answer e o)) → (steps : List Step) → All (IsAnswerOf Told) steps → Belong ask ports steps
   answers_belong ask ports own [] all = tt
   answers_belong ask ports own (Answer e o ∷ steps) all =
       (answers_belong ask ports own steps (All-tail (IsAnswerOf Told) (Answer e o) steps all), inr (own e o (All-head (IsAnswerOf Told) (Answer e o) steps all)))
@@ -121,7 +121,7 @@ module _ (Told : Pending → Outcome → Type 0) where
   answers_issue_none id (Answer e o ∷ steps) all = answers_issue_none id steps (All-tail (IsAnswerOf Told) (Answer e o) steps all)
   answers_issue_none id (step ∷ steps) all = absurd (All-head (IsAnswerOf Told) step steps all)
 
-  pub answers_lawful : (old : Moment) (evidence : Evidence) (ports : Ports) → ((e : Pending) (o : Outcome) → Told e o → IsLawful old evidence ports e o) → (steps : List Step) → All (IsAnswerOf Told) steps
+  pub answers_lawful : (old : AbstractState) (evidence : Evidence) (ports : Ports) → ((e : Pending) (o : Outcome) → Told e o → IsLawful old evidence ports e o) → (steps : List Step) → All (IsAnswerOf Told) steps
       → AllLawful old evidence ports steps
   answers_lawful old evidence ports lawful [] all = tt
   answers_lawful old evidence ports lawful (Answer e o ∷ steps) all =

@@ -7,11 +7,11 @@ use Rattle.ata_types.specs.declared.Port.{Port}
 use Rattle.ata_types.specs.declared.PortState as shown
 use Rattle.ata_types.specs.declared.PortState.TheVariants.{Absent, Ready, Foreign, Unfit, Dead}
 use Rattle.adapter.specs.Access.{Access}
-use Rattle.adapter.specs.Device.{PortState, Device}
+use Rattle.adapter.specs.Device.{DevicePort, Device}
 use Rattle.adapter.specs.declared.access.DeviceStep.{DeviceStep}
-use Rattle.agreement.specs.Agrees.{port_at}
-use Rattle.block_machine.specs.Events.{Ask, Said, Moment, AllLawful}
-use Rattle.block_machine.specs.Histories.{Instant}
+use Rattle.refinement.specs.Relation.{port_at}
+use Rattle.block_machine.specs.Events.{Ask, CallResult, AbstractState, AllLawful}
+use Rattle.block_machine.specs.Histories.{JointState}
 use Rattle.block_machine.specs.Ports.{Ports, Evidence, IsInterrupted}
 use Rattle.block_machine.specs.Steps.{Step, Again, Answer}
 use Rattle.ata_types.specs.declared.request.Outcome.TheVariants as outcome
@@ -98,17 +98,17 @@ ready_is Dead so = absurd (false≢true so)
 
 -- ---- what a port shows
 
-abbrev pub shows_fatal : PortState → Bool
+abbrev pub shows_fatal : DevicePort → Bool
 shows_fatal p = p.is 27 || (p.is 28 || p.is 29)
 
-abbrev pub shows_failure : PortState → Bool
+abbrev pub shows_failure : DevicePort → Bool
 shows_failure p = shows_fatal p || p.is 30
 
-abbrev pub shows_loss : PortState → Bool
+abbrev pub shows_loss : DevicePort → Bool
 shows_loss p = p.serr_n || (p.serr_x || not (nat_eq p.ssts_det 3))
 
 -- a ready port that shows this
-abbrev pub ready_that : (PortState → Bool) → Device → Ports → Port → Bool
+abbrev pub ready_that : (DevicePort → Bool) → Device → Ports → Port → Bool
 ready_that shows d ports port = is_ready (ports.state port) && shows (d.port port.0)
 
 -- what is told of these ports, where it began with this device, and ports were this
@@ -123,7 +123,7 @@ told_of list d ports = record no_evidence {
 abbrev pub told_by : Device → Ports → Evidence
 told_by d ports = told_of four d ports
 
-pub unfatal : (p : PortState) → shows_fatal p ≡ true → ShowsFatal p
+pub unfatal : (p : DevicePort) → shows_fatal p ≡ true → ShowsFatal p
 unfatal p h = ⊎_elim
     (λ a. record { place = 27; from = omega arith; to = omega arith; set = a })
     (λ more. ⊎_elim
@@ -132,7 +132,7 @@ unfatal p h = ⊎_elim
     (or_cases (p.is 28) (p.is 29) more))
     (or_cases (p.is 27) (p.is 28 || p.is 29) h)
 
-pub fatal_shows : (p : PortState) → ShowsFatal p → shows_fatal p ≡ true
+pub fatal_shows : (p : DevicePort) → ShowsFatal p → shows_fatal p ≡ true
 fatal_shows p f = by (cases_eq f.place 27)
   where
     P : ℕ → Type 0
@@ -145,27 +145,27 @@ fatal_shows p f = by (cases_eq f.place 27)
         (λ b. or_right (p.is 28) (p.is 29) (subst P (let low = f.from in let high = f.to in omega (arith, low, high, a, b)) f.set))
         (cases_eq f.place 28))
 
-pub unfailed : (p : PortState) → shows_failure p ≡ true → ShowsFailure p
+pub unfailed : (p : DevicePort) → shows_failure p ≡ true → ShowsFailure p
 unfailed p h = ⊎_elim (λ a. inl (unfatal p a)) (λ a. inr a) (or_cases (shows_fatal p) (p.is 30) h)
 
-pub failure_shows : (p : PortState) → ShowsFailure p → shows_failure p ≡ true
+pub failure_shows : (p : DevicePort) → ShowsFailure p → shows_failure p ≡ true
 failure_shows p (inl f) = or_left (shows_fatal p) (p.is 30) (fatal_shows p f)
 failure_shows p (inr a) = or_right (shows_fatal p) (p.is 30) a
 
-pub unlost : (p : PortState) → shows_loss p ≡ true → ShowsChange p ⊎ (p.ssts_det ≢ 3)
+pub unlost : (p : DevicePort) → shows_loss p ≡ true → ShowsChange p ⊎ (p.ssts_det ≢ 3)
 unlost p h = ⊎_elim
     (λ n. inl (inl n))
     (λ more. ⊎_elim (λ x. inl (inr x)) (λ other. inr (λ is. false≢true (sym (ap not (eq-eqb p.ssts_det 3 is)) ∙ other))) (or_cases p.serr_x (not (nat_eq p.ssts_det 3)) more))
     (or_cases p.serr_n (p.serr_x || not (nat_eq p.ssts_det 3)) h)
 
-pub loss_shows : (p : PortState) → ShowsChange p ⊎ (p.ssts_det ≢ 3) → shows_loss p ≡ true
+pub loss_shows : (p : DevicePort) → ShowsChange p ⊎ (p.ssts_det ≢ 3) → shows_loss p ≡ true
 loss_shows p (inl (inl n)) = or_left p.serr_n (p.serr_x || not (nat_eq p.ssts_det 3)) n
 loss_shows p (inl (inr x)) = or_right p.serr_n (p.serr_x || not (nat_eq p.ssts_det 3)) (or_left p.serr_x (not (nat_eq p.ssts_det 3)) x)
 loss_shows p (inr other) = or_right p.serr_n (p.serr_x || not (nat_eq p.ssts_det 3)) (or_right p.serr_x (not (nat_eq p.ssts_det 3)) (ap not (ne_eqb p.ssts_det 3 other)))
 
 -- ---- what stands behind it
 
-module _ (list : List Port) (d : Device) (ports : Ports) (shows : PortState → Bool) where
+module _ (list : List Port) (d : Device) (ports : Ports) (shows : DevicePort → Bool) where
   -- who is named is ready, and shows it
   pub named_is : (port : Port) → Contains (chosen (ready_that shows d ports) list) port → (ports.state port ≡ Ready) × (shows (d.port port.0) ≡ true)
   named_is port here =
@@ -179,7 +179,7 @@ module _ (list : List Port) (d : Device) (ports : Ports) (shows : PortState → 
       is_chosen (ready_that shows d ports) list port there (and_from (is_ready (ports.state port)) (shows (d.port port.0)) (ap is_ready ready) its)
 
 -- what is told of such a port has that behind it
-pub evidenced_of : (list : List Port) (ask : Ask DeviceStep) (said : Said) (accesses : List Access) (old : Instant Device) (ports : Ports) (new : Device) (port : Port)
+pub evidenced_of : (list : List Port) (ask : Ask DeviceStep) (said : CallResult) (accesses : List Access) (old : JointState Device) (ports : Ports) (new : Device) (port : Port)
     → (old.moment.ports.state port ≡ Ready → Contains list port) → All (LeavesEngine port) accesses
     → IsEvidencedOf ask said accesses old ports new (told_of list old.device old.moment.ports) port
 evidenced_of list ask said accesses old ports new port there leaves = record {
@@ -197,7 +197,7 @@ evidenced_of list ask said accesses old ports new port there leaves = record {
   stuck_only = λ here. absurd (nowhere port here);
 }
 
-pub evidenced : (ask : Ask DeviceStep) (said : Said) (accesses : List Access) (old : Instant Device) (ports : Ports) (new : Device)
+pub evidenced : (ask : Ask DeviceStep) (said : CallResult) (accesses : List Access) (old : JointState Device) (ports : Ports) (new : Device)
     → ((port : Port) → old.moment.ports.state port ≡ Ready → port.0 < 4) → ((port : Port) → All (LeavesEngine port) accesses)
     → IsEvidenced ask said accesses old ports new (told_by old.device old.moment.ports)
 evidenced ask said accesses old ports new low leaves = record {
@@ -215,7 +215,7 @@ module _ (d : Device) (ports : Ports) where
   pub uninterrupted : (port : Port) → IsInterrupted told port → ⊥
   uninterrupted port i = ⊎_elim (nowhere port) (nowhere port) i
 
-  pub lawful_told : (old : Moment) (after : Ports) (steps : List Step) → AllLawful old no_evidence after steps → AllLawful old told after steps
+  pub lawful_told : (old : AbstractState) (after : Ports) (steps : List Step) → AllLawful old no_evidence after steps → AllLawful old told after steps
   lawful_told old after [] l = l
   lawful_told old after (Answer e outcome.Ok ∷ steps) l = (lawful_told old after steps l.0, l.1)
   lawful_told old after (Answer e (outcome.DeviceError status error) ∷ steps) l = (lawful_told old after steps l.0, l.1)

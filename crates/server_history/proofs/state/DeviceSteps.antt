@@ -2,7 +2,7 @@
 use Rattle.std.proofs.Common.{◌≡◌, true, List, [], ◌∷◌, refl, inl}
 use Rattle.std.proofs.lemmas.Bool.{false≢true}
 use Rattle.ata_types.specs.declared.request.RequestId.{RequestId}
-use Rattle.block_machine.specs.Events.{Ask, Moment, IsDevices, AllDevices, Belong, IssuesLast, AllLawful, handles, transfers_of}
+use Rattle.block_machine.specs.Events.{Ask, AbstractState, IsByDevice, AllDevices, Belong, IssuesLast, AllLawful, handles, transfers_of}
 use Rattle.block_machine.specs.Ports.{Ports, Evidence}
 use Rattle.block_machine.specs.Steps.{Step, Issue, Again, Answer, Store, Load}
 
@@ -12,7 +12,7 @@ devices_belong ask ports [] a = tt
 devices_belong ask ports (step ∷ before) a = (devices_belong ask ports before a.0, inl a.1)
 
 -- they are none of the server's with a request
-pub not_handled : (id : RequestId) (step : Step) → IsDevices step → handles id step ≡ true → ⊥
+pub not_handled : (id : RequestId) (step : Step) → IsByDevice step → handles id step ≡ true → ⊥
 not_handled id (Issue mode e) d h = absurd d
 not_handled id (Again e) d h = absurd d
 not_handled id (Answer e o) d h = absurd d
@@ -23,7 +23,7 @@ devices_last [] a = tt
 devices_last (step ∷ before) a = (devices_last before a.0, λ id h i. not_handled id step a.1 h)
 
 -- they answer nobody
-pub devices_lawful : (old : Moment) (evidence : Evidence) (ports : Ports) (steps : List Step) → AllDevices steps → AllLawful old evidence ports steps
+pub devices_lawful : (old : AbstractState) (evidence : Evidence) (ports : Ports) (steps : List Step) → AllDevices steps → AllLawful old evidence ports steps
 devices_lawful old evidence ports [] a = tt
 devices_lawful old evidence ports (Again e ∷ before) a = absurd a.1
 devices_lawful old evidence ports (Answer e o ∷ before) a = absurd a.1

@@ -3,7 +3,7 @@ use Rattle.std.proofs.Common.{[], ◌∷◌, refl}
 use Rattle.std.proofs.lemmas.List.Elements.{All-cons, All-nil, All-weaker}
 use Rattle.adapter.specs.Access.{Access, Does}
 use Rattle.adapter.specs.Device.{Device}
-use Rattle.agreement.specs.Driven.{IsDrivenBy}
+use Rattle.refinement.specs.Driven.{IsDrivenBy}
 
 -- what is of one kind is of a wider one
 pub driven_as : (May More : Access → Type 0) (old new : Device) → ((access : Access) → May access → More access) → IsDrivenBy May old new → IsDrivenBy More old new

@@ -9,12 +9,12 @@ use Rattle.block_machine.specs.Due.{IsDue, NoneDue}
 use Rattle.block_machine.specs.Events.{IsIssuedIn, issues_it}
 use Rattle.block_machine.specs.State.{Machine, Pending, unanswered}
 use Rattle.block_machine.specs.Steps.{Step}
-use Rattle.block_machine.specs.declared.due.Mode.{Mode}
+use Rattle.block_machine.specs.declared.due.QueueMode.{QueueMode}
 use Rattle.block_machine.specs.declared.due.Unanswered.{Unanswered}
 use Rattle.driver_history.specs.Histories.{IssuesDue, unissued}
 use Rattle.request_queue.specs.Entries.{Held, asks, asks_of}
 use Rattle.request_queue.specs.Machine.{IsBook, IsEntry}
-use Rattle.server_history.specs.Server.{Server, IsMachineOf}
+use Rattle.server_history.specs.Server.{ServerState, IsMachineOf}
 
 pub asked_alike : (e : Held) (p : Pending) → IsEntry e p → unanswered p ≡ asks e.entry
 asked_alike e p is = λ i. record { id = is.id i; port = is.port i; op = is.op i; range = is.range i; issued = is.issued i }
@@ -26,11 +26,11 @@ same_book (e ∷ book) [] all = absurd all
 same_book (e ∷ book) (p ∷ pending) all = ap₂ (λ (u : Unanswered) (us : List Unanswered). u ∷ us) (asked_alike e p all.0) (same_book book pending all.1)
 
 -- where the server has nothing due, the machine has nothing
-pub none_due : (s : Server) (m : Machine) → IsMachineOf s m → (mode : Mode) (port : Port) → NoneDue mode (asks_of s.book) port → NoneDue mode (map unanswered m.book) port
+pub none_due : (s : ServerState) (m : Machine) → IsMachineOf s m → (mode : QueueMode) (port : Port) → NoneDue mode (asks_of s.book) port → NoneDue mode (map unanswered m.book) port
 none_due s m is mode port none = subst (λ (us : List Unanswered). NoneDue mode us port) (sym (same_book s.book m.book is.book)) none
 
 -- Steps that issue nothing issue what is due, where nothing is.
-pub none_issued : (s : Server) (m : Machine) → IsMachineOf s m → (steps : List Step) → ((id : RequestId) → list_any (issues_it id) steps ≡ false) → (mode : Mode) (port : Port) → NoneDue mode (asks_of s.book) port
+pub none_issued : (s : ServerState) (m : Machine) → IsMachineOf s m → (steps : List Step) → ((id : RequestId) → list_any (issues_it id) steps ≡ false) → (mode : QueueMode) (port : Port) → NoneDue mode (asks_of s.book) port
     → IssuesDue mode steps m port
 none_issued s m is steps issues mode port none =
     subst (λ (us : List Unanswered). (r : Unanswered) → Contains us r → r.port ≡ port → IsIssuedIn r.id steps ↔ IsDue mode us r) (sym (unmarked (map unanswered m.book)))

@@ -11,32 +11,32 @@ use Rattle.adapter.specs.Access.{Access}
 use Rattle.adapter.specs.Device.{Device}
 use Rattle.adapter.specs.Rules.{IsOn}
 use Rattle.adapter.specs.declared.access.DeviceStep.{DeviceStep}
-use Rattle.agreement.specs.Driven.{known}
-use Rattle.agreement.specs.Driver.{Knows, IsBacked}
-use Rattle.agreement.specs.Links.{SameAdapter}
-use Rattle.agreement.specs.Spares.{AllFurther, IsFurther, SparesBook}
-use Rattle.block_machine.specs.Events.{Ask, Said, AllMay, AllDevices, Belong, IssuesLast, AllLawful, IsAnswered, KeepsDisks}
-use Rattle.block_machine.specs.Histories.{Instant, Happening, IsHistory, IsReached, now}
+use Rattle.refinement.specs.Driven.{known}
+use Rattle.refinement.specs.Driver.{DriverRelation, IsBacked}
+use Rattle.refinement.specs.Links.{SameAdapter}
+use Rattle.refinement.specs.Spares.{AllFurther, IsFurther, SparesBook}
+use Rattle.block_machine.specs.Events.{Ask, CallResult, AllMay, AllDevices, Belong, IssuesLast, AllLawful, IsAnswered, KeepsDisks}
+use Rattle.block_machine.specs.Histories.{JointState, Happening, IsHistory, IsReachable, now}
 use Rattle.block_machine.specs.Left.{IsRow, after}
 use Rattle.block_machine.specs.Ports.{Ports, AreFit, Evidence, SamePorts, SameDisk}
 use Rattle.block_machine.specs.State.{Machine, Pending}
 use Rattle.block_machine.specs.Steps.{Step}
 use Rattle.dma_frames.specs.Loan.{Lending}
 use Rattle.dma_frames.specs.Table.{Table}
-use Rattle.host_boot.specs.Taken.{found_of}
-use Rattle.host_boot.specs.declared.Found.{Found}
+use Rattle.host_boot.specs.Taken.{probe_result_of}
+use Rattle.host_boot.specs.declared.ProbeResult.{ProbeResult}
 use Rattle.driver_history.specs.Evidence.{IsEvidenced}
 use Rattle.driver_history.specs.Heeding.{IsGrounded}
-use Rattle.driver_history.specs.Histories.{Begins, CameBy, Issues, Ties, TiesPort}
+use Rattle.driver_history.specs.Histories.{Begins, CameBy, Issues, CallCorresponds, PortCorresponds}
 use Rattle.driver_history.specs.Trace.{LeavesEngine}
 use Rattle.driver_history.specs.Holds.{HoldsAt}
 use Rattle.driver_history.proofs.Instants.{history_fit, ready_low}
-use Rattle.server_history.specs.Histories.{Leads}
-use Rattle.request_queue.specs.Entries.{Held, IsAccepted, IsInOrder}
+use Rattle.server_history.specs.Histories.{LeadsToServer}
+use Rattle.request_queue.specs.Entries.{Held, IsAccepted, BookIsInOrder}
 use Rattle.request_queue.specs.Machine.{IsBook, IsEntry, range_of}
-use Rattle.slots.specs.Uses.{Uses as PortSlots}
-use Rattle.server_history.specs.Server.{HasCommand, StandsAlone, HasSlots, Server, IsKept, IsMachineOf, IsPortOf, mode_found, mode_in, kept_at, AreKept, ports_of, state_of, used_for, HasTrueMark}
-use Rattle.slots.specs.declared.Use.{Use as SlotUse}
+use Rattle.slots.specs.Uses.{PortSlots}
+use Rattle.server_history.specs.Server.{HasCommand, StandsAlone, HasSlots, ServerState, InCallInvariant, IsMachineOf, IsPortOf, mode_found, mode_in, kept_at, AreKept, ports_of, state_of, used_for, HasTrueMark}
+use Rattle.slots.specs.declared.SlotUse.{SlotUse}
 use Rattle.block_machine.specs.Due.{is_plain}
 use Rattle.server_history.proofs.state.ServerInstant.{holds_with, slots}
 use Rattle.server_history.proofs.state.CallEvidence.{evidenced, lawful_told, no_evidence, told_by}
@@ -68,9 +68,9 @@ book_on (e ∷ es) (old ∷ olds) [] further all = absurd further
 book_on (e ∷ es) (old ∷ olds) (new ∷ news) further all = (entry_on e old new further.0 all.0, book_on es olds news further.1 all.1)
 
 -- and so do kept requests, with their loans
-pub still_kept : LawsBelow → (found : List Found) (kept : List (List Lending)) (olds news : List Pending) → AllFurther olds news → AreKept found kept olds → AreKept found kept news
+pub still_kept : LawsBelow → (found : List ProbeResult) (kept : List (List Lending)) (olds news : List Pending) → AllFurther olds news → AreKept found kept olds → AreKept found kept news
 still_kept laws found kept olds news further are = record {
-  dead = λ e here. let o = laws.basic.found_before olds news e further here in ap (λ r. found_of found r.port.0) o.2.request ∙ are.dead o.0 o.1;
+  dead = λ e here. let o = laws.basic.found_before olds news e further here in ap (λ r. probe_result_of found r.port.0) o.2.request ∙ are.dead o.0 o.1;
   loan = λ e here.
       let o = laws.basic.found_before olds news e further here in
       let l = are.loan o.0 o.1 in
@@ -84,8 +84,8 @@ still_kept laws found kept olds news further are = record {
 
 -- ---- the machine that stands for a server
 
-pub machine_with : LawsBelow → (s : Server) (new : Device) (m later : Machine) → (is : IsMachineOf s m) → SparesBook m later
-    → Knows later (known is.uses is.parked new)
+pub machine_with : LawsBelow → (s : ServerState) (new : Device) (m later : Machine) → (is : IsMachineOf s m) → SparesBook m later
+    → DriverRelation later (known is.uses is.parked new)
     → IsMachineOf (record s { device = new }) later
 machine_with laws s new m later is spares knows = record {
   uses = is.uses;
@@ -102,22 +102,22 @@ machine_with laws s new m later is spares knows = record {
 }
 
 -- it goes on over steps of the device
-pub machine_on : LawsBelow → (s : Server) (new : Device) (m : Machine) (steps : List Step) → (is : IsMachineOf s m) → AllDevices steps
-    → Knows (after m steps) (known is.uses is.parked new)
+pub machine_on : LawsBelow → (s : ServerState) (new : Device) (m : Machine) (steps : List Step) → (is : IsMachineOf s m) → AllDevices steps
+    → DriverRelation (after m steps) (known is.uses is.parked new)
     → IsMachineOf (record s { device = new }) (after m steps)
 machine_on laws s new m steps is own knows = machine_with laws s new m (after m steps) is (laws.basic.spares m steps own) knows
 
 -- ---- what a server keeps
 
 -- a server with this device, these grants, loans, slots and book
-pub kept_then : (s : Server) (device : Device) (grants : List GrantRow) (table : Table) (slots : List PortSlots) (book : List Held) (last : ℕ) → IsKept s → All IsRow grants → IsOn device → SameAdapter s.device device
+pub kept_then : (s : ServerState) (device : Device) (grants : List GrantRow) (table : Table) (slots : List PortSlots) (book : List Held) (last : ℕ) → InCallInvariant s → All IsRow grants → IsOn device → SameAdapter s.device device
     → ((port : ℕ) → port < 4 → IsPortOf s.wanted s.ports port device) → table.owners ≡ s.table.owners → length slots ≡ 4 → ((port : ℕ) → port < 4 → HasSlots s.ports s.modes slots port)
     → ((port : Port) (slot : ℕ) (used : SlotUse) (e : Held) → used_for slots port.0 slot ≡ Some used → Contains book e → e.entry.id ≡ used.id → used.queued ≡ not (is_plain (mode_in s port) e.entry.op))
     → ((port slot : ℕ) (used : SlotUse) → used_for slots port slot ≡ Some used → HasCommand used.queued device port slot)
     → ((port slot : ℕ) (used : SlotUse) → used_for slots port slot ≡ Some used → used.queued ≡ false → StandsAlone slots port slot)
-    → All (IsAccepted table) book → IsInOrder book → All (HasTrueMark grants) book → All (λ e. e.entry.id.0 ≤ last) book → All (λ e. state_of (found_of s.ports e.entry.port.0) ≡ ReadyState) book → (m : Machine) → IsReached m
+    → All (IsAccepted table) book → BookIsInOrder book → All (HasTrueMark grants) book → All (λ e. e.entry.id.0 ≤ last) book → All (λ e. state_of (probe_result_of s.ports e.entry.port.0) ≡ ReadyState) book → (m : Machine) → IsReachable m
     → IsMachineOf (record s { device = device; grants = grants; table = table; slots = slots; book = book; last = last }) m
-    → IsKept (record s { device = device; grants = grants; table = table; slots = slots; book = book; last = last })
+    → InCallInvariant (record s { device = device; grants = grants; table = table; slots = slots; book = book; last = last })
 kept_then s device grants table used_now book last k rows on same behind owners four used kinds commands alone accepted ordered marked handed_out ready m reached is = record {
   on = on;
   room = subst (λ (n : ℕ). DRIVER_BYTES ≤ n) (sym same.size) k.room;
@@ -128,7 +128,7 @@ kept_then s device grants table used_now book last k rows on same behind owners 
   four_remembered = k.four_remembered;
   four_kept = k.four_kept;
   few_kept = k.few_kept;
-  modes = λ port low. k.modes port low ∙ ap (λ (cap : ℕ). mode_found cap (found_of s.ports port)) (sym same.cap);
+  modes = λ port low. k.modes port low ∙ ap (λ (cap : ℕ). mode_found cap (probe_result_of s.ports port)) (sym same.cap);
   slots = used;
   kinds = kinds;
   commands = commands;
@@ -148,9 +148,9 @@ kept_then s device grants table used_now book last k rows on same behind owners 
 }
 
 -- the same with another device alone
-pub kept_on : LawsBelow → (s : Server) (new : Device) → (k : IsKept s) → IsOn new → SameAdapter s.device new
+pub kept_on : LawsBelow → (s : ServerState) (new : Device) → (k : InCallInvariant s) → IsOn new → SameAdapter s.device new
     → ((port : ℕ) → port < 4 → IsPortOf s.wanted s.ports port new) → ((port slot : ℕ) (used : SlotUse) → used_for s.slots port slot ≡ Some used → HasCommand used.queued new port slot) → (steps : List Step) → AllMay k.machine steps
-    → IsMachineOf (record s { device = new }) (after k.machine steps) → IsKept (record s { device = new })
+    → IsMachineOf (record s { device = new }) (after k.machine steps) → InCallInvariant (record s { device = new })
 kept_on laws s new k on same behind commands steps may is =
     kept_then s new s.grants s.table s.slots s.book s.last k k.rows on same behind refl k.four k.slots k.kinds commands k.alone k.accepted k.ordered k.marked k.handed_out k.ready (after k.machine steps) (laws.basic.reached k.machine steps k.reached may) is
 
@@ -164,27 +164,27 @@ pub disks_same : (old new : Ports) → old ≡ new → (port : Port) → SameDis
 disks_same old new is port = subst (λ (ports : Ports). SameDisk old ports port) is (refl, refl)
 
 -- what a call does, with this evidence
-abbrev pub happening_with : Evidence → Device → Ask DeviceStep → Said → List Step → Ports → Happening Device DeviceStep
+abbrev pub happening_with : Evidence → Device → Ask DeviceStep → CallResult → List Step → Ports → Happening Device DeviceStep
 happening_with evidence new ask said steps ports = record { event = record { ask = ask; said = said; evidence = evidence; steps = steps; ports = ports }; device = new }
 
 -- with the evidence of one in which no port is stopped
-abbrev pub happening : Instant Device → Device → Ask DeviceStep → Said → List Step → Ports → Happening Device DeviceStep
+abbrev pub happening : JointState Device → Device → Ask DeviceStep → CallResult → List Step → Ports → Happening Device DeviceStep
 happening old new ask said steps ports = happening_with (told_by old.device old.moment.ports) new ask said steps ports
 
 -- the instant, with this device
-abbrev pub with_device : Device → Instant Device → Instant Device
+abbrev pub with_device : Device → JointState Device → JointState Device
 with_device d i = record { device = d; moment = i.moment }
 
 -- whatever machine stands for the server, there holds what holds at each instant
-abbrev pub IsHolding : Server → Type 0
-IsHolding s = (m : Machine) → IsReached m → IsMachineOf s m → HoldsAt s.wanted (record { device = s.device; moment = record { machine = m; ports = ports_of s } })
+abbrev pub IsHolding : ServerState → Type 0
+IsHolding s = (m : Machine) → IsReachable m → IsMachineOf s m → HoldsAt s.wanted (record { device = s.device; moment = record { machine = m; ports = ports_of s } })
 
-pub holding : (s : Server) → IsKept s → IsHolding s
+pub holding : (s : ServerState) → InCallInvariant s → IsHolding s
 holding s k m reached is = (slots s k m reached is, holds_with s k m reached is)
 
 -- a call, with what its event needs
-pub lead_with : LawsBelow → (first : Instant Device) (past : List (Happening Device DeviceStep)) (s new : Server) (ask : Ask DeviceStep) (said : Said) (evidence : Evidence) (steps : List Step)
-    → new.wanted ≡ s.wanted → Leads first past s → IsHolding new → AreFit (ports_of new)
+pub lead_with : LawsBelow → (first : JointState Device) (past : List (Happening Device DeviceStep)) (s new : ServerState) (ask : Ask DeviceStep) (said : CallResult) (evidence : Evidence) (steps : List Step)
+    → new.wanted ≡ s.wanted → LeadsToServer first past s → IsHolding new → AreFit (ports_of new)
     → AllMay (now first past).moment.machine steps → Belong ask (ports_of new) steps → IssuesLast steps
     → AllLawful (now first past).moment evidence (ports_of new) steps
     → KeepsDisks (now first past).moment (record { machine = after (now first past).moment.machine steps; ports = ports_of new })
@@ -193,25 +193,25 @@ pub lead_with : LawsBelow → (first : Instant Device) (past : List (Happening D
     → (accesses : List Access) → CameBy (now first past).moment ask said accesses s.device new.device
     → IsEvidenced ask said accesses (with_device s.device (now first past)) (ports_of new) new.device evidence
     → ((port : Port) → Issues ask steps (after (now first past).moment.machine steps) (ports_of new) port)
-    → ((port : Port) → TiesPort (with_device s.device (now first past)) (happening_with evidence new.device ask said steps (ports_of new)) accesses port)
+    → ((port : Port) → PortCorresponds (with_device s.device (now first past)) (happening_with evidence new.device ask said steps (ports_of new)) accesses port)
     → IsBacked s.device new.device (now first past).moment.machine steps
     → IsMachineOf new (after (now first past).moment.machine steps)
-    → (h : Happening Device DeviceStep) × (h.event.ask ≡ ask) × (h.event.said ≡ said) × Leads first (h ∷ past) new
+    → (h : Happening Device DeviceStep) × (h.event.ask ≡ ask) × (h.event.said ≡ said) × LeadsToServer first (h ∷ past) new
 lead_with laws first past s new ask said evidence steps wanted_is leads holds fit may belong last lawful disks answered grounded accesses came evidenced issues parts backed stands = (
   h,
   refl,
   refl,
   record {
     history = (
-      subst (λ wanted. IsHistory (Begins wanted) (Ties wanted) first past) (sym wanted_is) leads.history,
+      subst (λ wanted. IsHistory (Begins wanted) (CallCorresponds wanted) first past) (sym wanted_is) leads.history,
       record { may = may; belong = belong; last = last; lawful = lawful; fit = fit; disks = disks; answered = answered },
-      subst (λ (d : Device). Ties new.wanted (with_device d old) h) (sym leads.stands.device_is) ties,
+      subst (λ (d : Device). CallCorresponds new.wanted (with_device d old) h) (sym leads.stands.device_is) ties,
     );
     stands = record { device_is = refl; ports_are = refl; machine = stands };
   },
 )
   where
-    old : Instant Device
+    old : JointState Device
     old = now first past
 
     h : Happening Device DeviceStep
@@ -220,10 +220,10 @@ lead_with laws first past s new ask said evidence steps wanted_is leads holds fi
     later : Machine
     later = after old.moment.machine steps
 
-    reached : IsReached later
+    reached : IsReachable later
     reached = laws.basic.reached old.moment.machine steps (laws.basic.history_reached s.wanted first past leads.history) may
 
-    ties : Ties new.wanted (with_device s.device old) h
+    ties : CallCorresponds new.wanted (with_device s.device old) h
     ties = record {
       accesses = accesses;
       came = came;
@@ -236,8 +236,8 @@ lead_with laws first past s new ask said evidence steps wanted_is leads holds fi
     }
 
 -- one in which no port is stopped, and each is what it was
-pub lead_by : LawsBelow → (first : Instant Device) (past : List (Happening Device DeviceStep)) (s new : Server) (ask : Ask DeviceStep) (said : Said) (steps : List Step)
-    → new.wanted ≡ s.wanted → ports_of new ≡ ports_of s → Leads first past s → IsHolding new
+pub lead_by : LawsBelow → (first : JointState Device) (past : List (Happening Device DeviceStep)) (s new : ServerState) (ask : Ask DeviceStep) (said : CallResult) (steps : List Step)
+    → new.wanted ≡ s.wanted → ports_of new ≡ ports_of s → LeadsToServer first past s → IsHolding new
     → AllMay (now first past).moment.machine steps → Belong ask (ports_of new) steps → IssuesLast steps
     → AllLawful (now first past).moment no_evidence (ports_of new) steps
     → IsAnswered ask said (now first past).moment (told_by s.device (now first past).moment.ports) steps (record { machine = after (now first past).moment.machine steps; ports = ports_of new })
@@ -245,10 +245,10 @@ pub lead_by : LawsBelow → (first : Instant Device) (past : List (Happening Dev
     → (accesses : List Access) → CameBy (now first past).moment ask said accesses s.device new.device
     → ((port : Port) → All (LeavesEngine port) accesses)
     → ((port : Port) → Issues ask steps (after (now first past).moment.machine steps) (ports_of new) port)
-    → ((port : Port) → TiesPort (with_device s.device (now first past)) (happening (with_device s.device (now first past)) new.device ask said steps (ports_of new)) accesses port)
+    → ((port : Port) → PortCorresponds (with_device s.device (now first past)) (happening (with_device s.device (now first past)) new.device ask said steps (ports_of new)) accesses port)
     → IsBacked s.device new.device (now first past).moment.machine steps
     → IsMachineOf new (after (now first past).moment.machine steps)
-    → (h : Happening Device DeviceStep) × (h.event.ask ≡ ask) × (h.event.said ≡ said) × Leads first (h ∷ past) new
+    → (h : Happening Device DeviceStep) × (h.event.ask ≡ ask) × (h.event.said ≡ said) × LeadsToServer first (h ∷ past) new
 lead_by laws first past s new ask said steps wanted_is ports_is leads holds may belong last lawful answered grounded accesses came leaves issues parts backed stands =
     lead_with laws first past s new ask said (told_by s.device old.moment.ports) steps wanted_is leads holds (subst AreFit ports fit) may belong last
     (lawful_told s.device old.moment.ports old.moment (ports_of new) steps lawful)
@@ -257,11 +257,11 @@ lead_by laws first past s new ask said steps wanted_is ports_is leads holds may 
     (evidenced ask said accesses (with_device s.device old) (ports_of new) new.device (λ port ready. (ready_low old port fit ready).1) leaves)
     issues parts backed stands
   where
-    old : Instant Device
+    old : JointState Device
     old = now first past
 
     ports : old.moment.ports ≡ ports_of new
     ports = leads.stands.ports_are ∙ sym ports_is
 
     fit : AreFit old.moment.ports
-    fit = history_fit (Begins s.wanted) (Ties s.wanted) first past leads.history
+    fit = history_fit (Begins s.wanted) (CallCorresponds s.wanted) first past leads.history

@@ -5,21 +5,21 @@ use Rattle.std.proofs.lemmas.List.Sums.{sum_by-cons}
 use Rattle.ata_types.specs.declared.Port.{Port}
 use Rattle.ata_types.specs.declared.PortState.TheVariants.{Dead, Ready as ReadyState}
 use Rattle.ata_types.specs.declared.request.RequestId.{RequestId}
-use Rattle.agreement.specs.Agrees.{HaveSlots}
-use Rattle.agreement.specs.Slots.{Uses, is_serving, serving_count}
+use Rattle.refinement.specs.Relation.{HaveSlots}
+use Rattle.refinement.specs.Slots.{SlotStates, is_serving, serving_count}
 use Rattle.block_machine.specs.Due.{issued_count}
 use Rattle.block_machine.specs.declared.due.Unanswered.{Unanswered}
-use Rattle.host_boot.specs.Taken.{found_of}
-use Rattle.host_boot.specs.declared.Found.TheVariants.{Unready}
+use Rattle.host_boot.specs.Taken.{probe_result_of}
+use Rattle.host_boot.specs.declared.ProbeResult.TheVariants.{Unready}
 use Rattle.request_queue.specs.Entries.{Held, asks, asks_of, is_of}
 use Rattle.server_history.specs.Below.{LawsBelow}
-use Rattle.server_history.specs.Mended.{requests_of}
-use Rattle.server_history.specs.Server.{Server, IsKept, kept_at, state_of}
+use Rattle.server_history.specs.ErrorHandling.{requests_of}
+use Rattle.server_history.specs.Server.{ServerState, InCallInvariant, kept_at, state_of}
 use Rattle.server_history.proofs.state.DueRequests.{same_book}
-use Rattle.server_history.proofs.state.KeptLoans.{none_alive}
+use Rattle.server_history.proofs.state.Quarantine.{none_alive}
 use Rattle.server_history.proofs.state.PortSlots.{none_kept, not_dead, used_serves, used_small}
 
-few_serve : (uses : Uses) (port n : ℕ) → serving_count uses port n ≤ n
+few_serve : (uses : SlotStates) (port n : ℕ) → serving_count uses port n ≤ n
 few_serve uses port zero = le_refl 0
 few_serve uses port (suc n) = by (is_serving (uses port n)) (few_serve uses port n)
   where
@@ -37,11 +37,11 @@ same_count port (e ∷ book) = by (is_of port e.entry) (same_count port book) �
     by true same = sum_by-cons (λ (x : Held). cond x.entry.issued 1 0) e (requests_of port book) ∙ ap (λ (n : ℕ). cond e.entry.issued 1 0 + n) same
     by false same = omega (arith, same)
 
-pub places : LawsBelow → (s : Server) (port : Port) → IsKept s → state_of (found_of s.ports port.0) ≡ ReadyState
+pub places : LawsBelow → (s : ServerState) (port : Port) → InCallInvariant s → state_of (probe_result_of s.ports port.0) ≡ ReadyState
     → (kept_at s.kept port.0 ≡ []) × (count_by (λ (e : Held). e.entry.issued) (requests_of port s.book) ≤ 32)
 places laws s port k ready = (none_alive s k port.0 alive (kept_at s.kept port.0) refl, subst (λ (n : ℕ). n ≤ 32) (sym counts) (few_serve k.stands.uses port.0 32))
   where
-    alive : found_of s.ports port.0 ≢ Unready Dead
+    alive : probe_result_of s.ports port.0 ≢ Unready Dead
     alive = not_dead s port.0 ready
 
     counts : count_by (λ (e : Held). e.entry.issued) (requests_of port s.book) ≡ serving_count k.stands.uses port.0 32

@@ -10,10 +10,10 @@ use Rattle.ata_types.specs.declared.request.Outcome.{Outcome}
 use Rattle.ata_types.specs.declared.request.Outcome.TheVariants as outcome
 use Rattle.ata_types.specs.declared.request.RequestId.{RequestId}
 use Rattle.server_history.proofs.state.ListMembers.{contains_cases}
-use Rattle.request_queue.specs.Entries.{Held, all_marked_under, at, has_id, is_of, marked_under, requeued}
-use Rattle.request_queue.specs.Fates.{keeps_loan}
-use Rattle.request_queue.specs.declared.Entry.{Entry}
-use Rattle.server_history.specs.Mended.{requests_of}
+use Rattle.request_queue.specs.Entries.{Held, all_marked_under, at_entry, has_id, is_of, marked_under, requeued_entry}
+use Rattle.request_queue.specs.Dispositions.{quarantines_loan}
+use Rattle.request_queue.specs.declared.PendingRequest.{PendingRequest}
+use Rattle.server_history.specs.ErrorHandling.{requests_of}
 use Rattle.server_history.proofs.state.FirstMembers.{nowhere}
 use Rattle.block_machine.specs.Rules.{is_under}
 
@@ -64,12 +64,12 @@ one_fewer port passes (x ∷ book) e here out = ⊎_elim
     by false less = let right = issued_first port x book in omega (arith, less, right)
 
 -- where one waits again, no more are issued
-pub requeued_issued : (port : Port) (id : RequestId) (book : List Held) → issued_of port (map (at id requeued) book) ≤ issued_of port book
+pub requeued_issued : (port : Port) (id : RequestId) (book : List Held) → issued_of port (map (at_entry id requeued_entry) book) ≤ issued_of port book
 requeued_issued port id [] = le_refl 0
 requeued_issued port id (x ∷ book) =
     let rest = requeued_issued port id book in
     let one = by (has_id id x) in
-    let left = issued_first port (at id requeued x) (map (at id requeued) book) in
+    let left = issued_first port (at_entry id requeued_entry x) (map (at_entry id requeued_entry) book) in
     let right = issued_first port x book in
     omega (arith, rest, one, left, right)
   where
@@ -77,7 +77,7 @@ requeued_issued port id (x ∷ book) =
     own true = omega arith
     own false = le_refl 0
 
-    by : (b : Bool) → counts port (if b then record x { entry = requeued x.entry } else x) ≤ counts port x
+    by : (b : Bool) → counts port (if b then record x { entry = requeued_entry x.entry } else x) ≤ counts port x
     by true = own (is_of port x.entry)
     by false = le_refl (counts port x)
 
@@ -96,7 +96,7 @@ marked_issued port client grant (x ∷ book) =
     by false = refl
 
 -- only an issued request's loan is kept
-pub kept_issued : (o : Outcome) (e : Entry) → keeps_loan o e ≡ true → e.issued ≡ true
+pub kept_issued : (o : Outcome) (e : PendingRequest) → quarantines_loan o e ≡ true → e.issued ≡ true
 kept_issued outcome.Ok e is = absurd (false≢true is)
 kept_issued (outcome.DeviceError status error) e is = absurd (false≢true is)
 kept_issued outcome.Aborted e is = absurd (false≢true is)

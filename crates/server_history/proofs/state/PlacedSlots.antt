@@ -2,13 +2,13 @@
 use Rattle.std.proofs.Common.{ℕ, ◌≡◌, ◌≢◌, ◌≤◌, ◌<◌, List, get_or, length, ◌⊎◌, Option, None, Some, inl, inr, sym, ap, ◌∙◌, subst, ⊎_elim, arith}
 use Rattle.std.proofs.lemmas.Bool.{cases_eq}
 use Rattle.std.proofs.lemmas.List.{get_or-set_same, get_or-set_other, length-set}
-use Rattle.agreement.specs.Slots.{Use, Uses, put}
-use Rattle.agreement.proofs.driver.PutSlot.{put_cases, put_same}
-use Rattle.block_machine.specs.declared.due.Mode.{Mode}
-use Rattle.host_boot.specs.Taken.{found_of}
-use Rattle.host_boot.specs.declared.Found.{Found}
-use Rattle.slots.specs.Uses.{Uses as PortSlots, with_use}
-use Rattle.slots.specs.declared.Use.{Use as SlotUse}
+use Rattle.refinement.specs.Slots.{SlotState, SlotStates, put}
+use Rattle.refinement.proofs.driver.PutSlot.{put_cases, put_same}
+use Rattle.block_machine.specs.declared.due.QueueMode.{QueueMode}
+use Rattle.host_boot.specs.Taken.{probe_result_of}
+use Rattle.host_boot.specs.declared.ProbeResult.{ProbeResult}
+use Rattle.slots.specs.Uses.{PortSlots, with_use}
+use Rattle.slots.specs.declared.SlotUse.{SlotUse}
 use Rattle.server_history.specs.Server.{HasSlots, IsUsedAs, mode_at, no_slots, usable_of, use_of, used_for, with_slot}
 
 module _ (slots : List PortSlots) (port slot : ℕ) (used : Option SlotUse) (low : port < length slots) (small : slot < length (get_or slots port no_slots).places) where
@@ -30,15 +30,15 @@ module _ (slots : List PortSlots) (port slot : ℕ) (used : Option SlotUse) (low
       (cases_eq q port)
 
   -- where its uses are what they were but for this slot
-  pub placed_uses : (found : List Found) (uses : Uses) → ((q k : ℕ) → IsUsedAs (found_of found q) (used_for slots q k) (uses q k))
-      → (q k : ℕ) → IsUsedAs (found_of found q) (used_for (with_slot slots port slot used) q k) (put uses port slot (use_of used) q k)
+  pub placed_uses : (found : List ProbeResult) (uses : SlotStates) → ((q k : ℕ) → IsUsedAs (probe_result_of found q) (used_for slots q k) (uses q k))
+      → (q k : ℕ) → IsUsedAs (probe_result_of found q) (used_for (with_slot slots port slot used) q k) (put uses port slot (use_of used) q k)
   placed_uses found uses was q k = ⊎_elim
       (λ (at : (q ≡ port) × (k ≡ slot)).
       λ _. ap (λ (p : ℕ). put uses port slot (use_of used) p k) at.0 ∙ ap (λ (n : ℕ). put uses port slot (use_of used) port n) at.1 ∙ put_same uses port slot (use_of used)
       ∙ ap use_of (sym placed_same ∙ ap (λ (n : ℕ). used_for (with_slot slots port slot used) port n) (sym at.1) ∙ ap (λ (p : ℕ). used_for (with_slot slots port slot used) p k) (sym at.0)))
       (λ (there : (q ≡ port → k ≡ slot → ⊥) × (put uses port slot (use_of used) q k ≡ uses q k)).
-      let U : Use → Type 0 = λ u. IsUsedAs (found_of found q) (used_for (with_slot slots port slot used) q k) u in
-      let P : Option SlotUse → Type 0 = λ p. IsUsedAs (found_of found q) p (uses q k) in
+      let U : SlotState → Type 0 = λ u. IsUsedAs (probe_result_of found q) (used_for (with_slot slots port slot used) q k) u in
+      let P : Option SlotUse → Type 0 = λ p. IsUsedAs (probe_result_of found q) p (uses q k) in
       subst U (sym there.1) (subst P (sym (placed_other q k there.0)) (was q k)))
       (put_cases uses port slot (use_of used) q k)
 
@@ -64,8 +64,8 @@ freed_was slots port slot low small q k u is = ⊎_elim
     (its_or_other port slot q k)
 
 -- the four ports have their slots still
-module _ (found : List Found) (modes : List Mode) (slots : List PortSlots) (port slot : ℕ) (used : Option SlotUse) (four : length slots ≡ 4) (low : port < 4) (slot_low : slot < usable_of (found_of found port) (mode_at modes port))
-    (few : usable_of (found_of found port) (mode_at modes port) ≤ 32) (has : (q : ℕ) → q < 4 → HasSlots found modes slots q) where
+module _ (found : List ProbeResult) (modes : List QueueMode) (slots : List PortSlots) (port slot : ℕ) (used : Option SlotUse) (four : length slots ≡ 4) (low : port < 4) (slot_low : slot < usable_of (probe_result_of found port) (mode_at modes port))
+    (few : usable_of (probe_result_of found port) (mode_at modes port) ≤ 32) (has : (q : ℕ) → q < 4 → HasSlots found modes slots q) where
   in_list : port < length slots
   in_list = omega (arith, four, low)
 
@@ -90,7 +90,7 @@ module _ (found : List Found) (modes : List Mode) (slots : List PortSlots) (port
         (λ (n : q ≢ port). ap (λ (u : PortSlots). u.usable) (other q n) ∙ (has q small).usable)
         (cases_eq q port);
     unused = λ k high.
-        placed_other slots port slot used in_list in_places q k (λ e s. let h = subst (λ (p : ℕ). usable_of (found_of found p) (mode_at modes p) ≤ k) e high in absurd (omega (arith, h, s, slot_low)))
+        placed_other slots port slot used in_list in_places q k (λ e s. let h = subst (λ (p : ℕ). usable_of (probe_result_of found p) (mode_at modes p) ≤ k) e high in absurd (omega (arith, h, s, slot_low)))
         ∙ (has q small).unused k high;
   }
     where

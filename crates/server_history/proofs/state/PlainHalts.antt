@@ -9,45 +9,45 @@ use Rattle.hba_regs.specs.declared.reg.PortReg.TheVariants.{Cmd}
 use Rattle.hba_regs.specs.declared.reg.Reg.TheVariants.{Px}
 use Rattle.adapter.specs.Commands.{Meaning, is_queued}
 use Rattle.adapter.specs.Access.{Access}
-use Rattle.adapter.specs.Device.{Device, Halt, PortState, Taken}
+use Rattle.adapter.specs.Device.{Device, Halt, DevicePort, FetchedCommand}
 use Rattle.adapter.specs.Device.Halt.{HaltedPlain, HaltedQueued, LogOnly, NotHalted}
 use Rattle.adapter.specs.Steps.{restarted}
-use Rattle.agreement.specs.Acts.{InSlots, at as at_slots}
-use Rattle.agreement.specs.Driven.{AnyUse, IsFollowed}
-use Rattle.agreement.specs.Halting.{HaltsAsTaken, IsHaltedAsTaken}
-use Rattle.agreement.specs.Links.{SparesRegister}
-use Rattle.agreement.specs.Recovering.{WorksPlainly}
-use Rattle.agreement.specs.Slots.{IsFree, IsServed, Stage, Use}
+use Rattle.refinement.specs.Acts.{InSlots, at_slots}
+use Rattle.refinement.specs.Driven.{AnyUse, IsSimulated}
+use Rattle.refinement.specs.Halting.{HaltsAsTaken, IsHaltedAsTaken}
+use Rattle.refinement.specs.Links.{SparesRegister}
+use Rattle.refinement.specs.Recovering.{WorksPlainly}
+use Rattle.refinement.specs.Slots.{IsEmptySlot, RelatesSlot, Stage, SlotState}
 use Rattle.block_machine.specs.State.{Pending}
 use Rattle.error_recovery.specs.Recovery.{RunsAgain}
-use Rattle.host_boot.specs.Taken.{found_of}
+use Rattle.host_boot.specs.Taken.{probe_result_of}
 use Rattle.server_history.specs.Below.{LawsBelow}
-use Rattle.server_history.specs.Mended.{AreQueued}
-use Rattle.server_history.specs.Server.{Server, IsKept, slots_at, state_of, used_for}
+use Rattle.server_history.specs.ErrorHandling.{AreQueued}
+use Rattle.server_history.specs.Server.{ServerState, InCallInvariant, slots_at, state_of, used_for}
 use Rattle.server_history.proofs.state.PortSlots.{IsServedBy, free_unused, served_request, serves_used, used_or_not}
-use Rattle.slots.specs.declared.Use.{Use as SlotUse}
+use Rattle.slots.specs.declared.SlotUse.{SlotUse}
 
 and_false : (b : Bool) → b && false ≡ false
 and_false true = refl
 and_false false = refl
 
 -- a plain request's command sets no bit of PxSACT, and is what is taken
-plain_stage : (memory : ℕ → ℕ) (p : PortState) (port slot : ℕ) (e : Pending) (c : Meaning) (places : List ℕ) → Stage memory p port slot e c places → is_queued c.operation ≡ false
-    → (p.sact slot ≡ false) × ((t : Taken) → p.taken slot ≡ Some t → is_queued t.meaning.operation ≡ false)
+plain_stage : (memory : ℕ → ℕ) (p : DevicePort) (port slot : ℕ) (e : Pending) (c : Meaning) (places : List ℕ) → Stage memory p port slot e c places → is_queued c.operation ≡ false
+    → (p.sact slot ≡ false) × ((t : FetchedCommand) → p.taken slot ≡ Some t → is_queued t.meaning.operation ≡ false)
 plain_stage memory p port slot e c places (inl waits) plain = (waits.sact ∙ plain, λ t is. let z : None ≡ Some t = sym waits.free ∙ is in absurd cc)
 plain_stage memory p port slot e c places (inr (inl taken)) plain = (
   taken.sact ∙ ap (λ (b : Bool). p.st && b) plain ∙ and_false p.st,
   λ t is.
       let z : Some taken.command ≡ Some t = sym taken.taken ∙ is in
       let same : taken.command ≡ t = cc in
-      ap (λ (y : Taken). is_queued y.meaning.operation) (sym same) ∙ ap (λ (m : Meaning). is_queued m.operation) taken.meaning ∙ plain,
+      ap (λ (y : FetchedCommand). is_queued y.meaning.operation) (sym same) ∙ ap (λ (m : Meaning). is_queued m.operation) taken.meaning ∙ plain,
 )
 plain_stage memory p port slot e c places (inr (inr (inl ended))) plain = (ended.sact, λ t is. let z : None ≡ Some t = sym ended.free ∙ is in absurd cc)
 plain_stage memory p port slot e c places (inr (inr (inr dropped))) plain = (dropped.sact, λ t is. let z : None ≡ Some t = sym dropped.free ∙ is in absurd cc)
 
-module _ (laws : LawsBelow) (s : Server) (k : IsKept s) (port : Port) (ready : state_of (found_of s.ports port.0) ≡ ReadyState) (alike : AreQueued false (slots_at s.slots port.0)) where
+module _ (laws : LawsBelow) (s : ServerState) (k : InCallInvariant s) (port : Port) (ready : state_of (probe_result_of s.ports port.0) ≡ ReadyState) (alike : AreQueued false (slots_at s.slots port.0)) where
   -- each slot is free, or has a plain command
-  each : (slot : ℕ) → ((s.device.port port.0).sact slot ≡ false) × ((t : Taken) → (s.device.port port.0).taken slot ≡ Some t → is_queued t.meaning.operation ≡ false)
+  each : (slot : ℕ) → ((s.device.port port.0).sact slot ≡ false) × ((t : FetchedCommand) → (s.device.port port.0).taken slot ≡ Some t → is_queued t.meaning.operation ≡ false)
   each slot = ⊎_elim
       (λ (u : (used : SlotUse) × (used_for s.slots port.0 slot ≡ Some used)).
       let b : IsServedBy s k.machine port.0 slot u.0.id = served_request s k.machine port.0 slot k.stands ready u.0.id (serves_used s k.machine port.0 k.stands ready slot u.0 u.1) in
@@ -56,7 +56,7 @@ module _ (laws : LawsBelow) (s : Server) (k : IsKept s) (port : Port) (ready : s
       plain_stage s.device.memory (s.device.port port.0) port.0 slot b.serves.pending b.serves.command b.serves.places b.serves.stage
       (ap (λ (y : Meaning). is_queued y.operation) one ∙ c.kind ∙ alike slot u.0 u.1))
       (λ none.
-      let f : IsFree (s.device.port port.0) slot = subst (λ (u : Use). IsServed k.machine s.device.memory s.device.tape (s.device.port port.0) port.0 slot u)
+      let f : IsEmptySlot (s.device.port port.0) slot = subst (λ (u : SlotState). RelatesSlot k.machine s.device.memory s.device.tape (s.device.port port.0) port.0 slot u)
       (free_unused s k.machine port.0 k.stands ready slot none) (k.stands.knows.agrees.slot port.0 slot) in
       (f.unarmed, λ t is. let z : None ≡ Some t = sym f.free ∙ is in absurd cc))
       (used_or_not (used_for s.slots port.0 slot))
@@ -73,15 +73,15 @@ module _ (laws : LawsBelow) (s : Server) (k : IsKept s) (port : Port) (ready : s
 -- ---- where a halt is of a taken command
 
 -- so it stays over what was followed, without a write of PxCMD
-pub followed_halts : LawsBelow → (port : Port) (May : Access → Type 0) (s : Server) (k : IsKept s) (new : Device) → (f : IsFollowed May AnyUse s.device new) → ((access : Access) → May access → SparesRegister (Px port Cmd) access)
+pub followed_halts : LawsBelow → (port : Port) (May : Access → Type 0) (s : ServerState) (k : InCallInvariant s) (new : Device) → (f : IsSimulated May AnyUse s.device new) → ((access : Access) → May access → SparesRegister (Px port Cmd) access)
     → IsHaltedAsTaken (s.device.port port.0) → IsHaltedAsTaken (new.port port.0)
 followed_halts laws port May s k new f spares h =
     let slots : InSlots = record { uses = k.stands.uses; parked = k.stands.parked } in
     let c = f.comes slots k.machine k.reached k.stands.knows tt in
-    laws.trouble.halts_acts port c.acts (at_slots slots s.device) (at_slots slots new) k.machine k.reached k.stands.knows c.done
+    laws.port_error.halts_acts port c.acts (at_slots slots s.device) (at_slots slots new) k.machine k.reached k.stands.knows c.done
     (subst (All (SparesRegister (Px port Cmd))) (sym c.accesses_are) (All-weaker May (SparesRegister (Px port Cmd)) spares f.driven.accesses f.driven.only)) h
 
 -- and so it is once a port was recovered
 pub again_halts : LawsBelow → (queued : Bool) (port : ℕ) (old new : Device) → RunsAgain queued port old new → (queued ≡ false → WorksPlainly (old.port port)) → HaltsAsTaken (new.port port)
-again_halts laws true port old new again plainly = laws.trouble.halts_calm (new.port port) (again.ended refl)
-again_halts laws false port old new again plainly = laws.trouble.halts_plain (new.port port) (again.plain refl (plainly refl))
+again_halts laws true port old new again plainly = laws.port_error.halts_calm (new.port port) (again.ended refl)
+again_halts laws false port old new again plainly = laws.port_error.halts_plain (new.port port) (again.plain refl (plainly refl))

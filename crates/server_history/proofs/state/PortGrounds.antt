@@ -3,11 +3,11 @@ use Rattle.std.proofs.Common.{ℕ, ◌≡◌, ◌≢◌, ap}
 use Rattle.ata_types.specs.declared.PortState.TheVariants.{Dead}
 use Rattle.adapter.specs.Device.{Device}
 use Rattle.adapter.specs.declared.command.Operation.TheVariants.{Identify}
-use Rattle.agreement.specs.Driven.{LeavesPort, SendsNone}
-use Rattle.agreement.specs.Links.{SameAdapter}
+use Rattle.refinement.specs.Driven.{LeavesPort, SendsNone}
+use Rattle.refinement.specs.Links.{SameAdapter}
 use Rattle.host_boot.specs.Taken.{LeavesFound, StillStandsBehind}
-use Rattle.host_boot.specs.declared.Found.{Found}
-use Rattle.host_boot.specs.declared.Found.TheVariants.{Unserved, Ready, Unready}
+use Rattle.host_boot.specs.declared.ProbeResult.{ProbeResult}
+use Rattle.host_boot.specs.declared.ProbeResult.TheVariants.{Unserved, Ready, Unready}
 use Rattle.host_boot.proofs.Leaving.{still_on}
 use Rattle.host_boot.specs.Laws.{FoundLaws}
 use Rattle.port_boot.proofs.Staying.{disk_on, ends_on, ready_on as still_ready}
@@ -19,11 +19,11 @@ goes_on : FoundLaws
 goes_on = record { disk_on = disk_on; ready_on = λ wanted port old new info left. still_ready port old new left wanted info; ends_on = λ wanted state port old new left. ends_on port old new left wanted state }
 
 -- the port is left to the device
-pub left_on : (wanted : Wanted) (found : Found) (port : ℕ) (old new : Device) → SameAdapter old new → LeavesPort (old.port port) (new.port port)
+pub left_on : (wanted : Wanted) (found : ProbeResult) (port : ℕ) (old new : Device) → SameAdapter old new → LeavesPort (old.port port) (new.port port)
     → (found ≢ Unready Dead → SendsNone port Identify old new) → StillStandsBehind wanted found port old → StillStandsBehind wanted found port new
 left_on wanted found port old new same l silent s = still_on goes_on wanted found port old new same (enough found) silent s
   where
-    enough : (f : Found) → LeavesFound f (old.port port) (new.port port)
+    enough : (f : ProbeResult) → LeavesFound f (old.port port) (new.port port)
     enough Unserved = l
     enough (Ready info) = (l.controls.sctl_det, l.controls.ie, ap (λ n. n.sctl_written_at) l.notes)
     enough (Unready state) = l

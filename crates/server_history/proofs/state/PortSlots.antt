@@ -14,28 +14,28 @@ use Rattle.ata_types.specs.declared.request.Op.TheVariants.{Read, Write, Trim, F
 use Rattle.ata_types.specs.declared.request.RequestId.{RequestId}
 use Rattle.adapter.specs.Commands.{Meaning}
 use Rattle.hba_regs.specs.Bits.{bit}
-use Rattle.adapter.specs.Device.{Device, PortState}
+use Rattle.adapter.specs.Device.{Device, DevicePort}
 use Rattle.adapter.specs.declared.command.Operation.{Operation}
 use Rattle.block_machine.specs.Due.{IsDue, is_plain}
 use Rattle.block_machine.specs.Ports.{IsMode}
 use Rattle.block_machine.specs.State.{Machine, Pending, unanswered}
-use Rattle.block_machine.specs.Steps.{Issue, May, MayMove, NoneKept, HasGrant}
-use Rattle.block_machine.specs.declared.due.Mode.{Mode}
+use Rattle.block_machine.specs.Steps.{Issue, May, MayStillMove, NoneKept, HasGrant}
+use Rattle.block_machine.specs.declared.due.QueueMode.{QueueMode}
 use Rattle.block_machine.specs.declared.due.Unanswered.{Unanswered}
-use Rattle.agreement.specs.Driven.{AgreesWith}
-use Rattle.agreement.specs.Slots.{Armed, Free, Own, Serves, Use, IsDropped, IsEnded, IsOver, IsServed, ServesRequest, Stage}
+use Rattle.refinement.specs.Driven.{RelatesWith}
+use Rattle.refinement.specs.Slots.{Armed, Free, Own, Serves, SlotState, IsDropped, IsEnded, IsOver, RelatesSlot, ServesRequest, Stage}
 use Rattle.command_table.specs.Written.{IsUnused}
-use Rattle.host_boot.specs.Taken.{StillStandsBehind, found_of, wanted_of}
-use Rattle.host_boot.specs.declared.Found.{Found}
-use Rattle.host_boot.specs.declared.Found.TheVariants.{Unserved, Ready, Unready}
+use Rattle.host_boot.specs.Taken.{StillStandsBehind, probe_result_of, wanted_of}
+use Rattle.host_boot.specs.declared.ProbeResult.{ProbeResult}
+use Rattle.host_boot.specs.declared.ProbeResult.TheVariants.{Unserved, Ready, Unready}
 use Rattle.identify.specs.declared.DiskInfo.{DiskInfo}
 use Rattle.request_queue.specs.Entries.{Held, asks, asks_of}
 use Rattle.request_queue.specs.Machine.{IsEntry}
 use Rattle.std.proofs.lemmas.List.{get_or_past}
-use Rattle.slots.specs.Uses.{Uses as PortSlots, IsLowestFree, IsTaken, use_at}
-use Rattle.slots.specs.declared.Use.{Use as SlotUse}
+use Rattle.slots.specs.Uses.{PortSlots, IsLowestFree, IsTaken, use_at}
+use Rattle.slots.specs.declared.SlotUse.{SlotUse}
 use Rattle.server_history.specs.Served.{is_used}
-use Rattle.server_history.specs.Server.{Server, IsKept, IsMachineOf, IsUsedAs, is_served, mode_at, mode_found, mode_in, no_slots, slots_at, state_of, usable_of, use_of, used_for, HasTrueMark}
+use Rattle.server_history.specs.Server.{ServerState, InCallInvariant, IsMachineOf, IsUsedAs, is_served, mode_at, mode_found, mode_in, no_slots, slots_at, state_of, usable_of, use_of, used_for, HasTrueMark}
 use Rattle.server_history.specs.Below.{LawsBelow}
 use Rattle.server_history.proofs.state.DueRequests.{asked_alike, same_book}
 use Rattle.server_history.proofs.state.PairedLists.{at_left, at_right}
@@ -45,36 +45,36 @@ use Rattle.server_history.proofs.state.RevokedMarks.{tells_of, unmarked_has}
 -- ---- ready ports
 
 -- a ready port is one of the four, and was found with a disk
-pub ready_found : (s : Server) (port : ℕ) → IsKept s → state_of (found_of s.ports port) ≡ ReadyState → (port < 4) × ((info : DiskInfo) × (found_of s.ports port ≡ Ready info))
-ready_found s port k ready = by (found_of s.ports port) refl
+pub ready_found : (s : ServerState) (port : ℕ) → InCallInvariant s → state_of (probe_result_of s.ports port) ≡ ReadyState → (port < 4) × ((info : DiskInfo) × (probe_result_of s.ports port ≡ Ready info))
+ready_found s port k ready = by (probe_result_of s.ports port) refl
   where
-    low : is_served (found_of s.ports port) ≡ true → port < 4
+    low : is_served (probe_result_of s.ports port) ≡ true → port < 4
     low served = (k.there port served).0
 
-    by : (found : Found) → found_of s.ports port ≡ found → (port < 4) × ((info : DiskInfo) × (found_of s.ports port ≡ Ready info))
+    by : (found : ProbeResult) → probe_result_of s.ports port ≡ found → (port < 4) × ((info : DiskInfo) × (probe_result_of s.ports port ≡ Ready info))
     by Unserved is = let x : Absent ≡ ReadyState = sym (ap state_of is) ∙ ready in absurd cc
     by (Ready info) is = (low (ap is_served is), (info, is))
     by (Unready state) is =
         let state_is : state ≡ ReadyState = sym (ap state_of is) ∙ ready in
-        let P : Found → Type 0 = λ f. StillStandsBehind (wanted_of s.wanted port) f port s.device in
+        let P : ProbeResult → Type 0 = λ f. StillStandsBehind (wanted_of s.wanted port) f port s.device in
         absurd (subst P (is ∙ ap Unready state_is) (k.behind port (low (ap is_served is))).behind).1
 
 -- it isn't dead
-pub not_dead : (s : Server) (port : ℕ) → state_of (found_of s.ports port) ≡ ReadyState → found_of s.ports port ≢ Unready Dead
+pub not_dead : (s : ServerState) (port : ℕ) → state_of (probe_result_of s.ports port) ≡ ReadyState → probe_result_of s.ports port ≢ Unready Dead
 not_dead s port ready is = let z : Dead ≡ ReadyState = sym (ap state_of is) ∙ ready in cc
 
 -- a request of the book is of a ready port
-pub of_ready : (s : Server) → IsKept s → (e : Held) → Contains s.book e → state_of (found_of s.ports e.entry.port.0) ≡ ReadyState
-of_ready s k e here = All-contains (λ (x : Held). state_of (found_of s.ports x.entry.port.0) ≡ ReadyState) s.book e k.ready here
+pub of_ready : (s : ServerState) → InCallInvariant s → (e : Held) → Contains s.book e → state_of (probe_result_of s.ports e.entry.port.0) ≡ ReadyState
+of_ready s k e here = All-contains (λ (x : Held). state_of (probe_result_of s.ports x.entry.port.0) ≡ ReadyState) s.book e k.ready here
 
 -- ---- how a port takes commands
 
 -- a disk that was found takes one command at a time at least
-abbrev TakesSome : Found → Type 0
+abbrev TakesSome : ProbeResult → Type 0
 TakesSome (Ready info) = 1 ≤ info.depth
 TakesSome _ = Unit {0}
 
-takes_some : (wanted : Wanted) (found : Found) (port : ℕ) (d : Device) → StillStandsBehind wanted found port d → TakesSome found
+takes_some : (wanted : Wanted) (found : ProbeResult) (port : ℕ) (d : Device) → StillStandsBehind wanted found port d → TakesSome found
 takes_some wanted Unserved port d behind = tt
 takes_some wanted (Ready info) port d behind = let depth = behind.1.fit.tells.depth in omega (arith, depth)
 takes_some wanted (Unready state) port d behind = tt
@@ -86,10 +86,10 @@ some_min a b x y = ⊎_elim
     (cases_lt a b)
 
 -- with such a disk, a port has 1 to 32 usable slots, no more than the adapter has, and one where commands aren't queued
-abbrev FitsIn : ℕ → Mode → Type 0
+abbrev FitsIn : ℕ → QueueMode → Type 0
 FitsIn cap mode = IsMode mode × (mode.usable ≤ cap / 256 % 32 + 1)
 
-mode_fit : (cap : ℕ) (found : Found) → TakesSome found → FitsIn cap (mode_found cap found)
+mode_fit : (cap : ℕ) (found : ProbeResult) → TakesSome found → FitsIn cap (mode_found cap found)
 mode_fit cap Unserved some = ((omega arith, omega arith, λ plain. refl), omega arith)
 mode_fit cap (Ready info) some = by (bit cap 30 && info.ncq)
   where
@@ -107,16 +107,16 @@ mode_fit cap (Ready info) some = by (bit cap 30 && info.ncq)
     by false = ((omega arith, omega arith, λ plain. refl), omega arith)
 mode_fit cap (Unready state) some = ((omega arith, omega arith, λ plain. refl), omega arith)
 
-pub stood_mode : (wanted : Wanted) (found : Found) (port : ℕ) (d : Device) → StillStandsBehind wanted found port d → IsMode (mode_found d.cap found) × ((mode_found d.cap found).usable ≤ d.cap / 256 % 32 + 1)
+pub stood_mode : (wanted : Wanted) (found : ProbeResult) (port : ℕ) (d : Device) → StillStandsBehind wanted found port d → IsMode (mode_found d.cap found) × ((mode_found d.cap found).usable ≤ d.cap / 256 % 32 + 1)
 stood_mode wanted found port d behind = mode_fit d.cap found (takes_some wanted found port d behind)
 
-pub its_mode : (s : Server) (port : ℕ) → IsKept s → port < 4 → IsMode (mode_at s.modes port) × ((mode_at s.modes port).usable ≤ s.device.cap / 256 % 32 + 1)
+pub its_mode : (s : ServerState) (port : ℕ) → InCallInvariant s → port < 4 → IsMode (mode_at s.modes port) × ((mode_at s.modes port).usable ≤ s.device.cap / 256 % 32 + 1)
 its_mode s port k low =
-    subst (λ (m : Mode). IsMode m × (m.usable ≤ s.device.cap / 256 % 32 + 1)) (sym (k.modes port low)) (stood_mode (wanted_of s.wanted port) (found_of s.ports port) port s.device (k.behind port low).behind)
+    subst (λ (m : QueueMode). IsMode m × (m.usable ≤ s.device.cap / 256 % 32 + 1)) (sym (k.modes port low)) (stood_mode (wanted_of s.wanted port) (probe_result_of s.ports port) port s.device (k.behind port low).behind)
 
 -- a ready port may use the slots of its mode
-pub usable_ready : (s : Server) (port : ℕ) (k : IsKept s) → state_of (found_of s.ports port) ≡ ReadyState → usable_of (found_of s.ports port) (mode_at s.modes port) ≡ (mode_at s.modes port).usable
-usable_ready s port k ready = ap (λ (f : Found). usable_of f (mode_at s.modes port)) (ready_found s port k ready).1.1
+pub usable_ready : (s : ServerState) (port : ℕ) (k : InCallInvariant s) → state_of (probe_result_of s.ports port) ≡ ReadyState → usable_of (probe_result_of s.ports port) (mode_at s.modes port) ≡ (mode_at s.modes port).usable
+usable_ready s port k ready = ap (λ (f : ProbeResult). usable_of f (mode_at s.modes port)) (ready_found s port k ready).1.1
 
 pub not_true : (b : Bool) → not b ≡ true → b ≡ false
 not_true false is = refl
@@ -127,7 +127,7 @@ not_false true is = refl
 not_false false is = absurd (false≢true (sym is))
 
 -- what isn't plain is a read or a write
-pub queued_op : (mode : Mode) (op : Op) → is_plain mode op ≡ false → (op ≡ Read) ⊎ (op ≡ Write)
+pub queued_op : (mode : QueueMode) (op : Op) → is_plain mode op ≡ false → (op ≡ Read) ⊎ (op ≡ Write)
 queued_op mode Read queued = inl refl
 queued_op mode Write queued = inr refl
 queued_op mode Trim queued = absurd (false≢true (sym queued))
@@ -136,13 +136,13 @@ queued_op mode Flush queued = absurd (false≢true (sym queued))
 -- ---- slots
 
 -- but on a dead port, a slot has no command of the driver's own
-pub not_own : (found : Found) (used : Option SlotUse) (u : Use) (o : Operation) → found ≢ Unready Dead → IsUsedAs found used u → u ≡ Own o → ⊥
+pub not_own : (found : ProbeResult) (used : Option SlotUse) (u : SlotState) (o : Operation) → found ≢ Unready Dead → IsUsedAs found used u → u ≡ Own o → ⊥
 not_own found None u o other is own = let z : Free ≡ Own o = sym (is other) ∙ own in cc
 not_own found (Some used) u o other is own = let z : Serves used.id ≡ Own o = sym (is other) ∙ own in cc
 
 -- no request is kept of a port that isn't dead
-pub none_kept : (s : Server) (m : Machine) (port : Port) → IsMachineOf s m → found_of s.ports port.0 ≢ Unready Dead → NoneKept m port
-none_kept s m port is other e here own = other (ap (λ (q : Port). found_of s.ports q.0) (sym own) ∙ is.kept.dead e here)
+pub none_kept : (s : ServerState) (m : Machine) (port : Port) → IsMachineOf s m → probe_result_of s.ports port.0 ≢ Unready Dead → NoneKept m port
+none_kept s m port is other e here own = other (ap (λ (q : Port). probe_result_of s.ports q.0) (sym own) ∙ is.kept.dead e here)
 
 -- used, or not
 pub used_or_not : (used : Option SlotUse) → ((u : SlotUse) × (used ≡ Some u)) ⊎ (used ≡ None)
@@ -150,15 +150,15 @@ used_or_not None = inr refl
 used_or_not (Some u) = inl (u, refl)
 
 -- a used slot is one that the port may use
-pub used_low : (s : Server) (port slot : ℕ) (u : SlotUse) → IsKept s → port < 4 → used_for s.slots port slot ≡ Some u → slot < usable_of (found_of s.ports port) (mode_at s.modes port)
+pub used_low : (s : ServerState) (port slot : ℕ) (u : SlotUse) → InCallInvariant s → port < 4 → used_for s.slots port slot ≡ Some u → slot < usable_of (probe_result_of s.ports port) (mode_at s.modes port)
 used_low s port slot u k low used =
-    let usable = usable_of (found_of s.ports port) (mode_at s.modes port) in ⊎_elim
+    let usable = usable_of (probe_result_of s.ports port) (mode_at s.modes port) in ⊎_elim
     (λ (less : slot < usable). less)
     (λ (high : usable ≤ slot). let z : None ≡ Some u = sym ((k.slots port low).unused slot high) ∙ used in absurd cc)
     (cases_lt slot usable)
 
 -- a used slot is one of the 32 of one of the four ports
-pub used_there : (s : Server) (port slot : ℕ) (u : SlotUse) → IsKept s → used_for s.slots port slot ≡ Some u → (port < 4) × (slot < 32)
+pub used_there : (s : ServerState) (port slot : ℕ) (u : SlotUse) → InCallInvariant s → used_for s.slots port slot ≡ Some u → (port < 4) × (slot < 32)
 used_there s port slot u k used = (
   low,
   ⊎_elim
@@ -179,22 +179,22 @@ used_there s port slot u k used = (
         (cases_lt port 4)
 
 -- and that port is ready
-pub used_ready : (s : Server) (port slot : ℕ) (u : SlotUse) → IsKept s → used_for s.slots port slot ≡ Some u → state_of (found_of s.ports port) ≡ ReadyState
-used_ready s port slot u k used = by (found_of s.ports port) refl
+pub used_ready : (s : ServerState) (port slot : ℕ) (u : SlotUse) → InCallInvariant s → used_for s.slots port slot ≡ Some u → state_of (probe_result_of s.ports port) ≡ ReadyState
+used_ready s port slot u k used = by (probe_result_of s.ports port) refl
   where
-    unused : usable_of (found_of s.ports port) (mode_at s.modes port) ≡ 0 → ⊥
+    unused : usable_of (probe_result_of s.ports port) (mode_at s.modes port) ≡ 0 → ⊥
     unused none = let low = used_low s port slot u k (used_there s port slot u k used).0 used in omega (arith, low, none)
 
-    by : (f : Found) → found_of s.ports port ≡ f → state_of f ≡ ReadyState
-    by Unserved is = absurd (unused (ap (λ (f : Found). usable_of f (mode_at s.modes port)) is))
+    by : (f : ProbeResult) → probe_result_of s.ports port ≡ f → state_of f ≡ ReadyState
+    by Unserved is = absurd (unused (ap (λ (f : ProbeResult). usable_of f (mode_at s.modes port)) is))
     by (Ready info) is = refl
-    by (Unready state) is = absurd (unused (ap (λ (f : Found). usable_of f (mode_at s.modes port)) is))
+    by (Unready state) is = absurd (unused (ap (λ (f : ProbeResult). usable_of f (mode_at s.modes port)) is))
 
 pub busy_used : (used : Option SlotUse) → is_used used ≡ true → (u : SlotUse) × (used ≡ Some u)
 busy_used None busy = absurd (false≢true busy)
 busy_used (Some u) busy = (u, refl)
 
-module _ (s : Server) (m : Machine) (port : ℕ) (is : IsMachineOf s m) (ready : state_of (found_of s.ports port) ≡ ReadyState) where
+module _ (s : ServerState) (m : Machine) (port : ℕ) (is : IsMachineOf s m) (ready : state_of (probe_result_of s.ports port) ≡ ReadyState) where
   -- a slot of a ready port is used as the server has it
   pub ready_use : (slot : ℕ) → is.uses port slot ≡ use_of (used_for s.slots port slot)
   ready_use slot = is.used port slot (not_dead s port ready)
@@ -213,19 +213,19 @@ module _ (s : Server) (m : Machine) (port : ℕ) (is : IsMachineOf s m) (ready :
       (used_or_not (used_for s.slots port slot))
 
 -- a request of a ready port that the device may move is unanswered
-pub still_booked : (s : Server) (m : Machine) (port : ℕ) → IsMachineOf s m → state_of (found_of s.ports port) ≡ ReadyState → (e : Pending) → MayMove m e → e.request.port.0 ≡ port
+pub still_booked : (s : ServerState) (m : Machine) (port : ℕ) → IsMachineOf s m → state_of (probe_result_of s.ports port) ≡ ReadyState → (e : Pending) → MayStillMove m e → e.request.port.0 ≡ port
     → Contains m.book e × (e.issued ≡ true)
 still_booked s m port is ready e (inl booked) own = booked
-still_booked s m port is ready e (inr kept) own = absurd (not_dead s port ready (ap (λ (q : ℕ). found_of s.ports q) (sym own) ∙ is.kept.dead e kept))
+still_booked s m port is ready e (inr kept) own = absurd (not_dead s port ready (ap (λ (q : ℕ). probe_result_of s.ports q) (sym own) ∙ is.kept.dead e kept))
 
 -- what the machine has of the request that a slot serves
-pub served_by : (s : Server) (m : Machine) (port slot : ℕ) → (is : IsMachineOf s m) → (id : RequestId) → is.uses port slot ≡ Serves id
+pub served_by : (s : ServerState) (m : Machine) (port slot : ℕ) → (is : IsMachineOf s m) → (id : RequestId) → is.uses port slot ≡ Serves id
     → ServesRequest m s.device.memory (s.device.port port) port slot id
 served_by s m port slot is id serves =
-    subst (λ (u : Use). IsServed m s.device.memory s.device.tape (s.device.port port) port slot u) serves (is.knows.agrees.slot port slot)
+    subst (λ (u : SlotState). RelatesSlot m s.device.memory s.device.tape (s.device.port port) port slot u) serves (is.knows.agrees.slot port slot)
 
 -- A request that a slot serves: in the machine, and in the server's book.
-pub record IsServedBy (s : Server) (m : Machine) (port slot : ℕ) (id : RequestId) : Type 0 where
+pub record IsServedBy (s : ServerState) (m : Machine) (port slot : ℕ) (id : RequestId) : Type 0 where
   pub serves : ServesRequest m s.device.memory (s.device.port port) port slot id
   pub here : Contains m.book serves.pending
   pub issued : serves.pending.issued ≡ true
@@ -235,7 +235,7 @@ pub record IsServedBy (s : Server) (m : Machine) (port slot : ℕ) (id : Request
   pub id_is : request.entry.id ≡ id
   pub port_is : request.entry.port.0 ≡ port
 
-pub served_request : (s : Server) (m : Machine) (port slot : ℕ) → (is : IsMachineOf s m) → state_of (found_of s.ports port) ≡ ReadyState → (id : RequestId) → is.uses port slot ≡ Serves id → IsServedBy s m port slot id
+pub served_request : (s : ServerState) (m : Machine) (port slot : ℕ) → (is : IsMachineOf s m) → state_of (probe_result_of s.ports port) ≡ ReadyState → (id : RequestId) → is.uses port slot ≡ Serves id → IsServedBy s m port slot id
 served_request s m port slot is ready id serves =
     let x : ServesRequest m s.device.memory (s.device.port port) port slot id = served_by s m port slot is id serves in
     let booked = still_booked s m port is ready x.pending x.moves x.port_is in
@@ -254,7 +254,7 @@ served_request s m port slot is ready id serves =
 -- ---- what is issued has a slot
 
 -- a used slot of a ready port is one of the 32
-pub used_small : (s : Server) (port slot : ℕ) (u : SlotUse) → IsKept s → state_of (found_of s.ports port) ≡ ReadyState → used_for s.slots port slot ≡ Some u → slot < 32
+pub used_small : (s : ServerState) (port slot : ℕ) (u : SlotUse) → InCallInvariant s → state_of (probe_result_of s.ports port) ≡ ReadyState → used_for s.slots port slot ≡ Some u → slot < 32
 used_small s port slot u k ready used =
     let low = (ready_found s port k ready).0 in
     let few = (its_mode s port k low).0.1 in
@@ -263,14 +263,14 @@ used_small s port slot u k ready used =
     omega (arith, few, small, same)
 
 -- A request of a ready port that is issued has a slot.
-pub record HasSlot (s : Server) (port : Port) (id : RequestId) : Type 0 where
+pub record HasSlot (s : ServerState) (port : Port) (id : RequestId) : Type 0 where
   pub slot : ℕ
   pub small : slot < 32
   pub used : SlotUse
   pub used_is : used_for s.slots port.0 slot ≡ Some used
   pub id_is : used.id ≡ id
 
-pub issued_has : (s : Server) (m : Machine) (port : Port) → (is : IsMachineOf s m) → IsKept s → state_of (found_of s.ports port.0) ≡ ReadyState → (e : Pending) → Contains m.book e
+pub issued_has : (s : ServerState) (m : Machine) (port : Port) → (is : IsMachineOf s m) → InCallInvariant s → state_of (probe_result_of s.ports port.0) ≡ ReadyState → (e : Pending) → Contains m.book e
     → e.request.port ≡ port → e.issued ≡ true → HasSlot s port e.request.id
 issued_has s m port is k ready e here own issued = ⊎_elim
     (λ (parked : Contains (is.parked port.0) e.request.id).
@@ -282,20 +282,20 @@ issued_has s m port is k ready e here own issued = ⊎_elim
 
 -- ---- a request that is due has its grant, and finds a free slot
 
-pub due_has : (s : Server) (k : IsKept s) (m : Machine) → IsMachineOf s m → (e : Held) → Contains s.book e → (mode : Mode) → IsDue mode (asks_of s.book) (asks e.entry)
+pub due_has : (s : ServerState) (k : InCallInvariant s) (m : Machine) → IsMachineOf s m → (e : Held) → Contains s.book e → (mode : QueueMode) → IsDue mode (asks_of s.book) (asks e.entry)
     → (p : Pending) → IsEntry e p → HasGrant m p
 due_has s k m is e here mode due p entry =
     let mark = All-contains (HasTrueMark s.grants) s.book e k.marked here in
     unmarked_has m e p entry (tells_of m.rows s.grants e.entry is.rows mark.tells) (mark.waiting (not_true e.entry.issued (and_parts _ _ due.clear).0))
 
-module _ (laws : LawsBelow) (s : Server) (e : Held) (k : IsKept s) (here : Contains s.book e) (due : IsDue (mode_in s e.entry.port) (asks_of s.book) (asks e.entry)) where
+module _ (laws : LawsBelow) (s : ServerState) (e : Held) (k : InCallInvariant s) (here : Contains s.book e) (due : IsDue (mode_in s e.entry.port) (asks_of s.book) (asks e.entry)) where
   abbrev port : Port
   port = e.entry.port
 
-  abbrev mode : Mode
+  abbrev mode : QueueMode
   mode = mode_in s port
 
-  ready : state_of (found_of s.ports port.0) ≡ ReadyState
+  ready : state_of (probe_result_of s.ports port.0) ≡ ReadyState
   ready = of_ready s k e here
 
   x : (p : Pending) × Contains k.machine.book p × IsEntry e p
@@ -310,7 +310,7 @@ module _ (laws : LawsBelow) (s : Server) (e : Held) (k : IsKept s) (here : Conta
     (let B : List Unanswered → Type 0 = λ book. IsDue mode book (unanswered p) in
         let R : Unanswered → Type 0 = λ r. IsDue mode (asks_of s.book) r in
         subst B (sym (same_book s.book k.machine.book k.stands.book)) (subst R (sym (asked_alike e p x.2)) due)),
-    none_kept s k.machine p.request.port k.stands (not_dead s p.request.port.0 (ap (λ (q : Port). state_of (found_of s.ports q.0)) x.2.port ∙ ready)),
+    none_kept s k.machine p.request.port k.stands (not_dead s p.request.port.0 (ap (λ (q : Port). state_of (probe_result_of s.ports q.0)) x.2.port ∙ ready)),
     due_has s k k.machine k.stands e here mode due p x.2,
   )
 
@@ -366,7 +366,7 @@ module _ (laws : LawsBelow) (s : Server) (e : Held) (k : IsKept s) (here : Conta
 
   -- The lowest free slot is one of the adapter's, and slot 0 for a plain command; some machine agrees with a driver that doesn't use it.
   pub lowest_may : (slot : ℕ) → IsLowestFree (slots_at s.slots port.0) slot
-      → (slot < mode.usable) × (slot < 32) × (slot ≤ s.device.cap / 256 % 32) × (is_plain mode e.entry.op ≡ true → slot ≡ 0) × AgreesWith (IsUnused port.0 slot) s.device
+      → (slot < mode.usable) × (slot < 32) × (slot ≤ s.device.cap / 256 % 32) × (is_plain mode e.entry.op ≡ true → slot ≡ 0) × RelatesWith (IsUnused port.0 slot) s.device
   lowest_may slot lowest = (
     small,
     (let few = fit.0.1 in omega (arith, few, small)),
@@ -391,7 +391,7 @@ abbrev pub AreOver : Port → ℕ → Device → Type 0
 AreOver port done d = (slot : ℕ) → slot < 32 → bit done slot ≡ true → IsOver (d.port port.0) slot
 
 -- a command that is over has ended, or was dropped
-pub stage_over : (memory : ℕ → ℕ) (p : PortState) (port slot : ℕ) (e : Pending) (c : Meaning) (places : List ℕ) → Stage memory p port slot e c places → IsOver p slot → IsEnded p slot e ⊎ IsDropped p slot e
+pub stage_over : (memory : ℕ → ℕ) (p : DevicePort) (port slot : ℕ) (e : Pending) (c : Meaning) (places : List ℕ) → Stage memory p port slot e c places → IsOver p slot → IsEnded p slot e ⊎ IsDropped p slot e
 stage_over memory p port slot e c places (inl w) over = absurd (false≢true (sym over.issued ∙ w.issued))
 stage_over memory p port slot e c places (inr (inl t)) over = let x : None ≡ Some t.command = sym over.free ∙ t.taken in absurd cc
 stage_over memory p port slot e c places (inr (inr left)) over = left

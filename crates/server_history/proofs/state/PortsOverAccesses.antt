@@ -7,17 +7,17 @@ use Rattle.adapter.specs.Access.Access.{Reading, Writing, Loading, Storing}
 use Rattle.adapter.specs.Device.{Device}
 use Rattle.adapter.specs.Rules.{IsOn}
 use Rattle.adapter.specs.declared.command.Operation.TheVariants.{Identify}
-use Rattle.agreement.specs.Agrees.{port_at}
-use Rattle.agreement.specs.Driven.{IsDrivenBy, IsOf, LeavesPort, SendsNone}
-use Rattle.agreement.specs.Halting.{IsHaltedAsTaken}
-use Rattle.agreement.specs.Links.{SameAdapter}
-use Rattle.agreement.proofs.driver.PortAccesses.{other_left}
+use Rattle.refinement.specs.Relation.{port_at}
+use Rattle.refinement.specs.Driven.{IsDrivenBy, IsOf, LeavesPort, SendsNone}
+use Rattle.refinement.specs.Halting.{IsHaltedAsTaken}
+use Rattle.refinement.specs.Links.{SameAdapter}
+use Rattle.refinement.proofs.driver.PortAccesses.{other_left}
 use Rattle.server_history.proofs.state.DrivenAccesses.{by_one}
-use Rattle.host_boot.specs.Taken.{StillStandsBehind, found_of, wanted_of}
-use Rattle.host_boot.specs.declared.Found.{Found}
-use Rattle.host_boot.specs.declared.Found.TheVariants.{Unserved, Ready, Unready}
+use Rattle.host_boot.specs.Taken.{StillStandsBehind, probe_result_of, wanted_of}
+use Rattle.host_boot.specs.declared.ProbeResult.{ProbeResult}
+use Rattle.host_boot.specs.declared.ProbeResult.TheVariants.{Unserved, Ready, Unready}
 use Rattle.identify.specs.declared.wanted.Wanted.{Wanted}
-use Rattle.port_look.specs.Services.{IsService}
+use Rattle.port_events.specs.Services.{IsService}
 use Rattle.server_history.specs.Below.{LawsBelow}
 use Rattle.server_history.specs.Server.{IsPortOf, state_of}
 use Rattle.server_history.proofs.state.PortGrounds.{left_on, ready_on}
@@ -52,19 +52,19 @@ bytes_leave access old new is on does port =
 -- ---- what stands behind a port
 
 -- over accesses that serve ports, where the port is left to the device, unless it is ready, and a halt is of a taken command still
-pub port_on : LawsBelow → (wanted : List Wanted) (found : List Found) (port : ℕ) (old new : Device) → SameAdapter old new → IsOn old → IsDrivenBy IsService old new
-    → (state_of (found_of found port) ≢ ReadyState → LeavesPort (old.port port) (new.port port))
-    → (found_of found port ≢ Unready Dead → SendsNone port Identify old new) → (IsHaltedAsTaken (old.port port) → IsHaltedAsTaken (new.port port)) → IsPortOf wanted found port old → IsPortOf wanted found port new
+pub port_on : LawsBelow → (wanted : List Wanted) (found : List ProbeResult) (port : ℕ) (old new : Device) → SameAdapter old new → IsOn old → IsDrivenBy IsService old new
+    → (state_of (probe_result_of found port) ≢ ReadyState → LeavesPort (old.port port) (new.port port))
+    → (probe_result_of found port ≢ Unready Dead → SendsNone port Identify old new) → (IsHaltedAsTaken (old.port port) → IsHaltedAsTaken (new.port port)) → IsPortOf wanted found port old → IsPortOf wanted found port new
 port_on laws wanted found port old new same on by left silent halts is =
     record {
-      behind = behind (found_of found port) left silent is.behind;
+      behind = behind (probe_result_of found port) left silent is.behind;
       runs = λ ready. runs_on laws.looks (port_at port) old new on by (is.runs ready);
       shown = λ bad. shown_on laws.looks (port_at port) old new on by (is.shown bad);
       own = λ ready. laws.recovery.own_on port by.accesses old new by.all (is.own ready);
       halts = λ ready. halts (λ _. is.halts ready) (runs_on laws.looks (port_at port) old new on by (is.runs ready)).st;
     }
   where
-    behind : (f : Found) → (state_of f ≢ ReadyState → LeavesPort (old.port port) (new.port port)) → (f ≢ Unready Dead → SendsNone port Identify old new)
+    behind : (f : ProbeResult) → (state_of f ≢ ReadyState → LeavesPort (old.port port) (new.port port)) → (f ≢ Unready Dead → SendsNone port Identify old new)
         → StillStandsBehind (wanted_of wanted port) f port old → StillStandsBehind (wanted_of wanted port) f port new
     behind Unserved left silent stays = left_on (wanted_of wanted port) Unserved port old new same (left (λ e. let z : Absent ≡ ReadyState = e in cc)) silent stays
     behind (Ready info) left silent stays =

@@ -5,7 +5,7 @@ use Rattle.ata_types.specs.declared.grant.GrantRow.{GrantRow}
 use Rattle.ata_types.specs.declared.request.ClientId.{ClientId}
 use Rattle.block_machine.specs.Rules.{Names, is_under, without_row}
 use Rattle.request_queue.specs.Entries.{Held, marked_under, waits_under}
-use Rattle.request_queue.specs.declared.Entry.{Entry}
+use Rattle.request_queue.specs.declared.PendingRequest.{PendingRequest}
 use Rattle.server_history.specs.Server.{HasTrueMark, TellsGrant}
 use Rattle.server_history.proofs.state.ListMembers.{filter_in, in_filter}
 
@@ -14,10 +14,10 @@ module _ (rows : List GrantRow) (client : ClientId) (number : ℕ) where
   stays row = not (is_under client number row.client row.number)
 
   -- a row is the one that goes just if a request is under that grant that names it
-  row_under : (r : Entry) (row : GrantRow) → Names r.client r.grant row → is_under client number row.client row.number ≡ is_under client number r.client r.grant
+  row_under : (r : PendingRequest) (row : GrantRow) → Names r.client r.grant row → is_under client number row.client row.number ≡ is_under client number r.client r.grant
   row_under r row named = λ i. (named.0 i).0 == client.0 && named.1 i == number
 
-  pub tells_then : (r : Entry) → TellsGrant rows r → TellsGrant (without_row client number rows) (marked_under client number r)
+  pub tells_then : (r : PendingRequest) → TellsGrant rows r → TellsGrant (without_row client number rows) (marked_under client number r)
   tells_then r tells = by (is_under client number r.client r.grant) refl
     where
       by : (b : Bool) → is_under client number r.client r.grant ≡ b → TellsGrant (without_row client number rows) (cond b (record r { revoked = true }) r)
@@ -31,7 +31,7 @@ module _ (rows : List GrantRow) (client : ClientId) (number : ℕ) where
       )
 
   -- one that isn't answered, and waits, isn't under it
-  waits_then : (r : Entry) → waits_under client number r ≡ false → (r.issued ≡ false → r.revoked ≡ false) → (marked_under client number r).issued ≡ false → (marked_under client number r).revoked ≡ false
+  waits_then : (r : PendingRequest) → waits_under client number r ≡ false → (r.issued ≡ false → r.revoked ≡ false) → (marked_under client number r).issued ≡ false → (marked_under client number r).revoked ≡ false
   waits_then r left waiting = by (is_under client number r.client r.grant) refl
     where
       by : (b : Bool) → is_under client number r.client r.grant ≡ b → (cond b (record r { revoked = true }) r).issued ≡ false → (cond b (record r { revoked = true }) r).revoked ≡ false

@@ -8,7 +8,7 @@ use Rattle.block_machine.specs.State.{Machine, Pending}
 use Rattle.block_machine.specs.Steps.{HasGrant, IsTellable}
 use Rattle.request_queue.specs.Entries.{Held, issue}
 use Rattle.request_queue.specs.Machine.{IsEntry}
-use Rattle.request_queue.specs.declared.Entry.{Entry}
+use Rattle.request_queue.specs.declared.PendingRequest.{PendingRequest}
 use Rattle.server_history.specs.Server.{HasTrueMark, TellsGrant}
 
 -- ---- in the machine
@@ -32,7 +32,7 @@ tellable m e p outcome.Unplugged entry tells marked plain = tt
 tellable m e p outcome.PortDead entry tells marked plain = tt
 
 -- the machine has the server's rows
-pub tells_of : (rows grants : List GrantRow) (r : Entry) → rows ≡ grants → TellsGrant grants r → TellsGrant rows r
+pub tells_of : (rows grants : List GrantRow) (r : PendingRequest) → rows ≡ grants → TellsGrant grants r → TellsGrant rows r
 tells_of rows grants r same tells = subst (λ (list : List GrantRow). TellsGrant list r) (sym same) tells
 
 -- ---- as requests are issued, and get older

@@ -9,20 +9,20 @@ use Rattle.hba_regs.specs.declared.reg.Reg.TheVariants.{Px}
 use Rattle.hba_regs.specs.declared.reg.PortReg.TheVariants.{Clb, Clbu, Fb, Fbu, Cmd, Ssts, Sctl}
 use Rattle.adapter.specs.Access.{Access, Does, Reads, note}
 use Rattle.adapter.specs.Access.Access.{Reading, Writing, Loading, Storing}
-use Rattle.adapter.specs.Device.{Notes, PortState, Device}
+use Rattle.adapter.specs.Device.{Notes, DevicePort, Device}
 use Rattle.adapter.specs.Rules.{IsOn}
 use Rattle.block_machine.proofs.Keeps.{same_port}
-use Rattle.agreement.specs.Driven.{IsDrivenBy}
-use Rattle.agreement.specs.Links.{HasDeviceOrNone, LeavesControls, SparesRegister}
-use Rattle.agreement.proofs.device.PortControls.{access_controls}
-use Rattle.agreement.proofs.device.PortNotes.{access_notes, notes_read}
-use Rattle.agreement.proofs.device.ShownDevice.{access_shown}
-use Rattle.agreement.specs.Noted.{SparesReading}
+use Rattle.refinement.specs.Driven.{IsDrivenBy}
+use Rattle.refinement.specs.Links.{HasDeviceOrNone, LeavesControls, SparesRegister}
+use Rattle.refinement.proofs.device.PortControls.{access_controls}
+use Rattle.refinement.proofs.device.PortNotes.{access_notes, notes_read}
+use Rattle.refinement.proofs.device.ShownDevice.{access_shown}
+use Rattle.refinement.specs.Noted.{SparesReading}
 use Rattle.port_control.specs.Ports.{programmed}
-use Rattle.port_look.specs.Laws.{Laws}
-use Rattle.port_look.specs.Services.{IsService}
-use Rattle.port_look.proofs.Recording.{services_recorded}
-use Rattle.port_look.proofs.Serving.{services_keep, spares_port}
+use Rattle.port_events.specs.Laws.{Laws}
+use Rattle.port_events.specs.Services.{IsService}
+use Rattle.port_events.proofs.Recording.{services_recorded}
+use Rattle.port_events.proofs.Serving.{services_keep, spares_port}
 use Rattle.driver_history.specs.Holds.{Runs}
 
 -- the engine runs, and its areas and its device were found
@@ -34,7 +34,7 @@ record Holds (port : ℕ) (d : Device) : Type 0 where
   saw : (d.port port).notes.link_count ≡ READINGS
 
 -- a count of 64 stays, whatever PxSSTS shows
-counts_on : (v : ℕ) (p : PortState) → p.notes.link_count ≡ READINGS → (note Ssts v p).link_count ≡ READINGS
+counts_on : (v : ℕ) (p : DevicePort) → p.notes.link_count ≡ READINGS → (note Ssts v p).link_count ≡ READINGS
 counts_on v p is = by (nat_eq p.sctl_det 0) (nat_eq (v % 16) 3) p.notes.link_count is
   where
     by : (free seen : Bool) (n : ℕ) → n ≡ READINGS → (if free then (if seen then READINGS else min READINGS (n + 1)) else n) ≡ READINGS

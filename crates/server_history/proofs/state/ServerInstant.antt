@@ -7,23 +7,23 @@ use Rattle.ata_types.specs.declared.Port.{Port}
 use Rattle.ata_types.specs.declared.PortState.TheVariants.{Absent, Ready as ReadyState, Foreign, Unfit, Dead}
 use Rattle.ata_types.specs.declared.request.Op.{Op}
 use Rattle.adapter.specs.Device.{Device}
-use Rattle.agreement.specs.Acts.{InSlots}
-use Rattle.agreement.specs.Links.{HasDeviceOrNone}
-use Rattle.agreement.specs.Slots.{Free}
+use Rattle.refinement.specs.Acts.{InSlots}
+use Rattle.refinement.specs.Links.{HasDeviceOrNone}
+use Rattle.refinement.specs.Slots.{Free}
 use Rattle.block_machine.specs.Due.{is_plain}
-use Rattle.block_machine.specs.declared.due.Mode.{Mode}
-use Rattle.block_machine.specs.Histories.{Instant, IsReached}
+use Rattle.block_machine.specs.declared.due.QueueMode.{QueueMode}
+use Rattle.block_machine.specs.Histories.{JointState, IsReachable}
 use Rattle.block_machine.specs.State.{Machine, Pending}
 use Rattle.driver_history.specs.Holds.{HasNothing, HasRequests, HoldsOf, HoldsWith, IsClients, IsOfKind, NoneWaits, Runs, ServesIn}
-use Rattle.host_boot.specs.Taken.{FoundBadDisk, IsServed as IsServedPort, StillStandsBehind, found_of, wanted_of}
-use Rattle.host_boot.specs.declared.Found.{Found}
-use Rattle.host_boot.specs.declared.Found.TheVariants.{Unserved, Ready, Unready}
+use Rattle.host_boot.specs.Taken.{FoundBadDisk, IsServed as IsServedPort, StillStandsBehind, probe_result_of, wanted_of}
+use Rattle.host_boot.specs.declared.ProbeResult.{ProbeResult}
+use Rattle.host_boot.specs.declared.ProbeResult.TheVariants.{Unserved, Ready, Unready}
 use Rattle.identify.specs.declared.DiskInfo.{DiskInfo}
 use Rattle.identify.specs.declared.wanted.Wanted.{Wanted}
 use Rattle.request_queue.specs.Entries.{Held}
 use Rattle.request_queue.specs.Machine.{IsEntry}
-use Rattle.slots.specs.declared.Use.{Use as SlotUse}
-use Rattle.server_history.specs.Server.{StandsAlone, Server, IsKept, IsMachineOf, is_served, mode_at, mode_found, mode_in, ports_of, disk_in, disk_of, remembered_at, sectors_of, serial_of, state_of, trims_of, usable_of, use_of, used_for}
+use Rattle.slots.specs.declared.SlotUse.{SlotUse}
+use Rattle.server_history.specs.Server.{StandsAlone, ServerState, InCallInvariant, IsMachineOf, is_served, mode_at, mode_found, mode_in, ports_of, disk_in, last_disk_of, remembered_at, last_sectors_of, last_serial_of, state_of, last_trims_of, usable_of, use_of, used_for}
 use Rattle.server_history.proofs.state.PortSlots.{free_unused, none_kept, not_dead, of_ready, ready_use, usable_ready, used_serves}
 use Rattle.server_history.proofs.state.PairedLists.{at_right}
 
@@ -33,45 +33,45 @@ clients None = inl refl
 clients (Some used) = inr (used.id, refl)
 
 -- the port is served where it was found so
-pub served_is : (wanted : Wanted) (found : Found) (port : ℕ) (d : Device) → StillStandsBehind wanted found port d → (is_served found ≡ true) ↔ IsServedPort wanted port d
+pub served_is : (wanted : Wanted) (found : ProbeResult) (port : ℕ) (d : Device) → StillStandsBehind wanted found port d → (is_served found ≡ true) ↔ IsServedPort wanted port d
 served_is wanted Unserved port d s = ((λ yes. absurd (false≢true yes)), (λ served. absurd (s.0 served)))
 served_is wanted (Ready info) port d s = ((λ yes. s.0), (λ served. refl))
 served_is wanted (Unready state) port d s = ((λ yes. s.0), (λ served. refl))
 
-module _ (s : Server) (k : IsKept s) (m : Machine) (reached : IsReached m) (is : IsMachineOf s m) where
+module _ (s : ServerState) (k : InCallInvariant s) (m : Machine) (reached : IsReachable m) (is : IsMachineOf s m) where
   abbrev pub slots : InSlots
   slots = record { uses = is.uses; parked = is.parked }
 
-  abbrev pub instant : Instant Device
+  abbrev pub instant : JointState Device
   instant = record { device = s.device; moment = record { machine = m; ports = ports_of s } }
 
-  none_waits : (port : Port) → state_of (found_of s.ports port.0) ≢ ReadyState → NoneWaits m port
+  none_waits : (port : Port) → state_of (probe_result_of s.ports port.0) ≢ ReadyState → NoneWaits m port
   none_waits port other e here own =
       let a = at_right IsEntry s.book m.book is.book e here in
-      other (ap (λ (q : Port). state_of (found_of s.ports q.0)) (sym own ∙ a.2.port) ∙ of_ready s k a.0 a.1)
+      other (ap (λ (q : Port). state_of (probe_result_of s.ports q.0)) (sym own ∙ a.2.port) ∙ of_ready s k a.0 a.1)
 
   module _ (port : Port) (low : port.0 < 4) where
     -- it isn't dead
-    alive : (f : Found) → found_of s.ports port.0 ≡ f → f ≢ Unready Dead → found_of s.ports port.0 ≢ Unready Dead
+    alive : (f : ProbeResult) → probe_result_of s.ports port.0 ≡ f → f ≢ Unready Dead → probe_result_of s.ports port.0 ≢ Unready Dead
     alive f e other dead = other (sym e ∙ dead)
 
     -- a port that isn't ready uses no slot
-    nothing : (f : Found) → found_of s.ports port.0 ≡ f → usable_of f (mode_at s.modes port.0) ≡ 0 → f ≢ Unready Dead → HasNothing slots port.0
+    nothing : (f : ProbeResult) → probe_result_of s.ports port.0 ≡ f → usable_of f (mode_at s.modes port.0) ≡ 0 → f ≢ Unready Dead → HasNothing slots port.0
     nothing f e none other = record {
       free = λ slot.
           is.used port.0 slot (alive f e other)
-          ∙ ap use_of ((k.slots port.0 low).unused slot (subst (λ (n : ℕ). n ≤ slot) (sym (ap (λ (x : Found). usable_of x (mode_at s.modes port.0)) e ∙ none)) (omega arith)));
+          ∙ ap use_of ((k.slots port.0 low).unused slot (subst (λ (n : ℕ). n ≤ slot) (sym (ap (λ (x : ProbeResult). usable_of x (mode_at s.modes port.0)) e ∙ none)) (omega arith)));
       unparked = is.unparked port.0 (alive f e other);
     }
 
-    module _ (info : DiskInfo) (found : found_of s.ports port.0 ≡ Ready info) where
-      ready : state_of (found_of s.ports port.0) ≡ ReadyState
+    module _ (info : DiskInfo) (found : probe_result_of s.ports port.0 ≡ Ready info) where
+      ready : state_of (probe_result_of s.ports port.0) ≡ ReadyState
       ready = ap state_of found
 
       disk_is : disk_in s port ≡ Some info
-      disk_is = ap (λ (f : Found). disk_of f (remembered_at s.remembered port.0)) found
+      disk_is = ap (λ (f : ProbeResult). last_disk_of f (remembered_at s.remembered port.0)) found
 
-      abbrev mode : Mode
+      abbrev mode : QueueMode
       mode = mode_in s port
 
       -- a slot that serves a request is used for it, and the request is in the book
@@ -118,10 +118,10 @@ module _ (s : Server) (k : IsKept s) (m : Machine) (reached : IsReached m) (is :
         alone = alone;
       }
 
-    shown_as : (f : Found) → found_of s.ports port.0 ≡ f → FoundBadDisk (state_of f) → HasDeviceOrNone (s.device.port port.0)
-    shown_as f e bad = (k.behind port.0 low).shown (subst (λ (x : Found). FoundBadDisk (state_of x)) (sym e) bad)
+    shown_as : (f : ProbeResult) → probe_result_of s.ports port.0 ≡ f → FoundBadDisk (state_of f) → HasDeviceOrNone (s.device.port port.0)
+    shown_as f e bad = (k.behind port.0 low).shown (subst (λ (x : ProbeResult). FoundBadDisk (state_of x)) (sym e) bad)
 
-    of : (f : Found) → found_of s.ports port.0 ≡ f → StillStandsBehind (wanted_of s.wanted port.0) f port.0 s.device → (state_of f ≡ ReadyState → Runs port.0 s.device)
+    of : (f : ProbeResult) → probe_result_of s.ports port.0 ≡ f → StillStandsBehind (wanted_of s.wanted port.0) f port.0 s.device → (state_of f ≡ ReadyState → Runs port.0 s.device)
         → HoldsOf (wanted_of s.wanted port.0) slots instant port (is_served f) (state_of f)
     of Unserved e behind runs = record {
       absent = ap state_of e;
@@ -135,7 +135,7 @@ module _ (s : Server) (k : IsKept s) (m : Machine) (reached : IsReached m) (is :
       runs = runs refl;
       info = info;
       disk = behind.1;
-      shows = record { serial = ap serial_of (disk_is info e); sectors = ap sectors_of (disk_is info e); trims = ap trims_of e; mode = k.modes port.0 low ∙ ap (mode_found s.device.cap) e };
+      shows = record { serial = ap last_serial_of (disk_is info e); sectors = ap last_sectors_of (disk_is info e); trims = ap last_trims_of e; mode = k.modes port.0 low ∙ ap (mode_found s.device.cap) e };
       slots = requests info e;
       kept = none_kept s m port is (alive (Ready info) e (λ x. cc));
     }
@@ -172,7 +172,7 @@ module _ (s : Server) (k : IsKept s) (m : Machine) (reached : IsReached m) (is :
   pub holds_with : HoldsWith s.wanted slots instant
   holds_with = record {
     knows = is.knows;
-    served = λ port low. served_is (wanted_of s.wanted port.0) (found_of s.ports port.0) port.0 s.device (k.behind port.0 low).behind;
+    served = λ port low. served_is (wanted_of s.wanted port.0) (probe_result_of s.ports port.0) port.0 s.device (k.behind port.0 low).behind;
     on = inl k.on;
-    port = λ port low. let b = k.behind port.0 low in of port low (found_of s.ports port.0) refl b.behind b.runs;
+    port = λ port low. let b = k.behind port.0 low in of port low (probe_result_of s.ports port.0) refl b.behind b.runs;
   }

@@ -4,8 +4,8 @@ use Rattle.std.proofs.lemmas.List.Elements.{All-append, All-nil}
 use Rattle.adapter.specs.Device.{Device}
 use Rattle.adapter.specs.declared.command.Operation.{Operation}
 use Rattle.adapter.specs.declared.tape.Entry.{Entry}
-use Rattle.agreement.specs.Driven.{SendsNone}
-use Rattle.agreement.specs.Slots.{IsMove}
+use Rattle.refinement.specs.Driven.{SendsNone}
+use Rattle.refinement.specs.Slots.{IsMove}
 
 module _ (port : ℕ) (o : Operation) where
   pub silent_none : (d : Device) → SendsNone port o d d

@@ -8,19 +8,19 @@ use Rattle.ata_types.specs.declared.request.Frame.{Frame}
 use Rattle.ata_types.specs.declared.request.Op.{Op}
 use Rattle.ata_types.specs.declared.request.Op.TheVariants.{Read, Write}
 use Rattle.ata_types.specs.declared.request.RequestId.{RequestId}
-use Rattle.agreement.specs.Places.{place_in}
-use Rattle.agreement.specs.Slots.{ArePlaces, ServesRequest, op_of}
-use Rattle.agreement.specs.Agrees.{port_at}
+use Rattle.refinement.specs.Places.{place_in}
+use Rattle.refinement.specs.Slots.{ArePlaces, ServesRequest, op_of}
+use Rattle.refinement.specs.Relation.{port_at}
 use Rattle.adapter.specs.Commands.{Meaning}
-use Rattle.block_machine.specs.Rules.{IsCount, frames_for}
+use Rattle.block_machine.specs.Rules.{IsAllowedCount, frames_for}
 use Rattle.block_machine.specs.State.{Accepted, Machine, Pending, frame_at}
 use Rattle.dma_frames.specs.Table.{lent_to}
-use Rattle.host_boot.specs.Taken.{found_of}
+use Rattle.host_boot.specs.Taken.{probe_result_of}
 use Rattle.request_queue.specs.Entries.{Held, IsAccepted}
 use Rattle.request_queue.specs.Machine.{IsEntry}
-use Rattle.slots.specs.declared.Use.{Use as SlotUse}
+use Rattle.slots.specs.declared.SlotUse.{SlotUse}
 use Rattle.server_history.specs.Below.{LawsBelow}
-use Rattle.server_history.specs.Server.{StandsAlone, Server, IsKept, IsMachineOf, mode_in, state_of, used_for}
+use Rattle.server_history.specs.Server.{StandsAlone, ServerState, InCallInvariant, IsMachineOf, mode_in, state_of, used_for}
 use Rattle.server_history.proofs.state.PortSlots.{HasSlot, IsServedBy, issued_has, not_true, queued_op, served_request, serves_used, still_booked}
 use Rattle.server_history.proofs.state.PairedLists.{at_right}
 
@@ -29,7 +29,7 @@ first_place : (op : Op) → (op ≡ Read) ⊎ (op ≡ Write) → (port : ℕ) (r
 first_place op (inl reads) port r places are some = (subst (λ (o : Op). ArePlaces o port r places) reads are).1 0 some
 first_place op (inr writes) port r places are some = (subst (λ (o : Op). ArePlaces o port r places) writes are).1 0 some
 
-module _ (laws : LawsBelow) (s : Server) (k : IsKept s) (m : Machine) (is : IsMachineOf s m) where
+module _ (laws : LawsBelow) (s : ServerState) (k : InCallInvariant s) (m : Machine) (is : IsMachineOf s m) where
   -- a transfer of the book has a first frame, which is lent to it
   record HasFirst (p : Pending) : Type 0 where
     some : 1 ≤ p.request.asked.count
@@ -50,9 +50,9 @@ module _ (laws : LawsBelow) (s : Server) (k : IsKept s) (m : Machine) (is : IsMa
       -- one sector at least, in one frame at least
       sized : (o : Op) → (o ≡ Read) ⊎ (o ≡ Write) → x.0.entry.op ≡ o → (1 ≤ x.0.entry.range.count) × (1 ≤ length x.0.frames)
       sized o (inl reads) same =
-          let c = subst (λ (y : Op). IsCount y x.0.entry.range.count) (same ∙ reads) a.sectors in let f = a.frames ∙ ap (λ (y : Op). frames_for y x.0.entry.range.count) (same ∙ reads) in let c0 = c.0 in (c0, omega (arith, c0, f))
+          let c = subst (λ (y : Op). IsAllowedCount y x.0.entry.range.count) (same ∙ reads) a.sectors in let f = a.frames ∙ ap (λ (y : Op). frames_for y x.0.entry.range.count) (same ∙ reads) in let c0 = c.0 in (c0, omega (arith, c0, f))
       sized o (inr writes) same =
-          let c = subst (λ (y : Op). IsCount y x.0.entry.range.count) (same ∙ writes) a.sectors in let f = a.frames ∙ ap (λ (y : Op). frames_for y x.0.entry.range.count) (same ∙ writes) in let c0 = c.0 in (c0, omega (arith, c0, f))
+          let c = subst (λ (y : Op). IsAllowedCount y x.0.entry.range.count) (same ∙ writes) a.sectors in let f = a.frames ∙ ap (λ (y : Op). frames_for y x.0.entry.range.count) (same ∙ writes) in let c0 = c.0 in (c0, omega (arith, c0, f))
 
       its_lent : lent_to s.table (frame_at p.request.asked.frames.items 0) ≡ Some p.request.id
       its_lent =
@@ -60,7 +60,7 @@ module _ (laws : LawsBelow) (s : Server) (k : IsKept s) (m : Machine) (is : IsMa
           (a.lent 0 (record { 0 = 0 }) (sized x.0.entry.op op refl).1 ∙ ap Some (sym x.2.id))
 
   -- what a used slot says besides is its own request's
-  module _ (port slot : ℕ) (used : SlotUse) (id : RequestId) (ready : state_of (found_of s.ports port) ≡ ReadyState) (its : used_for s.slots port slot ≡ Some used)
+  module _ (port slot : ℕ) (used : SlotUse) (id : RequestId) (ready : state_of (probe_result_of s.ports port) ≡ ReadyState) (its : used_for s.slots port slot ≡ Some used)
       (says : ServesRequest m s.device.memory (s.device.port port) port slot id) where
     x : IsServedBy s m port slot used.id
     x = served_request s m port slot is ready used.id (serves_used s m port is ready slot used its)

@@ -4,20 +4,20 @@ use Rattle.std.specs.List.{Contains}
 use Rattle.std.proofs.lemmas.Bool.{false≢true}
 use Rattle.ata_types.specs.declared.PortState.TheVariants.{Ready as ReadyState}
 use Rattle.ata_types.specs.declared.request.RequestId.{RequestId}
-use Rattle.agreement.specs.Slots.{IsFree, IsServed, Serves, ServesRequest, Stage, Use}
-use Rattle.block_machine.specs.Histories.{IsReached}
+use Rattle.refinement.specs.Slots.{IsEmptySlot, RelatesSlot, Serves, ServesRequest, Stage, SlotState}
+use Rattle.block_machine.specs.Histories.{IsReachable}
 use Rattle.block_machine.specs.State.{Machine, Pending}
-use Rattle.host_boot.specs.Taken.{found_of}
-use Rattle.slots.specs.declared.Use.{Use as SlotUse}
+use Rattle.host_boot.specs.Taken.{probe_result_of}
+use Rattle.slots.specs.declared.SlotUse.{SlotUse}
 use Rattle.server_history.specs.Below.{LawsBelow}
-use Rattle.server_history.specs.Server.{Server, IsKept, IsMachineOf, state_of, used_for}
+use Rattle.server_history.specs.Server.{ServerState, InCallInvariant, IsMachineOf, state_of, used_for}
 use Rattle.server_history.proofs.state.SlotCommands.{one_said}
 use Rattle.server_history.proofs.state.PortSlots.{free_unused, ready_found, serves_used, still_booked, used_or_not}
 
 -- ---- bytes of another slot
 
 -- Where a slot of a ready port serves a request, bytes of another slot may say its command still: then it has ended, and that slot isn't used.
-module _ (laws : LawsBelow) (s : Server) (k : IsKept s) (m : Machine) (reached : IsReached m) (is : IsMachineOf s m) (n : ℕ) (ready : state_of (found_of s.ports n) ≡ ReadyState) (e : Pending) (here : Contains m.book e)
+module _ (laws : LawsBelow) (s : ServerState) (k : InCallInvariant s) (m : Machine) (reached : IsReachable m) (is : IsMachineOf s m) (n : ℕ) (ready : state_of (probe_result_of s.ports n) ≡ ReadyState) (e : Pending) (here : Contains m.book e)
     (its : ℕ) (used : SlotUse) (used_is : used_for s.slots n its ≡ Some used) (id_is : used.id ≡ e.request.id) (slot : ℕ) (apart : slot ≢ its)
     (says : ServesRequest m s.device.memory (s.device.port n) n slot e.request.id) where
   pub unused : used_for s.slots n slot ≡ None
@@ -30,8 +30,8 @@ module _ (laws : LawsBelow) (s : Server) (k : IsKept s) (m : Machine) (reached :
       (λ none. none)
       (used_or_not (used_for s.slots n slot))
 
-  pub is_free : IsFree (s.device.port n) slot
-  is_free = subst (λ (u : Use). IsServed m s.device.memory s.device.tape (s.device.port n) n slot u) (free_unused s m n is ready slot unused) (is.knows.agrees.slot n slot)
+  pub is_free : IsEmptySlot (s.device.port n) slot
+  is_free = subst (λ (u : SlotState). RelatesSlot m s.device.memory s.device.tape (s.device.port n) n slot u) (free_unused s m n is ready slot unused) (is.knows.agrees.slot n slot)
 
   pub has_ended : e.ended ≡ true
   has_ended = ap (λ (y : Pending). y.ended) (sym same) ∙ by says.stage

@@ -7,13 +7,13 @@ use Rattle.hba_regs.specs.declared.reg.PortReg.TheVariants.{Cmd, Clb}
 use Rattle.hba_regs.specs.declared.reg.Reg.TheVariants.{Px}
 use Rattle.adapter.specs.Access.{Access}
 use Rattle.adapter.specs.Access.Access.{Storing}
-use Rattle.agreement.specs.Links.{SparesRegister}
-use Rattle.agreement.specs.Places.{IsTable}
-use Rattle.agreement.specs.Readying.{LeavesStored}
+use Rattle.refinement.specs.Links.{SparesRegister}
+use Rattle.refinement.specs.Places.{IsTableByte}
+use Rattle.refinement.specs.Readying.{LeavesStored}
 use Rattle.command_table.specs.Written.{IsBlockStore, IsTableStore}
 use Rattle.ncq.specs.Tasks.{IsIssuing}
-use Rattle.port_look.specs.Services.{IsService}
-use Rattle.port_look.proofs.Serving.{spares_ghc, spares_port}
+use Rattle.port_events.specs.Services.{IsService}
+use Rattle.port_events.proofs.Serving.{spares_ghc, spares_port}
 use Rattle.server_history.proofs.state.TransferAccesses.{issuing_serves}
 
 -- the slots are two
@@ -26,7 +26,7 @@ IsWithin port slot place =
     ((PORT_BYTES * port + 32 * slot ≤ place) × (place < PORT_BYTES * port + 32 * slot + 32))
     ⊎ ((PORT_BYTES * port + TABLES + TABLE_BYTES * slot ≤ place) × (place < PORT_BYTES * port + TABLES + TABLE_BYTES * slot + TABLE_BYTES))
 
-pub of_table : (port slot place : ℕ) → IsTable port slot place → IsWithin port slot place
+pub of_table : (port slot place : ℕ) → IsTableByte port slot place → IsWithin port slot place
 of_table port slot place (inl t) = inl (omega (arith, t.0), omega (arith, t.1))
 of_table port slot place (inr (inl t)) = inl (omega (arith, t.0), omega (arith, t.1))
 of_table port slot place (inr (inr t)) = inr (omega (arith, t.0), omega (arith, t.1))
@@ -60,7 +60,7 @@ never_both port slot other k place a b c d apart x y = ⊎_elim
 
 -- an access that serves ports leaves what is stored for a slot, if its store misses header and table
 pub service_leaves_stored : (other : Port) (k : ℕ) (access : Access) → IsService access
-    → ((at : ℕ) (bytes : List ℕ) (place : ℕ) → access ≡ Storing at bytes → IsTable other.0 k place → at ≤ place → place < at + length bytes → ⊥) → LeavesStored other k access
+    → ((at : ℕ) (bytes : List ℕ) (place : ℕ) → access ≡ Storing at bytes → IsTableByte other.0 k place → at ≤ place → place < at + length bytes → ⊥) → LeavesStored other k access
 service_leaves_stored other k access is misses = record {
   host = spares_ghc access is;
   start = λ v e. absurd (subst (SparesRegister (Px other Cmd)) e (spares_port other Cmd (λ e. cc) (λ e. cc) (λ e. cc) access is) refl);

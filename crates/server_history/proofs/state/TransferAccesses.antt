@@ -9,7 +9,7 @@ use Rattle.adapter.specs.Device.{Device}
 use Rattle.ncq.specs.Masks.{ReadsDone, IsFinding}
 use Rattle.ncq.specs.Tasks.{IsIssuing}
 use Rattle.server_history.specs.Served.{IssuesIn}
-use Rattle.port_look.specs.Services.{IsService}
+use Rattle.port_events.specs.Services.{IsService}
 
 -- ---- issuing
 

@@ -17,22 +17,22 @@ use Rattle.adapter.specs.Device.{Device}
 use Rattle.adapter.specs.Memory as memory
 use Rattle.adapter.specs.Rules.{IsOn}
 use Rattle.adapter.specs.Steps.{Steps}
-use Rattle.agreement.specs.Driven.{IsBitOf, IsDrivenBy, IsOf}
-use Rattle.agreement.specs.Facts.{RunsWell, Undisturbed}
+use Rattle.refinement.specs.Driven.{IsBitOf, IsDrivenBy, IsOf}
+use Rattle.refinement.specs.Facts.{RunsWell, Undisturbed}
 use Rattle.command_table.specs.Written.{IsStoreWithBlock, IsTableStore}
 use Rattle.driver_history.specs.Histories.{IssuesOn}
 use Rattle.ncq.specs.Tasks.{IsIssuing}
 use Rattle.driver_history.specs.Trace.{IsDriversOwn, LeavesCommand, LeavesEngine, ReadsMasks}
 use Rattle.server_history.specs.Below.{LawsBelow}
 use Rattle.server_history.specs.Served.{Checks, HasNone, HasTurn, IsMaskOf, IssuesIn, is_used}
-use Rattle.slots.specs.Uses.{Uses as PortSlots, use_at}
+use Rattle.slots.specs.Uses.{PortSlots, use_at}
 use Rattle.server_history.proofs.state.TransferAccesses.{both_read, issues_serve}
-use Rattle.port_look.specs.Looks.{LooksAt}
-use Rattle.port_look.specs.Services.{IsService}
-use Rattle.port_look.specs.declared.Look.{Look}
-use Rattle.port_look.specs.declared.Look.TheVariants.{Undisturbed as Calm}
-use Rattle.port_look.proofs.Seeing.{seen_well}
-use Rattle.port_look.proofs.Serving.{spares_port}
+use Rattle.port_events.specs.Looks.{LooksAt}
+use Rattle.port_events.specs.Services.{IsService}
+use Rattle.port_events.specs.declared.PortEvent.{PortEvent}
+use Rattle.port_events.specs.declared.PortEvent.TheVariants.{NoEvent}
+use Rattle.port_events.proofs.Seeing.{seen_well}
+use Rattle.port_events.proofs.Serving.{spares_port}
 
 -- ---- the device's steps
 
@@ -125,7 +125,7 @@ module _ (port : Port) where
       (All-cons (IsTurn port) (Writing reg.Is own) (Reading (Px port Ssts) status ∷ []) (inl refl, (tt, alone))
       (All-cons (IsTurn port) (Reading (Px port Ssts) status) [] (tt, (tt, refl)) (All-nil (IsTurn port)))))
 
-  pub look_does : (look : Look) (old new : Device) → (l : LooksAt port look old new) → DoesAll (look_list l.causes l.own l.status) old new
+  pub look_does : (look : PortEvent) (old new : Device) → (l : LooksAt port look old new) → DoesAll (look_list l.causes l.own l.status) old new
   look_does look old new l = (l.seen, l.reads, (l.cleared, l.clears, (l.acknowledged, l.acknowledges, (new, l.shows, refl))))
 
   -- The accesses of a turn. Where the port goes well, the look tells nothing; and where slots were checked, they read the masks.
@@ -134,8 +134,8 @@ module _ (port : Port) where
     pub of : All (IsOf port) driven.accesses
     pub own : All IsDriversOwn driven.accesses
     pub leaves : All (LeavesEngine port) driven.accesses
-    pub calm : IsOn old → RunsWell (old.port port.0) → Undisturbed port.0 old new → t.look ≡ Calm
-    pub masks : t.look ≡ Calm → IsBusy slots → (mask : ℕ) × IsMaskOf slots mask × ((c : Checks port slots mask replies t.seen new) × ReadsMasks port c.reads.issued c.reads.active driven.accesses)
+    pub calm : IsOn old → RunsWell (old.port port.0) → Undisturbed port.0 old new → t.look ≡ NoEvent
+    pub masks : t.look ≡ NoEvent → IsBusy slots → (mask : ℕ) × IsMaskOf slots mask × ((c : Checks port slots mask replies t.seen new) × ReadsMasks port c.reads.issued c.reads.active driven.accesses)
 
   module _ (laws : LawsBelow) (low : port.0 < 4) (slots : PortSlots) (replies : List Reply) (old new : Device) (t : HasTurn port slots replies old new) where
     of_all : (driven : IsDrivenBy (IsTurn port) old new) → All (IsOf port) driven.accesses
@@ -148,7 +148,7 @@ module _ (port : Port) where
     leaves_all driven = All-weaker (IsTurn port) (LeavesEngine port) (turn_leaves port port) driven.accesses driven.only
 
     -- it was looked at, and that was all
-    looked : (replies ≡ []) × (new ≡ t.seen) → (t.look ≡ Calm → IsBusy slots → ⊥) → TurnList slots replies old new t
+    looked : (replies ≡ []) × (new ≡ t.seen) → (t.look ≡ NoEvent → IsBusy slots → ⊥) → TurnList slots replies old new t
     looked stop never = record {
       driven = driven;
       of = of_all driven;
@@ -165,7 +165,7 @@ module _ (port : Port) where
           only = look_turns t.looks.causes t.looks.own t.looks.status t.looks.alone;
         })
 
-    module _ (calm : t.look ≡ Calm) (some : HasNone (t.calm calm).mask → ⊥) where
+    module _ (calm : t.look ≡ NoEvent) (some : HasNone (t.calm calm).mask → ⊥) where
       abbrev c : Checks port slots (t.calm calm).mask replies t.seen new
       c = (t.calm calm).checks some
 
@@ -195,7 +195,7 @@ module _ (port : Port) where
       unfolding checked_driven
       masks_there = record { before = early; later = more.accesses; here = refl; running = leaves }
 
-    checked : (calm : t.look ≡ Calm) → (HasNone (t.calm calm).mask → ⊥) → TurnList slots replies old new t
+    checked : (calm : t.look ≡ NoEvent) → (HasNone (t.calm calm).mask → ⊥) → TurnList slots replies old new t
     checked calm some = record {
       driven = checked_driven calm some;
       of = of_all (checked_driven calm some);

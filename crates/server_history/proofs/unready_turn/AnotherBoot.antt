@@ -13,29 +13,29 @@ use Rattle.adapter.specs.Access.Access.{Loading, Reading, Storing, Writing}
 use Rattle.adapter.specs.Device.{Device}
 use Rattle.adapter.specs.Rules.{HasPort, IsOn}
 use Rattle.adapter.specs.declared.command.Operation.TheVariants.{ReadLog}
-use Rattle.agreement.specs.Acts.{InSlots}
-use Rattle.agreement.specs.Driven.{AgreesWith, AnyUse, IsFollowed, IsOf, SendsNone}
+use Rattle.refinement.specs.Acts.{InSlots}
+use Rattle.refinement.specs.Driven.{RelatesWith, AnyUse, IsSimulated, IsOf, SendsNone}
 use Rattle.block_machine.specs.Ports.{IsInterrupted, IsServiced}
 use Rattle.driver_history.specs.Trace.{IsDriversOwn}
-use Rattle.error_recovery.specs.Recovery.{EndsIn, GivesUp, IsRecovering}
+use Rattle.error_recovery.specs.Recovery.{EndsIn, StopsForReset, IsRecovering}
 use Rattle.error_recovery.specs.declared.Next.{Next}
 use Rattle.error_recovery.specs.declared.Next.TheVariants as next
 use Rattle.error_recovery.specs.declared.Recovered.{Recovered}
-use Rattle.host_boot.specs.Taken.{IsServed, StillStandsBehind, found_of, wanted_of}
-use Rattle.host_boot.specs.declared.Found.{Found}
-use Rattle.host_boot.specs.declared.Found.TheVariants.{Ready, Unready, Unserved}
+use Rattle.host_boot.specs.Taken.{IsServed, StillStandsBehind, probe_result_of, wanted_of}
+use Rattle.host_boot.specs.declared.ProbeResult.{ProbeResult}
+use Rattle.host_boot.specs.declared.ProbeResult.TheVariants.{Ready, Unready, Unserved}
 use Rattle.identify.specs.declared.DiskInfo.{DiskInfo}
 use Rattle.identify.specs.declared.wanted.Wanted.{Wanted}
 use Rattle.port_boot.specs.States.{IsBootable}
 use Rattle.port_control.specs.Ports.{IsStopped}
 use Rattle.port_control.specs.declared.Stopped.{Stopped}
-use Rattle.port_look.specs.Looks.{IsLooking}
+use Rattle.port_events.specs.Looks.{IsLooking}
 use Rattle.server_history.specs.Below.{LawsBelow}
-use Rattle.server_history.specs.Mended.{IsFoundAfter}
-use Rattle.server_history.specs.Server.{IsKept, Server, disk_in, disk_of, is_served, no_slots, plain_mode, ports_of, remembered_at, sectors_of, serial_of, state_of}
-use Rattle.server_history.specs.Tried.{BootsOnce, IsFoundAnew}
+use Rattle.server_history.specs.ErrorHandling.{IsRevalidated}
+use Rattle.server_history.specs.Server.{InCallInvariant, ServerState, disk_in, last_disk_of, is_served, no_slots, plain_mode, ports_of, remembered_at, last_sectors_of, last_serial_of, state_of}
+use Rattle.server_history.specs.Probing.{BootsOnce, IsProbedAnew}
 use Rattle.server_history.specs.Turns.{LeavesOthers}
-use Rattle.port_look.specs.declared.Trouble.TheVariants.{Hung}
+use Rattle.port_events.specs.declared.PortError.TheVariants.{TimedOut}
 use Rattle.server_history.proofs.recovery_turn.MendedPort.{dead_is, disk_is, found_served}
 use Rattle.server_history.proofs.recovery_turn.OtherPorts.{Passes, PassesTo, after_passes, look_passes, passes_none, recovery_passes, slots_of}
 use Rattle.server_history.proofs.recovery_turn.TurnEvidence.{engine_sticks, engine_stops}
@@ -46,18 +46,18 @@ use Rattle.server_history.proofs.recovery_turn.ReplacedPort.{IsBookLeft, StandsA
 use Rattle.server_history.proofs.state.PortSlots.{of_ready}
 use Rattle.server_history.proofs.recovery_turn.TurnStretches.{recovery_does}
 use Rattle.server_history.proofs.unready_turn.TriedPort.{TellsTried, evidence_tried}
-use Rattle.server_history.proofs.fates.RemainingBook.{was_itself}
+use Rattle.server_history.proofs.dispositions.RemainingBook.{was_itself}
 
 -- ---- a port that isn't ready
 
 -- where it isn't dead, it is no ready one either
-pub never_ready : (s : Server) (port : Port) (state : PortState) → IsKept s → found_of s.ports port.0 ≡ Unready state → state ≢ ReadyState
+pub never_ready : (s : ServerState) (port : Port) (state : PortState) → InCallInvariant s → probe_result_of s.ports port.0 ≡ Unready state → state ≢ ReadyState
 never_ready s port state k is ready =
-    absurd (subst (λ (f : Found). StillStandsBehind (wanted_of s.wanted port.0) f port.0 s.device) (is ∙ ap Unready ready) (k.behind port.0 (k.there port.0 (ap is_served is)).0).behind).1
+    absurd (subst (λ (f : ProbeResult). StillStandsBehind (wanted_of s.wanted port.0) f port.0 s.device) (is ∙ ap Unready ready) (k.behind port.0 (k.there port.0 (ap is_served is)).0).behind).1
 
 -- it is served
-pub its_service : (s : Server) (port : Port) (state : PortState) → IsKept s → found_of s.ports port.0 ≡ Unready state → IsServed (wanted_of s.wanted port.0) port.0 s.device
-its_service s port state k is = (subst (λ (f : Found). StillStandsBehind (wanted_of s.wanted port.0) f port.0 s.device) is (k.behind port.0 (k.there port.0 (ap is_served is)).0).behind).0
+pub its_service : (s : ServerState) (port : Port) (state : PortState) → InCallInvariant s → probe_result_of s.ports port.0 ≡ Unready state → IsServed (wanted_of s.wanted port.0) port.0 s.device
+its_service s port state k is = (subst (λ (f : ProbeResult). StillStandsBehind (wanted_of s.wanted port.0) f port.0 s.device) is (k.behind port.0 (k.there port.0 (ap is_served is)).0).behind).0
 
 -- the accesses of a look
 pub looking_part : LawsBelow → (port : Port) (access : Access) → IsLooking port access → IsPart port access
@@ -69,8 +69,8 @@ looking_part laws port access is = (own access is, laws.looking.looking_of port 
     own (Loading at bytes) is = absurd is
     own (Storing at bytes) is = absurd is
 
-module _ (laws : LawsBelow) (s : Server) (seen : Device) (port : Port) (state : PortState) (k : IsKept s) (is : found_of s.ports port.0 ≡ Unready state) (lives : state ≢ DeadState)
-    (looks : IsFollowed (IsLooking port) AnyUse s.device seen) where
+module _ (laws : LawsBelow) (s : ServerState) (seen : Device) (port : Port) (state : PortState) (k : InCallInvariant s) (is : probe_result_of s.ports port.0 ≡ Unready state) (lives : state ≢ DeadState)
+    (looks : IsSimulated (IsLooking port) AnyUse s.device seen) where
   pub low : port.0 < 4
   low = (k.there port.0 (ap is_served is)).0
 
@@ -79,21 +79,21 @@ module _ (laws : LawsBelow) (s : Server) (seen : Device) (port : Port) (state : 
   passed = look_passes laws s port k low (slots_of s k) s.device seen (passes_none s port k) looks
 
   -- once it was looked at, the port may be given up
-  pub may_give_up : IsOn seen × HasPort seen port.0 × AgreesWith AnyUse seen
+  pub may_give_up : IsOn seen × HasPort seen port.0 × RelatesWith AnyUse seen
   may_give_up = (
     passed.on,
     still_there port.0 s.device seen (same_over laws port s.device seen passed.driven) (k.there port.0 (ap is_served is)),
     ((slots_of s k).uses, tt, record { machine = passed.machine; parked = (slots_of s k).parked; reached = passed.reached; knows = passed.knows }),
   )
 
-  module _ (stopped : Device) (result : Recovered) (g : GivesUp port 0 true result seen stopped) where
+  module _ (stopped : Device) (result : Recovered) (g : StopsForReset port 0 true result seen stopped) where
     done : PassesTo laws s port k low result.next stopped
-    done = recovery_passes laws s port k low (slots_of s k) seen passed 0 true result stopped g.mends
+    done = recovery_passes laws s port k low (slots_of s k) seen passed 0 true result stopped g.handling
 
     -- and where it has stopped then, it may be booted
     pub may_boot : (token : Stopped) → result.next ≡ next.Restart token → (token.port ≡ port) × IsBootable port stopped × IsStopped (stopped.port port.0)
     may_boot token so =
-        let ends : EndsIn true port (next.Restart token) seen stopped = subst (λ (n : Next). EndsIn true port n seen stopped) so g.mends.leaves.ends in
+        let ends : EndsIn true port (next.Restart token) seen stopped = subst (λ (n : Next). EndsIn true port n seen stopped) so g.handling.leaves.ends in
         let same = same_over laws port s.device stopped done.1.driven in (
           ends.0,
           record {
@@ -111,26 +111,26 @@ module _ (laws : LawsBelow) (s : Server) (seen : Device) (port : Port) (state : 
 pub no_disk : DiskInfo
 no_disk = record { serial = []; depth = 0; ncq = false; sectors = 0; trim = false }
 
-found_after : (wanted : Wanted) (port : Port) (then : Next) (old new : Device) (found : Found) → IsFoundAnew wanted port then old new found → IsFoundAfter wanted port Hung no_disk then old new found
+found_after : (wanted : Wanted) (port : Port) (then : Next) (old new : Device) (found : ProbeResult) → IsProbedAnew wanted port then old new found → IsRevalidated wanted port TimedOut no_disk then old new found
 found_after wanted port (next.Running token) old new found none = absurd none
 found_after wanted port (next.Restart token) old new found is = is
 found_after wanted port next.Dead old new found is = is
 
 -- the port, where it is found dead
-abbrev pub stuck_if : Port → Found → List Port
+abbrev pub stuck_if : Port → ProbeResult → List Port
 stuck_if port (Unready DeadState) = port ∷ []
 stuck_if port found = []
 
-stuck_only : (port : Port) (found : Found) → Contains (stuck_if port found) port → found ≡ Unready DeadState
+stuck_only : (port : Port) (found : ProbeResult) → Contains (stuck_if port found) port → found ≡ Unready DeadState
 stuck_only port (Unready DeadState) here = refl
 stuck_only port Unserved here = absurd (nowhere port here)
 stuck_only port (Ready info) here = absurd (nowhere port here)
 stuck_only port (Unready state) here = absurd (nowhere port here)
 
-stuck_all : (port : Port) (found : Found) → found ≡ Unready DeadState → Contains (stuck_if port found) port
-stuck_all port found dead = subst (λ (f : Found). Contains (stuck_if port f) port) (sym dead) (first_here port [])
+stuck_all : (port : Port) (found : ProbeResult) → found ≡ Unready DeadState → Contains (stuck_if port found) port
+stuck_all port found dead = subst (λ (f : ProbeResult). Contains (stuck_if port f) port) (sym dead) (first_here port [])
 
-stuck_its : (port : Port) (found : Found) → All (λ q. q ≡ port) (stuck_if port found)
+stuck_its : (port : Port) (found : ProbeResult) → All (λ q. q ≡ port) (stuck_if port found)
 stuck_its port (Unready DeadState) = All-cons (λ q. q ≡ port) port [] refl (All-nil (λ q. q ≡ port))
 stuck_its port Unserved = All-nil (λ q. q ≡ port)
 stuck_its port (Ready info) = All-nil (λ q. q ≡ port)
@@ -141,32 +141,32 @@ stopped_its port (next.Running token) = All-cons (λ q. q ≡ port) port [] refl
 stopped_its port (next.Restart token) = All-cons (λ q. q ≡ port) port [] refl (All-nil (λ q. q ≡ port))
 stopped_its port next.Dead = All-nil (λ q. q ≡ port)
 
-pub interrupted : (wanted : Wanted) (port : Port) (then : Next) (old new : Device) (found : Found) → IsFoundAnew wanted port then old new found → IsInterrupted (evidence_tried (stopped_of port then) (stuck_if port found)) port
+pub interrupted : (wanted : Wanted) (port : Port) (then : Next) (old new : Device) (found : ProbeResult) → IsProbedAnew wanted port then old new found → IsInterrupted (evidence_tried (stopped_of port then) (stuck_if port found)) port
 interrupted wanted port (next.Running token) old new found none = absurd none
 interrupted wanted port (next.Restart token) old new found is = inl (first_here port [])
 interrupted wanted port next.Dead old new found is = inr (stuck_all port found is.0)
 
-module _ (laws : LawsBelow) (s new : Server) (seen : Device) (port : Port) (state : PortState) (k : IsKept s) (is : found_of s.ports port.0 ≡ Unready state) (lives : state ≢ DeadState)
-    (looks : IsFollowed (IsLooking port) AnyUse s.device seen) (b : BootsOnce port (record s { device = seen }) new) where
-  abbrev g : GivesUp port 0 true b.anew.result seen b.anew.stopped
+module _ (laws : LawsBelow) (s new : ServerState) (seen : Device) (port : Port) (state : PortState) (k : InCallInvariant s) (is : probe_result_of s.ports port.0 ≡ Unready state) (lives : state ≢ DeadState)
+    (looks : IsSimulated (IsLooking port) AnyUse s.device seen) (b : BootsOnce port (record s { device = seen }) new) where
+  abbrev g : StopsForReset port 0 true b.anew.result seen b.anew.stopped
   g = b.anew.gives_up
 
   abbrev part : List Access
-  part = g.mends.accesses
+  part = g.handling.accesses
 
   abbrev wanted : Wanted
   wanted = wanted_of s.wanted port.0
 
-  abbrev pub then_is : Server
+  abbrev pub then_is : ServerState
   then_is = with_found port new.device s.table b.found s.remembered b.mode b.slots s.kept s.book s
 
   small : port.0 < 4
   small = low laws s seen port state k is lives looks
 
-  pub unready : state_of (found_of s.ports port.0) ≢ ReadyState
+  pub unready : state_of (probe_result_of s.ports port.0) ≢ ReadyState
   unready ready = never_ready s port state k is (sym (ap state_of is) ∙ ready)
 
-  pub after_it : IsFoundAfter wanted port Hung no_disk b.anew.result.next b.anew.stopped new.device b.found
+  pub after_it : IsRevalidated wanted port TimedOut no_disk b.anew.result.next b.anew.stopped new.device b.found
   after_it = found_after wanted port b.anew.result.next b.anew.stopped new.device b.found b.anew.is
 
   given : PassesTo laws s port k small b.anew.result.next b.anew.stopped
@@ -174,7 +174,7 @@ module _ (laws : LawsBelow) (s new : Server) (seen : Device) (port : Port) (stat
 
   -- the whole way leaves the other ports
   pub whole : (slots : InSlots) × Passes s port slots new.device
-  whole = after_passes laws s port k small wanted Hung no_disk b.anew.result.next b.anew.stopped new.device b.found after_it given
+  whole = after_passes laws s port k small wanted TimedOut no_disk b.anew.result.next b.anew.stopped new.device b.found after_it given
 
   -- ---- the port
 
@@ -183,7 +183,7 @@ module _ (laws : LawsBelow) (s new : Server) (seen : Device) (port : Port) (stat
       let service = its_service s port state k is in
       let early = same_over laws port s.device b.anew.stopped given.1.driven in
       let all = same_over laws port s.device new.device whole.1.driven in
-      stands_after laws wanted port b.anew.stopped new.device given.1.on (service.0, ap (λ (pi : ℕ). bit pi port.0) early.pi ∙ service.1) true Hung no_disk seen b.anew.result.next b.found g.mends.leaves.ends after_it
+      stands_after laws wanted port b.anew.stopped new.device given.1.on (service.0, ap (λ (pi : ℕ). bit pi port.0) early.pi ∙ service.1) true TimedOut no_disk seen b.anew.result.next b.found g.handling.leaves.ends after_it
       (all.pi ∙ sym early.pi) (λ token runs. absurd (g.halts token runs))
 
   pub book_left : IsBookLeft port b.found s.table s.book s
@@ -192,29 +192,29 @@ module _ (laws : LawsBelow) (s new : Server) (seen : Device) (port : Port) (stat
     accepted = k.accepted;
     ordered = k.ordered;
     from = was_itself s.book;
-    ready = λ e here own. absurd (unready (ap (λ (q : ℕ). state_of (found_of s.ports q)) (sym own) ∙ of_ready s k e here));
+    ready = λ e here own. absurd (unready (ap (λ (q : ℕ). state_of (probe_result_of s.ports q)) (sym own) ∙ of_ready s k e here));
   }
 
   pub listed : port.0 < length s.ports
   listed = is_listed s.ports port.0 (ap is_served is)
 
-  pub found_then : found_of then_is.ports port.0 ≡ b.found
+  pub found_then : probe_result_of then_is.ports port.0 ≡ b.found
   found_then = get_or-set_same s.ports port.0 b.found Unserved listed
 
   -- a dead port's engine was awaited in vain
   counted : b.found ≡ Unready DeadState → (new.device.port port.0).notes.engine_count ≡ READINGS
-  counted dead = (subst (λ (f : Found). StillStandsBehind wanted f port.0 new.device) dead its_stand.behind).1.1
+  counted dead = (subst (λ (f : ProbeResult). StillStandsBehind wanted f port.0 new.device) dead its_stand.behind).1.1
 
   -- ---- the accesses
 
-  pub afterwards : AfterList port Hung b.anew.result.next b.found b.anew.stopped new.device
-  afterwards = after_list laws port small wanted Hung no_disk b.anew.result.next b.anew.stopped new.device b.found after_it
+  pub afterwards : AfterList port TimedOut b.anew.result.next b.found b.anew.stopped new.device
+  afterwards = after_list laws port small wanted TimedOut no_disk b.anew.result.next b.anew.stopped new.device b.found after_it
 
   abbrev pub accesses : List Access
   accesses = looks.driven.accesses ++ (part ++ afterwards.driven.accesses)
 
   does_part : DoesAll part seen b.anew.stopped
-  does_part = recovery_does port.0 b.anew.result.next part seen b.anew.stopped g.mends.does.slots
+  does_part = recovery_does port.0 b.anew.result.next part seen b.anew.stopped g.handling.does.slots
 
   pub until : DoesAll (looks.driven.accesses ++ part) s.device b.anew.stopped
   until = laws.basic.does_append looks.driven.accesses part s.device seen b.anew.stopped looks.driven.all does_part
@@ -227,7 +227,7 @@ module _ (laws : LawsBelow) (s new : Server) (seen : Device) (port : Port) (stat
   looking_only = All-weaker (IsLooking port) (IsPart port) (looking_part laws port) looks.driven.accesses looks.driven.only
 
   part_only : All (IsPart port) part
-  part_only = All-weaker (IsRecovering port) (IsPart port) (recovering_part laws port small) part g.mends.does.only
+  part_only = All-weaker (IsRecovering port) (IsPart port) (recovering_part laws port small) part g.handling.does.only
 
   pub until_of : All (IsOf port) (looks.driven.accesses ++ part)
   until_of = All-weaker (IsPart port) (IsOf port) (λ access its. its.1) (looks.driven.accesses ++ part) (All-append (IsPart port) looks.driven.accesses part looking_only part_only)
@@ -242,10 +242,10 @@ module _ (laws : LawsBelow) (s new : Server) (seen : Device) (port : Port) (stat
     λ dead. absurd (lives (sym (ap state_of is) ∙ dead)),
     λ _. (
       record {
-        served = ap is_served found_then ∙ found_served wanted port Hung no_disk b.anew.result.next b.anew.stopped new.device b.found after_it ∙ sym (ap is_served is);
+        served = ap is_served found_then ∙ found_served wanted port TimedOut no_disk b.anew.result.next b.anew.stopped new.device b.found after_it ∙ sym (ap is_served is);
         stuck = λ dead. stuck_all port b.found (dead_is b.found (sym (ap state_of found_then) ∙ dead));
         dies = λ here. ap state_of found_then ∙ ap state_of (stuck_only port b.found here);
-        keeps = λ other. (ap serial_of (same_disk other), ap sectors_of (same_disk other));
+        keeps = λ other. (ap last_serial_of (same_disk other), ap last_sectors_of (same_disk other));
       },
       inr (interrupted wanted port b.anew.result.next b.anew.stopped new.device b.found b.anew.is),
     ),
@@ -255,7 +255,7 @@ module _ (laws : LawsBelow) (s new : Server) (seen : Device) (port : Port) (stat
       remembered = remembered_at s.remembered port.0
 
       same_disk : (ports_of then_is).state port ≢ ReadyState → disk_in then_is port ≡ disk_in s port
-      same_disk other = ap (λ (f : Found). disk_of f remembered) found_then ∙ disk_is b.found remembered (λ ready. other (ap state_of found_then ∙ ready)) ∙ sym (ap (λ (f : Found). disk_of f remembered) is)
+      same_disk other = ap (λ (f : ProbeResult). last_disk_of f remembered) found_then ∙ disk_is b.found remembered (λ ready. other (ap state_of found_then ∙ ready)) ∙ sym (ap (λ (f : ProbeResult). last_disk_of f remembered) is)
 
   pub tells : TellsTried port (stopped_of port b.anew.result.next) (stuck_if port b.found) accesses s then_is
   tells = record {
@@ -263,10 +263,10 @@ module _ (laws : LawsBelow) (s new : Server) (seen : Device) (port : Port) (stat
     its_stuck = stuck_its port b.found;
     becomes = becomes;
     engine = inr (interrupted wanted port b.anew.result.next b.anew.stopped new.device b.found b.anew.is);
-    stops = engine_stops laws port looks.driven.accesses part afterwards.driven.accesses b.anew.result.next g.mends.does.engine;
+    stops = engine_stops laws port looks.driven.accesses part afterwards.driven.accesses b.anew.result.next g.handling.does.engine;
     sticks = λ here.
         let dead = stuck_only port b.found here in
-        (engine_sticks laws port looks.driven.accesses part afterwards.driven.accesses b.anew.result.next g.mends.does.engine (afterwards.sticks dead), counted dead);
+        (engine_sticks laws port looks.driven.accesses part afterwards.driven.accesses b.anew.result.next g.handling.does.engine (afterwards.sticks dead), counted dead);
   }
 
   -- ---- the other ports
@@ -283,5 +283,5 @@ module _ (laws : LawsBelow) (s new : Server) (seen : Device) (port : Port) (stat
     book = λ q ne. refl;
   }
 
-  pub silent : (q : ℕ) → q ≢ port.0 → state_of (found_of s.ports q) ≢ DeadState → SendsNone q ReadLog s.device new.device
+  pub silent : (q : ℕ) → q ≢ port.0 → state_of (probe_result_of s.ports q) ≢ DeadState → SendsNone q ReadLog s.device new.device
   silent q other alive = whole.1.silent q ReadLog refl other (λ dead. alive (ap state_of dead))

@@ -12,32 +12,32 @@ use Rattle.hba_regs.specs.declared.reg.PortReg.TheVariants.{Cmd, Is, Sctl}
 use Rattle.adapter.specs.Access.{Access}
 use Rattle.adapter.specs.Device.{Device}
 use Rattle.adapter.specs.declared.command.Operation.TheVariants.{Identify, ReadLog}
-use Rattle.agreement.specs.Agrees.{port_at}
-use Rattle.agreement.specs.Driven.{AnyUse, IsDrivenBy, IsFollowed, IsOf}
-use Rattle.agreement.specs.Driver.{IsBacked}
-use Rattle.agreement.specs.Slots.{Free, Serves}
-use Rattle.agreement.specs.Spares.{SparesBook}
+use Rattle.refinement.specs.Relation.{port_at}
+use Rattle.refinement.specs.Driven.{AnyUse, IsDrivenBy, IsSimulated, IsOf}
+use Rattle.refinement.specs.Driver.{IsBacked}
+use Rattle.refinement.specs.Slots.{Free, Serves}
+use Rattle.refinement.specs.Spares.{SparesBook}
 use Rattle.block_machine.specs.Due.{NoneDue}
 use Rattle.block_machine.specs.Events.{AllDevices, AllMay, HadDisk, ShowsDisk, changes_disk}
-use Rattle.block_machine.specs.Histories.{IsReached}
+use Rattle.block_machine.specs.Histories.{IsReachable}
 use Rattle.block_machine.specs.Left.{after}
 use Rattle.block_machine.specs.State.{Machine, Pending}
 use Rattle.block_machine.specs.Steps.{Step}
-use Rattle.block_machine.specs.declared.due.Mode.{Mode}
+use Rattle.block_machine.specs.declared.due.QueueMode.{QueueMode}
 use Rattle.driver_history.specs.Trace.{IsDriversOwn, LeavesEngine}
 use Rattle.error_recovery.specs.declared.Next.{Next}
 use Rattle.error_recovery.specs.declared.Next.TheVariants as next
-use Rattle.host_boot.specs.Taken.{StillStandsBehind, found_of, wanted_of}
-use Rattle.host_boot.specs.declared.Found.{Found}
-use Rattle.host_boot.specs.declared.Found.TheVariants.{Unready, Unserved}
-use Rattle.port_look.specs.Looks.{IsLooking}
-use Rattle.port_look.specs.Services.{IsService}
+use Rattle.host_boot.specs.Taken.{StillStandsBehind, probe_result_of, wanted_of}
+use Rattle.host_boot.specs.declared.ProbeResult.{ProbeResult}
+use Rattle.host_boot.specs.declared.ProbeResult.TheVariants.{Unready, Unserved}
+use Rattle.port_events.specs.Looks.{IsLooking}
+use Rattle.port_events.specs.Services.{IsService}
 use Rattle.request_queue.specs.Entries.{asks_of}
 use Rattle.server_history.specs.Below.{LawsBelow}
-use Rattle.server_history.specs.Server.{AreKept, IsKept, IsMachineOf, IsPortOf, IsSettled, Server, is_served, mode_at, mode_in, plain_mode, state_of, usable_of, use_of}
-use Rattle.server_history.specs.Tried.{BootsOnce, IsFoundAnew, IsLookedAt, TriesPort}
-use Rattle.server_history.specs.Turns.{HasPart, InTry, TriesUnready, moment_of}
-use Rattle.port_look.specs.declared.Trouble.TheVariants.{Hung}
+use Rattle.server_history.specs.Server.{AreKept, InCallInvariant, IsMachineOf, IsPortOf, SettledInvariant, ServerState, is_served, mode_at, mode_in, plain_mode, state_of, usable_of, use_of}
+use Rattle.server_history.specs.Probing.{BootsOnce, IsProbedAnew, IsLookedAt, ProbesPort}
+use Rattle.server_history.specs.Turns.{HasPart, InProbe, ProbesUnready, server_moment}
+use Rattle.port_events.specs.declared.PortError.TheVariants.{TimedOut}
 use Rattle.server_history.proofs.unready_turn.AnotherBoot.{accesses, after_it, book_left, does, found_then, its_stand, listed, looking_part, low, never_ready, no_disk, only, others, silent, stuck_if, tells, then_is, unready, until, until_of, whole}
 use Rattle.server_history.proofs.state.DrivenAccesses.{driven_as}
 use Rattle.server_history.proofs.unready_turn.IdleLook.{looked_stands}
@@ -46,7 +46,7 @@ use Rattle.server_history.proofs.state.PlainHalts.{followed_halts}
 use Rattle.server_history.proofs.recovery_turn.RecoveredDevice.{IsPassed, devices_both, passed, uses_then}
 use Rattle.server_history.proofs.state.FirstMembers.{nowhere}
 use Rattle.server_history.proofs.plain_calls.Looks.{looked_kept, looking_silent, looking_spares}
-use Rattle.server_history.proofs.fates.MetFates.{nobody}
+use Rattle.server_history.proofs.dispositions.MetFates.{nobody}
 use Rattle.server_history.proofs.recovery_turn.CallPart.{none_due_unready, unlooked}
 use Rattle.server_history.proofs.state.PortsOverAccesses.{port_on}
 use Rattle.server_history.proofs.recovery_turn.RecoveryAccesses.{IsPart}
@@ -60,26 +60,26 @@ use Rattle.server_history.proofs.unready_turn.TriedPort.{AddsTried, TellsTried, 
 
 -- ---- it was booted
 
-module _ (laws : LawsBelow) (s new : Server) (seen : Device) (port : Port) (state : PortState) (t : IsSettled s) (is : found_of s.ports port.0 ≡ Unready state) (lives : state ≢ DeadState)
-    (looks : IsFollowed (IsLooking port) AnyUse s.device seen) (b : BootsOnce port (record s { device = seen }) new) where
-  abbrev k : IsKept s
+module _ (laws : LawsBelow) (s new : ServerState) (seen : Device) (port : Port) (state : PortState) (t : SettledInvariant s) (is : probe_result_of s.ports port.0 ≡ Unready state) (lives : state ≢ DeadState)
+    (looks : IsSimulated (IsLooking port) AnyUse s.device seen) (b : BootsOnce port (record s { device = seen }) new) where
+  abbrev k : InCallInvariant s
   k = t.kept
 
-  abbrev then : Server
+  abbrev then : ServerState
   then = then_is laws s new seen port state k is lives looks b
 
   abbrev part : List Access
-  part = b.anew.gives_up.mends.accesses
+  part = b.anew.gives_up.handling.accesses
 
   small : port.0 < 4
   small = low laws s seen port state k is lives looks
 
-  alive : found_of s.ports port.0 ≢ Unready DeadState
+  alive : probe_result_of s.ports port.0 ≢ Unready DeadState
   alive dead = lives (let z : Unready state ≡ Unready DeadState = sym is ∙ dead in cc)
 
   -- ---- the machine
 
-  module _ (m : Machine) (reached : IsReached m) (stood : IsMachineOf s m) where
+  module _ (m : Machine) (reached : IsReachable m) (stood : IsMachineOf s m) where
     looked : (steps : List Step) × AllMay m steps × IsMachineOf (record s { device = seen }) (after m steps) × IsBacked s.device seen m steps × AllDevices steps
     looked = followed_steps laws s seen (looks_serve laws port s.device seen looks) m reached stood
 
@@ -90,7 +90,7 @@ module _ (laws : LawsBelow) (s new : Server) (seen : Device) (port : Port) (stat
     at = looked.2
 
     p : IsPassed port.0 b.anew.result.next b.found seen new.device (record { uses = at.uses; parked = at.parked }) n
-    p = passed laws (wanted_of s.wanted port.0) port Hung no_disk b.anew.result.next part seen b.anew.stopped new.device b.found b.anew.gives_up.mends.does.slots (after_it laws s new seen port state k is lives looks b)
+    p = passed laws (wanted_of s.wanted port.0) port TimedOut no_disk b.anew.result.next part seen b.anew.stopped new.device b.found b.anew.gives_up.handling.does.slots (after_it laws s new seen port state k is lives looks b)
         (record { uses = at.uses; parked = at.parked }) n (laws.basic.reached m looked.0 reached looked.1) at.knows
 
     abbrev w : Machine
@@ -102,10 +102,10 @@ module _ (laws : LawsBelow) (s new : Server) (seen : Device) (port : Port) (stat
     -- no slot of it served a request, and none was parked
     none_served : (slot : ℕ) (id : RequestId) → at.uses port.0 slot ≡ Serves id → ⊥
     none_served slot id serves =
-        let none = (k.slots port.0 small).unused slot (subst (λ (f : Found). usable_of f (mode_at s.modes port.0) ≤ slot) (sym is) (omega arith)) in
+        let none = (k.slots port.0 small).unused slot (subst (λ (f : ProbeResult). usable_of f (mode_at s.modes port.0) ≤ slot) (sym is) (omega arith)) in
         let z : Free ≡ Serves id = sym (ap use_of none) ∙ sym (at.used port.0 slot alive) ∙ serves in absurd cc
 
-    unparked : (q : ℕ) → found_of then.ports q ≢ Unready DeadState → p.slots.parked q ≡ []
+    unparked : (q : ℕ) → probe_result_of then.ports q ≢ Unready DeadState → p.slots.parked q ≡ []
     unparked q other = ⊎_elim
         (λ (same : q ≡ port.0).
         ap p.slots.parked same ∙ nobody (p.slots.parked port.0) (λ id here. ⊎_elim
@@ -120,7 +120,7 @@ module _ (laws : LawsBelow) (s new : Server) (seen : Device) (port : Port) (stat
 
     -- a request that is kept is of another port
     elsewhere : (e : Pending) → Contains w.kept e → e.request.port.0 ≢ port.0
-    elsewhere e here same = alive (ap (found_of s.ports) (sym same) ∙ was_kept.dead e here)
+    elsewhere e here same = alive (ap (probe_result_of s.ports) (sym same) ∙ was_kept.dead e here)
 
     stands : IsMachineOf then w
     stands = record {
@@ -163,22 +163,22 @@ module _ (laws : LawsBelow) (s new : Server) (seen : Device) (port : Port) (stat
     devices = devices_both p.passes.steps looked.0 p.passes.only looked.4
 
     -- where it shows a disk then, one was in
-    had : HadDisk (moment_of s m) steps (moment_of then (after m steps)) port
-    had shows = by b.anew.result.next b.anew.is (subst (λ (f : Found). ShowsDisk (state_of f)) (found_then laws s new seen port state k is lives looks b) shows)
+    had : HadDisk (server_moment s m) steps (server_moment then (after m steps)) port
+    had shows = by b.anew.result.next b.anew.is (subst (λ (f : ProbeResult). ShowsDisk (state_of f)) (found_then laws s new seen port state k is lives looks b) shows)
       where
-        by : (after_it : Next) → IsFoundAnew (wanted_of s.wanted port.0) port after_it b.anew.stopped new.device b.found → ShowsDisk (state_of b.found) → (m.present port ≡ true) ⊎ (list_any (changes_disk port) steps ≡ true)
+        by : (after_it : Next) → IsProbedAnew (wanted_of s.wanted port.0) port after_it b.anew.stopped new.device b.found → ShowsDisk (state_of b.found) → (m.present port ≡ true) ⊎ (list_any (changes_disk port) steps ≡ true)
         by (next.Running token) none disk = absurd none
-        by next.Dead (dead, same) disk = absurd (subst (λ (f : Found). ShowsDisk (state_of f)) dead disk)
+        by next.Dead (dead, same) disk = absurd (subst (λ (f : ProbeResult). ShowsDisk (state_of f)) dead disk)
         by (next.Restart token) (booted, so, boots) disk =
             booted_had laws port s (wanted_of s.wanted port.0) booted (looks.driven.accesses ++ part) b.anew.stopped new.device new.device k.on (until laws s new seen port state k is lives looks b)
-            (until_of laws s new seen port state k is lives looks b) boots (subst (λ (f : Found). ShowsDisk (state_of f)) (sym so) disk) (laws.looks.tape.grows_none new.device) m stood steps backed
+            (until_of laws s new seen port state k is lives looks b) boots (subst (λ (f : ProbeResult). ShowsDisk (state_of f)) (sym so) disk) (laws.looks.tape.grows_none new.device) m stood steps backed
 
     adds : AddsTried port s then m
     adds = record { steps = steps; only = devices; may = may; stands = then_stands; backed = backed; disk = inr had }
 
   -- ---- the server
 
-  kept_then : IsKept then
+  kept_then : InCallInvariant then
   kept_then =
       let w = whole laws s new seen port state k is lives looks b in
       replaced_kept laws port s k small new.device w.0 w.1 s.table b.found s.remembered b.mode b.slots s.kept s.book (ap is_served is) (its_stand laws s new seen port state k is lives looks b) b.anew.mode_is b.unused
@@ -189,13 +189,13 @@ module _ (laws : LawsBelow) (s new : Server) (seen : Device) (port : Port) (stat
   none_due q = ⊎_elim
       (λ (same : q.0 ≡ port.0).
       subst (λ (x : Port). NoneDue (mode_in then q) (asks_of s.book) x) (ap (λ (x : ℕ). record { 0 = x }) (sym same)) (none_due_unready s k port (unready laws s new seen port state k is lives looks b) (mode_in then q)))
-      (λ (other : q.0 ≢ port.0). subst (λ (mode : Mode). NoneDue mode (asks_of s.book) q) (sym (get_or-set_other s.modes port.0 q.0 b.mode plain_mode other)) (t.issued q))
+      (λ (other : q.0 ≢ port.0). subst (λ (mode : QueueMode). NoneDue mode (asks_of s.book) q) (sym (get_or-set_other s.modes port.0 q.0 b.mode plain_mode other)) (t.issued q))
       (cases_eq q.0 port.0)
 
-  settled_then : IsSettled then
+  settled_then : SettledInvariant then
   settled_then = record { kept = kept_then; issued = none_due }
 
-  part_then : HasPart InTry port [] s then
+  part_then : HasPart InProbe port [] s then
   part_then =
       let its = only laws s new seen port state k is lives looks b in
       record {
@@ -209,8 +209,8 @@ module _ (laws : LawsBelow) (s new : Server) (seen : Device) (port : Port) (stat
             (adds m reached stood);
       }
 
-  pub booted_turn : HasPart InTry port [] s new × IsSettled new
-  booted_turn = subst (λ (x : Server). HasPart InTry port [] s x × IsSettled x) (sym b.server) (part_then, settled_then)
+  pub booted_turn : HasPart InProbe port [] s new × SettledInvariant new
+  booted_turn = subst (λ (x : ServerState). HasPart InProbe port [] s x × SettledInvariant x) (sym b.server) (part_then, settled_then)
 
 -- ---- it was looked at, and that is all
 
@@ -218,11 +218,11 @@ module _ (laws : LawsBelow) (s new : Server) (seen : Device) (port : Port) (stat
 leaving : (port q : Port) (access : Access) → IsLooking port access → LeavesEngine q access
 leaving port q access its = (looking_spares port q Cmd (λ e. let z : Is ≡ Cmd = e in cc) access its, looking_spares port q Sctl (λ e. let z : Is ≡ Sctl = e in cc) access its)
 
-module _ (laws : LawsBelow) (s : Server) (seen : Device) (port : Port) (state : PortState) (t : IsSettled s) (is : found_of s.ports port.0 ≡ Unready state) (looks : IsFollowed (IsLooking port) AnyUse s.device seen) where
-  abbrev rest : Server
+module _ (laws : LawsBelow) (s : ServerState) (seen : Device) (port : Port) (state : PortState) (t : SettledInvariant s) (is : probe_result_of s.ports port.0 ≡ Unready state) (looks : IsSimulated (IsLooking port) AnyUse s.device seen) where
+  abbrev rest : ServerState
   rest = record s { device = seen }
 
-  never : state_of (found_of s.ports port.0) ≢ ReadyState
+  never : state_of (probe_result_of s.ports port.0) ≢ ReadyState
   never ready = never_ready s port state t.kept is (sym (ap state_of is) ∙ ready)
 
   rests_told : TellsTried port [] [] looks.driven.accesses s rest
@@ -248,10 +248,10 @@ module _ (laws : LawsBelow) (s : Server) (seen : Device) (port : Port) (state : 
     its_port =
         let was = t.kept.behind port.0 (low laws s seen port state t.kept is lives looks) in
         record {
-          behind = subst (λ (f : Found). StillStandsBehind (wanted_of s.wanted port.0) f port.0 seen) (sym is)
+          behind = subst (λ (f : ProbeResult). StillStandsBehind (wanted_of s.wanted port.0) f port.0 seen) (sym is)
               (looked_stands laws (wanted_of s.wanted port.0) port state result s.device seen t.kept.on lives l none (laws.looking.services_same s.device seen serves)
               (looking_silent s seen port t.kept looks port.0 Identify refl (λ dead. lives (let z : Unready state ≡ Unready DeadState = sym is ∙ dead in cc)))
-              (subst (λ (f : Found). StillStandsBehind (wanted_of s.wanted port.0) f port.0 s.device) is was.behind));
+              (subst (λ (f : ProbeResult). StillStandsBehind (wanted_of s.wanted port.0) f port.0 s.device) is was.behind));
           runs = λ ready. absurd (never ready);
           shown = λ bad. shown_on laws.looks port s.device seen t.kept.on serves (was.shown bad);
           own = λ ready. absurd (never ready);
@@ -266,17 +266,17 @@ module _ (laws : LawsBelow) (s : Server) (seen : Device) (port : Port) (state : 
         (followed_halts laws (port_at q) (IsLooking port) s t.kept seen looks (λ access its. (leaving port (port_at q) access its).0))
         (t.kept.behind q small)
 
-    pub rests_kept : IsKept rest
+    pub rests_kept : InCallInvariant rest
     rests_kept = looked_kept s seen port t.kept laws looks (λ q small. ⊎_elim
         (λ (same : q ≡ port.0). subst (λ (x : ℕ). IsPortOf s.wanted s.ports x seen) (sym same) its_port)
         (λ (other : q ≢ port.0). other_port q small other)
         (cases_eq q port.0))
 
-  module _ (result : Bool) (l : IsLookedAt state port result s.device seen) (none : result ≡ false) (kept : IsKept rest) where
-    rests_settled : IsSettled rest
+  module _ (result : Bool) (l : IsLookedAt state port result s.device seen) (none : result ≡ false) (kept : InCallInvariant rest) where
+    rests_settled : SettledInvariant rest
     rests_settled = record { kept = kept; issued = t.issued }
 
-    pub rests : HasPart InTry port [] s rest × IsSettled rest
+    pub rests : HasPart InProbe port [] s rest × SettledInvariant rest
     rests = (
       record {
         accesses = looks.driven.accesses;
@@ -303,20 +303,20 @@ dead_or_not (Unfit n) = inr (λ is. let z : Unfit n ≡ DeadState = is in cc)
 dead_or_not DeadState = inl refl
 
 -- A dead port isn't looked at. Another one is, and booted where what it was looked at for was found.
-pub turns : LawsBelow → (s new : Server) (port : Port) → IsSettled s → (tries : TriesPort port s new) → (tries.state ≢ DeadState → IsFollowed (IsLooking port) AnyUse s.device tries.seen)
-    → HasPart InTry port [] s new × IsSettled new
-turns laws s new port t tries looks = ⊎_elim
-    (λ (dead : tries.state ≡ DeadState).
-    let l = subst (λ (state : PortState). IsLookedAt state port tries.result s.device tries.seen) dead tries.looks in
-    whole_rest l.0 (unlooked port s.device tries.seen l.1) (subst (λ (d : Device). IsKept (record s { device = d })) (sym l.1) t.kept))
-    (λ (lives : tries.state ≢ DeadState). ⊎_elim
-    (λ (found : tries.result ≡ true). booted_turn laws s new tries.seen port tries.state t tries.is lives (looks lives) (tries.boots found))
-    (λ (none : tries.result ≡ false). whole_rest none (looks lives) (rests_kept laws s tries.seen port tries.state t tries.is (looks lives) lives tries.result tries.looks none))
-    (cases_Bool tries.result))
-    (dead_or_not tries.state)
+pub turns : LawsBelow → (s new : ServerState) (port : Port) → SettledInvariant s → (probes : ProbesPort port s new) → (probes.state ≢ DeadState → IsSimulated (IsLooking port) AnyUse s.device probes.seen)
+    → HasPart InProbe port [] s new × SettledInvariant new
+turns laws s new port t probes looks = ⊎_elim
+    (λ (dead : probes.state ≡ DeadState).
+    let l = subst (λ (state : PortState). IsLookedAt state port probes.result s.device probes.seen) dead probes.looks in
+    whole_rest l.0 (unlooked port s.device probes.seen l.1) (subst (λ (d : Device). InCallInvariant (record s { device = d })) (sym l.1) t.kept))
+    (λ (lives : probes.state ≢ DeadState). ⊎_elim
+    (λ (found : probes.result ≡ true). booted_turn laws s new probes.seen port probes.state t probes.is lives (looks lives) (probes.boots found))
+    (λ (none : probes.result ≡ false). whole_rest none (looks lives) (rests_kept laws s probes.seen port probes.state t probes.is (looks lives) lives probes.result probes.looks none))
+    (cases_Bool probes.result))
+    (dead_or_not probes.state)
   where
-    whole_rest : tries.result ≡ false → IsFollowed (IsLooking port) AnyUse s.device tries.seen → IsKept (record s { device = tries.seen }) → HasPart InTry port [] s new × IsSettled new
-    whole_rest none its kept = subst (λ (n : Server). HasPart InTry port [] s n × IsSettled n) (sym (tries.left none)) (rests laws s tries.seen port tries.state t tries.is its tries.result tries.looks none kept)
+    whole_rest : probes.result ≡ false → IsSimulated (IsLooking port) AnyUse s.device probes.seen → InCallInvariant (record s { device = probes.seen }) → HasPart InProbe port [] s new × SettledInvariant new
+    whole_rest none its kept = subst (λ (n : ServerState). HasPart InProbe port [] s n × SettledInvariant n) (sym (probes.left none)) (rests laws s probes.seen port probes.state t probes.is its probes.result probes.looks none kept)
 
-pub tried : LawsBelow → (s new : Server) (port : Port) → IsSettled s → (tries : TriesPort port s new) → (tries.state ≢ DeadState → IsFollowed (IsLooking port) AnyUse s.device tries.seen) → TriesUnready port s new × IsSettled new
-tried laws s new port t tries looks = let x = turns laws s new port t tries looks in (record { does = tries; part = x.0 }, x.1)
+pub tried : LawsBelow → (s new : ServerState) (port : Port) → SettledInvariant s → (probes : ProbesPort port s new) → (probes.state ≢ DeadState → IsSimulated (IsLooking port) AnyUse s.device probes.seen) → ProbesUnready port s new × SettledInvariant new
+tried laws s new port t probes looks = let x = turns laws s new port t probes looks in (record { does = probes; part = x.0 }, x.1)

@@ -10,22 +10,22 @@ use Rattle.hba_regs.specs.declared.reg.PortReg.TheVariants.{Is, Ssts}
 use Rattle.hba_regs.specs.declared.reg.Reg.TheVariants.{Px}
 use Rattle.adapter.specs.Access.{Reads}
 use Rattle.adapter.specs.Access.Access.{Reading}
-use Rattle.adapter.specs.Device.{Device, Notes, PortState}
+use Rattle.adapter.specs.Device.{Device, Notes, DevicePort}
 use Rattle.adapter.specs.Kept.{KeepsControls, KeepsPort}
 use Rattle.adapter.specs.Rules.{IsOn}
 use Rattle.adapter.specs.Seen.{SeenAt}
 use Rattle.adapter.specs.declared.command.Operation.TheVariants.{Identify}
-use Rattle.agreement.specs.Driven.{LeavesPort, SendsNone}
-use Rattle.agreement.specs.Links.{SameAdapter}
+use Rattle.refinement.specs.Driven.{LeavesPort, SendsNone}
+use Rattle.refinement.specs.Links.{SameAdapter}
 use Rattle.host_boot.specs.Taken.{StillStandsBehind}
-use Rattle.host_boot.specs.declared.Found.TheVariants.{Unready}
+use Rattle.host_boot.specs.declared.ProbeResult.TheVariants.{Unready}
 use Rattle.identify.specs.Wanted.{serial_of}
 use Rattle.identify.specs.declared.wanted.Wanted.{Wanted}
 use Rattle.port_boot.specs.States.{EndsAs, HasPage, IsUnfit}
 use Rattle.port_control.specs.Ports.{IsStopped, SawDevice}
-use Rattle.port_look.specs.Glances.{FindsChange}
+use Rattle.port_events.specs.Glances.{FindsChange}
 use Rattle.server_history.specs.Below.{LawsBelow}
-use Rattle.server_history.specs.Tried.{IsLookedAt}
+use Rattle.server_history.specs.Probing.{IsLookedAt}
 use Rattle.server_history.proofs.state.PortGrounds.{left_on}
 use Rattle.server_history.proofs.state.RunningPorts.{link_still}
 
@@ -53,7 +53,7 @@ abbrev noted_before : Device → Device → Device
 noted_before old new = record new { port = λ q. record (new.port q) { notes = (old.port q).notes } }
 
 -- a port is left to the device, but for what was noted
-but_notes : (noted : Notes) (old new : PortState) → KeepsPort old new → KeepsControls old new → LeavesPort (record old { notes = noted }) (record new { notes = noted })
+but_notes : (noted : Notes) (old new : DevicePort) → KeepsPort old new → KeepsControls old new → LeavesPort (record old { notes = noted }) (record new { notes = noted })
 but_notes noted old new k c = record {
   keeps = record { bases = k.bases; st = k.st; fre = k.fre; cr = k.cr; fr = k.fr; ci = k.ci; sact = k.sact; idle = k.idle; fallen = k.fallen; free = k.free };
   controls = record { st = c.st; fre = c.fre; sctl_det = c.sctl_det; ie = c.ie; is = c.is; ips = c.ips; serr_n = c.serr_n; serr_x = c.serr_x; runs = c.runs };

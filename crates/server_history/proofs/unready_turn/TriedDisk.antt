@@ -10,26 +10,26 @@ use Rattle.hba_regs.specs.declared.reg.PortReg.TheVariants.{Is, Sctl, Serr, Ssts
 use Rattle.hba_regs.specs.declared.reg.Reg.TheVariants.{Px}
 use Rattle.adapter.specs.Access.{Access, DoesAll, Reads}
 use Rattle.adapter.specs.Access.Access.{Reading, Writing}
-use Rattle.adapter.specs.Device.{Device, PortState}
+use Rattle.adapter.specs.Device.{Device, DevicePort}
 use Rattle.adapter.specs.Rules.{IsOn}
-use Rattle.agreement.specs.Driven.{Grows}
-use Rattle.agreement.specs.Errors.{NoneComes}
-use Rattle.agreement.specs.Links.{IsPlugging, PlugsNone}
-use Rattle.agreement.specs.Vacant.{IsFreshIfShown, IsVacant}
+use Rattle.refinement.specs.Driven.{Grows}
+use Rattle.refinement.specs.Errors.{NoneComes}
+use Rattle.refinement.specs.Links.{IsPlugging, PlugsNone}
+use Rattle.refinement.specs.Vacant.{IsFreshIfShown, IsVacant}
 use Rattle.block_machine.specs.Events.{ShowsDisk}
 use Rattle.driver_history.specs.Evidence.{Gains, ShowsChange}
 use Rattle.driver_history.specs.Histories.{IsFreshOrUnshown}
 use Rattle.driver_history.specs.Trace.{ResetsLink}
 use Rattle.host_boot.specs.Again.{BootsStopped}
 use Rattle.port_boot.specs.Outcomes.{EndsUnready}
-use Rattle.host_boot.specs.declared.Found.{Found}
-use Rattle.host_boot.specs.declared.Found.TheVariants.{Ready, Unready, Unserved}
+use Rattle.host_boot.specs.declared.ProbeResult.{ProbeResult}
+use Rattle.host_boot.specs.declared.ProbeResult.TheVariants.{Ready, Unready, Unserved}
 use Rattle.identify.specs.Wanted.{serial_of}
 use Rattle.identify.specs.declared.DiskInfo.{DiskInfo}
 use Rattle.identify.specs.declared.wanted.Wanted.{Wanted}
-use Rattle.port_boot.specs.States.{EndsAs, EndsEarly, EndsLate, TellsFault}
+use Rattle.port_boot.specs.States.{EndsAs, EndsEarly, EndsLate, IsStateOfFault}
 use Rattle.port_control.specs.Ports.{HasClearErrors}
-use Rattle.port_look.specs.Looks.{IsLooking}
+use Rattle.port_events.specs.Looks.{IsLooking}
 use Rattle.server_history.specs.Below.{LawsBelow}
 use Rattle.server_history.specs.Server.{state_of}
 use Rattle.server_history.proofs.any_turn.ToldTrouble.{is_plugging, one_or_none}
@@ -62,7 +62,7 @@ module _ (laws : LawsBelow) (port : Port) where
       let early = laws.looks.tape.grows_more old x.0 sent (grows_over laws r.before old x.0 x.1) (laws.looks.tape.access_grows (Writing (Px port Sctl) r.sending) x.0 sent x.2.1) in
       stays_so laws port IsFreshIfShown (laws.fresh_on port) rest sent new x.2.2 (none_parts old sent new early (grows_over laws rest sent new x.2.2) none).1 (laws.fresh_reset port r.sending x.0 sent r.sends x.2.1)
 
-  fresh_or_gone : (p : PortState) → IsFreshIfShown p → IsFreshOrUnshown p
+  fresh_or_gone : (p : DevicePort) → IsFreshIfShown p → IsFreshOrUnshown p
   fresh_or_gone p fresh = ⊎_elim (λ (shows : p.ssts_det ≡ 3). inl (fresh shows)) (λ (gone : p.ssts_det ≢ 3). inr gone) (cases_eq p.ssts_det 3)
 
   pub reset_fresh_or_gone : (accesses : List Access) (old new : Device) → ResetsLink port accesses → DoesAll accesses old new → NoneComes port.0 old new → IsFreshOrUnshown (new.port port.0)
@@ -95,19 +95,19 @@ module _ (laws : LawsBelow) (port : Port) where
       record {
         disk = λ clear.
             let l = later.disk clear in
-            let e = laws.trouble.shows_disk port access old mid on.no_reset spares does l.0 in (e.0, laws.looks.tape.plugs_more port.0 old mid new e.1 l.1);
+            let e = laws.port_error.shows_disk port access old mid on.no_reset spares does l.0 in (e.0, laws.looks.tape.plugs_more port.0 old mid new e.1 l.1);
         came = λ came. later.came ((laws.looks.access_news port access old mid on.no_reset spares does).1 came);
       }
 
   -- what the link told before, and what came, is shown still
   pub change_shown : (accesses : List Access) (old new : Device) → IsOn old → All (IsLooking port) accesses → DoesAll accesses old new → ShowsChange (old.port port.0) ⊎ Gains (IsPlugging port.0) old new → ShowsChange (new.port port.0)
-  change_shown accesses old new on all does trouble = ⊎_elim
+  change_shown accesses old new on all does port_error = ⊎_elim
       (λ (is : (new.port port.0).serr_n ≡ true). inl is)
       (λ (clear : (new.port port.0).serr_n ≡ false).
       let none = keeps.disk clear in ⊎_elim
       (λ change. ⊎_elim (λ went. absurd (false≢true (sym none.0 ∙ went))) (λ came. inr (keeps.came came)) change)
       (λ gains. absurd (gains_none (IsPlugging port.0) old new none.1.gained none.1.tape none.1.none gains))
-      trouble)
+      port_error)
       (cases_Bool ((new.port port.0).serr_n))
     where
       keeps : KeepsChange port.0 old new
@@ -116,7 +116,7 @@ module _ (laws : LawsBelow) (port : Port) where
 -- ---- a boot
 
 -- what a boot finds shows a disk, or no device, or a dead port
-pub shows_or_not : (found : Found) → ShowsDisk (state_of found) ⊎ ((state_of found ≡ Absent) ⊎ (found ≡ Unready Dead))
+pub shows_or_not : (found : ProbeResult) → ShowsDisk (state_of found) ⊎ ((state_of found ≡ Absent) ⊎ (found ≡ Unready Dead))
 shows_or_not Unserved = inr (inl refl)
 shows_or_not (Ready info) = inl tt
 shows_or_not (Unready Absent) = inr (inl refl)
@@ -127,7 +127,7 @@ shows_or_not (Unready Dead) = inr (inr refl)
 
 module _ (wanted : Wanted) (port : Port) (old new : Device) where
   -- where the port is ready then, it found a disk that fits
-  pub boot_ready : (found : Found) → BootsStopped wanted port found old new → state_of found ≡ ReadyState → (info : DiskInfo) × (found ≡ Ready info)
+  pub boot_ready : (found : ProbeResult) → BootsStopped wanted port found old new → state_of found ≡ ReadyState → (info : DiskInfo) × (found ≡ Ready info)
   boot_ready Unserved none is = absurd none
   boot_ready (Ready info) e is = (info, refl)
   boot_ready (Unready state) e is = absurd (subst (λ (its : Shown). EndsAs (serial_of wanted) its port.0 new) is e.ended)
@@ -138,7 +138,7 @@ module _ (wanted : Wanted) (port : Port) (old new : Device) where
     pub undue : NoneComes port.0 old new → (new.port port.0).link_due ≡ false
 
   early_clear : (state : Shown) → state ≢ Absent → EndsEarly port state old new → LeavesClear
-  early_clear state other e = let f = e.found (λ none. other (subst (TellsFault state) none e.told)) in record { clear = f.clear; undue = f.undue }
+  early_clear state other e = let f = e.found (λ none. other (subst (IsStateOfFault state) none e.told)) in record { clear = f.clear; undue = f.undue }
 
   late_clear : EndsLate port old new → LeavesClear
   late_clear e = record { clear = e.clear; undue = λ none. e.undue }
@@ -159,7 +159,7 @@ module _ (wanted : Wanted) (port : Port) (old new : Device) where
       no : Unfit n ≢ Absent
       no is = let z : Unfit n ≡ Absent = is in cc
 
-  pub boot_clear : (found : Found) → BootsStopped wanted port found old new → ShowsDisk (state_of found) → LeavesClear
+  pub boot_clear : (found : ProbeResult) → BootsStopped wanted port found old new → ShowsDisk (state_of found) → LeavesClear
   boot_clear Unserved none shows = absurd none
   boot_clear (Ready info) e shows = record { clear = e.news.clear; undue = λ none. (e.news.recorded e.ready.runs.st).linked }
   boot_clear (Unready state) e shows = unready_clear state e shows

@@ -10,8 +10,8 @@ use Rattle.ata_types.specs.declared.request.Outcome.TheVariants.{Unplugged}
 use Rattle.ata_types.specs.declared.limits.TheConstants.{READINGS}
 use Rattle.adapter.specs.Access.{Access}
 use Rattle.adapter.specs.declared.access.DeviceStep.{DeviceStep}
-use Rattle.agreement.specs.Driver.{IsBacked}
-use Rattle.agreement.specs.Errors.{NoneComes}
+use Rattle.refinement.specs.Driver.{IsBacked}
+use Rattle.refinement.specs.Errors.{NoneComes}
 use Rattle.block_machine.specs.Events.{AllDevices, AllMay, HadDisk, Served, Service, Tells, UnplugsAll}
 use Rattle.block_machine.specs.Left.{after}
 use Rattle.block_machine.specs.Ports.{Evidence, IsInterrupted, IsServiced, SamePort}
@@ -19,17 +19,17 @@ use Rattle.block_machine.specs.State.{Machine}
 use Rattle.block_machine.specs.Steps.{Step}
 use Rattle.driver_history.specs.Heeding.{AllGrounded}
 use Rattle.driver_history.specs.Evidence.{IsEvidencedOf}
-use Rattle.driver_history.specs.Histories.{LosesNoTrouble, RunsWellAnew, TriesDisk}
+use Rattle.driver_history.specs.Histories.{LosesNoPortError, RunsWellAnew, ProbesDisk}
 use Rattle.driver_history.specs.Holds.{NoneWaits}
 use Rattle.driver_history.specs.Trace.{LeavesEngine, ResetsLink}
 use Rattle.driver_history.specs.Parts.{EndsLinked}
-use Rattle.host_boot.specs.Taken.{found_of}
+use Rattle.host_boot.specs.Taken.{probe_result_of}
 use Rattle.port_control.specs.Engines.{Sticks, Stops}
 use Rattle.request_queue.specs.Entries.{Held}
 use Rattle.request_queue.specs.Machine.{IsEntry}
 use Rattle.server_history.specs.Below.{LawsBelow}
-use Rattle.server_history.specs.Server.{IsKept, IsMachineOf, IsSettled, Server, mode_in, ports_of, state_of}
-use Rattle.server_history.specs.Turns.{InService, InTry, IsOfTurn, MakesTurn, NamesOnly, OwesTurn, TiesTurn, instant_of, moment_of}
+use Rattle.server_history.specs.Server.{InCallInvariant, IsMachineOf, SettledInvariant, ServerState, mode_in, ports_of, state_of}
+use Rattle.server_history.specs.Turns.{InService, InProbe, IsOfTurn, MakesTurn, NamesOnly, OwesTurn, TurnCorresponds, server_instant, server_moment}
 use Rattle.server_history.proofs.state.AnswerSteps.{no_answer}
 use Rattle.server_history.proofs.state.DueRequests.{none_issued}
 use Rattle.server_history.proofs.state.DeviceSteps.{devices_belong, devices_last, devices_lawful}
@@ -44,7 +44,7 @@ abbrev pub evidence_tried : List Port → List Port → Evidence
 evidence_tried stopped stuck = record { faults = []; lost = []; gone = []; failed = []; fatal = []; stopped = stopped; stuck = stuck }
 
 -- What is told of the port then, by accesses that led to this device.
-pub record TellsTried (port : Port) (stopped stuck : List Port) (accesses : List Access) (old new : Server) : Type 0 where
+pub record TellsTried (port : Port) (stopped stuck : List Port) (accesses : List Access) (old new : ServerState) : Type 0 where
   pub its_stopped : All (λ q. q ≡ port) stopped
   pub its_stuck : All (λ q. q ≡ port) stuck
   pub becomes : IsServiced (ports_of old) (evidence_tried stopped stuck) (ports_of new) port
@@ -53,29 +53,29 @@ pub record TellsTried (port : Port) (stopped stuck : List Port) (accesses : List
   pub sticks : Contains stuck port → Sticks port accesses × ((new.device.port port.0).notes.engine_count ≡ READINGS)
 
 -- The device's steps lead a machine that stands for the one server to one that stands for the other.
-pub record AddsTried (port : Port) (old new : Server) (m : Machine) : Type 0 where
+pub record AddsTried (port : Port) (old new : ServerState) (m : Machine) : Type 0 where
   pub steps : List Step
   pub only : AllDevices steps
   pub may : AllMay m steps
   pub stands : IsMachineOf new (after m steps)
   pub backed : IsBacked old.device new.device m steps
-  pub disk : SamePort (ports_of old) (ports_of new) port ⊎ HadDisk (moment_of old m) steps (moment_of new (after m steps)) port
+  pub disk : SamePort (ports_of old) (ports_of new) port ⊎ HadDisk (server_moment old m) steps (server_moment new (after m steps)) port
 
 -- What the turn has done of the port besides: where no disk of it came, what is there was tried, after which no link is due; it was booted anew, unless it is what it was, or dead or
 -- absent; and no trouble of it is lost.
-pub record DoesTried (port : Port) (evidence : Evidence) (accesses : List Access) (old new : Server) : Type 0 where
-  pub tries : (m : Machine) → NoneComes port.0 old.device new.device → TriesDisk accesses (instant_of old m) (ports_of new) new.device port
-  pub linked : (m : Machine) → EndsLinked port (instant_of old m) (ports_of new) new.device
+pub record DoesTried (port : Port) (evidence : Evidence) (accesses : List Access) (old new : ServerState) : Type 0 where
+  pub probes : (m : Machine) → NoneComes port.0 old.device new.device → ProbesDisk accesses (server_instant old m) (ports_of new) new.device port
+  pub linked : (m : Machine) → EndsLinked port (server_instant old m) (ports_of new) new.device
   pub boots : SamePort (ports_of old) (ports_of new) port ⊎ (((ports_of new).state port ≡ Dead) ⊎ (((ports_of new).state port ≡ Absent) ⊎ ResetsLink port accesses))
-  pub trouble : (m : Machine) → LosesNoTrouble evidence (instant_of old m) (ports_of new) new.device port
-  pub well : (m : Machine) → RunsWellAnew evidence accesses (instant_of old m) (ports_of new) new.device port
+  pub port_error : (m : Machine) → LosesNoPortError evidence (server_instant old m) (ports_of new) new.device port
+  pub well : (m : Machine) → RunsWellAnew evidence accesses (server_instant old m) (ports_of new) new.device port
 
 -- ---- what such a turn makes of a machine
 
-module _ (laws : LawsBelow) (port : Port) (old : Server) (k : IsKept old) (unready : state_of (found_of old.ports port.0) ≢ ReadyState) where
+module _ (laws : LawsBelow) (port : Port) (old : ServerState) (k : InCallInvariant old) (unready : state_of (probe_result_of old.ports port.0) ≢ ReadyState) where
   -- none of its requests is unanswered
   pub none_held : (e : Held) → Contains old.book e → e.entry.port ≢ port
-  none_held e here same = unready (ap (λ (q : Port). state_of (found_of old.ports q.0)) (sym same) ∙ of_ready old k e here)
+  none_held e here same = unready (ap (λ (q : Port). state_of (probe_result_of old.ports q.0)) (sym same) ∙ of_ready old k e here)
 
   module _ (m : Machine) (is : IsMachineOf old m) (steps : List Step) (only : AllDevices steps) where
     pub none_waits : NoneWaits (after m steps) port
@@ -84,7 +84,7 @@ module _ (laws : LawsBelow) (port : Port) (old : Server) (k : IsKept old) (unrea
         let h = at_right IsEntry old.book m.book is.book b.0 b.1 in
         none_held h.0 h.1 (sym h.2.port ∙ ap (λ r. r.port) (sym b.2.request) ∙ same)
 
-  module _ (new : Server) (settled : IsSettled new) (stopped stuck : List Port) (accesses : List Access) (t : TellsTried port stopped stuck accesses old new)
+  module _ (new : ServerState) (settled : SettledInvariant new) (stopped stuck : List Port) (accesses : List Access) (t : TellsTried port stopped stuck accesses old new)
       (did : DoesTried port (evidence_tried stopped stuck) accesses old new) where
     abbrev its : Evidence
     its = evidence_tried stopped stuck
@@ -99,7 +99,7 @@ module _ (laws : LawsBelow) (port : Port) (old : Server) (k : IsKept old) (unrea
       stuck = t.its_stuck;
     }
 
-    evidenced : (m : Machine) → IsEvidencedOf Service (Served []) accesses (instant_of old m) (ports_of new) new.device its port
+    evidenced : (m : Machine) → IsEvidencedOf Service (Served []) accesses (server_instant old m) (ports_of new) new.device its port
     evidenced m = record {
       lost = λ here. absurd (nowhere port here);
       gone_all = λ ready. absurd (unready ready);
@@ -125,24 +125,24 @@ module _ (laws : LawsBelow) (port : Port) (old : Server) (k : IsKept old) (unrea
       unplugs : UnplugsAll x.steps (after m x.steps)
       unplugs = record { emptied = λ e other here. absurd (no_answer x.steps x.only e Unplugged here); alike = λ e other here. absurd (no_answer x.steps x.only e Unplugged here) }
 
-      owes : OwesTurn InTry port accesses old new m its x.steps
+      owes : OwesTurn InProbe port accesses old new m its x.steps
       owes = (devices_all (AllGrounded its) (device_grounded its) tt x.steps x.only, refl, refl)
 
-      ties : TiesTurn InTry port [] accesses old new m its x.steps
+      ties : TurnCorresponds InProbe port [] accesses old new m its x.steps
       ties = (
         record {
           finds = λ ready. absurd (unready ready);
           faults = λ alone. absurd (unready alone.ready);
-          tries = λ served comes. did.tries m comes;
+          probes = λ served comes. did.probes m comes;
           boots = (λ ready. absurd (unready ready), did.boots);
-          trouble = did.trouble m;
+          port_error = did.port_error m;
           well = did.well m;
           heeds = λ ready. absurd (unready ready);
         },
         did.linked m,
       )
 
-      pub makes_try : MakesTurn InTry port [] accesses old new m
+      pub makes_try : MakesTurn InProbe port [] accesses old new m
       makes_try = record {
         steps = x.steps;
         evidence = its;
@@ -153,7 +153,7 @@ module _ (laws : LawsBelow) (port : Port) (old : Server) (k : IsKept old) (unrea
         belong = devices_belong {D = DeviceStep} Service (ports_of new) x.steps x.only;
         last = devices_last x.steps x.only;
         names = names;
-        lawful = devices_lawful (moment_of old m) its (ports_of new) x.steps x.only;
+        lawful = devices_lawful (server_moment old m) its (ports_of new) x.steps x.only;
         owes = owes;
         tells = tells;
         unplugs = unplugs;
@@ -164,5 +164,5 @@ module _ (laws : LawsBelow) (port : Port) (old : Server) (k : IsKept old) (unrea
         evidenced = evidenced m;
         faults = λ told here. absurd (nowhere told here);
         ties = ties;
-        finds = λ other. absurd (let z : InTry ≡ InService = other in cc);
+        finds = λ other. absurd (let z : InProbe ≡ InService = other in cc);
       }

@@ -12,34 +12,34 @@ use Rattle.adapter.specs.Access.{Access, DoesAll}
 use Rattle.adapter.specs.Access.Access.{Reading}
 use Rattle.adapter.specs.Device.{Device}
 use Rattle.adapter.specs.Rules.{IsOn}
-use Rattle.agreement.specs.Driven.{AnyUse, IsFollowed, IsDrivenBy}
-use Rattle.agreement.specs.Errors.{NoneComes, IsFatalOf}
-use Rattle.agreement.specs.Facts.{IsFaultOf, RunsWell}
-use Rattle.agreement.specs.Links.{PlugsNone}
-use Rattle.agreement.specs.Vacant.{IsVacant}
+use Rattle.refinement.specs.Driven.{AnyUse, IsSimulated, IsDrivenBy}
+use Rattle.refinement.specs.Errors.{NoneComes, IsFatalOf}
+use Rattle.refinement.specs.Facts.{IsFaultOf, RunsWell}
+use Rattle.refinement.specs.Links.{PlugsNone}
+use Rattle.refinement.specs.Vacant.{IsVacant}
 use Rattle.block_machine.specs.Events.{ShowsDisk}
 use Rattle.block_machine.specs.Ports.{Evidence, IsInterrupted}
 use Rattle.block_machine.specs.State.{Machine}
-use Rattle.driver_history.specs.Histories.{IsUnfitOrForeign, IsFreshOrUnshown, TriesDisk}
+use Rattle.driver_history.specs.Histories.{IsUnfitOrForeign, IsFreshOrUnshown, ProbesDisk}
 use Rattle.driver_history.specs.Trace.{ResetsLink}
 use Rattle.driver_history.specs.Parts.{EndsLinked}
 use Rattle.error_recovery.specs.Evidence.{GainsRunning, ShowsTrouble}
 use Rattle.error_recovery.specs.declared.Next.{Next}
 use Rattle.error_recovery.specs.declared.Next.TheVariants as next
 use Rattle.host_boot.specs.Again.{BootsAgain}
-use Rattle.host_boot.specs.Taken.{FoundBadDisk, found_of, wanted_of}
+use Rattle.host_boot.specs.Taken.{FoundBadDisk, probe_result_of, wanted_of}
 use Rattle.host_boot.specs.declared.Booted.{Booted}
-use Rattle.host_boot.specs.declared.Found.{Found}
-use Rattle.host_boot.specs.declared.Found.TheVariants.{Ready, Unready}
+use Rattle.host_boot.specs.declared.ProbeResult.{ProbeResult}
+use Rattle.host_boot.specs.declared.ProbeResult.TheVariants.{Ready, Unready}
 use Rattle.identify.specs.declared.DiskInfo.{DiskInfo}
 use Rattle.port_control.specs.declared.Stopped.{Stopped}
-use Rattle.port_look.specs.Glances.{FindsChange, FindsDevice}
-use Rattle.port_look.specs.Looks.{IsLooking}
+use Rattle.port_events.specs.Glances.{FindsChange, FindsDevice}
+use Rattle.port_events.specs.Looks.{IsLooking}
 use Rattle.server_history.specs.Below.{LawsBelow}
-use Rattle.server_history.specs.Server.{IsKept, Server, is_served, ports_of, state_of}
-use Rattle.server_history.specs.Tried.{BootsOnce, IsFoundAnew, IsLookedAt}
-use Rattle.server_history.specs.Turns.{instant_of}
-use Rattle.port_look.specs.declared.Trouble.TheVariants.{Hung, Lost}
+use Rattle.server_history.specs.Server.{InCallInvariant, ServerState, is_served, ports_of, state_of}
+use Rattle.server_history.specs.Probing.{BootsOnce, IsProbedAnew, IsLookedAt}
+use Rattle.server_history.specs.Turns.{server_instant}
+use Rattle.port_events.specs.declared.PortError.TheVariants.{TimedOut, LinkChanged}
 use Rattle.server_history.proofs.unready_turn.AnotherBoot.{interrupted, never_ready, stuck_if, whole, accesses, afterwards, does, found_then, then_is, until, until_of}
 use Rattle.server_history.proofs.state.DrivenAccesses.{by_none}
 use Rattle.server_history.proofs.unready_turn.IdleLook.{unchanged, unequal}
@@ -55,9 +55,9 @@ use Rattle.server_history.proofs.unready_turn.UnfitPort.{found_bad}
 
 -- ---- a port in which a disk was found that isn't served
 
-module _ (s : Server) (port : Port) (state : PortState) (k : IsKept s) (is : found_of s.ports port.0 ≡ Unready state) where
-  bad_found : IsUnfitOrForeign (ports_of s) port → FoundBadDisk (state_of (found_of s.ports port.0))
-  bad_found bad = found_bad (state_of (found_of s.ports port.0)) bad
+module _ (s : ServerState) (port : Port) (state : PortState) (k : InCallInvariant s) (is : probe_result_of s.ports port.0 ≡ Unready state) where
+  bad_found : IsUnfitOrForeign (ports_of s) port → FoundBadDisk (state_of (probe_result_of s.ports port.0))
+  bad_found bad = found_bad (state_of (probe_result_of s.ports port.0)) bad
 
   -- no disk is in then, where none shows
   vacant : IsUnfitOrForeign (ports_of s) port → (s.device.port port.0).ssts_det ≢ 3 → IsVacant (s.device.port port.0)
@@ -98,7 +98,7 @@ module _ (s : Server) (port : Port) (state : PortState) (k : IsKept s) (is : fou
         let told = (laws.looks.changes_told port f.causes s.device f.seen k.on.no_reset f.reads).1 came in
         false≢true (sym (unchanged (bit f.causes 6) (bit f.causes 22) (f.status % 16 == 3) (sym f.tells ∙ none)).0 ∙ told)
 
-    rests_tries : NoneComes port.0 s.device seen → (made : List Access) (m : Machine) → TriesDisk made (instant_of s m) (ports_of s) seen port
+    rests_tries : NoneComes port.0 s.device seen → (made : List Access) (m : Machine) → ProbesDisk made (server_instant s m) (ports_of s) seen port
     rests_tries comes made m = record {
       shown = λ absent shows. let f = device_found absent in inr (inr (has_gone laws port f.status s.device seen k.on f.reads shows (gone absent)));
       absent = λ absent shows fresh. inr (inr (gone absent));
@@ -109,12 +109,12 @@ module _ (s : Server) (port : Port) (state : PortState) (k : IsKept s) (is : fou
     -- but for that, the port is what it was
     pub rests_does : (made : List Access) → All (IsLooking port) made → DoesAll made s.device seen → DoesTried port (evidence_tried [] []) made s (record s { device = seen })
     rests_does made only did = record {
-      tries = λ m comes. rests_tries comes made m;
+      probes = λ m comes. rests_tries comes made m;
       linked = λ m bad came comes. absurd (still_same bad came);
       boots = inl (refl, refl, refl, refl, refl, refl);
-      trouble = λ m. record {
+      port_error = λ m. record {
         errors = λ ready. absurd (never ready);
-        changes = λ _ trouble. inr (change_shown laws port made s.device seen k.on only did trouble);
+        changes = λ _ port_error. inr (change_shown laws port made s.device seen k.on only did port_error);
         fault = λ ready. absurd (never ready);
         fatal = λ ready. absurd (never ready);
         disk = λ ready. absurd (never ready);
@@ -122,21 +122,21 @@ module _ (s : Server) (port : Port) (state : PortState) (k : IsKept s) (is : fou
       well = λ m _ ready. absurd (never ready);
     }
       where
-        never : state_of (found_of s.ports port.0) ≢ ReadyState
+        never : state_of (probe_result_of s.ports port.0) ≢ ReadyState
         never ready = never_ready s port state k is (sym (ap state_of is) ∙ ready)
 
 -- ---- it was booted
 
-module _ (laws : LawsBelow) (s new : Server) (seen : Device) (port : Port) (state : PortState) (k : IsKept s) (is : found_of s.ports port.0 ≡ Unready state) (lives : state ≢ DeadState)
-    (looks : IsFollowed (IsLooking port) AnyUse s.device seen) (b : BootsOnce port (record s { device = seen }) new) where
-  abbrev then : Server
+module _ (laws : LawsBelow) (s new : ServerState) (seen : Device) (port : Port) (state : PortState) (k : InCallInvariant s) (is : probe_result_of s.ports port.0 ≡ Unready state) (lives : state ≢ DeadState)
+    (looks : IsSimulated (IsLooking port) AnyUse s.device seen) (b : BootsOnce port (record s { device = seen }) new) where
+  abbrev then : ServerState
   then = then_is laws s new seen port state k is lives looks b
 
   abbrev made : List Access
   made = accesses laws s new seen port state k is lives looks b
 
   abbrev first : List Access
-  first = looks.driven.accesses ++ b.anew.gives_up.mends.accesses
+  first = looks.driven.accesses ++ b.anew.gives_up.handling.accesses
 
   -- what its boot found, where it isn't dead
   record FindsSome : Type 0 where
@@ -155,8 +155,8 @@ module _ (laws : LawsBelow) (s new : Server) (seen : Device) (port : Port) (stat
       reset : (token : Stopped) → b.anew.result.next ≡ next.Restart token → b.found ≢ Unready DeadState → ResetsLink port made
       reset token so alive =
           let late = afterwards laws s new seen port state k is lives looks b in
-          resets_since port looks.driven.accesses (b.anew.gives_up.mends.accesses ++ late.driven.accesses) (resets_since port b.anew.gives_up.mends.accesses late.driven.accesses
-          (⊎_elim (λ lost. let z : Hung ≡ Lost = lost.0 in absurd cc) (λ resets. resets) (late.resets token so alive)))
+          resets_since port looks.driven.accesses (b.anew.gives_up.handling.accesses ++ late.driven.accesses) (resets_since port b.anew.gives_up.handling.accesses late.driven.accesses
+          (⊎_elim (λ lost. let z : TimedOut ≡ LinkChanged = lost.0 in absurd cc) (λ resets. resets) (late.resets token so alive)))
 
       some : (token : Stopped) → b.anew.result.next ≡ next.Restart token → (booted : Booted) → booted.found ≡ b.found → BootsAgain (wanted_of s.wanted port.0) port booted b.anew.stopped new.device → ((ports_of then).state port ≡ DeadState) ⊎ FindsSome
       some token so booted same boots = ⊎_elim
@@ -164,8 +164,8 @@ module _ (laws : LawsBelow) (s new : Server) (seen : Device) (port : Port) (stat
             booted = booted;
             same = same;
             boots = boots;
-            resets = reset token so (λ dead. subst (λ (f : Found). ShowsDisk (state_of f)) dead shows);
-            shows = inl (subst (λ (f : Found). ShowsDisk (state_of f)) (sym same) shows);
+            resets = reset token so (λ dead. subst (λ (f : ProbeResult). ShowsDisk (state_of f)) dead shows);
+            shows = inl (subst (λ (f : ProbeResult). ShowsDisk (state_of f)) (sym same) shows);
           }))
           (λ more. ⊎_elim
           (λ (absent : state_of b.found ≡ Absent). inr (record {
@@ -179,7 +179,7 @@ module _ (laws : LawsBelow) (s new : Server) (seen : Device) (port : Port) (stat
           more)
           (shows_or_not b.found)
 
-      by : (n : Next) → b.anew.result.next ≡ n → IsFoundAnew (wanted_of s.wanted port.0) port n b.anew.stopped new.device b.found → ((ports_of then).state port ≡ DeadState) ⊎ FindsSome
+      by : (n : Next) → b.anew.result.next ≡ n → IsProbedAnew (wanted_of s.wanted port.0) port n b.anew.stopped new.device b.found → ((ports_of then).state port ≡ DeadState) ⊎ FindsSome
       by (next.Running token) so none = absurd none
       by (next.Restart token) so (booted, same, boots) = some token so booted same boots
       by next.Dead so (dead, same) = inl (state_then ∙ ap state_of dead)
@@ -204,13 +204,13 @@ module _ (laws : LawsBelow) (s new : Server) (seen : Device) (port : Port) (stat
   since : (f : FindsSome) → ShowsDisk (state_of f.booted.found) → NoneComes port.0 s.device new.device → NoneComes port.0 f.boots.asked new.device
   since f shows comes = let x = sees f shows in (none_parts laws port s.device f.boots.asked new.device x.before x.since comes).1
 
-  boot_linked : (m : Machine) → EndsLinked port (instant_of s m) (ports_of then) new.device
+  boot_linked : (m : Machine) → EndsLinked port (server_instant s m) (ports_of then) new.device
   boot_linked m bad came comes = ⊎_elim
       (λ dead. inr (inl dead))
       (λ f. ⊎_elim (λ shows. inr (inr ((clear f shows).undue (since f shows comes)))) (λ absent. inl absent) f.shows)
       finds
 
-  boot_tries : (m : Machine) → NoneComes port.0 s.device new.device → TriesDisk made (instant_of s m) (ports_of then) new.device port
+  boot_tries : (m : Machine) → NoneComes port.0 s.device new.device → ProbesDisk made (server_instant s m) (ports_of then) new.device port
   boot_tries m comes = record {
     shown = λ absent shows. ⊎_elim (λ dead. inl dead) (λ f. inr (inl f.resets)) finds;
     absent = λ absent shows fresh. ⊎_elim (λ dead. inl dead) (λ f. inr (fresh_then f)) finds;
@@ -253,10 +253,10 @@ module _ (laws : LawsBelow) (s new : Server) (seen : Device) (port : Port) (stat
 
   pub boot_does : DoesTried port evidence made s then
   boot_does = record {
-    tries = boot_tries;
+    probes = boot_tries;
     linked = boot_linked;
     boots = inr (⊎_elim (λ dead. inl dead) (λ f. inr (inr f.resets)) finds);
-    trouble = λ m. record {
+    port_error = λ m. record {
       errors = λ _ _. inl stops;
       changes = λ _ _. inl stops;
       fault = λ ready. (shows_trouble (some_found ready) ready).fault;

@@ -3,8 +3,8 @@ use Rattle.std.proofs.Common.{ℕ, true, ◌≡◌, ◌≢◌, ◌⊎◌, refl, 
 use Rattle.ata_types.specs.declared.PortState.{PortState}
 use Rattle.ata_types.specs.declared.PortState.TheVariants.{Absent, Dead, Foreign, Ready as ReadyState, Unfit}
 use Rattle.host_boot.specs.Taken.{FoundBadDisk}
-use Rattle.host_boot.specs.declared.Found.{Found}
-use Rattle.host_boot.specs.declared.Found.TheVariants.{Ready, Unready, Unserved}
+use Rattle.host_boot.specs.declared.ProbeResult.{ProbeResult}
+use Rattle.host_boot.specs.declared.ProbeResult.TheVariants.{Ready, Unready, Unserved}
 use Rattle.server_history.specs.Server.{is_served, state_of}
 
 pub found_bad : (state : PortState) → (state ≡ Foreign) ⊎ ((cause : ℕ) × (state ≡ Unfit cause)) → FoundBadDisk state
@@ -12,7 +12,7 @@ found_bad state (inl foreign) = subst FoundBadDisk (sym foreign) tt
 found_bad state (inr (cause, unfit)) = subst FoundBadDisk (sym unfit) tt
 
 -- a port with a disk that isn't served is served, and isn't dead
-pub bad_tends : (found : Found) → (state_of found ≡ Foreign) ⊎ ((cause : ℕ) × (state_of found ≡ Unfit cause)) → (is_served found ≡ true) × (state_of found ≢ Dead)
+pub bad_tends : (found : ProbeResult) → (state_of found ≡ Foreign) ⊎ ((cause : ℕ) × (state_of found ≡ Unfit cause)) → (is_served found ≡ true) × (state_of found ≢ Dead)
 bad_tends Unserved (inl is) = let z : Absent ≡ Foreign = is in absurd cc
 bad_tends Unserved (inr (cause, is)) = let z : Absent ≡ Unfit cause = is in absurd cc
 bad_tends (Ready info) (inl is) = let z : ReadyState ≡ Foreign = is in absurd cc

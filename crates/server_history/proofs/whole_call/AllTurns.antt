@@ -15,36 +15,36 @@ use Rattle.adapter.specs.declared.tape.Fault as tape_fault
 use Rattle.adapter.specs.Device.{Device}
 use Rattle.adapter.specs.declared.access.DeviceStep.{DeviceStep}
 use Rattle.adapter.specs.Rules.{IsOn}
-use Rattle.agreement.specs.Agrees.{port_at}
-use Rattle.agreement.specs.Driven.{IsDrivenBy, IsOf}
-use Rattle.agreement.specs.Slots.{IsMove, ServesRequest}
-use Rattle.block_machine.specs.Events.{Ask, AllLawful, Belong, IsIssuedIn, Moment, Served, ShowsDisk, WasIssued, changes_disk, issues_it}
-use Rattle.block_machine.specs.Histories.{Instant, IsReached}
+use Rattle.refinement.specs.Relation.{port_at}
+use Rattle.refinement.specs.Driven.{IsDrivenBy, IsOf}
+use Rattle.refinement.specs.Slots.{IsMove, ServesRequest}
+use Rattle.block_machine.specs.Events.{Ask, AllLawful, Belong, IsIssuedIn, AbstractState, Served, ShowsDisk, WasIssued, changes_disk, issues_it}
+use Rattle.block_machine.specs.Histories.{JointState, IsReachable}
 use Rattle.block_machine.specs.Left.{after}
-use Rattle.block_machine.specs.Ports.{Evidence, Fault, Ports, SameDisk, SamePort}
+use Rattle.block_machine.specs.Ports.{Evidence, RequestFault, Ports, SameDisk, SamePort}
 use Rattle.block_machine.specs.Due.{of_port}
 use Rattle.block_machine.specs.State.{Pending, Machine, unanswered}
 use Rattle.block_machine.specs.declared.due.Unanswered.{Unanswered}
 use Rattle.block_machine.specs.Steps.{Step}
 use Rattle.server_history.proofs.state.ListMembers.{map_in}
-use Rattle.host_boot.specs.Taken.{found_of}
-use Rattle.host_boot.specs.declared.Found.{Found}
-use Rattle.host_boot.specs.declared.Found.TheVariants.{Unserved, Ready, Unready}
+use Rattle.host_boot.specs.Taken.{probe_result_of}
+use Rattle.host_boot.specs.declared.ProbeResult.{ProbeResult}
+use Rattle.host_boot.specs.declared.ProbeResult.TheVariants.{Unserved, Ready, Unready}
 use Rattle.driver_history.specs.Evidence.{FailsPlain, FailsQueued, IsEvidencedOf}
 use Rattle.error_recovery.specs.Evidence.{BringsLog, HasFailed}
 use Rattle.driver_history.specs.Histories.{IssuesDue}
 use Rattle.driver_history.specs.Parts.{HasTurnIn, IsOfOther, NamesAlike}
 use Rattle.driver_history.specs.Trace.{IsServing}
 use Rattle.server_history.specs.Below.{LawsBelow}
-use Rattle.server_history.specs.Turns.{HasPart, IsOfCommand, IsStepOf, MakesTurn, TakeTurns, TellsFault, moment_of}
-use Rattle.server_history.specs.Server.{Server, IsKept, IsMachineOf, IsSettled, is_served, mode_in, ports_of, state_of, used_for}
+use Rattle.server_history.specs.Turns.{HasPart, IsOfCommand, IsStepOf, MakesTurn, TakeTurns, TellsFault, server_moment}
+use Rattle.server_history.specs.Server.{ServerState, InCallInvariant, IsMachineOf, SettledInvariant, is_served, mode_in, ports_of, state_of, used_for}
 use Rattle.server_history.proofs.state.DueRequests.{same_book}
 use Rattle.server_history.proofs.any_turn.TurnSteps.{answered_own, issued_before, stood}
 use Rattle.server_history.proofs.plain_calls.IssueRounds.{any_append, dues_carried, or_none}
 use Rattle.server_history.proofs.state.PortSlots.{IsServedBy, issued_has, ready_found, served_request, serves_used}
-use Rattle.slots.specs.declared.Use.{Use as SlotUse}
-use Rattle.slots.specs.Uses.{Uses as PortSlots, use_at}
-use Rattle.block_machine.specs.declared.due.Mode.{Mode}
+use Rattle.slots.specs.declared.SlotUse.{SlotUse}
+use Rattle.slots.specs.Uses.{PortSlots, use_at}
+use Rattle.block_machine.specs.declared.due.QueueMode.{QueueMode}
 use Rattle.server_history.proofs.any_turn.TurnsInOrder.{AreTurns, all_of_ports, answered_of, belong_join, lawful_join, lawful_on, present_before, turn_on, unplugs_join}
 use Rattle.server_history.proofs.whole_call.ServiceAndTick.{Plan, TakesTurn, Uses, any_said, asks_for, asks_so, belong_on, owes_join, ready_or_silent, ready_takes, turn_at, unserved_waits}
 use Rattle.server_history.proofs.whole_call.DutiesSoFar.{serving, ties_carried, ties_turned}
@@ -56,38 +56,38 @@ use Rattle.server_history.proofs.any_turn.JoinedParts.{AreToldBelow, NamesSome, 
 same_some : {X : Type 0} {a b : X} → Some a ≡ Some b → a ≡ b
 same_some is = cc
 
-module _ (plan : Plan) (laws : LawsBelow) (s : Server) (start : IsSettled s) (old : Moment) (reached : IsReached old.machine) (at : IsMachineOf s old.machine) (ports_are : old.ports ≡ ports_of s) where
-  abbrev kept : IsKept s
+module _ (plan : Plan) (laws : LawsBelow) (s : ServerState) (start : SettledInvariant s) (old : AbstractState) (reached : IsReachable old.machine) (at : IsMachineOf s old.machine) (ports_are : old.ports ≡ ports_of s) where
+  abbrev kept : InCallInvariant s
   kept = start.kept
 
-  abbrev began : Instant Device
+  abbrev began : JointState Device
   began = record { device = s.device; moment = old }
 
   abbrev state_at : ℕ → PortState
-  state_at q = state_of (found_of s.ports q)
+  state_at q = state_of (probe_result_of s.ports q)
 
   abbrev HadTurn : ℕ → Port → Type 0
-  HadTurn n q = (q.0 < n) × TakesTurn plan (found_of s.ports q.0)
+  HadTurn n q = (q.0 < n) × TakesTurn plan (probe_result_of s.ports q.0)
 
-  abbrev IsDone : Server → List Access → List Step → Evidence → Port → Type 0
+  abbrev IsDone : ServerState → List Access → List Step → Evidence → Port → Type 0
   IsDone c accesses steps evidence q = progress.IsDone plan laws s start old reached at ports_are c accesses steps evidence q
 
-  abbrev HasTold : ℕ → Server → List Access → Fault → Type 0
+  abbrev HasTold : ℕ → ServerState → List Access → RequestFault → Type 0
   HasTold n c accesses told = progress.HasTold plan laws s start old reached at ports_are n c accesses told
 
-  abbrev Progress : ℕ → Server → List Reply → Type 0
+  abbrev Progress : ℕ → ServerState → List Reply → Type 0
   Progress n c replies = progress.Progress plan laws s start old reached at ports_are n c replies
 
   -- ---- a turn
 
-  module _ (n : ℕ) (c mid : Server) (before its : List Reply) (low : n < 4) (takes : TakesTurn plan (found_of s.ports n)) (p : Progress n c before) (next : IsSettled mid) (part : HasPart (turn_at plan (found_of s.ports n) n) (port_at n) its c mid) where
+  module _ (n : ℕ) (c mid : ServerState) (before its : List Reply) (low : n < 4) (takes : TakesTurn plan (probe_result_of s.ports n)) (p : Progress n c before) (next : SettledInvariant mid) (part : HasPart (turn_at plan (probe_result_of s.ports n) n) (port_at n) its c mid) where
     abbrev m : Machine
     m = after old.machine p.steps
 
-    m_reached : IsReached m
+    m_reached : IsReachable m
     m_reached = laws.basic.reached old.machine p.steps reached p.turns.may
 
-    abbrev x : MakesTurn (turn_at plan (found_of s.ports n) n) (port_at n) its part.accesses c mid m
+    abbrev x : MakesTurn (turn_at plan (probe_result_of s.ports n) n) (port_at n) its part.accesses c mid m
     x = part.makes m m_reached p.stands
 
     abbrev all : List Step
@@ -103,11 +103,11 @@ module _ (plan : Plan) (laws : LawsBelow) (s : Server) (start : IsSettled s) (ol
     not_yet served = let lt = served.0 in omega (arith, lt)
 
     -- it has its turn now
-    takes_at : (q : ℕ) → q ≡ n → TakesTurn plan (found_of s.ports q)
-    takes_at q is = subst (λ (k : ℕ). TakesTurn plan (found_of s.ports k)) (sym is) takes
+    takes_at : (q : ℕ) → q ≡ n → TakesTurn plan (probe_result_of s.ports q)
+    takes_at q is = subst (λ (k : ℕ). TakesTurn plan (probe_result_of s.ports k)) (sym is) takes
 
     silent_or_ready : (state_at n ≡ ReadyState) ⊎ ((x.evidence.faults ≡ []) × (x.evidence.lost ≡ []))
-    silent_or_ready = ready_or_silent plan (found_of s.ports n) n (port_at n) part.accesses c mid m x.evidence x.steps takes x.owes
+    silent_or_ready = ready_or_silent plan (probe_result_of s.ports n) n (port_at n) part.accesses c mid m x.evidence x.steps takes x.owes
 
     its_driven : IsDrivenBy (IsOf (port_at n)) c.device mid.device
     its_driven = record { accesses = part.accesses; all = part.does; only = part.of }
@@ -201,15 +201,15 @@ module _ (plan : Plan) (laws : LawsBelow) (s : Server) (start : IsSettled s) (ol
         (λ silent. subst (All (λ (r : Port). state_at r.0 ≡ ReadyState)) (sym silent.1) (All-nil (λ (r : Port). state_at r.0 ≡ ReadyState)))
         silent_or_ready
 
-    its_evidenced : IsEvidencedOf (asks_for plan) (Served its) part.accesses (record { device = c.device; moment = moment_of c m }) (ports_of mid) mid.device x.evidence (port_at n)
-    its_evidenced = subst (λ (ask : Ask DeviceStep). IsEvidencedOf ask (Served its) part.accesses (record { device = c.device; moment = moment_of c m }) (ports_of mid) mid.device x.evidence (port_at n)) (asks_so plan (found_of s.ports n) n) x.evidenced
+    its_evidenced : IsEvidencedOf (asks_for plan) (Served its) part.accesses (record { device = c.device; moment = server_moment c m }) (ports_of mid) mid.device x.evidence (port_at n)
+    its_evidenced = subst (λ (ask : Ask DeviceStep). IsEvidencedOf ask (Served its) part.accesses (record { device = c.device; moment = server_moment c m }) (ports_of mid) mid.device x.evidence (port_at n)) (asks_so plan (probe_result_of s.ports n) n) x.evidenced
 
     evidenced_n : IsEvidencedOf (asks_for plan) (Served []) accesses began (ports_of mid) mid.device evidence (port_at n)
     unfolding turn_of
     evidenced_n = subst (λ (list : List Access). IsEvidencedOf (asks_for plan) (Served []) (p.accesses ++ list) began (ports_of mid) mid.device evidence (port_at n)) (append-nil part.accesses)
-        (laws.calls.evidence (port_at n) began (moment_of c m) (ports_of mid) (ports_of mid) mid.device x.evidence evidence (asks_for plan) (Served []) kept.on undue_n turn_of on_mid same_n
+        (laws.calls.evidence (port_at n) began (server_moment c m) (ports_of mid) (ports_of mid) mid.device x.evidence evidence (asks_for plan) (Served []) kept.on undue_n turn_of on_mid same_n
         (same_self (ports_of mid) (port_at n)) alike_n
-        (any_said plan its [] part.accesses (record { device = c.device; moment = moment_of c m }) (ports_of mid) mid.device x.evidence (port_at n) its_evidenced))
+        (any_said plan its [] part.accesses (record { device = c.device; moment = server_moment c m }) (ports_of mid) mid.device x.evidence (port_at n) its_evidenced))
 
     evidenced_before : (q : Port) → q.0 < n → IsEvidencedOf (asks_for plan) (Served []) p.accesses began (ports_of c) c.device p.evidence q
         → IsEvidencedOf (asks_for plan) (Served []) accesses began (ports_of mid) mid.device evidence q
@@ -260,28 +260,28 @@ module _ (plan : Plan) (laws : LawsBelow) (s : Server) (start : IsSettled s) (ol
         (λ (none : list_any (issues_it u.id) x.steps ≡ false). sym (any_append (issues_it u.id) x.steps p.steps ∙ ap (λ (b : Bool). b || list_any (issues_it u.id) p.steps) none))
         (cases_Bool (list_any (issues_it u.id) x.steps))
 
-    due_now : (q : Port) → state_of (found_of mid.ports q.0) ≡ ReadyState → IssuesDue (mode_in mid q) all (after old.machine all) q
+    due_now : (q : Port) → state_of (probe_result_of mid.ports q.0) ≡ ReadyState → IssuesDue (mode_in mid q) all (after old.machine all) q
     due_now q is = subst (λ (k : Machine). IssuesDue (mode_in mid q) all k q) (sym whole_is) (⊎_elim
         (λ (same : q.0 ≡ n).
         subst (λ (r : Port). IssuesDue (mode_in mid r) all (after m x.steps) r) (ap port_at (sym same))
-        (dues_carried laws (mode_in mid (port_at n)) x.steps all (after m x.steps) (after m x.steps) (port_at n) refl own_alike (x.issues (ap (λ (k : ℕ). state_of (found_of mid.ports k)) (sym same) ∙ is))))
+        (dues_carried laws (mode_in mid (port_at n)) x.steps all (after m x.steps) (after m x.steps) (port_at n) refl own_alike (x.issues (ap (λ (k : ℕ). state_of (probe_result_of mid.ports k)) (sym same) ∙ is))))
         (λ (ne : q.0 ≢ n).
         let apart : q ≢ port_at n = λ same. ne (ap (λ (r : Port). r.0) same) in
         dues_carried laws (mode_in mid q) p.steps all m (after m x.steps) q
         (ap (of_port q) (same_book c.book m.book p.stands.book) ∙ sym (part.others.book q apart) ∙ ap (of_port q) (sym (same_book mid.book (after m x.steps).book x.stands.book)))
         (other_alike q apart)
-        (subst (λ (mode : Mode). IssuesDue mode p.steps m q) (sym (part.others.modes q.0 ne)) (p.due q (ap state_of (sym (part.others.found q.0 ne)) ∙ is))))
+        (subst (λ (mode : QueueMode). IssuesDue mode p.steps m q) (sym (part.others.modes q.0 ne)) (p.due q (ap state_of (sym (part.others.found q.0 ne)) ∙ is))))
         (cases_eq q.0 n))
 
     -- ---- what is lawful
 
     joined_lawful : AllLawful old evidence (ports_of mid) all
     joined_lawful = lawful_join old evidence (ports_of mid) x.steps p.steps
-        (lawful_on (moment_of c m) old x.evidence evidence (ports_of mid) (ports_of mid) x.steps
+        (lawful_on (server_moment c m) old x.evidence evidence (ports_of mid) (ports_of mid) x.steps
         (λ e o here.
         let own = answered_of (λ q. q ≡ port_at n) x.steps x.own e o here in
         let w = answered_own laws (port_at n) m x.steps x.own x.may e o here in
-        lawful_lift (moment_of c m) old x.evidence evidence (ports_of mid) (ports_of mid) e o
+        lawful_lift (server_moment c m) old x.evidence evidence (ports_of mid) (ports_of mid) e o
         (was_issued e.request.id w.pending w.here w.id_is w.port_is)
         (λ told there. Contains-append_right p.evidence.faults x.evidence.faults told there)
         (λ there. Contains-append_right p.evidence.lost x.evidence.lost e.request.port there)
@@ -359,7 +359,7 @@ module _ (plan : Plan) (laws : LawsBelow) (s : Server) (start : IsSettled s) (ol
     -- ---- faults
 
     -- the request of a slot that was used when the turn began was in the slot when the call began
-    module _ (ready : state_at n ≡ ReadyState) (told : Fault) (f : TellsFault (port_at n) part.accesses c mid told) where
+    module _ (ready : state_at n ≡ ReadyState) (told : RequestFault) (f : TellsFault (port_at n) part.accesses c mid told) where
       used_s : used_for s.slots n f.slot ≡ Some f.used
       used_s = ap (λ (slots : PortSlots). use_at slots f.slot) (sym (p.slots (port_at n) not_yet)) ∙ f.served
 
@@ -432,7 +432,7 @@ module _ (plan : Plan) (laws : LawsBelow) (s : Server) (start : IsSettled s) (ol
           queued = λ queued. by_log (sym kind_is ∙ kind_same ∙ queued);
         };
         served = subst (HadTurn (n + 1)) (sym port_is) (omega arith, takes);
-        lives = λ queued dead. f.lives (sym kind_is ∙ kind_same ∙ queued) (ap (λ (q : Port). state_of (found_of mid.ports q.0)) (sym port_is) ∙ dead);
+        lives = λ queued dead. f.lives (sym kind_is ∙ kind_same ∙ queued) (ap (λ (q : Port). state_of (probe_result_of mid.ports q.0)) (sym port_is) ∙ dead);
       }
         where
           kind_same : is_queued by.serves.command.operation ≡ is_queued (subst (λ (q : ℕ). ServesRequest old.machine s.device.memory (s.device.port q) q f.slot told.id) (sym (ap (λ (q : Port). q.0) port_is))
@@ -440,7 +440,7 @@ module _ (plan : Plan) (laws : LawsBelow) (s : Server) (start : IsSettled s) (ol
           kind_same = refl
 
     -- a fault that was told of another port is told so still
-    module _ (told : Fault) (t : HasTold n c p.accesses told) where
+    module _ (told : RequestFault) (t : HasTold n c p.accesses told) where
       abbrev its_port : Port
       its_port = t.its.pending.request.port
 
@@ -451,7 +451,7 @@ module _ (plan : Plan) (laws : LawsBelow) (s : Server) (start : IsSettled s) (ol
       unfolding turn_before
       still_failed fault had = laws.calls.failed its_port s.device mid.device fault kept.on (turn_before its_port not_n) had
 
-      still_brought : (page : List ℕ) → state_of (found_of c.ports its_port.0) ≢ Dead → BringsLog its_port s.device c.device page → BringsLog its_port s.device mid.device page
+      still_brought : (page : List ℕ) → state_of (probe_result_of c.ports its_port.0) ≢ Dead → BringsLog its_port s.device c.device page → BringsLog its_port s.device mid.device page
       unfolding turn_before
       still_brought page lives brings = laws.calls.brings its_port s.device mid.device page kept.on (turn_before its_port not_n) (part.silent its_port.0 not_n lives) brings
 
@@ -485,7 +485,7 @@ module _ (plan : Plan) (laws : LawsBelow) (s : Server) (start : IsSettled s) (ol
       accesses = accesses;
       does = laws.basic.does_append p.accesses part.accesses s.device c.device mid.device p.does part.does;
       serving = All-append (IsServing (Uses plan old.ports)) p.accesses part.accesses p.serving
-          (serving laws n plan (found_of s.ports n) old.ports (ap (λ (ports : Ports). ports.served (port_at n)) ports_are) (state_was (port_at n)) takes its c mid m part x);
+          (serving laws n plan (probe_result_of s.ports n) old.ports (ap (λ (ports : Ports). ports.served (port_at n)) ports_are) (state_was (port_at n)) takes its c mid m part x);
       others = λ q none. All-append (IsOfOther q) p.accesses part.accesses
           (p.others q (λ served. let lt = served.0 in none (omega (arith, lt), served.1)))
           (of_other q (λ is. none (omega (arith, is), takes_at q.0 is)));
@@ -493,7 +493,7 @@ module _ (plan : Plan) (laws : LawsBelow) (s : Server) (start : IsSettled s) (ol
       turns = its_turns;
       stands = subst (IsMachineOf mid) (sym whole_is) x.stands;
       backed = laws.backed_parts s.device c.device mid.device old.machine p.steps x.steps p.backed x.backed;
-      belong = belong_join (asks_for plan) (ports_of mid) x.steps p.steps (subst (λ (ask : Ask DeviceStep). Belong ask (ports_of mid) x.steps) (asks_so plan (found_of s.ports n) n) x.belong)
+      belong = belong_join (asks_for plan) (ports_of mid) x.steps p.steps (subst (λ (ask : Ask DeviceStep). Belong ask (ports_of mid) x.steps) (asks_so plan (probe_result_of s.ports n) n) x.belong)
           (belong_on plan (λ q. q.0 < n) (ports_of c) (ports_of mid) (λ q lt. let same = same_other q (λ is. omega (arith, lt, is)) in (same.1, same.5)) p.steps p.turns.below p.belong);
       evidence = evidence;
       lost = All-append (λ (q : Port). state_at q.0 ≡ ReadyState) p.evidence.lost x.evidence.lost p.lost its_lost;
@@ -501,7 +501,7 @@ module _ (plan : Plan) (laws : LawsBelow) (s : Server) (start : IsSettled s) (ol
           (names_more (HadTurn n) (HadTurn (n + 1)) (λ q served. let lt = served.0 in (omega (arith, lt), served.1)) p.evidence p.names)
           (names_more (λ q. q ≡ port_at n) (HadTurn (n + 1)) (λ q is. subst (HadTurn (n + 1)) (sym is) (omega arith, takes)) x.evidence mine);
       lawful = joined_lawful;
-      owes = owes_join plan (found_of s.ports n) n (port_at n) part.accesses c mid m p.evidence x.evidence p.steps x.steps p.owes x.owes;
+      owes = owes_join plan (probe_result_of s.ports n) n (port_at n) part.accesses c mid m p.evidence x.evidence p.steps x.steps p.owes x.owes;
       unplugs = unplugs_join laws old reached n p.steps x.steps p.turns x.own x.may x.last p.unplugs x.unplugs;
       answers = told_all.answers;
       permuted = told_all.permuted;
@@ -510,7 +510,7 @@ module _ (plan : Plan) (laws : LawsBelow) (s : Server) (start : IsSettled s) (ol
       told = told_all.told;
       faults = λ told here. ⊎_elim
           (λ early. fault_before told (p.faults told early))
-          (λ late. ⊎_elim (λ is. fault_n is told (x.faults told late)) (λ silent. absurd (nowhere told (subst (λ (list : List Fault). Contains list told) silent.0 late))) silent_or_ready)
+          (λ late. ⊎_elim (λ is. fault_n is told (x.faults told late)) (λ silent. absurd (nowhere told (subst (λ (list : List RequestFault). Contains list told) silent.0 late))) silent_or_ready)
           (Contains-append_cases p.evidence.faults x.evidence.faults told here);
       done = λ q lt. ⊎_elim
           (λ (less : q.0 < n). done_before q less (p.done q less))
@@ -532,54 +532,54 @@ module _ (plan : Plan) (laws : LawsBelow) (s : Server) (start : IsSettled s) (ol
   -- ---- all ports
 
   -- how far all got, where no port from there on has a turn
-  pub record Whole (new : Server) (replies : List Reply) : Type 0 where
+  pub record Whole (new : ServerState) (replies : List Reply) : Type 0 where
     pub count : ℕ
-    pub past : (port : ℕ) → count ≤ port → TakesTurn plan (found_of s.ports port) → ⊥
+    pub past : (port : ℕ) → count ≤ port → TakesTurn plan (probe_result_of s.ports port) → ⊥
     pub progress : Progress count new replies
 
-  on : (f : Found) (found : List Found) (n : ℕ) → ((i : ℕ) → found_of s.ports (n + i) ≡ found_of (f ∷ found) i) → (i : ℕ) → found_of s.ports (n + 1 + i) ≡ found_of found i
-  on f found n here i = ap (λ (k : ℕ). found_of s.ports k) (omega arith) ∙ here (suc i)
+  on : (f : ProbeResult) (found : List ProbeResult) (n : ℕ) → ((i : ℕ) → probe_result_of s.ports (n + i) ≡ probe_result_of (f ∷ found) i) → (i : ℕ) → probe_result_of s.ports (n + 1 + i) ≡ probe_result_of found i
+  on f found n here i = ap (λ (k : ℕ). probe_result_of s.ports k) (omega arith) ∙ here (suc i)
 
-  head_is : (f : Found) (found : List Found) (n : ℕ) → ((i : ℕ) → found_of s.ports (n + i) ≡ found_of (f ∷ found) i) → found_of s.ports n ≡ f
-  head_is f found n here = ap (λ (k : ℕ). found_of s.ports k) (omega arith) ∙ here 0
+  head_is : (f : ProbeResult) (found : List ProbeResult) (n : ℕ) → ((i : ℕ) → probe_result_of s.ports (n + i) ≡ probe_result_of (f ∷ found) i) → probe_result_of s.ports n ≡ f
+  head_is f found n here = ap (λ (k : ℕ). probe_result_of s.ports k) (omega arith) ∙ here 0
 
   -- one that isn't served has none
-  unserved : (n : ℕ) → found_of s.ports n ≡ Unserved → TakesTurn plan (found_of s.ports n) → ⊥
+  unserved : (n : ℕ) → probe_result_of s.ports n ≡ Unserved → TakesTurn plan (probe_result_of s.ports n) → ⊥
   unserved n is takes = unserved_waits plan (subst (TakesTurn plan) is takes)
 
   -- each port's turn is a part of the call: a ready one's; and another one's, unless it is passed over
-  module _ (Such : Port → List Reply → Server → Server → Type 0) (Other : Port → Server → Server → Type 0)
-      (is_part : (n : ℕ) (c mid : Server) (before its : List Reply) → state_at n ≡ ReadyState → Progress n c before → Such (port_at n) its c mid → HasPart (turn_at plan (found_of s.ports n) n) (port_at n) its c mid)
-      (is_other : (n : ℕ) (c mid : Server) (before : List Reply) (state : PortState) → found_of s.ports n ≡ Unready state → Progress n c before → Other (port_at n) c mid
-      → ((TakesTurn plan (found_of s.ports n) → ⊥) × (mid ≡ c)) ⊎ (TakesTurn plan (found_of s.ports n) × HasPart (turn_at plan (found_of s.ports n) n) (port_at n) [] c mid)) where
-    pub go : (found : List Found) (n : ℕ) → ((i : ℕ) → found_of s.ports (n + i) ≡ found_of found i) → (c new : Server) (before replies : List Reply) → Progress n c before → TakeTurns Such Other n found replies c new
+  module _ (Such : Port → List Reply → ServerState → ServerState → Type 0) (Other : Port → ServerState → ServerState → Type 0)
+      (is_part : (n : ℕ) (c mid : ServerState) (before its : List Reply) → state_at n ≡ ReadyState → Progress n c before → Such (port_at n) its c mid → HasPart (turn_at plan (probe_result_of s.ports n) n) (port_at n) its c mid)
+      (is_other : (n : ℕ) (c mid : ServerState) (before : List Reply) (state : PortState) → probe_result_of s.ports n ≡ Unready state → Progress n c before → Other (port_at n) c mid
+      → ((TakesTurn plan (probe_result_of s.ports n) → ⊥) × (mid ≡ c)) ⊎ (TakesTurn plan (probe_result_of s.ports n) × HasPart (turn_at plan (probe_result_of s.ports n) n) (port_at n) [] c mid)) where
+    pub go : (found : List ProbeResult) (n : ℕ) → ((i : ℕ) → probe_result_of s.ports (n + i) ≡ probe_result_of found i) → (c new : ServerState) (before replies : List Reply) → Progress n c before → TakeTurns Such Other n found replies c new
         → Whole new (before ++ replies)
     go [] n here c new before replies p turns = record {
       count = n;
-      past = λ q most takes. unserved q (ap (λ (k : ℕ). found_of s.ports k) (omega (arith, most)) ∙ here (q - n)) takes;
-      progress = subst (λ (x : Server). Progress n x (before ++ replies)) (sym turns.1) (subst (Progress n c) (sym (append-nil before) ∙ ap (λ (r : List Reply). before ++ r) (sym turns.0)) p);
+      past = λ q most takes. unserved q (ap (λ (k : ℕ). probe_result_of s.ports k) (omega (arith, most)) ∙ here (q - n)) takes;
+      progress = subst (λ (x : ServerState). Progress n x (before ++ replies)) (sym turns.1) (subst (Progress n c) (sym (append-nil before) ∙ ap (λ (r : List Reply). before ++ r) (sym turns.0)) p);
     }
     go (Ready info ∷ found) n here c new before replies p (mid, its, later, is, next, turn, more) =
         let its_found = head_is (Ready info) found n here in
         let its_ready = ap state_of its_found in
         subst (Whole new) (append_assoc before its later ∙ ap (λ (r : List Reply). before ++ r) (sym is))
         (go found (n + 1) (on (Ready info) found n here) mid new (before ++ its) later
-        (had_turn n c mid before its (ready_found s n kept its_ready).0 (ready_takes plan (found_of s.ports n) its_ready) p next (is_part n c mid before its its_ready p turn)) more)
+        (had_turn n c mid before its (ready_found s n kept its_ready).0 (ready_takes plan (probe_result_of s.ports n) its_ready) p next (is_part n c mid before its its_ready p turn)) more)
     go (Unserved ∷ found) n here c new before replies p turns =
         go found (n + 1) (on Unserved found n here) c new before replies (skipped plan laws s start old reached at ports_are n c before (unserved n (head_is Unserved found n here)) p) turns
     go (Unready state ∷ found) n here c new before replies p (mid, next, turn, more) =
         let its_found = head_is (Unready state) found n here in
         ⊎_elim
         (λ over. go found (n + 1) (on (Unready state) found n here) c new before replies (skipped plan laws s start old reached at ports_are n c before over.0 p)
-        (subst (λ (x : Server). TakeTurns Such Other (n + 1) found replies x new) over.1 more))
+        (subst (λ (x : ServerState). TakeTurns Such Other (n + 1) found replies x new) over.1 more))
         (λ part. subst (λ (list : List Reply). Whole new (list ++ replies)) (append-nil before)
         (go found (n + 1) (on (Unready state) found n here) mid new (before ++ []) replies
         (had_turn n c mid before [] (kept.there n (ap is_served its_found)).0 part.0 p next part.1) more))
         (is_other n c mid before state its_found p turn)
 
 -- a server whose ports had their turns keeps what it keeps
-pub turns_kept : (Such : Port → List Reply → Server → Server → Type 0) (Other : Port → Server → Server → Type 0) (found : List Found) (n : ℕ) (s new : Server) (replies : List Reply) → IsSettled s → TakeTurns Such Other n found replies s new → IsSettled new
-turns_kept Such Other [] n s new replies keeps turns = subst IsSettled (sym turns.1) keeps
+pub turns_kept : (Such : Port → List Reply → ServerState → ServerState → Type 0) (Other : Port → ServerState → ServerState → Type 0) (found : List ProbeResult) (n : ℕ) (s new : ServerState) (replies : List Reply) → SettledInvariant s → TakeTurns Such Other n found replies s new → SettledInvariant new
+turns_kept Such Other [] n s new replies keeps turns = subst SettledInvariant (sym turns.1) keeps
 turns_kept Such Other (Ready info ∷ found) n s new replies keeps (mid, its, later, is, next, turn, more) = turns_kept Such Other found (n + 1) mid new later next more
 turns_kept Such Other (Unserved ∷ found) n s new replies keeps turns = turns_kept Such Other found (n + 1) s new replies keeps turns
 turns_kept Such Other (Unready state ∷ found) n s new replies keeps (mid, next, turn, more) = turns_kept Such Other found (n + 1) mid new replies next more

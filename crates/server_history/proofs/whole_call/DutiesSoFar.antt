@@ -14,22 +14,22 @@ use Rattle.adapter.specs.Access.{Access}
 use Rattle.adapter.specs.Access.Access.{Loading, Reading, Storing, Writing}
 use Rattle.adapter.specs.Device.{Device}
 use Rattle.adapter.specs.Rules.{IsOn}
-use Rattle.agreement.specs.Agrees.{port_at}
-use Rattle.agreement.specs.Driven.{IsOf}
-use Rattle.agreement.specs.Links.{SparesRegister}
-use Rattle.block_machine.specs.Events.{Moment}
-use Rattle.block_machine.specs.Histories.{Instant, IsReached}
+use Rattle.refinement.specs.Relation.{port_at}
+use Rattle.refinement.specs.Driven.{IsOf}
+use Rattle.refinement.specs.Links.{SparesRegister}
+use Rattle.block_machine.specs.Events.{AbstractState}
+use Rattle.block_machine.specs.Histories.{JointState, IsReachable}
 use Rattle.block_machine.specs.Left.{after}
 use Rattle.block_machine.specs.Ports.{Evidence, Ports, SameDisk, SamePort}
 use Rattle.block_machine.specs.State.{Machine, Pending}
 use Rattle.block_machine.specs.Steps.{Step, Again, Answer}
 use Rattle.driver_history.specs.Parts.{IsOfOther, NamesAlike}
 use Rattle.driver_history.specs.Trace.{IsDriversOwn, IsServing, LeavesEngine, ResetsLink}
-use Rattle.host_boot.specs.Taken.{found_of}
-use Rattle.host_boot.specs.declared.Found.{Found}
+use Rattle.host_boot.specs.Taken.{probe_result_of}
+use Rattle.host_boot.specs.declared.ProbeResult.{ProbeResult}
 use Rattle.server_history.specs.Below.{LawsBelow}
-use Rattle.server_history.specs.Server.{Server, IsMachineOf, IsSettled, is_served, ports_of, state_of}
-use Rattle.server_history.specs.Turns.{AtRest, HasPart, InRestart, MakesTurn, OwesTurn, RestartsPort, TiesTurn}
+use Rattle.server_history.specs.Server.{ServerState, IsMachineOf, SettledInvariant, is_served, ports_of, state_of}
+use Rattle.server_history.specs.Turns.{AtRest, HasPart, InRestart, MakesTurn, OwesTurn, RestartsPort, TurnCorresponds}
 use Rattle.server_history.proofs.whole_call.EarlierResults as carrying
 use Rattle.server_history.proofs.any_turn.JoinedParts.{ready_or_not, same_then}
 use Rattle.server_history.proofs.whole_call.TurnResults as lifting
@@ -90,7 +90,7 @@ module _ (laws : LawsBelow) (n : ℕ) where
       one (Loading at bytes) of own = (own, tt, tt)
       one (Storing at bytes) of own = (own, tt, tt)
 
-  pub serving : (plan : Plan) (found : Found) (ports : Ports) → ports.served (port_at n) ≡ is_served found → ports.state (port_at n) ≡ state_of found → TakesTurn plan found → (its : List Reply) (c mid : Server) (m : Machine)
+  pub serving : (plan : Plan) (found : ProbeResult) (ports : Ports) → ports.served (port_at n) ≡ is_served found → ports.state (port_at n) ≡ state_of found → TakesTurn plan found → (its : List Reply) (c mid : ServerState) (m : Machine)
       (part : HasPart (turn_at plan found n) (port_at n) its c mid) → MakesTurn (turn_at plan found n) (port_at n) its part.accesses c mid m → All (IsServing (Uses plan ports)) part.accesses
   serving AService found ports served state takes its c mid m part x =
       of_such (Uses AService ports) (served ∙ takes.0, λ dead. takes.1 (sym state ∙ dead)) part.accesses part.of part.own
@@ -103,24 +103,24 @@ module _ (laws : LawsBelow) (n : ℕ) where
 
 -- ---- a tick
 
-module _ (hung : ℕ → Bool) (laws : LawsBelow) (s : Server) (start : IsSettled s) (old : Moment) (reached : IsReached old.machine) (at : IsMachineOf s old.machine) (ports_are : old.ports ≡ ports_of s) where
+module _ (hung : ℕ → Bool) (laws : LawsBelow) (s : ServerState) (start : SettledInvariant s) (old : AbstractState) (reached : IsReachable old.machine) (at : IsMachineOf s old.machine) (ports_are : old.ports ≡ ports_of s) where
   abbrev plan : Plan
   plan = ATick hung
 
-  abbrev began : Instant Device
+  abbrev began : JointState Device
   began = record { device = s.device; moment = old }
 
-  abbrev Progress : ℕ → Server → List Reply → Type 0
+  abbrev Progress : ℕ → ServerState → List Reply → Type 0
   Progress n c replies = progress.Progress plan laws s start old reached at ports_are n c replies
 
   -- ---- a port's turn
 
-  module _ (n : ℕ) (c mid : Server) (before its : List Reply) (ready : state_of (found_of s.ports n) ≡ ReadyState) (p : Progress n c before) (next : IsSettled mid) (part : HasPart (turn_at plan (found_of s.ports n) n) (port_at n) its c mid)
-      (m_reached : IsReached (after old.machine p.steps)) (on_mid : IsOn mid.device) (evidence : Evidence) where
+  module _ (n : ℕ) (c mid : ServerState) (before its : List Reply) (ready : state_of (probe_result_of s.ports n) ≡ ReadyState) (p : Progress n c before) (next : SettledInvariant mid) (part : HasPart (turn_at plan (probe_result_of s.ports n) n) (port_at n) its c mid)
+      (m_reached : IsReachable (after old.machine p.steps)) (on_mid : IsOn mid.device) (evidence : Evidence) where
     abbrev m : Machine
     m = after old.machine p.steps
 
-    abbrev x : MakesTurn (turn_at plan (found_of s.ports n) n) (port_at n) its part.accesses c mid m
+    abbrev x : MakesTurn (turn_at plan (probe_result_of s.ports n) n) (port_at n) its part.accesses c mid m
     x = part.makes m m_reached p.stands
 
     abbrev all : List Step
@@ -146,9 +146,9 @@ module _ (hung : ℕ → Bool) (laws : LawsBelow) (s : Server) (start : IsSettle
         another = λ e here own. ⊎_elim
             (λ late.
             let w = r.another e late in
-            let lives : state_of (found_of mid.ports n) ≢ Dead = λ dead. w.0 (ap (λ (q : Port). state_of (found_of mid.ports q.0)) own ∙ dead) in (
+            let lives : state_of (probe_result_of mid.ports n) ≢ Dead = λ dead. w.0 (ap (λ (q : Port). state_of (probe_result_of mid.ports q.0)) own ∙ dead) in (
               lives,
-              λ is_ready disk. w.1 (ap (λ (q : Port). state_of (found_of mid.ports q.0)) own ∙ is_ready)
+              λ is_ready disk. w.1 (ap (λ (q : Port). state_of (probe_result_of mid.ports q.0)) own ∙ is_ready)
                   (subst (λ (q : Port). SameDisk (ports_of c) (ports_of mid) q) (sym own) (disk.0 ∙ sym same_n.2, disk.1 ∙ sym same_n.3)),
             ))
             (λ early. absurd (not_early e Unplugged early own))
@@ -160,8 +160,8 @@ module _ (hung : ℕ → Bool) (laws : LawsBelow) (s : Server) (start : IsSettle
           r : RestartsPort (port_at n) part.accesses c mid m x.evidence x.steps
           r = (subst (λ (b : Bool). OwesTurn (if b then InRestart else AtRest) (port_at n) part.accesses c mid m x.evidence x.steps) so x.owes).0
 
-          ties : TiesTurn InRestart (port_at n) its part.accesses c mid m x.evidence x.steps
-          ties = subst (λ (b : Bool). TiesTurn (if b then InRestart else AtRest) (port_at n) its part.accesses c mid m x.evidence x.steps) so x.ties
+          ties : TurnCorresponds InRestart (port_at n) its part.accesses c mid m x.evidence x.steps
+          ties = subst (λ (b : Bool). TurnCorresponds (if b then InRestart else AtRest) (port_at n) its part.accesses c mid m x.evidence x.steps) so x.ties
 
       rested : hung n ≡ false → HasRested old (port_at n) accesses mid evidence all
       rested not_so = record {
@@ -190,12 +190,12 @@ module _ (hung : ℕ → Bool) (laws : LawsBelow) (s : Server) (start : IsSettle
 
   -- ---- another port, before it
 
-  module _ (n : ℕ) (c mid : Server) (before its : List Reply) (p : Progress n c before) (part : HasPart (turn_at plan (found_of s.ports n) n) (port_at n) its c mid) (m_reached : IsReached (after old.machine p.steps)) (q : Port) (apart : q ≢ port_at n)
+  module _ (n : ℕ) (c mid : ServerState) (before its : List Reply) (p : Progress n c before) (part : HasPart (turn_at plan (probe_result_of s.ports n) n) (port_at n) its c mid) (m_reached : IsReachable (after old.machine p.steps)) (q : Port) (apart : q ≢ port_at n)
       (d : progress.IsDone plan laws s start old reached at ports_are c p.accesses p.steps p.evidence q) (evidence : Evidence) (alike : NamesAlike q p.evidence evidence) (same : SamePort (ports_of c) (ports_of mid) q) where
     abbrev m_so_far : Machine
     m_so_far = after old.machine p.steps
 
-    abbrev y : MakesTurn (turn_at plan (found_of s.ports n) n) (port_at n) its part.accesses c mid m_so_far
+    abbrev y : MakesTurn (turn_at plan (probe_result_of s.ports n) n) (port_at n) its part.accesses c mid m_so_far
     y = part.makes m_so_far m_reached p.stands
 
     abbrev steps_then : List Step
@@ -247,9 +247,9 @@ module _ (hung : ℕ → Bool) (laws : LawsBelow) (s : Server) (start : IsSettle
 
 -- ---- both
 
-pub ties_turned : (plan : Plan) (laws : LawsBelow) (s : Server) (start : IsSettled s) (old : Moment) (reached : IsReached old.machine) (at : IsMachineOf s old.machine) (ports_are : old.ports ≡ ports_of s) (n : ℕ) (c mid : Server) (before its : List Reply)
-    (takes : TakesTurn plan (found_of s.ports n)) (p : progress.Progress plan laws s start old reached at ports_are n c before) (next : IsSettled mid) (part : HasPart (turn_at plan (found_of s.ports n) n) (port_at n) its c mid)
-    (m_reached : IsReached (after old.machine p.steps)) (on_mid : IsOn mid.device) (evidence : Evidence) → NamesAlike (port_at n) (part.makes (after old.machine p.steps) m_reached p.stands).evidence evidence → SamePort old.ports (ports_of c) (port_at n)
+pub ties_turned : (plan : Plan) (laws : LawsBelow) (s : ServerState) (start : SettledInvariant s) (old : AbstractState) (reached : IsReachable old.machine) (at : IsMachineOf s old.machine) (ports_are : old.ports ≡ ports_of s) (n : ℕ) (c mid : ServerState) (before its : List Reply)
+    (takes : TakesTurn plan (probe_result_of s.ports n)) (p : progress.Progress plan laws s start old reached at ports_are n c before) (next : SettledInvariant mid) (part : HasPart (turn_at plan (probe_result_of s.ports n) n) (port_at n) its c mid)
+    (m_reached : IsReachable (after old.machine p.steps)) (on_mid : IsOn mid.device) (evidence : Evidence) → NamesAlike (port_at n) (part.makes (after old.machine p.steps) m_reached p.stands).evidence evidence → SamePort old.ports (ports_of c) (port_at n)
     → TiesSoFar plan s old (port_at n) (p.accesses ++ part.accesses) mid evidence ((part.makes (after old.machine p.steps) m_reached p.stands).steps ++ p.steps)
 ties_turned AService laws s start old reached at ports_are n c mid before its takes p next part m_reached on_mid evidence alike same_n =
     ⊎_elim
@@ -258,11 +258,11 @@ ties_turned AService laws s start old reached at ports_are n c mid before its ta
       λ bad. absurd (ready_fits (old.ports.state (port_at n)) (ap (λ (ports : Ports). ports.state (port_at n)) ports_are ∙ ready) bad),
     ))
     (λ unready. tried_whole laws s start old reached at ports_are n c mid before its unready p next part m_reached on_mid evidence alike same_n)
-    (ready_or_not (state_of (found_of s.ports n)))
+    (ready_or_not (state_of (probe_result_of s.ports n)))
 ties_turned (ATick hung) laws s start old reached at ports_are n c mid before its takes p next part m_reached on_mid evidence alike same_n = ticked hung laws s start old reached at ports_are n c mid before its takes p next part m_reached on_mid evidence alike same_n
 
-pub ties_carried : (plan : Plan) (laws : LawsBelow) (s : Server) (start : IsSettled s) (old : Moment) (reached : IsReached old.machine) (at : IsMachineOf s old.machine) (ports_are : old.ports ≡ ports_of s) (n : ℕ) (c mid : Server) (before its : List Reply)
-    (p : progress.Progress plan laws s start old reached at ports_are n c before) (part : HasPart (turn_at plan (found_of s.ports n) n) (port_at n) its c mid) (m_reached : IsReached (after old.machine p.steps)) (q : Port) (apart : q ≢ port_at n)
+pub ties_carried : (plan : Plan) (laws : LawsBelow) (s : ServerState) (start : SettledInvariant s) (old : AbstractState) (reached : IsReachable old.machine) (at : IsMachineOf s old.machine) (ports_are : old.ports ≡ ports_of s) (n : ℕ) (c mid : ServerState) (before its : List Reply)
+    (p : progress.Progress plan laws s start old reached at ports_are n c before) (part : HasPart (turn_at plan (probe_result_of s.ports n) n) (port_at n) its c mid) (m_reached : IsReachable (after old.machine p.steps)) (q : Port) (apart : q ≢ port_at n)
     (d : progress.IsDone plan laws s start old reached at ports_are c p.accesses p.steps p.evidence q) (evidence : Evidence) (alike : NamesAlike q p.evidence evidence) (same : SamePort (ports_of c) (ports_of mid) q)
     → TiesSoFar plan s old q (p.accesses ++ part.accesses) mid evidence ((part.makes (after old.machine p.steps) m_reached p.stands).steps ++ p.steps)
 ties_carried AService laws s start old reached at ports_are n c mid before its p part m_reached q apart d evidence alike same = ⊎_elim

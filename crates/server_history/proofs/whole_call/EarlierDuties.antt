@@ -9,22 +9,22 @@ use Rattle.ata_types.specs.declared.request.Outcome.TheVariants.{DeviceError}
 use Rattle.ata_types.specs.declared.request.Reply.{Reply}
 use Rattle.adapter.specs.Access.{Access}
 use Rattle.adapter.specs.Device.{Device}
-use Rattle.agreement.specs.Agrees.{port_at}
-use Rattle.block_machine.specs.Events.{Moment, Served, changes_disk}
-use Rattle.block_machine.specs.Histories.{Instant, IsReached}
+use Rattle.refinement.specs.Relation.{port_at}
+use Rattle.block_machine.specs.Events.{AbstractState, Served, changes_disk}
+use Rattle.block_machine.specs.Histories.{JointState, IsReachable}
 use Rattle.block_machine.specs.Left.{after}
 use Rattle.block_machine.specs.Ports.{Evidence, IsInterrupted, SamePort}
 use Rattle.block_machine.specs.State.{Machine}
 use Rattle.block_machine.specs.Steps.{Step, Answer}
 use Rattle.block_machine.proofs.Counting.{count_append}
-use Rattle.host_boot.specs.Taken.{found_of}
+use Rattle.host_boot.specs.Taken.{probe_result_of}
 use Rattle.driver_history.specs.Heeding.{AreTold, IsLeftAlone, ServesReady, tells_fault}
 use Rattle.driver_history.specs.Evidence.{ShowsChange, ShowsFailure}
-use Rattle.driver_history.specs.Histories.{IsUnfitOrForeign, HasFaultAlone, IsAnsweredFaulty, TiesPort}
+use Rattle.driver_history.specs.Histories.{IsUnfitOrForeign, HasFaultAlone, IsAnsweredFaulty, PortCorresponds}
 use Rattle.driver_history.specs.Parts.{HasTurnIn, NamesAlike}
 use Rattle.server_history.specs.Below.{LawsBelow}
-use Rattle.server_history.specs.Turns.{HasPart, HeedsTrouble, InService, MakesTurn, turn_of}
-use Rattle.server_history.specs.Server.{Server, IsKept, IsMachineOf, IsSettled, ports_of}
+use Rattle.server_history.specs.Turns.{HasPart, HeedsPortErrors, InService, MakesTurn, turn_of}
+use Rattle.server_history.specs.Server.{ServerState, InCallInvariant, IsMachineOf, SettledInvariant, ports_of}
 use Rattle.server_history.proofs.any_turn.JoinedParts.{same_then}
 use Rattle.server_history.proofs.any_turn.TurnSteps.{stood}
 use Rattle.server_history.proofs.whole_call.EarlierResults as carrying
@@ -33,24 +33,24 @@ use Rattle.server_history.proofs.whole_call.Progress as progress
 use Rattle.server_history.proofs.whole_call.TurnResults.{counts_apart}
 use Rattle.server_history.proofs.unready_turn.UnfitPort.{ready_fits}
 
-module _ (laws : LawsBelow) (s : Server) (start : IsSettled s) (old : Moment) (reached : IsReached old.machine) (at : IsMachineOf s old.machine) (ports_are : old.ports ≡ ports_of s) where
-  abbrev kept : IsKept s
+module _ (laws : LawsBelow) (s : ServerState) (start : SettledInvariant s) (old : AbstractState) (reached : IsReachable old.machine) (at : IsMachineOf s old.machine) (ports_are : old.ports ≡ ports_of s) where
+  abbrev kept : InCallInvariant s
   kept = start.kept
 
-  abbrev began : Instant Device
+  abbrev began : JointState Device
   began = record { device = s.device; moment = old }
 
-  abbrev IsDone : Server → List Access → List Step → Evidence → Port → Type 0
+  abbrev IsDone : ServerState → List Access → List Step → Evidence → Port → Type 0
   IsDone c accesses steps evidence q = progress.IsDone AService laws s start old reached at ports_are c accesses steps evidence q
 
-  abbrev Progress : ℕ → Server → List Reply → Type 0
+  abbrev Progress : ℕ → ServerState → List Reply → Type 0
   Progress n c replies = progress.Progress AService laws s start old reached at ports_are n c replies
 
-  module _ (n : ℕ) (c mid : Server) (before its : List Reply) (p : Progress n c before) (part : HasPart (turn_at AService (found_of s.ports n) n) (port_at n) its c mid) (m_reached : IsReached (after old.machine p.steps)) where
+  module _ (n : ℕ) (c mid : ServerState) (before its : List Reply) (p : Progress n c before) (part : HasPart (turn_at AService (probe_result_of s.ports n) n) (port_at n) its c mid) (m_reached : IsReachable (after old.machine p.steps)) where
     abbrev m : Machine
     m = after old.machine p.steps
 
-    abbrev x : MakesTurn (turn_at AService (found_of s.ports n) n) (port_at n) its part.accesses c mid m
+    abbrev x : MakesTurn (turn_at AService (probe_result_of s.ports n) n) (port_at n) its part.accesses c mid m
     x = part.makes m m_reached p.stands
 
     abbrev all : List Step
@@ -67,7 +67,7 @@ module _ (laws : LawsBelow) (s : Server) (start : IsSettled s) (old : Moment) (r
       abbrev t : HasTurnIn q s.device mid.device
       t = carrying.t AService laws s start old reached at ports_are n c mid before its p part m_reached q apart
 
-      abbrev did : TiesPort began (turn_of InService [] c p.evidence p.steps) p.accesses q
+      abbrev did : PortCorresponds began (turn_of InService [] c p.evidence p.steps) p.accesses q
       did = d.ties.0
 
       abbrev serves : ServesReady old p.evidence p.steps (record { machine = m; ports = ports_of c }) q
@@ -100,8 +100,8 @@ module _ (laws : LawsBelow) (s : Server) (start : IsSettled s) (old : Moment) (r
             let b = stood laws (port_at n) m x.steps x.own e (carrying.in_turn AService laws s start old reached at ports_are n c mid before its p part m_reached q apart e here) in
             serves.emptied (alike.gone.1 gone) b.was b.here (ap (λ r. r.port) b.request ∙ own);
         told = λ gone. ⊎_elim (λ a. inl (told_whole _ a)) (λ b. inr (told_whole _ b)) (serves.told (alike.gone.1 gone));
-        interrupts = λ trouble. carrying.named AService laws s start old reached at ports_are n c mid before its p part m_reached q apart evidence alike (serves.interrupts (⊎_elim (λ failed. inl (alike.failed.1 failed)) (λ gone. inr (alike.gone.1 gone)) trouble));
-        anew = λ trouble. carrying.anew_still AService laws s start old reached at ports_are n c mid before its p part m_reached q apart (serves.anew (⊎_elim (λ failed. inl (alike.failed.1 failed)) (λ stopped. inr (alike.stopped.1 stopped)) trouble));
+        interrupts = λ port_error. carrying.named AService laws s start old reached at ports_are n c mid before its p part m_reached q apart evidence alike (serves.interrupts (⊎_elim (λ failed. inl (alike.failed.1 failed)) (λ gone. inr (alike.gone.1 gone)) port_error));
+        anew = λ port_error. carrying.anew_still AService laws s start old reached at ports_are n c mid before its p part m_reached q apart (serves.anew (⊎_elim (λ failed. inl (alike.failed.1 failed)) (λ stopped. inr (alike.stopped.1 stopped)) port_error));
         single = let one = serves.single in omega (arith, counted, one);
         fatal = λ here. let y = serves.fatal (alike.fatal.1 here) in (alike.failed.0 y.0, counted ∙ y.1);
         disk = carrying.disk_still AService laws s start old reached at ports_are n c mid before its p part m_reached q apart same serves.disk;
@@ -122,7 +122,7 @@ module _ (laws : LawsBelow) (s : Server) (start : IsSettled s) (old : Moment) (r
 
       -- and where it showed a failure when the call began, or a change of its link, it was stopped
       stops_troubled : ShowsFailure (s.device.port q.0) ⊎ ShowsChange (s.device.port q.0) → IsInterrupted p.evidence q
-      stops_troubled trouble = serves.interrupts (⊎_elim (λ failure. inl (d.evidenced.failed_all asked failure)) (λ change. inr (d.evidenced.gone_all asked (inl change))) trouble)
+      stops_troubled port_error = serves.interrupts (⊎_elim (λ failure. inl (d.evidenced.failed_all asked failure)) (λ change. inr (d.evidenced.gone_all asked (inl change))) port_error)
 
       -- ---- the whole
 
@@ -132,24 +132,24 @@ module _ (laws : LawsBelow) (s : Server) (start : IsSettled s) (old : Moment) (r
       not_absent : old.ports.state q ≡ Absent → ⊥
       not_absent absent = let z : Absent ≡ ReadyState = sym absent ∙ asked in absurd cc
 
-      heeds_trouble : HeedsTrouble q accesses began evidence (ports_of mid) mid.device
-      heeds_trouble = carrying.trouble_still AService laws s start old reached at ports_are n c mid before its p part m_reached q apart d evidence alike same (λ _. stops_troubled) (λ _. inl undue) (record { trouble = did.trouble; well = did.well })
+      heeds_trouble : HeedsPortErrors q accesses began evidence (ports_of mid) mid.device
+      heeds_trouble = carrying.trouble_still AService laws s start old reached at ports_are n c mid before its p part m_reached q apart d evidence alike same (λ _. stops_troubled) (λ _. inl undue) (record { port_error = did.port_error; well = did.well })
 
-      pub ties_still : TiesPort began (turn_of InService [] mid evidence all) accesses q
+      pub ties_still : PortCorresponds began (turn_of InService [] mid evidence all) accesses q
       ties_still = record {
         finds = λ is_ready e own. carrying.finds_more AService laws s start old reached at ports_are n c mid before its p part m_reached q apart (did.finds is_ready e own);
         faults = λ alone e slot own unended says plain. ⊎_elim
             (λ (a : IsAnsweredFaulty e p.steps). inl (a.0, a.1, a.2, a.3, Contains-append_right x.steps p.steps (Answer a.0 (DeviceError a.1 a.2)) a.4))
             (λ dead. inr (same.1 ∙ dead))
             (did.faults (alone_so_far alone) e slot own unended says plain);
-        tries = λ served coming. record {
+        probes = λ served coming. record {
           shown = λ absent det. absurd (not_absent absent);
           absent = λ absent det fresh. absurd (not_absent absent);
           missing = λ bad. absurd (not_bad bad);
           changed = λ bad. absurd (not_bad bad);
         };
         boots = laws.calls.call_boots q began old (ports_of c) (ports_of mid) mid.device (Served []) (Served []) kept.on (λ _. undue) t p.on same same_self did.boots;
-        trouble = heeds_trouble.trouble;
+        port_error = heeds_trouble.port_error;
         well = heeds_trouble.well;
         heeds = λ _. heeds_whole;
       }

@@ -14,24 +14,24 @@ use Rattle.hba_regs.specs.declared.reg.PortReg.TheVariants.{Ci, Sact}
 use Rattle.adapter.specs.Access.{Access}
 use Rattle.adapter.specs.Access.Access.{Reading}
 use Rattle.adapter.specs.Device.{Device}
-use Rattle.agreement.specs.Agrees.{port_at}
-use Rattle.agreement.specs.Driven.{IsOf}
-use Rattle.agreement.specs.Links.{SparesRegister}
-use Rattle.block_machine.specs.Events.{AnswersEnded, HadDisk, Moment, NoneKeepsIssue, ShowsDisk, changes_disk, issues_it}
-use Rattle.block_machine.specs.Histories.{Instant, IsReached}
+use Rattle.refinement.specs.Relation.{port_at}
+use Rattle.refinement.specs.Driven.{IsOf}
+use Rattle.refinement.specs.Links.{SparesRegister}
+use Rattle.block_machine.specs.Events.{AnswersEnded, HadDisk, AbstractState, NoneKeepsIssue, ShowsDisk, changes_disk, issues_it}
+use Rattle.block_machine.specs.Histories.{JointState, IsReachable}
 use Rattle.block_machine.specs.Left.{after}
 use Rattle.block_machine.specs.Ports.{Evidence, IsInterrupted, Ports, SamePort}
 use Rattle.block_machine.specs.State.{Machine, Pending}
 use Rattle.block_machine.specs.Steps.{Step, Again, Answer}
-use Rattle.host_boot.specs.Taken.{found_of}
+use Rattle.host_boot.specs.Taken.{probe_result_of}
 use Rattle.driver_history.specs.Evidence.{ShowsChange, ShowsFailure}
 use Rattle.driver_history.specs.Histories.{FindsDone}
 use Rattle.driver_history.specs.Parts.{HasTurnIn, IsOfOther, NamesAlike}
 use Rattle.driver_history.specs.Trace.{IsServing, ResetsLink}
 use Rattle.driver_history.specs.Holds.{Runs}
 use Rattle.server_history.specs.Below.{LawsBelow}
-use Rattle.server_history.specs.Turns.{HasPart, HeedsTrouble, MakesTurn, moment_of}
-use Rattle.server_history.specs.Server.{Server, IsKept, IsMachineOf, IsSettled, ports_of, state_of}
+use Rattle.server_history.specs.Turns.{HasPart, HeedsPortErrors, MakesTurn, server_moment}
+use Rattle.server_history.specs.Server.{ServerState, InCallInvariant, IsMachineOf, SettledInvariant, ports_of, state_of}
 use Rattle.server_history.proofs.any_turn.TurnSteps.{others_were}
 use Rattle.server_history.proofs.whole_call.ServiceAndTick.{Plan, Uses, no_reset, turn_at}
 use Rattle.server_history.proofs.whole_call.Progress as progress
@@ -40,27 +40,27 @@ use Rattle.server_history.proofs.state.PortSlots.{ready_found}
 use Rattle.server_history.proofs.any_turn.TurnsInOrder.{again_of, answered_of}
 use Rattle.server_history.proofs.any_turn.JoinedParts.{dead_or_not}
 
-module _ (plan : Plan) (laws : LawsBelow) (s : Server) (start : IsSettled s) (old : Moment) (reached : IsReached old.machine) (at : IsMachineOf s old.machine) (ports_are : old.ports ≡ ports_of s) where
-  abbrev kept : IsKept s
+module _ (plan : Plan) (laws : LawsBelow) (s : ServerState) (start : SettledInvariant s) (old : AbstractState) (reached : IsReachable old.machine) (at : IsMachineOf s old.machine) (ports_are : old.ports ≡ ports_of s) where
+  abbrev kept : InCallInvariant s
   kept = start.kept
 
-  abbrev began : Instant Device
+  abbrev began : JointState Device
   began = record { device = s.device; moment = old }
 
   abbrev state_at : ℕ → PortState
-  state_at q = state_of (found_of s.ports q)
+  state_at q = state_of (probe_result_of s.ports q)
 
-  abbrev IsDone : Server → List Access → List Step → Evidence → Port → Type 0
+  abbrev IsDone : ServerState → List Access → List Step → Evidence → Port → Type 0
   IsDone c accesses steps evidence q = progress.IsDone plan laws s start old reached at ports_are c accesses steps evidence q
 
-  abbrev Progress : ℕ → Server → List Reply → Type 0
+  abbrev Progress : ℕ → ServerState → List Reply → Type 0
   Progress n c replies = progress.Progress plan laws s start old reached at ports_are n c replies
 
-  module _ (n : ℕ) (c mid : Server) (before its : List Reply) (p : Progress n c before) (part : HasPart (turn_at plan (found_of s.ports n) n) (port_at n) its c mid) (m_reached : IsReached (after old.machine p.steps)) where
+  module _ (n : ℕ) (c mid : ServerState) (before its : List Reply) (p : Progress n c before) (part : HasPart (turn_at plan (probe_result_of s.ports n) n) (port_at n) its c mid) (m_reached : IsReachable (after old.machine p.steps)) where
     abbrev m : Machine
     m = after old.machine p.steps
 
-    abbrev x : MakesTurn (turn_at plan (found_of s.ports n) n) (port_at n) its part.accesses c mid m
+    abbrev x : MakesTurn (turn_at plan (probe_result_of s.ports n) n) (port_at n) its part.accesses c mid m
     x = part.makes m m_reached p.stands
 
     abbrev all : List Step
@@ -141,7 +141,7 @@ module _ (plan : Plan) (laws : LawsBelow) (s : Server) (start : IsSettled s) (ol
       pub changed_whole : list_any (changes_disk q) p.steps ≡ true → list_any (changes_disk q) all ≡ true
       changed_whole is = any_append (changes_disk q) x.steps p.steps ∙ or_right _ _ is
 
-      pub disk_still : SamePort (ports_of c) (ports_of mid) q → HadDisk old p.steps (moment_of c m) q → HadDisk old all (moment_of mid (after old.machine all)) q
+      pub disk_still : SamePort (ports_of c) (ports_of mid) q → HadDisk old p.steps (server_moment c m) q → HadDisk old all (server_moment mid (after old.machine all)) q
       disk_still same had shows = ⊎_elim (λ present. inl present) (λ changed. inr (changed_whole changed)) (had (subst ShowsDisk same.1 shows))
 
       -- ---- what is named of it
@@ -156,11 +156,11 @@ module _ (plan : Plan) (laws : LawsBelow) (s : Server) (start : IsSettled s) (ol
 
       module _ (d : IsDone c p.accesses p.steps p.evidence q) where
         -- one that is left ready so far runs
-        runs_so_far : state_of (found_of c.ports q.0) ≡ ReadyState → Runs q.0 c.device
+        runs_so_far : state_of (probe_result_of c.ports q.0) ≡ ReadyState → Runs q.0 c.device
         runs_so_far ready_c = (p.settled.kept.behind q.0 (ready_found c q.0 p.settled.kept ready_c).0).runs ready_c
 
         -- where it was stopped so far and left ready, ST was set since the call began
-        set_since : state_of (found_of c.ports q.0) ≡ ReadyState → IsInterrupted p.evidence q → length s.device.tape ≤ (c.device.port q.0).notes.st_set_at
+        set_since : state_of (probe_result_of c.ports q.0) ≡ ReadyState → IsInterrupted p.evidence q → length s.device.tape ≤ (c.device.port q.0).notes.st_set_at
         set_since ready_c i = ⊎_elim
             (λ stopped. ⊎_elim
             (λ stops. laws.calls.set_since q p.accesses s.device c.device kept.on
@@ -177,11 +177,11 @@ module _ (plan : Plan) (laws : LawsBelow) (s : Server) (start : IsSettled s) (ol
         same_self = (refl, refl, refl, refl, refl, refl)
 
         pub trouble_still : (evidence : Evidence) → NamesAlike q p.evidence evidence → SamePort (ports_of c) (ports_of mid) q
-            → ((old.ports.state q ≡ ReadyState) ⊎ (state_of (found_of c.ports q.0) ≡ ReadyState) → ShowsFailure (s.device.port q.0) ⊎ ShowsChange (s.device.port q.0) → IsInterrupted p.evidence q)
-            → (state_of (found_of c.ports q.0) ≡ ReadyState → ((s.device.port q.0).link_due ≡ false) ⊎ ResetsLink q p.accesses)
-            → HeedsTrouble q p.accesses began p.evidence (ports_of c) c.device → HeedsTrouble q accesses began evidence (ports_of mid) mid.device
+            → ((old.ports.state q ≡ ReadyState) ⊎ (state_of (probe_result_of c.ports q.0) ≡ ReadyState) → ShowsFailure (s.device.port q.0) ⊎ ShowsChange (s.device.port q.0) → IsInterrupted p.evidence q)
+            → (state_of (probe_result_of c.ports q.0) ≡ ReadyState → ((s.device.port q.0).link_due ≡ false) ⊎ ResetsLink q p.accesses)
+            → HeedsPortErrors q p.accesses began p.evidence (ports_of c) c.device → HeedsPortErrors q accesses began evidence (ports_of mid) mid.device
         trouble_still evidence alike same stops_troubled linked did = record {
-          trouble = laws.calls.call_trouble q began old (ports_of c) (ports_of mid) mid.device p.evidence evidence kept.on t p.on same alike same_self set_since stops_troubled did.trouble;
+          port_error = laws.calls.call_trouble q began old (ports_of c) (ports_of mid) mid.device p.evidence evidence kept.on t p.on same alike same_self set_since stops_troubled did.port_error;
           well = laws.calls.call_well q began old (ports_of c) (ports_of mid) mid.device p.evidence evidence kept.on t p.on linked same alike (λ ready_c. (runs_so_far ready_c).recorded.known) did.well;
         }
 

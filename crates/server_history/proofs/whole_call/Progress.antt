@@ -16,23 +16,23 @@ use Rattle.adapter.specs.Access.{Access, DoesAll}
 use Rattle.adapter.specs.Commands.{is_queued}
 use Rattle.adapter.specs.Device.{Device}
 use Rattle.adapter.specs.Rules.{IsOn}
-use Rattle.agreement.specs.Driver.{IsBacked}
-use Rattle.block_machine.specs.Events.{AllLawful, AnswersEnded, Belong, HadDisk, IsToldBefore, Moment, NoneKeepsIssue, Served, UnplugsAll, answers_of, reply_of}
-use Rattle.block_machine.specs.Histories.{Instant, IsReached}
+use Rattle.refinement.specs.Driver.{IsBacked}
+use Rattle.block_machine.specs.Events.{AllLawful, AnswersEnded, Belong, HadDisk, IsToldBefore, AbstractState, NoneKeepsIssue, Served, UnplugsAll, answers_of, reply_of}
+use Rattle.block_machine.specs.Histories.{JointState, IsReachable}
 use Rattle.block_machine.specs.Left.{after}
-use Rattle.block_machine.specs.Ports.{Evidence, Fault, IsInterrupted, IsServiced, Ports, SameDisk, SamePort}
+use Rattle.block_machine.specs.Ports.{Evidence, RequestFault, IsInterrupted, IsServiced, Ports, SameDisk, SamePort}
 use Rattle.block_machine.specs.State.{Pending}
 use Rattle.block_machine.specs.Steps.{Step, Again, Answer}
-use Rattle.host_boot.specs.Taken.{found_of}
+use Rattle.host_boot.specs.Taken.{probe_result_of}
 use Rattle.driver_history.specs.Evidence.{IsEvidencedOf, IsFaultTold}
-use Rattle.driver_history.specs.Histories.{FindsDone, IsUnfitOrForeign, IssuesDue, TiesPort}
+use Rattle.driver_history.specs.Histories.{FindsDone, IsUnfitOrForeign, IssuesDue, PortCorresponds}
 use Rattle.driver_history.specs.Holds.{NoneWaits}
 use Rattle.driver_history.specs.Parts.{EndsLinked, IsOfOther}
 use Rattle.driver_history.specs.Trace.{IsServing, LeavesEngine, ResetsLink}
 use Rattle.server_history.specs.Below.{LawsBelow}
-use Rattle.server_history.specs.Turns.{HeedsTrouble, InService, IsStepOf, moment_of, turn_of}
+use Rattle.server_history.specs.Turns.{HeedsPortErrors, InService, IsStepOf, server_moment, turn_of}
 use Rattle.server_history.proofs.whole_call.ServiceAndTick.{AService, ATick, OwesBy, Plan, TakesTurn, Uses, asks_for, owes_nothing, ready_takes}
-use Rattle.server_history.specs.Server.{Server, IsKept, IsMachineOf, IsSettled, mode_at, mode_in, ports_of, remembered_at, slots_at, state_of}
+use Rattle.server_history.specs.Server.{ServerState, InCallInvariant, IsMachineOf, SettledInvariant, mode_at, mode_in, ports_of, remembered_at, slots_at, state_of}
 use Rattle.server_history.proofs.state.DueRequests.{none_issued}
 use Rattle.server_history.proofs.state.CallEvidence.{no_evidence}
 use Rattle.server_history.proofs.any_turn.TurnsInOrder.{AreTurns, again_of, all_of_ports, answered_of, no_turns, turns_more}
@@ -43,19 +43,19 @@ use Rattle.server_history.proofs.unready_turn.UnfitPort.{bad_tends}
 -- ---- what was done so far of a port
 
 -- A tick has restarted the port.
-pub record IsRestarted (old : Instant Device) (port : Port) (accesses : List Access) (c : Server) (evidence : Evidence) (steps : List Step) : Type 0 where
+pub record IsRestarted (old : JointState Device) (port : Port) (accesses : List Access) (c : ServerState) (evidence : Evidence) (steps : List Step) : Type 0 where
   pub finds : FindsDone port accesses old steps
-  pub boots : (state_of (found_of c.ports port.0) ≡ Dead) ⊎ ResetsLink port accesses
+  pub boots : (state_of (probe_result_of c.ports port.0) ≡ Dead) ⊎ ResetsLink port accesses
   pub ended : AnswersEnded old.moment.machine steps port
   pub interrupts : IsInterrupted evidence port
   pub anew : NoneKeepsIssue steps (after old.moment.machine steps) port
   pub another : (e : Pending) → Contains steps (Answer e Unplugged) → e.request.port ≡ port
-      → (state_of (found_of c.ports port.0) ≢ Dead) × (state_of (found_of c.ports port.0) ≡ ReadyState → SameDisk old.moment.ports (ports_of c) port → ⊥)
-  pub disk : HadDisk old.moment steps (moment_of c (after old.moment.machine steps)) port
-  pub heeds : HeedsTrouble port accesses old evidence (ports_of c) c.device
+      → (state_of (probe_result_of c.ports port.0) ≢ Dead) × (state_of (probe_result_of c.ports port.0) ≡ ReadyState → SameDisk old.moment.ports (ports_of c) port → ⊥)
+  pub disk : HadDisk old.moment steps (server_moment c (after old.moment.machine steps)) port
+  pub heeds : HeedsPortErrors port accesses old evidence (ports_of c) c.device
 
 -- It has let the port rest.
-pub record HasRested (old : Moment) (port : Port) (accesses : List Access) (c : Server) (evidence : Evidence) (steps : List Step) : Type 0 where
+pub record HasRested (old : AbstractState) (port : Port) (accesses : List Access) (c : ServerState) (evidence : Evidence) (steps : List Step) : Type 0 where
   pub others : All (IsOfOther port) accesses
   pub same : SamePort old.ports (ports_of c) port
   pub uninterrupted : IsInterrupted evidence port → ⊥
@@ -63,30 +63,30 @@ pub record HasRested (old : Moment) (port : Port) (accesses : List Access) (c : 
   pub answer : (e : Pending) (o : Outcome) → Contains steps (Answer e o) → e.request.port ≢ port
 
 -- A tick has restarted the port, or let it rest.
-pub record HasTicked (hung : ℕ → Bool) (s : Server) (old : Moment) (port : Port) (accesses : List Access) (c : Server) (evidence : Evidence) (steps : List Step) : Type 0 where
+pub record HasTicked (hung : ℕ → Bool) (s : ServerState) (old : AbstractState) (port : Port) (accesses : List Access) (c : ServerState) (evidence : Evidence) (steps : List Step) : Type 0 where
   pub restarted : old.ports.state port ≡ ReadyState → hung port.0 ≡ true → IsRestarted (record { device = s.device; moment = old }) port accesses c evidence steps
   pub rested : (old.ports.state port ≡ ReadyState → hung port.0 ≡ true → ⊥) → HasRested old port accesses c evidence steps
 
-abbrev pub TiesSoFar : Plan → Server → Moment → Port → List Access → Server → Evidence → List Step → Type 0
+abbrev pub TiesSoFar : Plan → ServerState → AbstractState → Port → List Access → ServerState → Evidence → List Step → Type 0
 TiesSoFar AService s old port accesses c evidence steps =
-    TiesPort (record { device = s.device; moment = old }) (turn_of InService [] c evidence steps) accesses port × EndsLinked port (record { device = s.device; moment = old }) (ports_of c) c.device
+    PortCorresponds (record { device = s.device; moment = old }) (turn_of InService [] c evidence steps) accesses port × EndsLinked port (record { device = s.device; moment = old }) (ports_of c) c.device
 TiesSoFar (ATick hung) s old port accesses c evidence steps = HasTicked hung s old port accesses c evidence steps
 
 -- nothing is done of a port that had no turn
-rested_ties : (plan : Plan) (s : Server) (old : Moment) (port : Port) (accesses : List Access) (c : Server) (evidence : Evidence) (steps : List Step) → old.ports ≡ ports_of s → (TakesTurn plan (found_of s.ports port.0) → ⊥) → HasRested old port accesses c evidence steps
+rested_ties : (plan : Plan) (s : ServerState) (old : AbstractState) (port : Port) (accesses : List Access) (c : ServerState) (evidence : Evidence) (steps : List Step) → old.ports ≡ ports_of s → (TakesTurn plan (probe_result_of s.ports port.0) → ⊥) → HasRested old port accesses c evidence steps
     → TiesSoFar plan s old port accesses c evidence steps
 rested_ties AService s old port accesses c evidence steps ports_are not rests = (
   record {
     finds = λ ready. absurd (unready ready);
     faults = λ alone. absurd (unready alone.ready);
-    tries = λ served comes. record {
+    probes = λ served comes. record {
       shown = λ absent. absurd (not (sym (ap (λ (ports : Ports). ports.served port) ports_are) ∙ served, λ dead. let z : Absent ≡ Dead = sym absent ∙ state_was ∙ dead in cc));
       absent = λ absent. absurd (not (sym (ap (λ (ports : Ports). ports.served port) ports_are) ∙ served, λ dead. let z : Absent ≡ Dead = sym absent ∙ state_was ∙ dead in cc));
       missing = λ bad. absurd (no_bad bad);
       changed = λ bad. absurd (no_bad bad);
     };
     boots = (λ ready. absurd (unready ready), inl rests.same);
-    trouble = record {
+    port_error = record {
       errors = λ ready. absurd (unready ready);
       changes = λ tends. absurd (not (sym (ap (λ (ports : Ports). ports.served port) ports_are) ∙ tends.0, λ dead. tends.1 (state_was ∙ dead)));
       fault = λ ready. absurd (unready (sym rests.same.1 ∙ ready));
@@ -99,14 +99,14 @@ rested_ties AService s old port accesses c evidence steps ports_are not rests = 
   λ bad. absurd (no_bad bad),
 )
   where
-    state_was : old.ports.state port ≡ state_of (found_of s.ports port.0)
+    state_was : old.ports.state port ≡ state_of (probe_result_of s.ports port.0)
     state_was = ap (λ (ports : Ports). ports.state port) ports_are
 
     unready : old.ports.state port ≢ ReadyState
-    unready ready = not (ready_takes AService (found_of s.ports port.0) (sym state_was ∙ ready))
+    unready ready = not (ready_takes AService (probe_result_of s.ports port.0) (sym state_was ∙ ready))
 
     no_bad : IsUnfitOrForeign old.ports port → ⊥
-    no_bad bad = not (bad_tends (found_of s.ports port.0) (⊎_elim (λ foreign. inl (sym state_was ∙ foreign)) (λ unfit. inr (unfit.0, sym state_was ∙ unfit.1)) bad))
+    no_bad bad = not (bad_tends (probe_result_of s.ports port.0) (⊎_elim (λ foreign. inl (sym state_was ∙ foreign)) (λ unfit. inr (unfit.0, sym state_was ∙ unfit.1)) bad))
 rested_ties (ATick hung) s old port accesses c evidence steps ports_are not rests = record {
   restarted = λ ready. absurd (not (sym (ap (λ (ports : Ports). ports.state port) ports_are) ∙ ready));
   rested = λ _. rests;
@@ -114,40 +114,40 @@ rested_ties (ATick hung) s old port accesses c evidence steps ports_are not rest
 
 -- ---- and of all
 
-module _ (plan : Plan) (laws : LawsBelow) (s : Server) (start : IsSettled s) (old : Moment) (reached : IsReached old.machine) (at : IsMachineOf s old.machine) (ports_are : old.ports ≡ ports_of s) where
-  abbrev pub kept : IsKept s
+module _ (plan : Plan) (laws : LawsBelow) (s : ServerState) (start : SettledInvariant s) (old : AbstractState) (reached : IsReachable old.machine) (at : IsMachineOf s old.machine) (ports_are : old.ports ≡ ports_of s) where
+  abbrev pub kept : InCallInvariant s
   kept = start.kept
 
-  abbrev pub began : Instant Device
+  abbrev pub began : JointState Device
   began = record { device = s.device; moment = old }
 
   abbrev pub state_at : ℕ → PortState
-  state_at q = state_of (found_of s.ports q)
+  state_at q = state_of (probe_result_of s.ports q)
 
   -- ports that have turns, and those that had theirs
   abbrev pub Takes : Port → Type 0
-  Takes q = TakesTurn plan (found_of s.ports q.0)
+  Takes q = TakesTurn plan (probe_result_of s.ports q.0)
 
   abbrev pub HadTurn : ℕ → Port → Type 0
   HadTurn n q = (q.0 < n) × Takes q
 
   -- What is so of a port that had its turn, or none, at the end of what was done so far.
-  pub record IsDone (c : Server) (accesses : List Access) (steps : List Step) (evidence : Evidence) (q : Port) : Type 0 where
+  pub record IsDone (c : ServerState) (accesses : List Access) (steps : List Step) (evidence : Evidence) (q : Port) : Type 0 where
     pub becomes : IsServiced old.ports evidence (ports_of c) q
-    pub disk : SamePort old.ports (ports_of c) q ⊎ HadDisk old steps (moment_of c (after old.machine steps)) q
+    pub disk : SamePort old.ports (ports_of c) q ⊎ HadDisk old steps (server_moment c (after old.machine steps)) q
     pub keeps : SameDisk old.ports (ports_of c) q ⊎ NoneWaits (after old.machine steps) q
     pub evidenced : IsEvidencedOf (asks_for plan) (Served []) accesses began (ports_of c) c.device evidence q
     pub ties : TiesSoFar plan s old q accesses c evidence steps
 
   -- a fault that is told of a port that had its turn
-  pub record HasTold (n : ℕ) (c : Server) (accesses : List Access) (told : Fault) : Type 0 where
+  pub record HasTold (n : ℕ) (c : ServerState) (accesses : List Access) (told : RequestFault) : Type 0 where
     pub its : IsFaultTold began c.device accesses told
     pub served : HadTurn n its.pending.request.port
-    pub lives : is_queued its.serves.command.operation ≡ true → state_of (found_of c.ports its.pending.request.port.0) ≢ Dead
+    pub lives : is_queued its.serves.command.operation ≡ true → state_of (probe_result_of c.ports its.pending.request.port.0) ≢ Dead
 
   -- Ports below this number had their turns, which led to this server with these replies.
-  pub record Progress (n : ℕ) (c : Server) (replies : List Reply) : Type 0 where
-    pub settled : IsSettled c
+  pub record Progress (n : ℕ) (c : ServerState) (replies : List Reply) : Type 0 where
+    pub settled : SettledInvariant c
     pub wanted : c.wanted ≡ s.wanted
     pub on : IsOn c.device
     pub accesses : List Access
@@ -170,11 +170,11 @@ module _ (plan : Plan) (laws : LawsBelow) (s : Server) (start : IsSettled s) (ol
     pub ordered : AllPairs IsToldBefore answers
     pub low : All (λ a. a.0.request.port.0 < n) answers
     pub told : replies ≡ map reply_of answers
-    pub faults : (told : Fault) → Contains evidence.faults told → HasTold n c accesses told
+    pub faults : (told : RequestFault) → Contains evidence.faults told → HasTold n c accesses told
     pub done : (q : Port) → q.0 < n → IsDone c accesses steps evidence q
-    pub due : (q : Port) → state_of (found_of c.ports q.0) ≡ ReadyState → IssuesDue (mode_in c q) steps (after old.machine steps) q
+    pub due : (q : Port) → state_of (probe_result_of c.ports q.0) ≡ ReadyState → IssuesDue (mode_in c q) steps (after old.machine steps) q
     pub of : All (IsStepOf (HadTurn n)) steps
-    pub found : (q : Port) → (HadTurn n q → ⊥) → found_of c.ports q.0 ≡ found_of s.ports q.0
+    pub found : (q : Port) → (HadTurn n q → ⊥) → probe_result_of c.ports q.0 ≡ probe_result_of s.ports q.0
     pub remembered : (q : Port) → (HadTurn n q → ⊥) → remembered_at c.remembered q.0 ≡ remembered_at s.remembered q.0
     pub modes : (q : Port) → (HadTurn n q → ⊥) → mode_at c.modes q.0 ≡ mode_at s.modes q.0
     pub slots : (q : Port) → (HadTurn n q → ⊥) → slots_at c.slots q.0 ≡ slots_at s.slots q.0
@@ -240,7 +240,7 @@ module _ (plan : Plan) (laws : LawsBelow) (s : Server) (start : IsSettled s) (ol
   none_evidenced : (accesses : List Access) (new : Device) (ports : Ports) (evidence : Evidence) (q : Port) → (Takes q → ⊥) → NamesSome Takes evidence → All (IsOfOther q) accesses
       → IsEvidencedOf (asks_for plan) (Served []) accesses began ports new evidence q
   none_evidenced accesses new ports evidence q not names of =
-      let was_ready : old.ports.state q ≡ ReadyState → ⊥ = λ is. not (ready_takes plan (found_of s.ports q.0) (sym (ap (λ (ports : Ports). ports.state q) ports_are) ∙ is)) in
+      let was_ready : old.ports.state q ≡ ReadyState → ⊥ = λ is. not (ready_takes plan (probe_result_of s.ports q.0) (sym (ap (λ (ports : Ports). ports.state q) ports_are) ∙ is)) in
       record {
         lost = λ here. absurd (not (All-contains Takes evidence.lost q names.lost here));
         gone_all = λ is. absurd (was_ready is);
@@ -255,7 +255,7 @@ module _ (plan : Plan) (laws : LawsBelow) (s : Server) (start : IsSettled s) (ol
       }
 
   -- what is so of a port that has no turn
-  pub idle_done : (n : ℕ) (c : Server) (replies : List Reply) → (p : Progress n c replies) → (q : Port) → (Takes q → ⊥) → IsDone c p.accesses p.steps p.evidence q
+  pub idle_done : (n : ℕ) (c : ServerState) (replies : List Reply) → (p : Progress n c replies) → (q : Port) → (Takes q → ⊥) → IsDone c p.accesses p.steps p.evidence q
   idle_done n c replies p q not =
       let none : HadTurn n q → ⊥ = λ served. not served.1 in
       let un = unnamed n q none p.evidence p.names in
@@ -286,7 +286,7 @@ module _ (plan : Plan) (laws : LawsBelow) (s : Server) (start : IsSettled s) (ol
       }
 
   -- a port is passed over that has no turn
-  pub skipped : (n : ℕ) (c : Server) (replies : List Reply) → (TakesTurn plan (found_of s.ports n) → ⊥) → Progress n c replies → Progress (n + 1) c replies
+  pub skipped : (n : ℕ) (c : ServerState) (replies : List Reply) → (TakesTurn plan (probe_result_of s.ports n) → ⊥) → Progress n c replies → Progress (n + 1) c replies
   skipped n c replies other p = record {
     settled = p.settled;
     wanted = p.wanted;
@@ -316,7 +316,7 @@ module _ (plan : Plan) (laws : LawsBelow) (s : Server) (start : IsSettled s) (ol
         (λ (less : q.0 < n). p.done q less)
         (λ (most : n ≤ q.0).
         let same : n ≡ q.0 = omega (arith, lt, most) in
-        idle_done n c replies p q (λ takes. other (subst (λ (k : ℕ). TakesTurn plan (found_of s.ports k)) (sym same) takes)))
+        idle_done n c replies p q (λ takes. other (subst (λ (k : ℕ). TakesTurn plan (probe_result_of s.ports k)) (sym same) takes)))
         (cases_lt q.0 n);
     due = p.due;
     of = all_of_ports (HadTurn n) (HadTurn (n + 1)) (λ q served. let small = served.0 in (omega (arith, small), served.1)) p.steps p.of;
@@ -327,5 +327,5 @@ module _ (plan : Plan) (laws : LawsBelow) (s : Server) (start : IsSettled s) (ol
   }
 
   -- who was answered is of a port that has a turn
-  pub answered_was : (n : ℕ) (c : Server) (replies : List Reply) → (p : Progress n c replies) → (e : Pending) (o : Outcome) → Contains p.steps (Answer e o) → Takes e.request.port
+  pub answered_was : (n : ℕ) (c : ServerState) (replies : List Reply) → (p : Progress n c replies) → (e : Pending) (o : Outcome) → Contains p.steps (Answer e o) → Takes e.request.port
   answered_was n c replies p e o here = (answered_of (HadTurn n) p.steps p.of e o here).1

@@ -5,27 +5,27 @@ use Rattle.std.proofs.lemmas.Bool.{cases_lt}
 use Rattle.ata_types.specs.declared.Port.{Port}
 use Rattle.ata_types.specs.declared.PortState.{PortState}
 use Rattle.ata_types.specs.declared.PortState.TheVariants.{Dead, Ready as ReadyState}
-use Rattle.agreement.specs.Agrees.{port_at}
+use Rattle.refinement.specs.Relation.{port_at}
 use Rattle.ata_types.specs.declared.request.Reply.{Reply}
 use Rattle.adapter.specs.Device.{Device}
 use Rattle.adapter.specs.declared.access.DeviceStep.{DeviceStep}
-use Rattle.block_machine.specs.Events.{AnswersService, KeepsDisks, Moment, Served, Service}
-use Rattle.block_machine.specs.Histories.{Instant, Happening, IsReached, now}
+use Rattle.block_machine.specs.Events.{AnswersService, KeepsDisks, AbstractState, Served, Service}
+use Rattle.block_machine.specs.Histories.{JointState, Happening, IsReachable, now}
 use Rattle.block_machine.specs.Left.{after}
 use Rattle.block_machine.specs.Ports.{Ports}
 use Rattle.block_machine.specs.State.{Pending}
-use Rattle.host_boot.specs.Taken.{found_of}
-use Rattle.host_boot.specs.declared.Found.{Found}
-use Rattle.host_boot.specs.declared.Found.TheVariants.{Unready}
-use Rattle.driver_history.specs.Histories.{TiesPort}
+use Rattle.host_boot.specs.Taken.{probe_result_of}
+use Rattle.host_boot.specs.declared.ProbeResult.{ProbeResult}
+use Rattle.host_boot.specs.declared.ProbeResult.TheVariants.{Unready}
+use Rattle.driver_history.specs.Histories.{PortCorresponds}
 use Rattle.server_history.proofs.any_turn.JoinedParts.{dead_or_not}
 use Rattle.driver_history.specs.Evidence.{IsEvidenced}
 use Rattle.request_queue.specs.Machine.{IsEntry}
-use Rattle.server_history.specs.Histories.{Adds, Leads}
+use Rattle.server_history.specs.Histories.{ExtendsSettled, LeadsToServer}
 use Rattle.server_history.specs.Below.{LawsBelow}
-use Rattle.server_history.specs.Turns.{HasPart, ServePorts, ServesPort, TriesUnready}
-use Rattle.server_history.specs.Tried.{IsLookedAt}
-use Rattle.server_history.specs.Server.{Server, IsKept, IsMachineOf, IsSettled, mode_in, ports_of, state_of}
+use Rattle.server_history.specs.Turns.{HasPart, ServePorts, ServesPort, ProbesUnready}
+use Rattle.server_history.specs.Probing.{IsLookedAt}
+use Rattle.server_history.specs.Server.{ServerState, InCallInvariant, IsMachineOf, SettledInvariant, mode_in, ports_of, state_of}
 use Rattle.server_history.proofs.state.DueRequests.{none_due}
 use Rattle.server_history.proofs.start.NewServer.{kept_fit}
 use Rattle.server_history.proofs.state.HistorySteps.{holding, happening_with, lead_with, with_device}
@@ -35,8 +35,8 @@ use Rattle.server_history.proofs.whole_call.ServiceAndTick.{AService, TakesTurn,
 use Rattle.server_history.proofs.whole_call.Progress.{IsDone, Progress, answered_was, begun, idle_done}
 use Rattle.server_history.proofs.whole_call.AllTurns.{Whole, go, turns_kept}
 
-module _ (laws : LawsBelow) (s new : Server) (replies : List Reply) (start : IsSettled s) (serves : ServePorts 0 s.ports replies s new) (first : Instant Device) (past : List (Happening Device DeviceStep)) (leads : Leads first past s) where
-  abbrev old : Moment
+module _ (laws : LawsBelow) (s new : ServerState) (replies : List Reply) (start : SettledInvariant s) (serves : ServePorts 0 s.ports replies s new) (first : JointState Device) (past : List (Happening Device DeviceStep)) (leads : LeadsToServer first past s) where
+  abbrev old : AbstractState
   old = (now first past).moment
 
   at : IsMachineOf s old.machine
@@ -45,48 +45,48 @@ module _ (laws : LawsBelow) (s new : Server) (replies : List Reply) (start : IsS
   same : old.ports ≡ ports_of s
   same = leads.stands.ports_are
 
-  reached : IsReached old.machine
+  reached : IsReachable old.machine
   reached = laws.basic.history_reached s.wanted first past leads.history
 
-  ready_part : (n : ℕ) (c mid : Server) (before its : List Reply) → state_of (found_of s.ports n) ≡ ReadyState → Progress AService laws s start old reached at same n c before → ServesPort (port_at n) its c mid
-      → HasPart (turn_at AService (found_of s.ports n) n) (port_at n) its c mid
-  ready_part n c mid before its is_ready_n p serves = subst (λ (found : Found). HasPart (turn_at AService found n) (port_at n) its c mid) (sym (ready_found s n start.kept is_ready_n).1.1) serves.part
+  ready_part : (n : ℕ) (c mid : ServerState) (before its : List Reply) → state_of (probe_result_of s.ports n) ≡ ReadyState → Progress AService laws s start old reached at same n c before → ServesPort (port_at n) its c mid
+      → HasPart (turn_at AService (probe_result_of s.ports n) n) (port_at n) its c mid
+  ready_part n c mid before its is_ready_n p serves = subst (λ (found : ProbeResult). HasPart (turn_at AService found n) (port_at n) its c mid) (sym (ready_found s n start.kept is_ready_n).1.1) serves.part
 
   -- a dead port is passed over
-  other_part : (n : ℕ) (c mid : Server) (before : List Reply) (state : PortState) → found_of s.ports n ≡ Unready state → Progress AService laws s start old reached at same n c before → TriesUnready (port_at n) c mid
-      → ((TakesTurn AService (found_of s.ports n) → ⊥) × (mid ≡ c)) ⊎ (TakesTurn AService (found_of s.ports n) × HasPart (turn_at AService (found_of s.ports n) n) (port_at n) [] c mid)
-  other_part n c mid before state is p tries = ⊎_elim
+  other_part : (n : ℕ) (c mid : ServerState) (before : List Reply) (state : PortState) → probe_result_of s.ports n ≡ Unready state → Progress AService laws s start old reached at same n c before → ProbesUnready (port_at n) c mid
+      → ((TakesTurn AService (probe_result_of s.ports n) → ⊥) × (mid ≡ c)) ⊎ (TakesTurn AService (probe_result_of s.ports n) × HasPart (turn_at AService (probe_result_of s.ports n) n) (port_at n) [] c mid)
+  other_part n c mid before state is p probes = ⊎_elim
       (λ (dead : state ≡ Dead).
-      let its_state : tries.does.state ≡ Dead =
-      let found : Unready tries.does.state ≡ Unready state = sym tries.does.is ∙ p.found (port_at n) (λ served. let lt = served.0 in omega (arith, lt)) ∙ is in
-      (let one : tries.does.state ≡ state = cc in one) ∙ dead in
-      let looks = subst (λ (of : PortState). IsLookedAt of (port_at n) tries.does.result c.device tries.does.seen) its_state tries.does.looks in
+      let its_state : probes.does.state ≡ Dead =
+      let found : Unready probes.does.state ≡ Unready state = sym probes.does.is ∙ p.found (port_at n) (λ served. let lt = served.0 in omega (arith, lt)) ∙ is in
+      (let one : probes.does.state ≡ state = cc in one) ∙ dead in
+      let looks = subst (λ (of : PortState). IsLookedAt of (port_at n) probes.does.result c.device probes.does.seen) its_state probes.does.looks in
       inl (
         λ takes. takes.1 (ap state_of is ∙ dead),
-        tries.does.left looks.0 ∙ ap (λ (d : Device). record c { device = d }) looks.1,
+        probes.does.left looks.0 ∙ ap (λ (d : Device). record c { device = d }) looks.1,
       ))
       (λ (lives : state ≢ Dead). inr (
         subst (TakesTurn AService) (sym is) (refl, lives),
-        subst (λ (found : Found). HasPart (turn_at AService found n) (port_at n) [] c mid) (sym is) tries.part,
+        subst (λ (found : ProbeResult). HasPart (turn_at AService found n) (port_at n) [] c mid) (sym is) probes.part,
       ))
       (dead_or_not state)
 
   ends : Whole AService laws s start old reached at same new replies
-  ends = go AService laws s start old reached at same ServesPort TriesUnready ready_part other_part s.ports 0 (λ i. ap (λ (k : ℕ). found_of s.ports k) (omega arith)) s new [] replies (begun AService laws s start old reached at same) serves
+  ends = go AService laws s start old reached at same ServesPort ProbesUnready ready_part other_part s.ports 0 (λ i. ap (λ (k : ℕ). probe_result_of s.ports k) (omega arith)) s new [] replies (begun AService laws s start old reached at same) serves
 
   p : Progress AService laws s start old reached at same ends.count new replies
   p = ends.progress
 
-  abbrev holds : IsKept new
+  abbrev holds : InCallInvariant new
   holds = p.settled.kept
 
-  abbrev began : Instant Device
+  abbrev began : JointState Device
   began = with_device s.device (now first past)
 
-  abbrev end : Moment
+  abbrev end : AbstractState
   end = record { machine = after old.machine p.steps; ports = ports_of new }
 
-  is_ready : (port : Port) → old.ports.state port ≡ state_of (found_of s.ports port.0)
+  is_ready : (port : Port) → old.ports.state port ≡ state_of (probe_result_of s.ports port.0)
   is_ready port = ap (λ (ports : Ports). ports.state port) same
 
   -- what is so of each port at the end
@@ -96,10 +96,10 @@ module _ (laws : LawsBelow) (s new : Server) (replies : List Reply) (start : IsS
       (λ most. idle_done AService laws s start old reached at same ends.count new replies p port (ends.past port.0 most))
       (cases_lt port.0 ends.count)
 
-  none_waits : (port : Port) → state_of (found_of new.ports port.0) ≢ ReadyState → (e : Pending) → Contains (after old.machine p.steps).book e → e.request.port ≢ port
+  none_waits : (port : Port) → state_of (probe_result_of new.ports port.0) ≢ ReadyState → (e : Pending) → Contains (after old.machine p.steps).book e → e.request.port ≢ port
   none_waits port other e here own =
       let a = at_right IsEntry new.book (after old.machine p.steps).book p.stands.book e here in
-      other (ap (λ (q : Port). state_of (found_of new.ports q.0)) (sym own ∙ a.2.port) ∙ of_ready new holds a.0 a.1)
+      other (ap (λ (q : Port). state_of (probe_result_of new.ports q.0)) (sym own ∙ a.2.port) ∙ of_ready new holds a.0 a.1)
 
   all_answered : AnswersService old p.evidence p.steps replies end
   all_answered = record {
@@ -135,12 +135,12 @@ module _ (laws : LawsBelow) (s new : Server) (replies : List Reply) (start : IsS
   }
 
   -- what the service has done of each port
-  port_part : (port : Port) → TiesPort began (happening_with p.evidence new.device Service (Served replies) p.steps (ports_of new)) p.accesses port
+  port_part : (port : Port) → PortCorresponds began (happening_with p.evidence new.device Service (Served replies) p.steps (ports_of new)) p.accesses port
   port_part port =
       let did = (done port).ties.0 in
-      record { finds = did.finds; faults = did.faults; tries = did.tries; boots = did.boots; trouble = did.trouble; well = did.well; heeds = did.heeds }
+      record { finds = did.finds; faults = did.faults; probes = did.probes; boots = did.boots; port_error = did.port_error; well = did.well; heeds = did.heeds }
 
-  pub service_event : (h : Happening Device DeviceStep) × (h.event.ask ≡ Service) × (h.event.said ≡ Served replies) × Leads first (h ∷ past) new
+  pub service_event : (h : Happening Device DeviceStep) × (h.event.ask ≡ Service) × (h.event.said ≡ Served replies) × LeadsToServer first (h ∷ past) new
   service_event =
       lead_with laws first past s new Service (Served replies) p.evidence p.steps p.wanted leads (holding new holds) (kept_fit new holds)
       p.turns.may p.belong p.turns.last p.lawful keeps all_answered p.owes
@@ -151,5 +151,5 @@ module _ (laws : LawsBelow) (s new : Server) (replies : List Reply) (start : IsS
       port_part
       p.backed p.stands
 
-pub services_add : LawsBelow → (s new : Server) (replies : List Reply) → IsSettled s → ServePorts 0 s.ports replies s new → Adds s new Service (Served replies)
-services_add laws s new replies start serves = record { settled = turns_kept ServesPort TriesUnready s.ports 0 s new replies start serves; adds = λ first past leads. service_event laws s new replies start serves first past leads }
+pub law_services_add : LawsBelow → (s new : ServerState) (replies : List Reply) → SettledInvariant s → ServePorts 0 s.ports replies s new → ExtendsSettled s new Service (Served replies)
+law_services_add laws s new replies start serves = record { settled = turns_kept ServesPort ProbesUnready s.ports 0 s new replies start serves; adds = λ first past leads. service_event laws s new replies start serves first past leads }

@@ -10,19 +10,19 @@ use Rattle.ata_types.specs.declared.request.Reply.{Reply}
 use Rattle.adapter.specs.Access.{Access}
 use Rattle.adapter.specs.Device.{Device}
 use Rattle.adapter.specs.declared.access.DeviceStep.{DeviceStep}
-use Rattle.block_machine.specs.Events.{Ask, Belong, IsServers, Served, Service, Tick}
-use Rattle.block_machine.specs.Histories.{Instant}
+use Rattle.block_machine.specs.Events.{Ask, Belong, IsByServer, Served, Service, Tick}
+use Rattle.block_machine.specs.Histories.{JointState}
 use Rattle.block_machine.specs.Ports.{Evidence, Ports}
 use Rattle.block_machine.specs.State.{Machine, Pending}
 use Rattle.block_machine.specs.Steps.{Step, Again, Answer, Issue}
-use Rattle.block_machine.specs.declared.due.Mode.{Mode}
+use Rattle.block_machine.specs.declared.due.QueueMode.{QueueMode}
 use Rattle.driver_history.specs.Heeding.{AllGrounded}
 use Rattle.driver_history.specs.Evidence.{IsEndedReset, IsEvidencedOf}
 use Rattle.driver_history.specs.Histories.{TendsPort}
-use Rattle.host_boot.specs.declared.Found.{Found}
-use Rattle.host_boot.specs.declared.Found.TheVariants.{Ready, Unready, Unserved}
-use Rattle.server_history.specs.Server.{Server, is_served, state_of}
-use Rattle.server_history.specs.Turns.{AtRest, InRestart, InService, InTry, IsStepOf, OwesTurn, Turn, call_of}
+use Rattle.host_boot.specs.declared.ProbeResult.{ProbeResult}
+use Rattle.host_boot.specs.declared.ProbeResult.TheVariants.{Ready, Unready, Unserved}
+use Rattle.server_history.specs.Server.{ServerState, is_served, state_of}
+use Rattle.server_history.specs.Turns.{AtRest, InRestart, InService, InProbe, IsStepOf, OwesTurn, Turn, call_of}
 use Rattle.server_history.proofs.any_turn.JoinedParts.{joined}
 use Rattle.server_history.proofs.state.CallEvidence.{no_evidence}
 use Rattle.server_history.proofs.any_turn.TurnsInOrder.{grounded_join, grounded_on}
@@ -33,13 +33,13 @@ pub data Plan : Type 0 where
   ATick : (ℕ → Bool) → Plan
 
 -- the turn of a port in it, which was found so
-abbrev pub turn_at : Plan → Found → ℕ → Turn
+abbrev pub turn_at : Plan → ProbeResult → ℕ → Turn
 turn_at AService (Ready info) n = InService
-turn_at AService found n = InTry
+turn_at AService found n = InProbe
 turn_at (ATick hung) found n = if hung n then InRestart else AtRest
 
 -- a port that was found so has a turn in it: in a service each that is served, but for dead ones; in a tick each that is ready
-abbrev pub TakesTurn : Plan → Found → Type 0
+abbrev pub TakesTurn : Plan → ProbeResult → Type 0
 TakesTurn AService found = (is_served found ≡ true) × (state_of found ≢ Dead)
 TakesTurn (ATick hung) found = state_of found ≡ ReadyState
 
@@ -47,7 +47,7 @@ abbrev pub asks_for : Plan → Ask DeviceStep
 asks_for AService = Service
 asks_for (ATick hung) = Tick
 
-pub asks_so : (plan : Plan) (found : Found) (n : ℕ) → call_of (turn_at plan found n) ≡ asks_for plan
+pub asks_so : (plan : Plan) (found : ProbeResult) (n : ℕ) → call_of (turn_at plan found n) ≡ asks_for plan
 asks_so AService (Ready info) n = refl
 asks_so AService (Unready state) n = refl
 asks_so AService Unserved n = refl
@@ -58,7 +58,7 @@ asks_so (ATick hung) found n = by (hung n)
     by false = refl
 
 -- a ready port has one
-pub ready_takes : (plan : Plan) (found : Found) → state_of found ≡ ReadyState → TakesTurn plan found
+pub ready_takes : (plan : Plan) (found : ProbeResult) → state_of found ≡ ReadyState → TakesTurn plan found
 ready_takes AService (Ready info) is = (refl, λ dead. let z : ReadyState ≡ Dead = dead in cc)
 ready_takes AService (Unready state) is = (refl, λ dead. let z : ReadyState ≡ Dead = sym is ∙ dead in cc)
 ready_takes AService Unserved is = let z : Absent ≡ ReadyState = is in absurd cc
@@ -85,16 +85,16 @@ owes_nothing (ATick hung) = refl
 
 -- ---- what is so of both
 
-pub issues_on : (plan : Plan) (old new : Ports) (mode : Mode) (e : Pending) → new.state e.request.port ≡ old.state e.request.port → new.mode e.request.port ≡ old.mode e.request.port
-    → IsServers (asks_for plan) old (Issue mode e) → IsServers (asks_for plan) new (Issue mode e)
+pub issues_on : (plan : Plan) (old new : Ports) (mode : QueueMode) (e : Pending) → new.state e.request.port ≡ old.state e.request.port → new.mode e.request.port ≡ old.mode e.request.port
+    → IsByServer (asks_for plan) old (Issue mode e) → IsByServer (asks_for plan) new (Issue mode e)
 issues_on AService old new mode e state kind is = (state ∙ is.0, kind ∙ is.1)
 issues_on (ATick hung) old new mode e state kind is = (state ∙ is.0, kind ∙ is.1)
 
-pub again_on : (plan : Plan) (old new : Ports) (e : Pending) → new.state e.request.port ≡ old.state e.request.port → IsServers (asks_for plan) old (Again e) → IsServers (asks_for plan) new (Again e)
+pub again_on : (plan : Plan) (old new : Ports) (e : Pending) → new.state e.request.port ≡ old.state e.request.port → IsByServer (asks_for plan) old (Again e) → IsByServer (asks_for plan) new (Again e)
 again_on AService old new e state is = state ∙ is
 again_on (ATick hung) old new e state is = state ∙ is
 
-pub answers_on : (plan : Plan) (old new : Ports) (e : Pending) (o : Outcome) → IsServers (asks_for plan) old (Answer e o) → IsServers (asks_for plan) new (Answer e o)
+pub answers_on : (plan : Plan) (old new : Ports) (e : Pending) (o : Outcome) → IsByServer (asks_for plan) old (Answer e o) → IsByServer (asks_for plan) new (Answer e o)
 answers_on AService old new e o is = is
 answers_on (ATick hung) old new e o is = is
 
@@ -119,7 +119,7 @@ belong_on plan Such old new same (Answer e o ∷ steps) all a = (
 belong_on plan Such old new same (step ∷ steps) all a = (belong_on plan Such old new same steps (All-tail (IsStepOf Such) step steps all) a.0, inl (All-head (IsStepOf Such) step steps all))
 
 -- of what is said, evidence asks nothing
-pub any_said : (plan : Plan) (one other : List Reply) (made : List Access) (i : Instant Device) (ports : Ports) (d : Device) (e : Evidence) (q : Port) → IsEvidencedOf (asks_for plan) (Served one) made i ports d e q
+pub any_said : (plan : Plan) (one other : List Reply) (made : List Access) (i : JointState Device) (ports : Ports) (d : Device) (e : Evidence) (q : Port) → IsEvidencedOf (asks_for plan) (Served one) made i ports d e q
     → IsEvidencedOf (asks_for plan) (Served other) made i ports d e q
 any_said AService one other made i ports d e q v = record {
   lost = v.lost;
@@ -147,13 +147,13 @@ any_said (ATick hung) one other made i ports d e q v = record {
 }
 
 -- what is owed is so of more steps, with what the turn owes
-pub owes_join : (plan : Plan) (found : Found) (n : ℕ) (port : Port) (accesses : List Access) (old new : Server) (m : Machine) (early its : Evidence) (steps late : List Step) → OwesBy plan early steps → OwesTurn (turn_at plan found n) port accesses old new m its late
+pub owes_join : (plan : Plan) (found : ProbeResult) (n : ℕ) (port : Port) (accesses : List Access) (old new : ServerState) (m : Machine) (early its : Evidence) (steps late : List Step) → OwesBy plan early steps → OwesTurn (turn_at plan found n) port accesses old new m its late
     → OwesBy plan (joined early its) (late ++ steps)
 owes_join AService found n port accesses old new m early its steps late so_far turn = grounded_join (joined early its) late steps
     (grounded_on its (joined early its) (λ q there. Contains-append_right early.failed its.failed q there) late (by found turn))
     (grounded_on early (joined early its) (λ q there. Contains-append_left early.failed its.failed q there) steps so_far)
   where
-    by : (was : Found) → OwesTurn (turn_at AService was n) port accesses old new m its late → AllGrounded its late
+    by : (was : ProbeResult) → OwesTurn (turn_at AService was n) port accesses old new m its late → AllGrounded its late
     by (Ready info) o = o
     by (Unready state) o = o.0
     by Unserved o = o.0
@@ -167,7 +167,7 @@ owes_join (ATick hung) found n port accesses old new m early its steps late so_f
     by false (made, did, is, uninterrupted) = none is
 
 -- of a port that isn't ready no fault is told, and no loss
-pub ready_or_silent : (plan : Plan) (found : Found) (n : ℕ) (port : Port) (accesses : List Access) (old new : Server) (m : Machine) (its : Evidence) (steps : List Step) → TakesTurn plan found → OwesTurn (turn_at plan found n) port accesses old new m its steps
+pub ready_or_silent : (plan : Plan) (found : ProbeResult) (n : ℕ) (port : Port) (accesses : List Access) (old new : ServerState) (m : Machine) (its : Evidence) (steps : List Step) → TakesTurn plan found → OwesTurn (turn_at plan found n) port accesses old new m its steps
     → (state_of found ≡ ReadyState) ⊎ ((its.faults ≡ []) × (its.lost ≡ []))
 ready_or_silent AService (Ready info) n port accesses old new m its steps takes o = inl refl
 ready_or_silent AService (Unready state) n port accesses old new m its steps takes o = inr (o.1, o.2)
@@ -175,7 +175,7 @@ ready_or_silent AService Unserved n port accesses old new m its steps takes o = 
 ready_or_silent (ATick hung) found n port accesses old new m its steps takes o = inl takes
 
 -- it is no reset
-pub not_reset : (plan : Plan) (found : Found) (n : ℕ) (said : List Reply) → IsEndedReset (call_of (turn_at plan found n)) (Served said) → ⊥
+pub not_reset : (plan : Plan) (found : ProbeResult) (n : ℕ) (said : List Reply) → IsEndedReset (call_of (turn_at plan found n)) (Served said) → ⊥
 not_reset AService (Ready info) n said is = is
 not_reset AService (Unready state) n said is = is
 not_reset AService Unserved n said is = is

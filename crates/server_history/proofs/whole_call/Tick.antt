@@ -21,12 +21,12 @@ use Rattle.adapter.specs.Access.Access.{Loading, Reading, Storing, Writing}
 use Rattle.adapter.specs.Device.{Device}
 use Rattle.adapter.specs.declared.access.DeviceStep.{DeviceStep}
 use Rattle.adapter.specs.declared.command.Operation.TheVariants.{ReadLog}
-use Rattle.agreement.specs.Agrees.{port_at}
-use Rattle.agreement.specs.Driven.{IsOf}
-use Rattle.agreement.specs.Links.{SparesRegister}
-use Rattle.agreement.specs.Slots.{ServesRequest}
-use Rattle.block_machine.specs.Events.{AllLawful, AnswersEnded, AnswersTick, IsHung, IssuesLast, KeepsDisks, Moment, NoneKeepsIssue, RestartsHung, Served, Tick, WasIssued, answers_of, changes_disk, is_age, issues_it}
-use Rattle.block_machine.specs.Histories.{Happening, Instant, IsReached, now}
+use Rattle.refinement.specs.Relation.{port_at}
+use Rattle.refinement.specs.Driven.{IsOf}
+use Rattle.refinement.specs.Links.{SparesRegister}
+use Rattle.refinement.specs.Slots.{ServesRequest}
+use Rattle.block_machine.specs.Events.{AllLawful, AnswersEnded, AnswersTick, HasTimedOut, IssuesLast, KeepsDisks, AbstractState, NoneKeepsIssue, RestartsTimedOut, Served, Tick, WasIssued, answers_of, changes_disk, is_age, issues_it}
+use Rattle.block_machine.specs.Histories.{Happening, JointState, IsReachable, now}
 use Rattle.block_machine.specs.Left.{after}
 use Rattle.block_machine.specs.Ports.{IsInterrupted, Ports, SamePort}
 use Rattle.block_machine.specs.Due.{of_port}
@@ -34,18 +34,18 @@ use Rattle.block_machine.specs.State.{Machine, Pending, unanswered}
 use Rattle.block_machine.specs.Steps.{Step, Age, Again, Answer, after_step, older}
 use Rattle.server_history.proofs.state.ListMembers.{contains_cases, contains_here, into_map, map_in, none_of}
 use Rattle.driver_history.specs.Evidence.{IsEvidenced}
-use Rattle.driver_history.specs.Histories.{FindsDone, IssuesDue, TiesPort}
+use Rattle.driver_history.specs.Histories.{FindsDone, IssuesDue, PortCorresponds}
 use Rattle.driver_history.specs.Parts.{IsOfOther}
 use Rattle.driver_history.specs.Trace.{ClearsNone, IsDriversOwn, IsServing, LeavesEngine}
-use Rattle.host_boot.specs.Taken.{found_of}
-use Rattle.host_boot.specs.declared.Found.{Found}
-use Rattle.host_boot.specs.declared.Found.TheVariants.{Ready, Unready, Unserved}
+use Rattle.host_boot.specs.Taken.{probe_result_of}
+use Rattle.host_boot.specs.declared.ProbeResult.{ProbeResult}
+use Rattle.host_boot.specs.declared.ProbeResult.TheVariants.{Ready, Unready, Unserved}
 use Rattle.request_queue.specs.Entries.{Held, IsOverdue}
 use Rattle.request_queue.specs.Machine.{IsEntry}
 use Rattle.server_history.specs.Below.{LawsBelow}
-use Rattle.server_history.specs.Histories.{Adds, Leads}
-use Rattle.server_history.specs.Server.{Server, IsKept, IsMachineOf, IsSettled, mode_in, ports_of, state_of}
-use Rattle.server_history.specs.Turns.{AtRest, HasPart, HeedsTrouble, InRestart, InService, IsStepOf, Ticks, TicksPort, a_tick_older, instant_of, is_ready}
+use Rattle.server_history.specs.Histories.{ExtendsSettled, LeadsToServer}
+use Rattle.server_history.specs.Server.{ServerState, InCallInvariant, IsMachineOf, SettledInvariant, mode_in, ports_of, state_of}
+use Rattle.server_history.specs.Turns.{AtRest, HasPart, HeedsPortErrors, InRestart, InService, IsStepOf, Ticks, TicksPort, a_tick_older, server_instant, is_ready}
 use Rattle.server_history.proofs.plain_calls.OlderRequests.{older_by, older_ended, older_issued, older_request, older_settled, older_stands, serves_on}
 use Rattle.server_history.proofs.plain_calls.Acceptances.{any_in}
 use Rattle.server_history.proofs.state.DueRequests.{none_due, none_issued}
@@ -88,7 +88,7 @@ is_so_overdue book port o = ⊎_elim
 
 -- ---- a port that rests
 
-module _ (laws : LawsBelow) (port : Port) (low : port.0 < 4) (c : Server) (settled : IsSettled c) where
+module _ (laws : LawsBelow) (port : Port) (low : port.0 < 4) (c : ServerState) (settled : SettledInvariant c) where
   resting : HasPart AtRest port [] c c
   resting = record {
     accesses = [];
@@ -131,7 +131,7 @@ module _ (laws : LawsBelow) (port : Port) (low : port.0 < 4) (c : Server) (settl
       disk = inl same;
       keeps = inl (refl, refl);
       issues = λ ready. none_issued c m is [] (λ id. refl) (mode_in c port) port (settled.issued port);
-      evidenced = evidenced_of (port ∷ []) Tick (Served []) [] (instant_of c m) (ports_of c) c.device port (λ ready. contains_here port [] port refl) (All-nil (LeavesEngine port));
+      evidenced = evidenced_of (port ∷ []) Tick (Served []) [] (server_instant c m) (ports_of c) c.device port (λ ready. contains_here port [] port refl) (All-nil (LeavesEngine port));
       faults = λ told here. absurd (nowhere told here);
       ties = tt;
       finds = λ is. let z : AtRest ≡ InService = is in absurd cc;
@@ -190,11 +190,11 @@ other_clears_none port (Storing at bytes) of = tt
 
 -- ---- the event
 
-module _ (laws : LawsBelow) (s new : Server) (replies : List Reply) (start : IsSettled s) (ticks : Ticks replies s new) (first : Instant Device) (past : List (Happening Device DeviceStep)) (leads : Leads first past s) where
-  abbrev kept : IsKept s
+module _ (laws : LawsBelow) (s new : ServerState) (replies : List Reply) (start : SettledInvariant s) (ticks : Ticks replies s new) (first : JointState Device) (past : List (Happening Device DeviceStep)) (leads : LeadsToServer first past s) where
+  abbrev kept : InCallInvariant s
   kept = start.kept
 
-  abbrev was : Moment
+  abbrev was : AbstractState
   was = (now first past).moment
 
   at : IsMachineOf s was.machine
@@ -203,26 +203,26 @@ module _ (laws : LawsBelow) (s new : Server) (replies : List Reply) (start : IsS
   same : was.ports ≡ ports_of s
   same = leads.stands.ports_are
 
-  reached : IsReached was.machine
+  reached : IsReachable was.machine
   reached = laws.basic.history_reached s.wanted first past leads.history
 
   abbrev ready : Port → Bool
-  ready port = is_ready (found_of s.ports port.0)
+  ready port = is_ready (probe_result_of s.ports port.0)
 
   -- requests get older first
-  abbrev aged : Server
+  abbrev aged : ServerState
   aged = a_tick_older s
 
-  abbrev old : Moment
+  abbrev old : AbstractState
   old = record { machine = after_step was.machine (Age ready); ports = was.ports }
 
-  aged_start : IsSettled aged
+  aged_start : SettledInvariant aged
   aged_start = older_settled laws s start
 
   aged_at : IsMachineOf aged old.machine
   aged_at = older_stands laws s was.machine at
 
-  aged_reached : IsReached old.machine
+  aged_reached : IsReachable old.machine
   aged_reached = laws.basic.reached was.machine (Age ready ∷ []) reached (tt, tt)
 
   abbrev hung : ℕ → Bool
@@ -232,9 +232,9 @@ module _ (laws : LawsBelow) (s new : Server) (replies : List Reply) (start : IsS
   plan = ATick hung
 
   -- a port's turn is a part of the tick
-  turn_part : (n : ℕ) (c mid : Server) (before its : List Reply) → state_of (found_of aged.ports n) ≡ ReadyState → Progress plan laws aged aged_start old aged_reached aged_at same n c before → TicksPort aged.book (port_at n) its c mid
-      → HasPart (turn_at plan (found_of s.ports n) n) (port_at n) its c mid
-  turn_part n c mid before its is_ready_n p (inl (overdue, mends, is_hung, part)) =
+  turn_part : (n : ℕ) (c mid : ServerState) (before its : List Reply) → state_of (probe_result_of aged.ports n) ≡ ReadyState → Progress plan laws aged aged_start old aged_reached aged_at same n c before → TicksPort aged.book (port_at n) its c mid
+      → HasPart (turn_at plan (probe_result_of s.ports n) n) (port_at n) its c mid
+  turn_part n c mid before its is_ready_n p (inl (overdue, handling, is_hung, part)) =
       subst (λ (b : Bool). HasPart (if b then InRestart else AtRest) (port_at n) its c mid) (sym (is_so_overdue aged.book n overdue)) part
   turn_part n c mid before its is_ready_n p (inr (young, none, still)) =
       subst (λ (b : Bool). HasPart (if b then InRestart else AtRest) (port_at n) its c mid)
@@ -242,12 +242,12 @@ module _ (laws : LawsBelow) (s new : Server) (replies : List Reply) (start : IsS
       (subst (HasPart AtRest (port_at n) its c) (sym still) (subst (λ (list : List Reply). HasPart AtRest (port_at n) list c c) (sym none) (resting laws (port_at n) (ready_found s n kept is_ready_n).0 c p.settled)))
 
   -- another port is passed over
-  other_part : (n : ℕ) (c mid : Server) (before : List Reply) (state : PortState) → found_of s.ports n ≡ Unready state → Progress plan laws aged aged_start old aged_reached aged_at same n c before → mid ≡ c
-      → ((TakesTurn plan (found_of s.ports n) → ⊥) × (mid ≡ c)) ⊎ (TakesTurn plan (found_of s.ports n) × HasPart (turn_at plan (found_of s.ports n) n) (port_at n) [] c mid)
+  other_part : (n : ℕ) (c mid : ServerState) (before : List Reply) (state : PortState) → probe_result_of s.ports n ≡ Unready state → Progress plan laws aged aged_start old aged_reached aged_at same n c before → mid ≡ c
+      → ((TakesTurn plan (probe_result_of s.ports n) → ⊥) × (mid ≡ c)) ⊎ (TakesTurn plan (probe_result_of s.ports n) × HasPart (turn_at plan (probe_result_of s.ports n) n) (port_at n) [] c mid)
   other_part n c mid before state is p still = inl (λ is_ready_n. let z : Unready state ≡ Ready _ = sym is ∙ (ready_found s n kept is_ready_n).1.1 in absurd cc, still)
 
   ends : Whole plan laws aged aged_start old aged_reached aged_at same new replies
-  ends = go plan laws aged aged_start old aged_reached aged_at same (TicksPort aged.book) (λ port one other. other ≡ one) turn_part other_part s.ports 0 (λ i. ap (λ (k : ℕ). found_of s.ports k) (omega arith)) aged new [] replies (begun plan laws aged aged_start old aged_reached aged_at same) ticks
+  ends = go plan laws aged aged_start old aged_reached aged_at same (TicksPort aged.book) (λ port one other. other ≡ one) turn_part other_part s.ports 0 (λ i. ap (λ (k : ℕ). probe_result_of s.ports k) (omega arith)) aged new [] replies (begun plan laws aged aged_start old aged_reached aged_at same) ticks
 
   p : Progress plan laws aged aged_start old aged_reached aged_at same ends.count new replies
   p = ends.progress
@@ -255,10 +255,10 @@ module _ (laws : LawsBelow) (s new : Server) (replies : List Reply) (start : IsS
   abbrev steps : List Step
   steps = p.steps ++ Age ready ∷ []
 
-  abbrev holds : IsKept new
+  abbrev holds : InCallInvariant new
   holds = p.settled.kept
 
-  abbrev end : Moment
+  abbrev end : AbstractState
   end = record { machine = after was.machine steps; ports = ports_of new }
 
   whole_is : after was.machine steps ≡ after old.machine p.steps
@@ -267,7 +267,7 @@ module _ (laws : LawsBelow) (s new : Server) (replies : List Reply) (start : IsS
   in_end : (e : Pending) → Contains end.machine.book e → Contains (after old.machine p.steps).book e
   in_end e here = subst (λ (k : Machine). Contains k.book e) whole_is here
 
-  state_is : (port : Port) → was.ports.state port ≡ state_of (found_of s.ports port.0)
+  state_is : (port : Port) → was.ports.state port ≡ state_of (probe_result_of s.ports port.0)
   state_is port = ap (λ (ports : Ports). ports.state port) same
 
   -- what is so of each port at the end
@@ -282,7 +282,7 @@ module _ (laws : LawsBelow) (s new : Server) (replies : List Reply) (start : IsS
   abbrev IsToRestart : Port → Type 0
   IsToRestart port = (was.ports.state port ≡ ReadyState) × (hung port.0 ≡ true)
 
-  is_hung : (port : Port) → IsToRestart port → IsHung was port
+  is_hung : (port : Port) → IsToRestart port → HasTimedOut was port
   is_hung port (is_ready_now, so) =
       let o = overdue_is aged.book port.0 so in
       let y = at_left IsEntry aged.book old.machine.book aged_at.book o.0 o.1 in
@@ -301,13 +301,13 @@ module _ (laws : LawsBelow) (s new : Server) (replies : List Reply) (start : IsS
         old_enough = omega (arith, age, three, at_most, its_age);
       }
 
-  is_restarted : (port : Port) → IsHung was port → IsToRestart port
+  is_restarted : (port : Port) → HasTimedOut was port → IsToRestart port
   is_restarted port h = (h.ready, is_so_overdue aged.book port.0 overdue)
     where
       ready_now : ready h.pending.request.port ≡ true
       ready_now =
           let f = ready_found s port.0 kept (sym (state_is port) ∙ h.ready) in
-          ap (λ (q : Port). is_ready (found_of s.ports q.0)) h.port_is ∙ ap is_ready f.1.1
+          ap (λ (q : Port). is_ready (probe_result_of s.ports q.0)) h.port_is ∙ ap is_ready f.1.1
 
       older_is : older ready h.pending ≡ record (h.pending) { age = suc h.pending.age }
       older_is = cond-true (h.pending.issued && ready h.pending.request.port) (record (h.pending) { age = suc h.pending.age }) h.pending (and_from h.pending.issued (ready h.pending.request.port) h.issued ready_now)
@@ -391,17 +391,17 @@ module _ (laws : LawsBelow) (s new : Server) (replies : List Reply) (start : IsS
   answered_hung : (e : Pending) (o : Outcome) → Contains p.steps (Answer e o) → IsToRestart e.request.port
   answered_hung e o here = ⊎_elim (λ r. r.0) (λ r. absurd (r.1.answer e o here refl)) (restarted_or_not e.request.port)
 
-  none_waits : (port : Port) → state_of (found_of new.ports port.0) ≢ ReadyState → (e : Pending) → Contains end.machine.book e → e.request.port ≢ port
+  none_waits : (port : Port) → state_of (probe_result_of new.ports port.0) ≢ ReadyState → (e : Pending) → Contains end.machine.book e → e.request.port ≢ port
   none_waits port other e here own =
       let a = at_right IsEntry new.book (after old.machine p.steps).book p.stands.book e (in_end e here) in
-      other (ap (λ (q : Port). state_of (found_of new.ports q.0)) (sym own ∙ a.2.port) ∙ of_ready new holds a.0 a.1)
+      other (ap (λ (q : Port). state_of (probe_result_of new.ports q.0)) (sym own ∙ a.2.port) ∙ of_ready new holds a.0 a.1)
 
   -- a port that is to be restarted was
-  module _ (port : Port) (h : IsHung was port) where
+  module _ (port : Port) (h : HasTimedOut was port) where
     restart : IsRestarted (record { device = s.device; moment = old }) port p.accesses new p.evidence p.steps
     restart = (done port).ties.restarted h.ready (is_restarted port h).1
 
-  restarts : RestartsHung was p.evidence steps end
+  restarts : RestartsTimedOut was p.evidence steps end
   restarts = record {
     ports = λ port. ⊎_elim
         (λ r. inr (is_hung port r.0, ((done port).becomes.1 (λ dead. let z : ReadyState ≡ Dead = sym r.0.0 ∙ dead in absurd cc)).0))
@@ -430,12 +430,12 @@ module _ (laws : LawsBelow) (s new : Server) (replies : List Reply) (start : IsS
     ages = record {
       ready = ready;
       is_ready = λ port. (
-        λ so. state_is port ∙ state_if (found_of s.ports port.0) so,
-        λ is. let f = ready_found s port.0 kept (sym (state_is port) ∙ is) in subst (λ (found : Found). IsTrue (is_ready found)) (sym f.1.1) refl,
+        λ so. state_is port ∙ state_if (probe_result_of s.ports port.0) so,
+        λ is. let f = ready_found s port.0 kept (sym (state_is port) ∙ is) in subst (λ (found : ProbeResult). IsTrue (is_ready found)) (sym f.1.1) refl,
       );
       later = p.steps;
       first = refl;
-      once = no_ages (λ q. (q.0 < ends.count) × TakesTurn plan (found_of aged.ports q.0)) p.steps p.of;
+      once = no_ages (λ q. (q.0 < ends.count) × TakesTurn plan (probe_result_of aged.ports q.0)) p.steps p.of;
     };
     restarts = restarts;
     unplugs = record {
@@ -446,7 +446,7 @@ module _ (laws : LawsBelow) (s new : Server) (replies : List Reply) (start : IsS
     emptied = λ port _. none_waits port;
   }
     where
-      state_if : (found : Found) → IsTrue (is_ready found) → state_of found ≡ ReadyState
+      state_if : (found : ProbeResult) → IsTrue (is_ready found) → state_of found ≡ ReadyState
       state_if (Ready info) so = refl
       state_if Unserved so = absurd (false≢true so)
       state_if (Unready state) so = absurd (false≢true so)
@@ -486,35 +486,35 @@ module _ (laws : LawsBelow) (s new : Server) (replies : List Reply) (start : IsS
 
   -- ---- what it has done of each port
 
-  trouble_of : (port : Port) → HeedsTrouble port p.accesses (record { device = s.device; moment = old }) p.evidence (ports_of new) new.device
+  trouble_of : (port : Port) → HeedsPortErrors port p.accesses (record { device = s.device; moment = old }) p.evidence (ports_of new) new.device
   trouble_of port = ⊎_elim
       (λ r. r.1.heeds)
       (λ r. record {
-        trouble = laws.calls.ordinary port (record { device = s.device; moment = old }) new.device p.accesses p.evidence (ports_of new) kept.on p.does
+        port_error = laws.calls.ordinary port (record { device = s.device; moment = old }) new.device p.accesses p.evidence (ports_of new) kept.on p.does
             (All-weaker (IsServing (Uses plan old.ports)) (SparesRegister Ghc) (λ access serving. serving.1) p.accesses p.serving)
             (All-weaker (IsOfOther port) (ClearsNone port) (other_clears_none port) p.accesses r.1.others);
         well = λ i. absurd (r.1.uninterrupted i);
       })
       (restarted_or_not port)
 
-  port_part : (port : Port) → TiesPort (with_device s.device (now first past)) (happening_with p.evidence new.device Tick (Served replies) steps (ports_of new)) p.accesses port
+  port_part : (port : Port) → PortCorresponds (with_device s.device (now first past)) (happening_with p.evidence new.device Tick (Served replies) steps (ports_of new)) p.accesses port
   port_part port =
       let t = trouble_of port in
       record {
         finds = λ h. finds_before port (restart port h).finds;
         faults = tt;
-        tries = tt;
+        probes = tt;
         boots = λ h. (restart port h).boots;
-        trouble = record { errors = t.trouble.errors; changes = t.trouble.changes; fault = t.trouble.fault; fatal = t.trouble.fatal; disk = t.trouble.disk };
+        port_error = record { errors = t.port_error.errors; changes = t.port_error.changes; fault = t.port_error.fault; fatal = t.port_error.fatal; disk = t.port_error.disk };
         well = t.well;
         heeds = tt;
       }
 
-  due_then : (port : Port) → state_of (found_of new.ports port.0) ≡ ReadyState → IssuesDue (mode_in new port) steps end.machine port
+  due_then : (port : Port) → state_of (probe_result_of new.ports port.0) ≡ ReadyState → IssuesDue (mode_in new port) steps end.machine port
   due_then port is = dues_carried laws (mode_in new port) p.steps steps (after old.machine p.steps) end.machine port (ap (λ (k : Machine). of_port port (map unanswered k.book)) (sym whole_is))
       (λ r here own. sym (any_of (issues_it r.id) refl)) (p.due port is)
 
-  pub tick_event : (h : Happening Device DeviceStep) × (h.event.ask ≡ Tick) × (h.event.said ≡ Served replies) × Leads first (h ∷ past) new
+  pub tick_event : (h : Happening Device DeviceStep) × (h.event.ask ≡ Tick) × (h.event.said ≡ Served replies) × LeadsToServer first (h ∷ past) new
   tick_event =
       lead_with laws first past s new Tick (Served replies) p.evidence steps p.wanted leads (holding new holds) (kept_fit new holds)
       (laws.basic.may was.machine p.steps (Age ready ∷ []) (tt, tt) p.turns.may)
@@ -522,15 +522,15 @@ module _ (laws : LawsBelow) (s new : Server) (replies : List Reply) (start : IsS
       (last_after ready p.steps p.turns.last)
       lawful keeps all_answered tt
       p.accesses
-      (p.does, All-weaker (IsServing (Uses plan old.ports)) (IsServing (IsHung was)) (serving_on (Uses plan old.ports) (IsHung was) (λ q used. is_hung q used)) p.accesses p.serving)
+      (p.does, All-weaker (IsServing (Uses plan old.ports)) (IsServing (HasTimedOut was)) (serving_on (Uses plan old.ports) (HasTimedOut was) (λ q used. is_hung q used)) p.accesses p.serving)
       evidenced
       due_then
       port_part
       (laws.backed_parts s.device s.device new.device was.machine (Age ready ∷ []) p.steps (laws.backed_own s.device was.machine (Age ready) (λ x. x)) p.backed)
       (subst (IsMachineOf new) (sym whole_is) p.stands)
 
-pub ticks_add : LawsBelow → (s new : Server) (replies : List Reply) → IsSettled s → Ticks replies s new → Adds s new Tick (Served replies)
-ticks_add laws s new replies start ticks = record {
+pub law_ticks_add : LawsBelow → (s new : ServerState) (replies : List Reply) → SettledInvariant s → Ticks replies s new → ExtendsSettled s new Tick (Served replies)
+law_ticks_add laws s new replies start ticks = record {
   settled = turns_kept (TicksPort (a_tick_older s).book) (λ port one other. other ≡ one) s.ports 0 (a_tick_older s) new replies (older_settled laws s start) ticks;
   adds = λ first past leads. tick_event laws s new replies start ticks first past leads;
 }

@@ -12,25 +12,25 @@ use Rattle.adapter.specs.Access.{Access}
 use Rattle.adapter.specs.Commands.{Meaning, is_queued}
 use Rattle.adapter.specs.Device.{Device}
 use Rattle.adapter.specs.Rules.{InUse, IsOn}
-use Rattle.agreement.specs.Agrees.{port_at}
-use Rattle.agreement.specs.Facts.{HasFaults, ShowsFault}
-use Rattle.agreement.specs.Slots.{ServesRequest}
-use Rattle.block_machine.specs.Events.{Moment, Served, Service, changes_disk}
-use Rattle.block_machine.specs.Histories.{Instant, IsReached}
+use Rattle.refinement.specs.Relation.{port_at}
+use Rattle.refinement.specs.Facts.{HasFaults, ShowsFault}
+use Rattle.refinement.specs.Slots.{ServesRequest}
+use Rattle.block_machine.specs.Events.{AbstractState, Served, Service, changes_disk}
+use Rattle.block_machine.specs.Histories.{JointState, IsReachable}
 use Rattle.block_machine.specs.Left.{after}
 use Rattle.block_machine.specs.Ports.{Evidence, IsInterrupted, SamePort}
 use Rattle.block_machine.specs.State.{Pending, Machine}
 use Rattle.block_machine.specs.Steps.{Step, Answer}
 use Rattle.block_machine.proofs.Counting.{count_append}
-use Rattle.host_boot.specs.Taken.{found_of}
-use Rattle.host_boot.specs.declared.Found.{Found}
+use Rattle.host_boot.specs.Taken.{probe_result_of}
+use Rattle.host_boot.specs.declared.ProbeResult.{ProbeResult}
 use Rattle.driver_history.specs.Heeding.{AreTold, IsLeftAlone, ServesReady, tells_fault}
 use Rattle.driver_history.specs.Evidence.{ShowsChange, ShowsFailure}
-use Rattle.driver_history.specs.Histories.{BootsAnew, FindsDone, IsUnfitOrForeign, HasFaultAlone, IsAnsweredFaulty, IsIssuedOn, TiesPort}
+use Rattle.driver_history.specs.Histories.{BootsAnew, FindsDone, IsUnfitOrForeign, HasFaultAlone, IsAnsweredFaulty, IsIssuedOn, PortCorresponds}
 use Rattle.driver_history.specs.Parts.{HasTurnIn, NamesAlike}
 use Rattle.server_history.specs.Below.{LawsBelow}
-use Rattle.server_history.specs.Turns.{HasPart, HeedsTrouble, InService, MakesTurn, TiesTurn, Turn, instant_of, moment_of, turn_of}
-use Rattle.server_history.specs.Server.{HasCommand, Server, IsKept, IsMachineOf, IsSettled, ports_of, state_of}
+use Rattle.server_history.specs.Turns.{HasPart, HeedsPortErrors, InService, MakesTurn, TurnCorresponds, Turn, server_instant, server_moment, turn_of}
+use Rattle.server_history.specs.Server.{HasCommand, ServerState, InCallInvariant, IsMachineOf, SettledInvariant, ports_of, state_of}
 use Rattle.server_history.proofs.any_turn.JoinedParts.{same_then}
 use Rattle.server_history.proofs.whole_call.TurnResults as lifting
 use Rattle.server_history.proofs.whole_call.TurnResults.{counts_apart}
@@ -39,25 +39,25 @@ use Rattle.server_history.proofs.whole_call.Progress as progress
 use Rattle.server_history.proofs.state.PortSlots.{ready_found, free_unused}
 use Rattle.server_history.proofs.unready_turn.UnfitPort.{ready_fits}
 
-module _ (laws : LawsBelow) (s : Server) (start : IsSettled s) (old : Moment) (reached : IsReached old.machine) (at : IsMachineOf s old.machine) (ports_are : old.ports ≡ ports_of s) where
-  abbrev kept : IsKept s
+module _ (laws : LawsBelow) (s : ServerState) (start : SettledInvariant s) (old : AbstractState) (reached : IsReachable old.machine) (at : IsMachineOf s old.machine) (ports_are : old.ports ≡ ports_of s) where
+  abbrev kept : InCallInvariant s
   kept = start.kept
 
-  abbrev began : Instant Device
+  abbrev began : JointState Device
   began = record { device = s.device; moment = old }
 
   abbrev state_at : ℕ → PortState
-  state_at q = state_of (found_of s.ports q)
+  state_at q = state_of (probe_result_of s.ports q)
 
-  abbrev Progress : ℕ → Server → List Reply → Type 0
+  abbrev Progress : ℕ → ServerState → List Reply → Type 0
   Progress n c replies = progress.Progress AService laws s start old reached at ports_are n c replies
 
-  module _ (n : ℕ) (c mid : Server) (before its : List Reply) (ready : state_at n ≡ ReadyState) (p : Progress n c before) (next : IsSettled mid) (part : HasPart (turn_at AService (found_of s.ports n) n) (port_at n) its c mid)
-      (m_reached : IsReached (after old.machine p.steps)) (on_mid : IsOn mid.device) where
+  module _ (n : ℕ) (c mid : ServerState) (before its : List Reply) (ready : state_at n ≡ ReadyState) (p : Progress n c before) (next : SettledInvariant mid) (part : HasPart (turn_at AService (probe_result_of s.ports n) n) (port_at n) its c mid)
+      (m_reached : IsReachable (after old.machine p.steps)) (on_mid : IsOn mid.device) where
     abbrev m : Machine
     m = after old.machine p.steps
 
-    abbrev x : MakesTurn (turn_at AService (found_of s.ports n) n) (port_at n) its part.accesses c mid m
+    abbrev x : MakesTurn (turn_at AService (probe_result_of s.ports n) n) (port_at n) its part.accesses c mid m
     x = part.makes m m_reached p.stands
 
     abbrev all : List Step
@@ -67,16 +67,16 @@ module _ (laws : LawsBelow) (s : Server) (start : IsSettled s) (old : Moment) (r
     accesses = p.accesses ++ part.accesses
 
     -- it is ready, and so its turn is one in which it is served
-    is_service : turn_at AService (found_of s.ports n) n ≡ InService
-    is_service = ap (λ (found : Found). turn_at AService found n) (ready_found s n kept ready).1.1
+    is_service : turn_at AService (probe_result_of s.ports n) n ≡ InService
+    is_service = ap (λ (found : ProbeResult). turn_at AService found n) (ready_found s n kept ready).1.1
 
-    its_ties : TiesTurn InService (port_at n) its part.accesses c mid m x.evidence x.steps
-    its_ties = subst (λ (turn : Turn). TiesTurn turn (port_at n) its part.accesses c mid m x.evidence x.steps) is_service x.ties
+    its_ties : TurnCorresponds InService (port_at n) its part.accesses c mid m x.evidence x.steps
+    its_ties = subst (λ (turn : Turn). TurnCorresponds turn (port_at n) its part.accesses c mid m x.evidence x.steps) is_service x.ties
 
     low : n < 4
     low = lifting.low AService laws s start old reached at ports_are n c mid before its p next part m_reached on_mid ready
 
-    ready_c : state_of (found_of c.ports n) ≡ ReadyState
+    ready_c : state_of (probe_result_of c.ports n) ≡ ReadyState
     ready_c = lifting.ready_c AService laws s start old reached at ports_are n c mid before its p next part m_reached on_mid ready
 
     was_ready : old.ports.state (port_at n) ≡ ReadyState
@@ -104,10 +104,10 @@ module _ (laws : LawsBelow) (s : Server) (start : IsSettled s) (old : Moment) (r
     whole_is = lifting.whole_is AService laws s start old reached at ports_are n c mid before its p next part m_reached on_mid
 
     module _ (evidence : Evidence) (alike : NamesAlike (port_at n) x.evidence evidence) (same_n : SamePort old.ports (ports_of c) (port_at n)) where
-      abbrev did : TiesPort (instant_of c m) (turn_of InService its mid x.evidence x.steps) part.accesses (port_at n)
+      abbrev did : PortCorresponds (server_instant c m) (turn_of InService its mid x.evidence x.steps) part.accesses (port_at n)
       did = its_ties
 
-      abbrev serves : ServesReady (moment_of c m) x.evidence x.steps (record { machine = after m x.steps; ports = ports_of mid }) (port_at n)
+      abbrev serves : ServesReady (server_moment c m) x.evidence x.steps (record { machine = after m x.steps; ports = ports_of mid }) (port_at n)
       serves = did.heeds ready_c
 
       finding : (e : Pending) → IsIssuedOn (port_at n) old.machine e → FindsDone (port_at n) accesses began all
@@ -140,8 +140,8 @@ module _ (laws : LawsBelow) (s : Server) (start : IsSettled s) (old : Moment) (r
             ap (λ (y : Meaning). is_queued y.operation) same.0 ∙ k.kind ∙ used_plain
 
         -- so it is in the turn
-        alone_now : HasFaultAlone (port_at n) (instant_of c m) mid.device
-        alone_now = laws.calls.alone_then (port_at n) began (moment_of c m) mid.device kept.on undue t on_mid ready_c alone
+        alone_now : HasFaultAlone (port_at n) (server_instant c m) mid.device
+        alone_now = laws.calls.alone_then (port_at n) began (server_moment c m) mid.device kept.on undue t on_mid ready_c alone
 
         -- the fault that is shown then is of that slot, which is in use
         faults : HasFaults c.device.tape (c.device.port n) n
@@ -165,7 +165,7 @@ module _ (laws : LawsBelow) (s : Server) (start : IsSettled s) (old : Moment) (r
             (λ no. no)
             (cases_Bool it.now_is.ended)
 
-        fault_told : IsAnsweredFaulty e all ⊎ (state_of (found_of mid.ports n) ≡ Dead)
+        fault_told : IsAnsweredFaulty e all ⊎ (state_of (probe_result_of mid.ports n) ≡ Dead)
         fault_told = ⊎_elim
             (λ (a : IsAnsweredFaulty it.now_is x.steps). inl (a.0, a.1, a.2, a.3 ∙ it.same_as.request, Contains-append_left x.steps p.steps (Answer a.0 (DeviceError a.1 a.2)) a.4))
             (λ dead. inr dead)
@@ -196,8 +196,8 @@ module _ (laws : LawsBelow) (s : Server) (start : IsSettled s) (old : Moment) (r
         ended = lifting.ended_whole AService laws s start old reached at ports_are n c mid before its p next part m_reached on_mid ready serves.ended;
         emptied = λ gone e here. serves.emptied (alike.gone.1 gone) e (subst (λ (k : Machine). Contains k.book e) whole_is here);
         told = λ gone. ⊎_elim (λ a. inl (told_whole _ a)) (λ b. inr (told_whole _ b)) (serves.told (alike.gone.1 gone));
-        interrupts = λ trouble. lifting.named AService laws s start old reached at ports_are n c mid before its p next part m_reached on_mid evidence alike (serves.interrupts (⊎_elim (λ failed. inl (alike.failed.1 failed)) (λ gone. inr (alike.gone.1 gone)) trouble));
-        anew = λ trouble. lifting.anew_whole AService laws s start old reached at ports_are n c mid before its p next part m_reached on_mid (serves.anew (⊎_elim (λ failed. inl (alike.failed.1 failed)) (λ stopped. inr (alike.stopped.1 stopped)) trouble));
+        interrupts = λ port_error. lifting.named AService laws s start old reached at ports_are n c mid before its p next part m_reached on_mid evidence alike (serves.interrupts (⊎_elim (λ failed. inl (alike.failed.1 failed)) (λ gone. inr (alike.gone.1 gone)) port_error));
+        anew = λ port_error. lifting.anew_whole AService laws s start old reached at ports_are n c mid before its p next part m_reached on_mid (serves.anew (⊎_elim (λ failed. inl (alike.failed.1 failed)) (λ stopped. inr (alike.stopped.1 stopped)) port_error));
         single = let one = serves.single in omega (arith, counted, one);
         fatal = λ here. let y = serves.fatal (alike.fatal.1 here) in (alike.failed.0 y.0, counted ∙ y.1);
         disk = lifting.disk_whole AService laws s start old reached at ports_are n c mid before its p next part m_reached on_mid serves.disk;
@@ -218,7 +218,7 @@ module _ (laws : LawsBelow) (s : Server) (start : IsSettled s) (old : Moment) (r
 
       -- where the port showed a failure when it began, or a change of its link, the turn stopped it
       stops_troubled : ShowsFailure (c.device.port n) ⊎ ShowsChange (c.device.port n) → IsInterrupted x.evidence (port_at n)
-      stops_troubled trouble = serves.interrupts (⊎_elim (λ failure. inl (x.evidenced.failed_all ready_c failure)) (λ change. inr (x.evidenced.gone_all ready_c (inl change))) trouble)
+      stops_troubled port_error = serves.interrupts (⊎_elim (λ failure. inl (x.evidenced.failed_all ready_c failure)) (λ change. inr (x.evidenced.gone_all ready_c (inl change))) port_error)
 
       -- ---- the whole
 
@@ -228,22 +228,22 @@ module _ (laws : LawsBelow) (s : Server) (start : IsSettled s) (old : Moment) (r
       not_absent : old.ports.state (port_at n) ≡ Absent → ⊥
       not_absent absent = let z : Absent ≡ ReadyState = sym absent ∙ was_ready in absurd cc
 
-      heeds_trouble : HeedsTrouble (port_at n) accesses began evidence (ports_of mid) mid.device
-      heeds_trouble = lifting.trouble_whole AService laws s start old reached at ports_are n c mid before its p next part m_reached on_mid evidence alike same_n (λ _. stops_troubled) (λ _. inl undue) (record { trouble = did.trouble; well = did.well })
+      heeds_trouble : HeedsPortErrors (port_at n) accesses began evidence (ports_of mid) mid.device
+      heeds_trouble = lifting.trouble_whole AService laws s start old reached at ports_are n c mid before its p next part m_reached on_mid evidence alike same_n (λ _. stops_troubled) (λ _. inl undue) (record { port_error = did.port_error; well = did.well })
 
-      pub ties_whole : TiesPort began (turn_of InService [] mid evidence all) accesses (port_at n)
+      pub ties_whole : PortCorresponds began (turn_of InService [] mid evidence all) accesses (port_at n)
       ties_whole = record {
         finds = λ _ e own. finding e own;
         faults = λ alone e slot own unended says plain. fault_told alone e slot own unended says plain;
-        tries = λ served coming. record {
+        probes = λ served coming. record {
           shown = λ absent det. absurd (not_absent absent);
           absent = λ absent det fresh. absurd (not_absent absent);
           missing = λ bad. absurd (not_bad bad);
           changed = λ bad. absurd (not_bad bad);
         };
         boots = subst (λ (list : List Access). BootsAnew Service (Served []) (p.accesses ++ list) began (ports_of mid) mid.device (port_at n)) (append-nil part.accesses)
-            (laws.calls.call_boots (port_at n) began (moment_of c m) (ports_of mid) (ports_of mid) mid.device (Served its) (Served []) kept.on (λ _. undue) t on_mid same_self same_n did.boots);
-        trouble = heeds_trouble.trouble;
+            (laws.calls.call_boots (port_at n) began (server_moment c m) (ports_of mid) (ports_of mid) mid.device (Served its) (Served []) kept.on (λ _. undue) t on_mid same_self same_n did.boots);
+        port_error = heeds_trouble.port_error;
         well = heeds_trouble.well;
         heeds = λ _. heeds_whole;
       }

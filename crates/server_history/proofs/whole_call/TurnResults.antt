@@ -18,17 +18,17 @@ use Rattle.adapter.specs.Access.{Access}
 use Rattle.adapter.specs.Access.Access.{Reading}
 use Rattle.adapter.specs.Device.{Device}
 use Rattle.adapter.specs.Rules.{IsOn}
-use Rattle.agreement.specs.Agrees.{port_at}
-use Rattle.agreement.specs.Driven.{IsOf}
-use Rattle.agreement.specs.Links.{SparesRegister}
-use Rattle.agreement.specs.Slots.{IsFree, IsServed, Serves, ServesRequest, Stage, Use}
-use Rattle.block_machine.specs.Events.{AnswersEnded, HadDisk, Moment, NoneKeepsIssue, changes_disk}
-use Rattle.block_machine.specs.Histories.{Instant, IsReached}
+use Rattle.refinement.specs.Relation.{port_at}
+use Rattle.refinement.specs.Driven.{IsOf}
+use Rattle.refinement.specs.Links.{SparesRegister}
+use Rattle.refinement.specs.Slots.{IsEmptySlot, RelatesSlot, Serves, ServesRequest, Stage, SlotState}
+use Rattle.block_machine.specs.Events.{AnswersEnded, HadDisk, AbstractState, NoneKeepsIssue, changes_disk}
+use Rattle.block_machine.specs.Histories.{JointState, IsReachable}
 use Rattle.block_machine.specs.Left.{after}
 use Rattle.block_machine.specs.Ports.{Evidence, IsInterrupted, Ports, SamePort}
 use Rattle.block_machine.specs.State.{Pending, Machine}
 use Rattle.block_machine.specs.Steps.{Step, Again, Answer}
-use Rattle.host_boot.specs.Taken.{found_of}
+use Rattle.host_boot.specs.Taken.{probe_result_of}
 use Rattle.driver_history.specs.Heeding.{tells_fault}
 use Rattle.driver_history.specs.Evidence.{ShowsChange, ShowsFailure}
 use Rattle.driver_history.specs.Histories.{FindsDone, IsAnsweredOk, IsIssuedOn, RunsWellAnew}
@@ -36,9 +36,9 @@ use Rattle.driver_history.specs.Parts.{HasTurnIn, IsOfOther, NamesAlike}
 use Rattle.driver_history.specs.Trace.{LeavesCommand, LeavesEngine, ResetsLink}
 use Rattle.driver_history.specs.Holds.{Runs}
 use Rattle.server_history.specs.Below.{LawsBelow}
-use Rattle.server_history.specs.Turns.{FindsTurn, HasPart, HeedsTrouble, MakesTurn, instant_of, moment_of}
+use Rattle.server_history.specs.Turns.{FindsTurn, HasPart, HeedsPortErrors, MakesTurn, server_instant, server_moment}
 use Rattle.server_history.proofs.whole_call.ServiceAndTick.{Plan, TakesTurn, not_reset, turn_at}
-use Rattle.server_history.specs.Server.{Server, IsKept, IsMachineOf, IsSettled, ports_of, state_of, used_for}
+use Rattle.server_history.specs.Server.{ServerState, InCallInvariant, IsMachineOf, SettledInvariant, ports_of, state_of, used_for}
 use Rattle.server_history.proofs.any_turn.TurnSteps.{IsSame, counts_none}
 use Rattle.server_history.proofs.whole_call.Progress.{others_leave}
 use Rattle.server_history.proofs.whole_call.Progress as progress
@@ -47,8 +47,8 @@ use Rattle.server_history.proofs.state.SlotCommands.{one_said}
 use Rattle.server_history.proofs.state.PortSlots.{HasSlot, IsServedBy, free_unused, issued_has, ready_found, served_request, serves_used, still_booked, used_or_not}
 use Rattle.server_history.proofs.any_turn.TurnsInOrder.{again_of, answered_of, present_before}
 use Rattle.server_history.proofs.any_turn.JoinedParts.{dead_or_not}
-use Rattle.slots.specs.declared.Use.{Use as SlotUse}
-use Rattle.slots.specs.Uses.{Uses as PortSlots, use_at}
+use Rattle.slots.specs.declared.SlotUse.{SlotUse}
+use Rattle.slots.specs.Uses.{PortSlots, use_at}
 
 -- where no answer is of the port, no fault of it is told
 none_told : (q : Port) (steps : List Step) → ((e : Pending) (o : Outcome) → Contains steps (Answer e o) → e.request.port ≢ q) → list_any (tells_fault q) steps ≡ false
@@ -62,28 +62,28 @@ none_told q (step ∷ steps) apart = none_told q steps (λ y o here. apart y o (
 pub counts_apart : (q : Port) (steps : List Step) → ((e : Pending) (o : Outcome) → Contains steps (Answer e o) → e.request.port ≢ q) → count_by (tells_fault q) steps ≡ 0
 counts_apart q steps apart = counts_none (tells_fault q) steps (none_told q steps apart)
 
-module _ (plan : Plan) (laws : LawsBelow) (s : Server) (start : IsSettled s) (old : Moment) (reached : IsReached old.machine) (at : IsMachineOf s old.machine) (ports_are : old.ports ≡ ports_of s) where
-  abbrev kept : IsKept s
+module _ (plan : Plan) (laws : LawsBelow) (s : ServerState) (start : SettledInvariant s) (old : AbstractState) (reached : IsReachable old.machine) (at : IsMachineOf s old.machine) (ports_are : old.ports ≡ ports_of s) where
+  abbrev kept : InCallInvariant s
   kept = start.kept
 
-  abbrev began : Instant Device
+  abbrev began : JointState Device
   began = record { device = s.device; moment = old }
 
   abbrev state_at : ℕ → PortState
-  state_at q = state_of (found_of s.ports q)
+  state_at q = state_of (probe_result_of s.ports q)
 
   abbrev HadTurn : ℕ → Port → Type 0
-  HadTurn n q = (q.0 < n) × TakesTurn plan (found_of s.ports q.0)
+  HadTurn n q = (q.0 < n) × TakesTurn plan (probe_result_of s.ports q.0)
 
-  abbrev Progress : ℕ → Server → List Reply → Type 0
+  abbrev Progress : ℕ → ServerState → List Reply → Type 0
   Progress n c replies = progress.Progress plan laws s start old reached at ports_are n c replies
 
-  module _ (n : ℕ) (c mid : Server) (before its : List Reply) (p : Progress n c before) (next : IsSettled mid) (part : HasPart (turn_at plan (found_of s.ports n) n) (port_at n) its c mid)
-      (m_reached : IsReached (after old.machine p.steps)) (on_mid : IsOn mid.device) where
+  module _ (n : ℕ) (c mid : ServerState) (before its : List Reply) (p : Progress n c before) (next : SettledInvariant mid) (part : HasPart (turn_at plan (probe_result_of s.ports n) n) (port_at n) its c mid)
+      (m_reached : IsReachable (after old.machine p.steps)) (on_mid : IsOn mid.device) where
     abbrev m : Machine
     m = after old.machine p.steps
 
-    abbrev x : MakesTurn (turn_at plan (found_of s.ports n) n) (port_at n) its part.accesses c mid m
+    abbrev x : MakesTurn (turn_at plan (probe_result_of s.ports n) n) (port_at n) its part.accesses c mid m
     x = part.makes m m_reached p.stands
 
     abbrev all : List Step
@@ -134,7 +134,7 @@ module _ (plan : Plan) (laws : LawsBelow) (s : Server) (start : IsSettled s) (ol
     pub changed_whole : list_any (changes_disk (port_at n)) x.steps ≡ true → list_any (changes_disk (port_at n)) all ≡ true
     changed_whole is = any_append (changes_disk (port_at n)) x.steps p.steps ∙ or_left _ _ is
 
-    pub disk_whole : HadDisk (moment_of c m) x.steps (moment_of mid (after m x.steps)) (port_at n) → HadDisk old all (moment_of mid (after old.machine all)) (port_at n)
+    pub disk_whole : HadDisk (server_moment c m) x.steps (server_moment mid (after m x.steps)) (port_at n) → HadDisk old all (server_moment mid (after old.machine all)) (port_at n)
     disk_whole had shows = ⊎_elim
         (λ present. ⊎_elim (λ was. inl was) (λ changed. inr (any_append (changes_disk (port_at n)) x.steps p.steps ∙ or_right _ _ changed)) (present_before old.machine (port_at n) p.steps present))
         (λ changed. inr (changed_whole changed))
@@ -146,35 +146,35 @@ module _ (plan : Plan) (laws : LawsBelow) (s : Server) (start : IsSettled s) (ol
     named evidence alike i = ⊎_elim (λ stopped. inl (alike.stopped.0 stopped)) (λ stuck. inr (alike.stuck.0 stuck)) i
 
     -- one that it leaves ready runs
-    runs_then : state_of (found_of mid.ports n) ≡ ReadyState → Runs n mid.device
+    runs_then : state_of (probe_result_of mid.ports n) ≡ ReadyState → Runs n mid.device
     runs_then ready_mid = (next.kept.behind n (ready_found mid n next.kept ready_mid).0).runs ready_mid
 
     -- where the turn stopped the port and left it ready, ST was set in it
-    pub set_since : state_of (found_of mid.ports n) ≡ ReadyState → IsInterrupted x.evidence (port_at n) → length c.device.tape ≤ (mid.device.port n).notes.st_set_at
+    pub set_since : state_of (probe_result_of mid.ports n) ≡ ReadyState → IsInterrupted x.evidence (port_at n) → length c.device.tape ≤ (mid.device.port n).notes.st_set_at
     set_since ready_mid i = ⊎_elim
         (λ stopped. ⊎_elim
         (λ stops. laws.calls.set_since (port_at n) part.accesses c.device mid.device p.on
         (All-weaker (IsOf (port_at n)) (SparesRegister Ghc) (λ access of. laws.of_host (port_at n) access of) part.accesses part.of) part.does stops (runs_then ready_mid).st)
-        (λ (reset : _ × _). absurd (not_reset plan (found_of s.ports n) n its reset.0))
+        (λ (reset : _ × _). absurd (not_reset plan (probe_result_of s.ports n) n its reset.0))
         (x.evidenced.stopped_only stopped))
         (λ stuck. ⊎_elim
-        (λ (dead : state_of (found_of c.ports n) ≡ Dead). let z : ReadyState ≡ Dead = sym ready_mid ∙ (x.becomes.0 dead).1 ∙ dead in absurd cc)
-        (λ (lives : state_of (found_of c.ports n) ≢ Dead). let z : ReadyState ≡ Dead = sym ready_mid ∙ (x.becomes.1 lives).0.dies stuck in absurd cc)
-        (dead_or_not (state_of (found_of c.ports n))))
+        (λ (dead : state_of (probe_result_of c.ports n) ≡ Dead). let z : ReadyState ≡ Dead = sym ready_mid ∙ (x.becomes.0 dead).1 ∙ dead in absurd cc)
+        (λ (lives : state_of (probe_result_of c.ports n) ≢ Dead). let z : ReadyState ≡ Dead = sym ready_mid ∙ (x.becomes.1 lives).0.dies stuck in absurd cc)
+        (dead_or_not (state_of (probe_result_of c.ports n))))
         i
 
     -- what it did of trouble the call did so far
     module _ (evidence : Evidence) (alike : NamesAlike (port_at n) x.evidence evidence) (same_n : SamePort old.ports (ports_of c) (port_at n))
-        (stops_troubled : (state_of (found_of c.ports n) ≡ ReadyState) ⊎ (state_of (found_of mid.ports n) ≡ ReadyState) → ShowsFailure (c.device.port n) ⊎ ShowsChange (c.device.port n) → IsInterrupted x.evidence (port_at n))
-        (linked : state_of (found_of mid.ports n) ≡ ReadyState → ((s.device.port n).link_due ≡ false) ⊎ ResetsLink (port_at n) part.accesses) (did : HeedsTrouble (port_at n) part.accesses (instant_of c m) x.evidence (ports_of mid) mid.device) where
+        (stops_troubled : (state_of (probe_result_of c.ports n) ≡ ReadyState) ⊎ (state_of (probe_result_of mid.ports n) ≡ ReadyState) → ShowsFailure (c.device.port n) ⊎ ShowsChange (c.device.port n) → IsInterrupted x.evidence (port_at n))
+        (linked : state_of (probe_result_of mid.ports n) ≡ ReadyState → ((s.device.port n).link_due ≡ false) ⊎ ResetsLink (port_at n) part.accesses) (did : HeedsPortErrors (port_at n) part.accesses (server_instant c m) x.evidence (ports_of mid) mid.device) where
       same_self : SamePort (ports_of mid) (ports_of mid) (port_at n)
       same_self = (refl, refl, refl, refl, refl, refl)
 
-      pub trouble_whole : HeedsTrouble (port_at n) accesses began evidence (ports_of mid) mid.device
+      pub trouble_whole : HeedsPortErrors (port_at n) accesses began evidence (ports_of mid) mid.device
       trouble_whole = record {
-        trouble = laws.calls.call_trouble (port_at n) began (moment_of c m) (ports_of mid) (ports_of mid) mid.device x.evidence evidence kept.on t on_mid same_self alike same_n set_since stops_troubled did.trouble;
+        port_error = laws.calls.call_trouble (port_at n) began (server_moment c m) (ports_of mid) (ports_of mid) mid.device x.evidence evidence kept.on t on_mid same_self alike same_n set_since stops_troubled did.port_error;
         well = subst (λ (list : List Access). RunsWellAnew evidence (p.accesses ++ list) began (ports_of mid) mid.device (port_at n)) (append-nil part.accesses)
-            (laws.calls.call_well (port_at n) began (moment_of c m) (ports_of mid) (ports_of mid) mid.device x.evidence evidence kept.on t on_mid linked same_self alike (λ ready_mid. (runs_then ready_mid).recorded.known) did.well);
+            (laws.calls.call_well (port_at n) began (server_moment c m) (ports_of mid) (ports_of mid) mid.device x.evidence evidence kept.on t on_mid linked same_self alike (λ ready_mid. (runs_then ready_mid).recorded.known) did.well);
       }
 
     -- ---- a ready port
@@ -183,7 +183,7 @@ module _ (plan : Plan) (laws : LawsBelow) (s : Server) (start : IsSettled s) (ol
       pub low : n < 4
       low = (ready_found s n kept ready).0
 
-      pub ready_c : state_of (found_of c.ports n) ≡ ReadyState
+      pub ready_c : state_of (probe_result_of c.ports n) ≡ ReadyState
       ready_c = ap state_of (p.found (port_at n) not_yet) ∙ ready
 
       pub was_ready : old.ports.state (port_at n) ≡ ReadyState
@@ -245,8 +245,8 @@ module _ (plan : Plan) (laws : LawsBelow) (s : Server) (start : IsSettled s) (ol
         pub has_ended : e.ended ≡ true
         has_ended = ap (λ (y : Pending). y.ended) (sym same) ∙ staged says.stage
           where
-            free : IsFree (s.device.port n) slot
-            free = subst (λ (u : Use). IsServed old.machine s.device.memory s.device.tape (s.device.port n) n slot u) (free_unused s old.machine n at ready slot unused) (at.knows.agrees.slot n slot)
+            free : IsEmptySlot (s.device.port n) slot
+            free = subst (λ (u : SlotState). RelatesSlot old.machine s.device.memory s.device.tape (s.device.port n) n slot u) (free_unused s old.machine n at ready slot unused) (at.knows.agrees.slot n slot)
 
             same : says.pending ≡ e
             same = laws.basic.one old.machine reached says.pending e (still_booked s old.machine n at ready says.pending says.moves says.port_is).0 own.here (ap (λ (i : RequestId). i.0) says.id_is)

@@ -6,23 +6,23 @@ use Rattle.ata_types.specs.declared.request.Reply.{Reply}
 use Rattle.adapter.specs.Access.{Access}
 use Rattle.adapter.specs.Device.{Device}
 use Rattle.adapter.specs.Rules.{IsOn}
-use Rattle.agreement.specs.Agrees.{port_at}
-use Rattle.agreement.specs.Links.{HasDeviceOrNone}
-use Rattle.block_machine.specs.Events.{Moment, Served, Service}
-use Rattle.block_machine.specs.Histories.{Instant, IsReached}
+use Rattle.refinement.specs.Relation.{port_at}
+use Rattle.refinement.specs.Links.{HasDeviceOrNone}
+use Rattle.block_machine.specs.Events.{AbstractState, Served, Service}
+use Rattle.block_machine.specs.Histories.{JointState, IsReachable}
 use Rattle.block_machine.specs.Left.{after}
 use Rattle.block_machine.specs.Ports.{Evidence, IsInterrupted, Ports, SamePort}
 use Rattle.block_machine.specs.State.{Machine}
 use Rattle.block_machine.specs.Steps.{Step}
-use Rattle.driver_history.specs.Histories.{BootsAnew, IsUnfitOrForeign, TriesDisk, TiesPort}
+use Rattle.driver_history.specs.Histories.{BootsAnew, IsUnfitOrForeign, ProbesDisk, PortCorresponds}
 use Rattle.driver_history.specs.Parts.{EndsLinked, HasTurnIn, NamesAlike}
 use Rattle.driver_history.specs.Trace.{ResetsLink}
-use Rattle.host_boot.specs.Taken.{found_of}
-use Rattle.host_boot.specs.declared.Found.{Found}
-use Rattle.host_boot.specs.declared.Found.TheVariants.{Ready, Unready, Unserved}
+use Rattle.host_boot.specs.Taken.{probe_result_of}
+use Rattle.host_boot.specs.declared.ProbeResult.{ProbeResult}
+use Rattle.host_boot.specs.declared.ProbeResult.TheVariants.{Ready, Unready, Unserved}
 use Rattle.server_history.specs.Below.{LawsBelow}
-use Rattle.server_history.specs.Server.{Server, IsKept, IsMachineOf, IsSettled, ports_of, state_of}
-use Rattle.server_history.specs.Turns.{HasPart, HeedsTrouble, InService, InTry, MakesTurn, TiesTurn, Turn, instant_of, moment_of, turn_of}
+use Rattle.server_history.specs.Server.{ServerState, InCallInvariant, IsMachineOf, SettledInvariant, ports_of, state_of}
+use Rattle.server_history.specs.Turns.{HasPart, HeedsPortErrors, InService, InProbe, MakesTurn, TurnCorresponds, Turn, server_instant, server_moment, turn_of}
 use Rattle.server_history.proofs.whole_call.EarlierResults as carrying
 use Rattle.server_history.proofs.any_turn.JoinedParts.{dead_or_not}
 use Rattle.server_history.proofs.whole_call.TurnResults as lifting
@@ -31,42 +31,42 @@ use Rattle.server_history.proofs.whole_call.Progress as progress
 use Rattle.server_history.proofs.unready_turn.UnfitPort.{bad_tends, found_bad}
 
 -- its turn in a service is one in which it is tried
-is_tried : (found : Found) (n : ℕ) → state_of found ≢ ReadyState → turn_at AService found n ≡ InTry
+is_tried : (found : ProbeResult) (n : ℕ) → state_of found ≢ ReadyState → turn_at AService found n ≡ InProbe
 is_tried Unserved n unready = refl
 is_tried (Ready info) n unready = absurd (unready refl)
 is_tried (Unready state) n unready = refl
 
-module _ (laws : LawsBelow) (s : Server) (start : IsSettled s) (old : Moment) (reached : IsReached old.machine) (at : IsMachineOf s old.machine) (ports_are : old.ports ≡ ports_of s) where
-  abbrev kept : IsKept s
+module _ (laws : LawsBelow) (s : ServerState) (start : SettledInvariant s) (old : AbstractState) (reached : IsReachable old.machine) (at : IsMachineOf s old.machine) (ports_are : old.ports ≡ ports_of s) where
+  abbrev kept : InCallInvariant s
   kept = start.kept
 
-  abbrev began : Instant Device
+  abbrev began : JointState Device
   began = record { device = s.device; moment = old }
 
-  abbrev IsDone : Server → List Access → List Step → Evidence → Port → Type 0
+  abbrev IsDone : ServerState → List Access → List Step → Evidence → Port → Type 0
   IsDone c accesses steps evidence q = progress.IsDone AService laws s start old reached at ports_are c accesses steps evidence q
 
-  abbrev Progress : ℕ → Server → List Reply → Type 0
+  abbrev Progress : ℕ → ServerState → List Reply → Type 0
   Progress n c replies = progress.Progress AService laws s start old reached at ports_are n c replies
 
-  state_was : (q : Port) → old.ports.state q ≡ state_of (found_of s.ports q.0)
+  state_was : (q : Port) → old.ports.state q ≡ state_of (probe_result_of s.ports q.0)
   state_was q = ap (λ (ports : Ports). ports.state q) ports_are
 
   -- in one with a disk that isn't served a device showed when the call began, or no disk was in
   there : (q : Port) → IsUnfitOrForeign old.ports q → HasDeviceOrNone (s.device.port q.0)
   there q bad =
       let found = ⊎_elim (λ foreign. inl (sym (state_was q) ∙ foreign)) (λ unfit. inr (unfit.0, sym (state_was q) ∙ unfit.1)) bad in
-      (kept.behind q.0 (kept.there q.0 (bad_tends (found_of s.ports q.0) found).0).0).shown
-      (found_bad (state_of (found_of s.ports q.0)) found)
+      (kept.behind q.0 (kept.there q.0 (bad_tends (probe_result_of s.ports q.0) found).0).0).shown
+      (found_bad (state_of (probe_result_of s.ports q.0)) found)
 
   -- ---- its turn
 
-  module _ (n : ℕ) (c mid : Server) (before its : List Reply) (unready : state_of (found_of s.ports n) ≢ ReadyState) (p : Progress n c before) (next : IsSettled mid) (part : HasPart (turn_at AService (found_of s.ports n) n) (port_at n) its c mid)
-      (m_reached : IsReached (after old.machine p.steps)) (on_mid : IsOn mid.device) (evidence : Evidence) where
+  module _ (n : ℕ) (c mid : ServerState) (before its : List Reply) (unready : state_of (probe_result_of s.ports n) ≢ ReadyState) (p : Progress n c before) (next : SettledInvariant mid) (part : HasPart (turn_at AService (probe_result_of s.ports n) n) (port_at n) its c mid)
+      (m_reached : IsReachable (after old.machine p.steps)) (on_mid : IsOn mid.device) (evidence : Evidence) where
     abbrev m : Machine
     m = after old.machine p.steps
 
-    abbrev x : MakesTurn (turn_at AService (found_of s.ports n) n) (port_at n) its part.accesses c mid m
+    abbrev x : MakesTurn (turn_at AService (probe_result_of s.ports n) n) (port_at n) its part.accesses c mid m
     x = part.makes m m_reached p.stands
 
     abbrev all : List Step
@@ -75,10 +75,10 @@ module _ (laws : LawsBelow) (s : Server) (start : IsSettled s) (old : Moment) (r
     abbrev accesses : List Access
     accesses = p.accesses ++ part.accesses
 
-    its_ties : TiesTurn InTry (port_at n) its part.accesses c mid m x.evidence x.steps
-    its_ties = subst (λ (turn : Turn). TiesTurn turn (port_at n) its part.accesses c mid m x.evidence x.steps) (is_tried (found_of s.ports n) n unready) x.ties
+    its_ties : TurnCorresponds InProbe (port_at n) its part.accesses c mid m x.evidence x.steps
+    its_ties = subst (λ (turn : Turn). TurnCorresponds turn (port_at n) its part.accesses c mid m x.evidence x.steps) (is_tried (probe_result_of s.ports n) n unready) x.ties
 
-    abbrev did : TiesPort (instant_of c m) (turn_of InTry its mid x.evidence x.steps) part.accesses (port_at n)
+    abbrev did : PortCorresponds (server_instant c m) (turn_of InProbe its mid x.evidence x.steps) part.accesses (port_at n)
     did = its_ties.0
 
     abbrev t : HasTurnIn (port_at n) s.device mid.device
@@ -111,34 +111,34 @@ module _ (laws : LawsBelow) (s : Server) (start : IsSettled s) (old : Moment) (r
           (λ anew. ⊎_elim (λ dead. let z : Dead ≡ ReadyState = sym dead ∙ ready in absurd cc) (λ rest. ⊎_elim (λ absent. let z : Absent ≡ ReadyState = sym absent ∙ ready in absurd cc) (λ r. r) rest) anew)
           did.boots.1
 
-      heeds : HeedsTrouble (port_at n) accesses began evidence (ports_of mid) mid.device
+      heeds : HeedsPortErrors (port_at n) accesses began evidence (ports_of mid) mid.device
       heeds = lifting.trouble_whole AService laws s start old reached at ports_are n c mid before its p next part m_reached on_mid evidence alike same_n
-          (λ ready trouble. ⊎_elim (λ before. absurd (never_then before)) stopped ready) (λ ready. inr (resets ready)) (record { trouble = did.trouble; well = did.well })
+          (λ ready port_error. ⊎_elim (λ before. absurd (never_then before)) stopped ready) (λ ready. inr (resets ready)) (record { port_error = did.port_error; well = did.well })
 
-      pub tried_whole : TiesPort began (turn_of InService [] mid evidence all) accesses (port_at n) × EndsLinked (port_at n) began (ports_of mid) mid.device
+      pub tried_whole : PortCorresponds began (turn_of InService [] mid evidence all) accesses (port_at n) × EndsLinked (port_at n) began (ports_of mid) mid.device
       tried_whole = (
         record {
           finds = λ ready. absurd (never ready);
           faults = λ alone. absurd (never alone.ready);
-          tries = λ served comes. subst (λ (list : List Access). TriesDisk (p.accesses ++ list) began (ports_of mid) mid.device (port_at n)) (append-nil part.accesses)
-              (laws.calls.call_tries (port_at n) began (moment_of c m) (ports_of mid) (ports_of mid) mid.device kept.on t on_mid same_self same_n (there (port_at n)) its_ties.1 (λ none. did.tries (same_n.0 ∙ served) none) comes);
+          probes = λ served comes. subst (λ (list : List Access). ProbesDisk (p.accesses ++ list) began (ports_of mid) mid.device (port_at n)) (append-nil part.accesses)
+              (laws.calls.call_tries (port_at n) began (server_moment c m) (ports_of mid) (ports_of mid) mid.device kept.on t on_mid same_self same_n (there (port_at n)) its_ties.1 (λ none. did.probes (same_n.0 ∙ served) none) comes);
           boots = subst (λ (list : List Access). BootsAnew Service (Served []) (p.accesses ++ list) began (ports_of mid) mid.device (port_at n)) (append-nil part.accesses)
-              (laws.calls.call_boots (port_at n) began (moment_of c m) (ports_of mid) (ports_of mid) mid.device (Served its) (Served []) kept.on (λ ready. absurd (never ready)) t on_mid same_self same_n did.boots);
-          trouble = heeds.trouble;
+              (laws.calls.call_boots (port_at n) began (server_moment c m) (ports_of mid) (ports_of mid) mid.device (Served its) (Served []) kept.on (λ ready. absurd (never ready)) t on_mid same_self same_n did.boots);
+          port_error = heeds.port_error;
           well = heeds.well;
           heeds = λ ready. absurd (never ready);
         },
-        laws.calls.call_linked (port_at n) began (moment_of c m) (ports_of mid) (ports_of mid) mid.device kept.on t on_mid same_self same_n its_ties.1,
+        laws.calls.call_linked (port_at n) began (server_moment c m) (ports_of mid) (ports_of mid) mid.device kept.on t on_mid same_self same_n its_ties.1,
       )
 
   -- ---- another port's turn after it
 
-  module _ (n : ℕ) (c mid : Server) (before its : List Reply) (p : Progress n c before) (part : HasPart (turn_at AService (found_of s.ports n) n) (port_at n) its c mid) (m_reached : IsReached (after old.machine p.steps)) (q : Port) (apart : q ≢ port_at n)
+  module _ (n : ℕ) (c mid : ServerState) (before its : List Reply) (p : Progress n c before) (part : HasPart (turn_at AService (probe_result_of s.ports n) n) (port_at n) its c mid) (m_reached : IsReachable (after old.machine p.steps)) (q : Port) (apart : q ≢ port_at n)
       (d : IsDone c p.accesses p.steps p.evidence q) (evidence : Evidence) (alike : NamesAlike q p.evidence evidence) (same : SamePort (ports_of c) (ports_of mid) q) (unready : old.ports.state q ≢ ReadyState) where
     abbrev m_then : Machine
     m_then = after old.machine p.steps
 
-    abbrev y : MakesTurn (turn_at AService (found_of s.ports n) n) (port_at n) its part.accesses c mid m_then
+    abbrev y : MakesTurn (turn_at AService (probe_result_of s.ports n) n) (port_at n) its part.accesses c mid m_then
     y = part.makes m_then m_reached p.stands
 
     abbrev steps_then : List Step
@@ -147,7 +147,7 @@ module _ (laws : LawsBelow) (s : Server) (start : IsSettled s) (old : Moment) (r
     abbrev accesses_then : List Access
     accesses_then = p.accesses ++ part.accesses
 
-    abbrev so_far : TiesPort began (turn_of InService [] c p.evidence p.steps) p.accesses q
+    abbrev so_far : PortCorresponds began (turn_of InService [] c p.evidence p.steps) p.accesses q
     so_far = d.ties.0
 
     abbrev turn : HasTurnIn q s.device mid.device
@@ -171,18 +171,18 @@ module _ (laws : LawsBelow) (s : Server) (start : IsSettled s) (old : Moment) (r
         (λ anew. ⊎_elim (λ dead. let z : Dead ≡ ReadyState = sym dead ∙ ready in absurd cc) (λ rest. ⊎_elim (λ absent. let z : Absent ≡ ReadyState = sym absent ∙ ready in absurd cc) (λ r. r) rest) anew)
         so_far.boots.1
 
-    heeds_still : HeedsTrouble q accesses_then began evidence (ports_of mid) mid.device
+    heeds_still : HeedsPortErrors q accesses_then began evidence (ports_of mid) mid.device
     heeds_still = carrying.trouble_still AService laws s start old reached at ports_are n c mid before its p part m_reached q apart d evidence alike same
-        (λ ready trouble. ⊎_elim (λ before. absurd (unready before)) stopped_so_far ready) (λ ready. inr (reset_so_far ready)) (record { trouble = so_far.trouble; well = so_far.well })
+        (λ ready port_error. ⊎_elim (λ before. absurd (unready before)) stopped_so_far ready) (λ ready. inr (reset_so_far ready)) (record { port_error = so_far.port_error; well = so_far.well })
 
-    pub tried_still : TiesPort began (turn_of InService [] mid evidence steps_then) accesses_then q × EndsLinked q began (ports_of mid) mid.device
+    pub tried_still : PortCorresponds began (turn_of InService [] mid evidence steps_then) accesses_then q × EndsLinked q began (ports_of mid) mid.device
     tried_still = (
       record {
         finds = λ ready. absurd (unready ready);
         faults = λ alone. absurd (unready alone.ready);
-        tries = λ served comes. laws.calls.call_tries q began old (ports_of c) (ports_of mid) mid.device kept.on turn p.on same same_old (there q) d.ties.1 (λ none. so_far.tries served none) comes;
+        probes = λ served comes. laws.calls.call_tries q began old (ports_of c) (ports_of mid) mid.device kept.on turn p.on same same_old (there q) d.ties.1 (λ none. so_far.probes served none) comes;
         boots = laws.calls.call_boots q began old (ports_of c) (ports_of mid) mid.device (Served []) (Served []) kept.on (λ ready. absurd (unready ready)) turn p.on same same_old so_far.boots;
-        trouble = heeds_still.trouble;
+        port_error = heeds_still.port_error;
         well = heeds_still.well;
         heeds = λ ready. absurd (unready ready);
       },

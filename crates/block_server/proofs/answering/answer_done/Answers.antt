@@ -2,7 +2,7 @@ use Rattle.std.proofs.Common.{◌++◌, List, [], ◌∷◌, sym, subst, arith, 
 use Rattle.std.specs.Int.{bit_at}
 use Rattle.ata_types.specs.declared.request.Reply.{Reply}
 use Rattle.block_server.specs.Ports.{with_answers}
-use Rattle.server_history.specs.Server.{Server}
+use Rattle.server_history.specs.Server.{ServerState}
 use Rattle.block_server.proofs.Finishing as finishing
 use Rattle.block_server.proofs.Finishing.{AnswersSome}
 use Rattle.block_server.proofs.answering.answer_done.Goals as goal
@@ -27,11 +27,11 @@ loop-slot-preserved c = record {
       let now = with_answers s c.loop-slot.table c.loop-slot.book c.loop-slot.slots port in
       let some = c.loop-slot.invariant.answers s port l in
       let answers = c.answer_one.ensures.answers now port c.args.done some.lends in
-      let more = finishing.one_more c.a_used_slot_has_its_request.ensures c.requests_keep.ensures.answered c.operations_change_one_request.ensures.answered port c.args.done
+      let more = finishing.one_more c.law_a_used_slot_has_its_request.ensures c.law_requests_keep.ensures.answered c.law_operations_change_one_request.ensures.answered port c.args.done
       before c.loop-slot.replies.items s now c.loop-slot.table c.loop-slot.book c.loop-slot.slots some c.in-Some.slot.0 c.in-Some.ensures.found
       c.answer_one.result then.table then.book then.slots answers c.answer_one.ensures.freed in
       let R : List Reply → Type 0 = λ after. AnswersSome port c.args.done before after s (with_answers s then.table then.book then.slots port) then.table then.book then.slots in
-      let S : Server → Type 0 = λ x. AnswersSome port c.args.done before (c.loop-slot.replies.items ++ c.answer_one.result ∷ []) s x then.table then.book then.slots in
+      let S : ServerState → Type 0 = λ x. AnswersSome port c.args.done before (c.loop-slot.replies.items ++ c.answer_one.result ∷ []) s x then.table then.book then.slots in
       subst R (sym c.push.ensures.items)
       (subst S (finishing.answers_again s c.args.table.now c.args.book.now c.args.slots.now port c.args.done l c.loop-slot.table c.loop-slot.book c.loop-slot.slots then.table then.book then.slots) more);
   room = let f = c.answer_one.ensures.fewer in let n = c.push.ensures.len in let r = c.loop-slot.invariant.room in omega (arith, f, n, r);

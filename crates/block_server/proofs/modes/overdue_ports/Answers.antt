@@ -1,6 +1,6 @@
 use Rattle.std.proofs.Common.{ℕ, ◌≡◌, ◌<◌, ◌↔◌, [], ◌∷◌, List, Bool, false, zero, suc, slice_index_or, IsTrue, sym, ◌∙◌, arith}
 use Rattle.std.proofs.lemmas.Bool.{false≢true}
-use Rattle.agreement.specs.Agrees.{port_at}
+use Rattle.refinement.specs.Relation.{port_at}
 use Rattle.request_queue.specs.Entries.{Held, IsAnyOverdue, IsOverdue}
 use Rattle.block_server.proofs.modes.overdue_ports.Goals as goal
 

@@ -1,13 +1,13 @@
 use Rattle.std.proofs.Common.{◌≡◌, ◌+◌, ◌≤◌, suc, List, [], ◌∷◌, drop, get_or, length, refl, sym, ap, ◌∙◌, subst, arith, rules}
 use Rattle.std.proofs.lemmas.List.{drop_all, drop_more, length-map}
 use Rattle.ata_types.specs.declared.request.RequestId.{RequestId}
-use Rattle.block_machine.specs.Due.{AreDueInTurn, due_of}
-use Rattle.block_machine.specs.declared.due.Mode.{Mode}
+use Rattle.block_machine.specs.Due.{AreAllDueInOrder, due_of}
+use Rattle.block_machine.specs.declared.due.QueueMode.{QueueMode}
 use Rattle.block_machine.specs.declared.due.Unanswered.{Unanswered}
 use Rattle.block_server.specs.Ports.{Lends, with_part}
-use Rattle.request_queue.specs.Entries.{Held, IsInOrder, asks_of, at, due_ids, issue}
+use Rattle.request_queue.specs.Entries.{Held, BookIsInOrder, asks_of, at_entry, due_ids, issue}
 use Rattle.server_history.specs.Served.{IssuesEach, IssuesOne}
-use Rattle.server_history.specs.Server.{Server, IsKept}
+use Rattle.server_history.specs.Server.{ServerState, InCallInvariant}
 use Rattle.block_server.proofs.Sending as sending
 use Rattle.block_server.proofs.port.issue_due.Goals as goal
 
@@ -18,12 +18,12 @@ loop-place-init g c =
     let slots = c.args.slots.now in
     let port = c.args.port in
     let l = c.requires.lends.1 in
-    let order : IsInOrder book = subst IsInOrder l.book_is l.kept.ordered in
+    let order : BookIsInOrder book = subst BookIsInOrder l.book_is l.kept.ordered in
     record {
-      rest = λ s new k e. subst (λ (x : Server). IssuesEach port c.issuable.new.due.items x new) (sending.lent_same s device book slots port c.args.mode k) e;
-      lends = λ s k. sending.lent_on_from s device book slots port c.args.mode k device book slots (subst IsKept (sym (sending.lent_same s device book slots port c.args.mode k)) k.kept);
-      turns = subst (λ (ids : List RequestId). AreDueInTurn c.args.mode port ids (asks_of book)) (sym c.issuable.ensures)
-          (c.due_in_turn.ensures c.args.mode port (asks_of book) (c.the_book_stays_in_order.ensures.asks book order));
+      rest = λ s new k e. subst (λ (x : ServerState). IssuesEach port c.issuable.new.due.items x new) (sending.lent_same s device book slots port c.args.mode k) e;
+      lends = λ s k. sending.lent_on_from s device book slots port c.args.mode k device book slots (subst InCallInvariant (sym (sending.lent_same s device book slots port c.args.mode k)) k.kept);
+      turns = subst (λ (ids : List RequestId). AreAllDueInOrder c.args.mode port ids (asks_of book)) (sym c.issuable.ensures)
+          (c.law_due_in_turn.ensures c.args.mode port (asks_of book) (c.law_the_book_stays_in_order.ensures.asks book order));
       many = refl;
       same = λ _. refl;
       cost = omega arith;
@@ -51,34 +51,34 @@ loop-place-preserved g c =
     let ids = c.issuable.new.due.items in
     let place = c.loop-place.place in
     let so_far = c.loop-place.invariant in
-    let D : List RequestId → Type 0 = λ xs. (s : Server) → Lends s now book slots port c.args.mode → IssuesOne port (get_or xs place (record { 0 = 0 })) s (with_part s then later used port) in
-    let one : (s : Server) → Lends s now book slots port c.args.mode → IssuesOne port (get_or ids place (record { 0 = 0 })) s (with_part s then later used port) = subst D c.deref.ensures.0 c.issue_one.ensures.issues in
+    let D : List RequestId → Type 0 = λ xs. (s : ServerState) → Lends s now book slots port c.args.mode → IssuesOne port (get_or xs place (record { 0 = 0 })) s (with_part s then later used port) in
+    let one : (s : ServerState) → Lends s now book slots port c.args.mode → IssuesOne port (get_or ids place (record { 0 = 0 })) s (with_part s then later used port) = subst D c.deref.ensures.0 c.issue_one.ensures.issues in
     let low : suc place ≤ length ids = (let l = c.loop-place-test.true in let e = c.len-place-end.ensures.value in omega (arith, l, e)) in
     let next = drop_more ids place (record { 0 = 0 }) low in
     let s0 = c.requires.lends.0 in
     let l0 = c.requires.lends.1 in
     record {
       rest = λ s new k e.
-          let p : Server = with_part s now book slots port in
-          let mid : Server = with_part p then later used port in
+          let p : ServerState = with_part s now book slots port in
+          let mid : ServerState = with_part p then later used port in
           so_far.rest s new k
           (subst (λ (xs : List RequestId). IssuesEach port xs p new) (sym next)
-          (mid, one p (so_far.lends s k), subst (λ (x : Server). IssuesEach port (drop (place + 1) ids) x new) (sym (sending.lent_again s (g.A.Adapter.device c.args.adapter.now) c.args.book.now c.args.slots.now port c.args.mode k now book slots then later used)) e));
+          (mid, one p (so_far.lends s k), subst (λ (x : ServerState). IssuesEach port (drop (place + 1) ids) x new) (sym (sending.lent_again s (g.A.Adapter.device c.args.adapter.now) c.args.book.now c.args.slots.now port c.args.mode k now book slots then later used)) e));
       lends = λ s k.
-          let p : Server = with_part s now book slots port in
-          let mid : Server = with_part p then later used port in
-          let kept : IsKept mid = c.requests_keep.ensures.issued p mid port (get_or ids place (record { 0 = 0 })) (so_far.lends s k).kept (one p (so_far.lends s k)) in
+          let p : ServerState = with_part s now book slots port in
+          let mid : ServerState = with_part p then later used port in
+          let kept : InCallInvariant mid = c.law_requests_keep.ensures.issued p mid port (get_or ids place (record { 0 = 0 })) (so_far.lends s k).kept (one p (so_far.lends s k)) in
           sending.lent_on_from s (g.A.Adapter.device c.args.adapter.now) c.args.book.now c.args.slots.now port c.args.mode k then later used
-          (subst IsKept (sending.lent_again s (g.A.Adapter.device c.args.adapter.now) c.args.book.now c.args.slots.now port c.args.mode k now book slots then later used) kept);
+          (subst InCallInvariant (sending.lent_again s (g.A.Adapter.device c.args.adapter.now) c.args.book.now c.args.slots.now port c.args.mode k now book slots then later used) kept);
       turns =
-          let p : Server = with_part s0 now book slots port in
-          let is = ap (λ (x : Server). asks_of x.book) (one p (so_far.lends s0 l0)).server ∙ c.operations_change_what_is_due.ensures.issue book (get_or ids place (record { 0 = 0 })) in
-          let T : List RequestId → Type 0 = λ xs. AreDueInTurn c.args.mode port xs (asks_of book) in
-          let turn : AreDueInTurn c.args.mode port (get_or ids place (record { 0 = 0 }) ∷ drop (place + 1) ids) (asks_of book) = subst T next so_far.turns in
-          subst (λ (us : List Unanswered). AreDueInTurn c.args.mode port (drop (place + 1) ids) us) (sym is) turn.1;
+          let p : ServerState = with_part s0 now book slots port in
+          let is = ap (λ (x : ServerState). asks_of x.book) (one p (so_far.lends s0 l0)).server ∙ c.law_operations_change_what_is_due.ensures.issue book (get_or ids place (record { 0 = 0 })) in
+          let T : List RequestId → Type 0 = λ xs. AreAllDueInOrder c.args.mode port xs (asks_of book) in
+          let turn : AreAllDueInOrder c.args.mode port (get_or ids place (record { 0 = 0 }) ∷ drop (place + 1) ids) (asks_of book) = subst T next so_far.turns in
+          subst (λ (us : List Unanswered). AreAllDueInOrder c.args.mode port (drop (place + 1) ids) us) (sym is) turn.1;
       many =
-          let p : Server = with_part s0 now book slots port in
-          ap (λ (x : Server). length x.book) (one p (so_far.lends s0 l0)).server ∙ length-map book (at (get_or ids place (record { 0 = 0 })) issue) ∙ so_far.many;
+          let p : ServerState = with_part s0 now book slots port in
+          ap (λ (x : ServerState). length x.book) (one p (so_far.lends s0 l0)).server ∙ length-map book (at_entry (get_or ids place (record { 0 = 0 })) issue) ∙ so_far.many;
       same = λ zero_is. absurd (omega (arith, zero_is));
       cost = omega (arith, so_far.cost, c.issue_one.ensures.cost);
     }
@@ -88,9 +88,9 @@ returns-clause-issues g c = λ s l.
     let now = g.A.Adapter.device c.loop-place.adapter in
     let port = c.args.port in
     let ids = c.issuable.new.due.items in
-    let p : Server = with_part s now c.loop-place.book c.loop-place.slots port in
+    let p : ServerState = with_part s now c.loop-place.book c.loop-place.slots port in
     let none : drop c.loop-place.place ids ≡ [] = drop_all c.loop-place.place ids (let h = c.loop-place-test.false in let e = c.len-place-end.ensures.value in omega (arith, h, e)) in
-    let M : Mode → Type 0 = λ mode. IssuesEach port (due_ids mode port (asks_of s.book)) s p in
+    let M : QueueMode → Type 0 = λ mode. IssuesEach port (due_ids mode port (asks_of s.book)) s p in
     subst M (sym l.mode_is) (subst (λ (xs : List RequestId). IssuesEach port xs s p) (c.issuable.ensures ∙ ap (λ (b : List Held). due_ids c.args.mode port (asks_of b)) (sym l.book_is))
     (c.loop-place.invariant.rest s p l (subst (λ (xs : List RequestId). IssuesEach port xs p p) (sym none) refl)))
 

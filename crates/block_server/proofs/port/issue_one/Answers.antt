@@ -1,9 +1,9 @@
 use Rattle.std.proofs.Common.{List, Some, not, ap, ◌∙◌, subst}
-use Rattle.agreement.specs.Readying.{IsStored}
+use Rattle.refinement.specs.Readying.{IsStored}
 use Rattle.ata_types.specs.declared.request.Frame.{Frame}
 use Rattle.ncq.specs.Tasks.{HasBlockOf, IssuesTask, addresses_of, meaning_of}
 use Rattle.block_machine.specs.Due.{is_plain}
-use Rattle.request_queue.specs.declared.Entry.{Entry}
+use Rattle.request_queue.specs.declared.PendingRequest.{PendingRequest}
 use Rattle.ncq.specs.declared.Task.{Task}
 use Rattle.slots.specs.Uses.{with_use}
 use Rattle.block_server.proofs.Sending as sending
@@ -13,20 +13,20 @@ use Rattle.block_server.proofs.port.issue_one.Goals.{After-issue, In-Some}
 pub unreachable-requires : goal.unreachable-requires
 unreachable-requires g c =
     let l = c.requires.lends in
-    sending.is_free l.0 (g.A.Adapter.device c.args.adapter.now) c.args.book.now c.args.slots.now c.args.port c.args.mode l.1 c.args.id c.requires.due c.a_due_request_may_issue.ensures.full c.in_default.ensures.full
+    sending.is_free l.0 (g.A.Adapter.device c.args.adapter.now) c.args.book.now c.args.slots.now c.args.port c.args.mode l.1 c.args.id c.requires.due c.law_a_due_request_may_issue.ensures.full c.in_default.ensures.full
 
 pub issue_task-requires-clause-may : goal.issue_task-requires-clause-may
 issue_task-requires-clause-may g c =
     let l = c.requires.lends in
-    let one = c.an_id_is_one_request.ensures.one in
+    let one = c.law_an_id_is_one_request.ensures.one in
     let device = g.A.Adapter.device c.args.adapter.now in
     let book = c.args.book.now in
     let slots = c.args.slots.now in
-    let lowest = c.a_due_request_may_issue.ensures.lowest in
+    let lowest = c.law_a_due_request_may_issue.ensures.lowest in
     let entry_is = sending.entry_is l.0 device book slots c.args.port c.args.mode l.1 c.args.id c.requires.due one c.request-entry.result c.request-entry.ensures in
     sending.may_go l.0.table c.requires.due.0 (sending.its l.0 device book slots c.args.port c.args.mode l.1 c.args.id c.requires.due) c.args.mode c.in-Some.slot.0
     (sending.may_issue l.0 device book slots c.args.port c.args.mode l.1 c.args.id c.requires.due lowest c.in-Some.slot.0 c.in-Some.ensures.lowest).2
-    (not c.is_plain.result) (ap not c.is_plain.ensures ∙ ap (λ (x : Entry). not (is_plain c.args.mode x.op)) entry_is) c.request-entry.result entry_is
+    (not c.is_plain.result) (ap not c.is_plain.ensures ∙ ap (λ (x : PendingRequest). not (is_plain c.args.mode x.op)) entry_is) c.request-entry.result entry_is
     c.frames.result.now (c.frames.ensures.frames ∙ sending.frames_are l.0 device book slots c.args.port c.args.mode l.1 c.args.id c.requires.due one c.loan.result.now.frames c.loan.ensures.held)
 
 pub returns : goal.returns
@@ -35,10 +35,10 @@ returns g c = record {
       let device = g.A.Adapter.device in
       let port = c.args.port in
       let slot = c.in-Some.slot.0 in
-      let one = c.an_id_is_one_request.ensures.one in
+      let one = c.law_an_id_is_one_request.ensures.one in
       let e = c.requires.due.0 in
       let task : Task = record { op = c.request-entry.result.op; range = c.request-entry.result.range; queued = not c.is_plain.result } in
-      let small = (sending.may_issue s (device c.args.adapter.now) c.args.book.now c.args.slots.now port c.args.mode l c.args.id c.requires.due c.a_due_request_may_issue.ensures.lowest slot c.in-Some.ensures.lowest).0 in
+      let small = (sending.may_issue s (device c.args.adapter.now) c.args.book.now c.args.slots.now port c.args.mode l c.args.id c.requires.due c.law_a_due_request_may_issue.ensures.lowest slot c.in-Some.ensures.lowest).0 in
       let entry_is = sending.entry_is s (device c.args.adapter.now) c.args.book.now c.args.slots.now port c.args.mode l c.args.id c.requires.due one c.request-entry.result c.request-entry.ensures in
       let task_is = sending.task_is s (device c.args.adapter.now) c.args.book.now c.args.slots.now port c.args.mode l c.args.id c.requires.due c.is_plain.result c.request-entry.result c.is_plain.ensures entry_is in
       let lent_is = c.frames.ensures.frames ∙ sending.frames_are s (device c.args.adapter.now) c.args.book.now c.args.slots.now port c.args.mode l c.args.id c.requires.due one c.loan.result.now.frames c.loan.ensures.held in
@@ -57,4 +57,4 @@ returns g c = record {
 pub issue_task-requires-clause-agreed : goal.issue_task-requires-clause-agreed
 issue_task-requires-clause-agreed g c =
     let l = c.requires.lends in
-    (sending.may_issue l.0 (g.A.Adapter.device c.args.adapter.now) c.args.book.now c.args.slots.now c.args.port c.args.mode l.1 c.args.id c.requires.due c.a_due_request_may_issue.ensures.lowest c.in-Some.slot.0 c.in-Some.ensures.lowest).3
+    (sending.may_issue l.0 (g.A.Adapter.device c.args.adapter.now) c.args.book.now c.args.slots.now c.args.port c.args.mode l.1 c.args.id c.requires.due c.law_a_due_request_may_issue.ensures.lowest c.in-Some.slot.0 c.in-Some.ensures.lowest).3

@@ -4,8 +4,8 @@ use Rattle.ata_types.specs.declared.request.Frame.{Frame}
 use Rattle.ata_types.specs.declared.request.Op.{Op}
 use Rattle.ata_types.specs.declared.request.Op.TheVariants.{Read, Write, Trim, Flush}
 use Rattle.adapter.specs.Device.{Device}
-use Rattle.agreement.specs.Readying.{IsStored}
-use Rattle.ncq.specs.Issuing.{MayIssue}
+use Rattle.refinement.specs.Readying.{IsStored}
+use Rattle.ncq.specs.Issuing.{MayIssueTask}
 use Rattle.ncq.specs.Tasks.{HasBlockOf, IssuesTask, addresses_of, meaning_of}
 use Rattle.ncq.specs.declared.Task.{Task}
 use Rattle.block_server.specs.Ports.{MayGoIn}
@@ -26,8 +26,8 @@ abbrev StoresIt : Port → List Frame → Device → ℕ → Task → Type 0
 StoresIt port frames new slot task = IsStored new port.0 slot (meaning_of task) (addresses_of port.0 task.op task.range.count frames)
 
 -- where the slot is 0
-may_at : (port : Port) (slot : ℕ) (d : Device) → slot ≡ 0 → MayIssue port slot d → MayIssue port 0 d
-may_at port slot d head may = subst (λ (n : ℕ). MayIssue port n d) head may
+may_at : (port : Port) (slot : ℕ) (d : Device) → slot ≡ 0 → MayIssueTask port slot d → MayIssueTask port 0 d
+may_at port slot d head may = subst (λ (n : ℕ). MayIssueTask port n d) head may
 
 pub issue_trim-requires-clause-may : goal.issue_trim-requires-clause-may
 issue_trim-requires-clause-may g c =

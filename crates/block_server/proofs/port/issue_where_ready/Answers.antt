@@ -10,7 +10,7 @@ returns-in-Ready-clause-issues g c = λ s l. c.issue_due.ensures.issues s (lends
 
 pub returns-in_default : goal.returns-in_default
 returns-in_default g c = record {
-  issues = λ s l. none_issued c.a_mended_port_goes_on.ensures.undue s (g.A.Adapter.device c.args.adapter.now) c.args.book.now c.args.slots.now c.args.port c.args.mode c.args.found.now l c.in_default.not-Ready;
+  issues = λ s l. none_issued c.law_a_port_goes_on_after_its_errors.ensures.undue s (g.A.Adapter.device c.args.adapter.now) c.args.book.now c.args.slots.now c.args.port c.args.mode c.args.found.now l c.in_default.not-Ready;
   as_many = refl;
   none = λ none. refl;
   cost = omega arith;

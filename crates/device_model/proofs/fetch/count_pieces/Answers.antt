@@ -1,6 +1,6 @@
 use Rattle.std.proofs.Common.{rules, ◌<◌, ◌≤◌, ap, ◌∙◌, arith, length, List}
 use Rattle.adapter.specs.declared.command.Prd.{Prd}
-use Rattle.adapter.specs.Says.{pieces}
+use Rattle.adapter.specs.Decoding.{pieces}
 use Rattle.std.proofs.lemmas.List.{take_all}
 use Rattle.device_model.proofs.Fetches.{pieces_next}
 use Rattle.device_model.proofs.fetch.count_pieces.Goals as goal

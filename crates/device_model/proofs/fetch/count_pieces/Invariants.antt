@@ -1,5 +1,5 @@
 use Rattle.std.proofs.Common.{◌≡◌, ◌≤◌, ◌*◌, length, take}
-use Rattle.adapter.specs.Says.{pieces}
+use Rattle.adapter.specs.Decoding.{pieces}
 use Rattle.device_model.proofs.fetch.count_pieces.Given as goal
 
 abbrev pub invariant-loop-prd : goal.invariant-loop-prd

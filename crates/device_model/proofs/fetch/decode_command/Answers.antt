@@ -2,12 +2,12 @@ use Rattle.std.proofs.Common.{◌≡◌, ◌+◌, ◌∙◌, ℕ, sym, ap, subst
 use Rattle.byteorder.specs.Endian.{little_from}
 use Rattle.adapter.specs.Commands.{pieces_moved}
 use Rattle.adapter.specs.Memory.{bytes_at}
-use Rattle.adapter.specs.Says.{pieces, HasPrds}
+use Rattle.adapter.specs.Decoding.{pieces, HasPrds}
 use Rattle.device_model.proofs.Absurd.{some-none, some_one}
 use Rattle.device_model.specs.Fetched.{bytes_of}
 use Rattle.device_model.specs.declared.fetch.Header.{Header}
 use Rattle.device_model.specs.declared.fetch.Sectors.{Sectors}
-use Rattle.device_model.specs.View.{operation_of}
+use Rattle.device_model.specs.View.{transfer_operation}
 use Rattle.device_model.proofs.Fetches.{said_header, said_command, said_meaning, said_count, has_once}
 use Rattle.device_model.proofs.fetch.decode_command.Goals as goal
 
@@ -46,5 +46,5 @@ returns-then-count_pieces-pieces-clause-only c = λ _ list header m places is s.
     let stand : HasPrds memory (c.in-Some.header.table + 128) s.prds = subst (λ t. HasPrds memory (t + 128) s.prds) table s.stand in
     let same : are.standing ≡ s.prds = has_once memory _ are.standing s.prds (omega (arith, are.number_is, c.from-entries.ensures, entries)) are.stand stand in
     let many : length (pieces c.read_prds.new.prds) ≡ length (pieces s.prds) = ap length (are.same ∙ ap pieces same) in
-    let asked : c.pieces.result ≡ pieces_moved (operation_of k) m.count = c.pieces.ensures ∙ ap (λ n. pieces_moved (operation_of k) n) count in
+    let asked : c.pieces.result ≡ pieces_moved (transfer_operation k) m.count = c.pieces.ensures ∙ ap (λ n. pieces_moved (transfer_operation k) n) count in
     c.if-count_pieces-pieces.true (rw c.as_slice.ensures.same at c.count_pieces.ensures ∙ (many ∙ (said_count k memory list c.args.slot m places is s ∙ sym asked)))

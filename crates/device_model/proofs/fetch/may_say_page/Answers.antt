@@ -4,7 +4,7 @@ use Rattle.adapter.specs.Commands.{command_of}
 use Rattle.adapter.specs.declared.command.Operation.{Operation}
 use Rattle.device_model.proofs.Absurd.{some-none, true-false}
 use Rattle.device_model.specs.Finishing.{sends_page}
-use Rattle.device_model.specs.View.{operation_of}
+use Rattle.device_model.specs.View.{transfer_operation}
 use Rattle.device_model.specs.declared.port.Transfer.{Transfer}
 use Rattle.device_model.proofs.Transfers.{transfer_of}
 use Rattle.device_model.proofs.fetch.may_say_page.Goals as goal
@@ -18,7 +18,7 @@ returns-in-Some c = λ other m places sends s.
     let code = rw (← fis) at s.fis.code in
     let its = c.transfer_coded.ensures t.0 c.args.slot m.first m.count (ap (λ (o : Operation). (command_of o c.args.slot m.first m.count).code) (sym t.1) ∙ sym code) in
     let same : t.0 ≡ c.in-Some.transfer = let z : Some t.0 ≡ Some c.in-Some.transfer = sym its ∙ c.in-Some.is in cc in
-    true-false (subst (λ (k : Transfer). sends_page (operation_of k) ≡ true) same (ap sends_page (sym t.1) ∙ sends)) (sym c.sends_page.ensures ∙ other)
+    true-false (subst (λ (k : Transfer). sends_page (transfer_operation k) ≡ true) same (ap sends_page (sym t.1) ∙ sends)) (sym c.sends_page.ensures ∙ other)
 
 pub returns-in-None : goal.returns-in-None
 returns-in-None c = λ other m places sends s.

@@ -3,7 +3,7 @@ use Rattle.byteorder.specs.Endian.{little_from}
 use Rattle.adapter.specs.Commands.{command_of}
 use Rattle.adapter.specs.declared.command.Operation.{Operation}
 use Rattle.device_model.proofs.Absurd.{some-none}
-use Rattle.device_model.specs.View.{operation_of}
+use Rattle.device_model.specs.View.{transfer_operation}
 use Rattle.device_model.proofs.Transfers.{transfer_of}
 use Rattle.device_model.proofs.fetch.read_into.Goals as goal
 
@@ -26,4 +26,4 @@ returns-in-Some-clause-only c = λ none m places s.
     let code = rw (← fis) at s.fis.code in
     let its = c.transfer_coded.ensures t.0 c.args.slot m.first m.count (ap (λ (o : Operation). (command_of o c.args.slot m.first m.count).code) (sym t.1) ∙ sym code) in
     let same : t.0 ≡ c.in-Some.transfer = let z : Some t.0 ≡ Some c.in-Some.transfer = sym its ∙ c.in-Some.is in cc in
-    c.decode_command.ensures.only none c.args.list header m places (t.1 ∙ ap operation_of same) s
+    c.decode_command.ensures.only none c.args.list header m places (t.1 ∙ ap transfer_operation same) s

@@ -4,7 +4,7 @@ use Rattle.adapter.specs.Commands.{command_of}
 use Rattle.adapter.specs.declared.command.Operation.{Operation}
 use Rattle.device_model.proofs.Absurd.{some-none, true-false}
 use Rattle.device_model.specs.Finishing.{sends_page}
-use Rattle.device_model.specs.View.{operation_of}
+use Rattle.device_model.specs.View.{transfer_operation}
 use Rattle.device_model.specs.declared.port.Transfer.{Transfer}
 use Rattle.device_model.proofs.Transfers.{transfer_of}
 use Rattle.device_model.proofs.fetch.read_page.Goals as goal
@@ -28,7 +28,7 @@ returns-then-not-sends_page-clause-only c = λ none m places sends s.
     let code = rw (← fis) at s.fis.code in
     let its = c.transfer_coded.ensures t.0 c.args.slot m.first m.count (ap (λ (o : Operation). (command_of o c.args.slot m.first m.count).code) (sym t.1) ∙ sym code) in
     let same : t.0 ≡ c.in_ok-transfer.transfer = let z : Some t.0 ≡ Some c.in_ok-transfer.transfer = sym its ∙ c.in_ok-transfer.was in cc in
-    true-false (subst (λ (k : Transfer). sends_page (operation_of k) ≡ true) same (ap sends_page (sym t.1) ∙ sends)) (sym c.sends_page.ensures ∙ c.if-not-sends_page.true)
+    true-false (subst (λ (k : Transfer). sends_page (transfer_operation k) ≡ true) same (ap sends_page (sym t.1) ∙ sends)) (sym c.sends_page.ensures ∙ c.if-not-sends_page.true)
 
 pub returns-else-decode_command-clause-only : goal.returns-else-decode_command-clause-only
 returns-else-decode_command-clause-only c = λ none m places sends s.
@@ -39,4 +39,4 @@ returns-else-decode_command-clause-only c = λ none m places sends s.
     let code = rw (← fis) at s.fis.code in
     let its = c.transfer_coded.ensures t.0 c.args.slot m.first m.count (ap (λ (o : Operation). (command_of o c.args.slot m.first m.count).code) (sym t.1) ∙ sym code) in
     let same : t.0 ≡ c.in_ok-transfer.transfer = let z : Some t.0 ≡ Some c.in_ok-transfer.transfer = sym its ∙ c.in_ok-transfer.was in cc in
-    c.decode_command.ensures.only c.if-decode_command.false c.args.list header m places (t.1 ∙ ap operation_of same) s
+    c.decode_command.ensures.only c.if-decode_command.false c.args.list header m places (t.1 ∙ ap transfer_operation same) s

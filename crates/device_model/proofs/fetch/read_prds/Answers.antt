@@ -1,6 +1,6 @@
 use Rattle.std.proofs.Common.{◌<◌, [], ◌∷◌, length, length-append, arith, refl, slice_index_or}
 use Rattle.std.proofs.lemmas.List.Elements.{All-append}
-use Rattle.adapter.specs.Says.{IsWhole}
+use Rattle.adapter.specs.Decoding.{IsWholePieces}
 use Rattle.device_model.specs.Fetched.{bytes_of, no_prd}
 use Rattle.device_model.proofs.Fetches.{has_at, has_more, only_one}
 use Rattle.device_model.proofs.fetch.read_prds.Goals as goal
@@ -17,7 +17,7 @@ loop-i-preserved c =
     let here = rw (← c.loop-i.invariant.size) at c.in-Some.ensures.found.0 in
     rw c.push.ensures (record {
       stand = has_more (bytes_of c.args.memory.now) c.args.at c.loop-i.prds c.in-Some.prd c.loop-i.invariant.stand here;
-      whole = All-append IsWhole c.loop-i.prds (c.in-Some.prd ∷ []) c.loop-i.invariant.whole (only_one c.in-Some.prd c.in-Some.ensures.found.1);
+      whole = All-append IsWholePieces c.loop-i.prds (c.in-Some.prd ∷ []) c.loop-i.invariant.whole (only_one c.in-Some.prd c.in-Some.ensures.found.1);
       size = omega (arith, length-append c.loop-i.prds (c.in-Some.prd ∷ []), c.loop-i.invariant.size);
     })
 

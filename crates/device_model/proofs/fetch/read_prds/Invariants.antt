@@ -1,11 +1,11 @@
 use Rattle.std.proofs.Common.{◌≡◌, length, All}
-use Rattle.adapter.specs.Says.{HasPrds, IsWhole}
+use Rattle.adapter.specs.Decoding.{HasPrds, IsWholePieces}
 use Rattle.device_model.specs.Fetched.{bytes_of}
 use Rattle.device_model.proofs.fetch.read_prds.Given as goal
 
 abbrev pub invariant-loop-i : goal.invariant-loop-i
 invariant-loop-i l = record {
   stand : HasPrds (bytes_of l.memory) l.at l.prds;
-  whole : All IsWhole l.prds;
+  whole : All IsWholePieces l.prds;
   size : length l.prds ≡ l.i;
 }

@@ -2,28 +2,28 @@ use Rattle.std.proofs.Common.{rules, ◌≡◌, ◌∙◌, ◌<◌, length, subs
 use Rattle.adapter.specs.Steps.{IsWorking}
 use Rattle.device_model.proofs.Absurd.{some_one}
 use Rattle.device_model.specs.Whole.{no_media}
-use Rattle.device_model.specs.View.{blank, held_in, operation_of, port_of}
+use Rattle.device_model.specs.View.{blank_port, held_in, transfer_operation, port_of}
 use Rattle.device_model.specs.declared.port.PortModel.{PortModel}
 use Rattle.device_model.specs.declared.port.TakenCommand.{TakenCommand}
 use Rattle.device_model.proofs.SlotLemmas.{at_port, slot_taken}
 use Rattle.std.specs.Prelude.{slice_index_or}
 use Rattle.device_model.proofs.slots.working_on.Goals as goal
 
-pub returns-else-works_on-clause-none : goal.returns-else-works_on-clause-none
-returns-else-works_on-clause-none c = λ _ t holds.
-    let p : PortModel = slice_index_or c.args.ports.now c.args.port blank in
+pub returns-else-is_working_on-clause-none : goal.returns-else-is_working_on-clause-none
+returns-else-is_working_on-clause-none c = λ _ t holds.
+    let p : PortModel = slice_index_or c.args.ports.now c.args.port blank_port in
     let small : c.args.port < length c.args.ports.now = search rules in
     let found = rw (at_port c.args.ports.now c.args.port c.index-ports-port.result small) at c.in_ok-command.ensures.found in
     let same : t ≡ c.in_ok-command.command.now = some_one (sym holds.held ∙ found) in
-    let never = rw (at_port c.args.ports.now c.args.port c.index-ports-port-2.result small) at c.works_on.ensures.only c.if-works_on.false no_media in
-    never (subst (λ (x : TakenCommand). IsWorking (port_of p no_media) (operation_of x.transfer)) same (holds.works no_media).working)
+    let never = rw (at_port c.args.ports.now c.args.port c.index-ports-port-2.result small) at c.is_working_on.ensures.only c.if-is_working_on.false no_media in
+    never (subst (λ (x : TakenCommand). IsWorking (port_of p no_media) (transfer_operation x.transfer)) same (holds.works no_media).working)
 
-pub returns-then-works_on-clause-found : goal.returns-then-works_on-clause-found
-returns-then-works_on-clause-found c =
-    let p : PortModel = slice_index_or c.args.ports.now c.args.port blank in
+pub returns-then-is_working_on-clause-found : goal.returns-then-is_working_on-clause-found
+returns-then-is_working_on-clause-found c =
+    let p : PortModel = slice_index_or c.args.ports.now c.args.port blank_port in
     let small : c.args.port < length c.args.ports.now = search rules in
     let found = rw (at_port c.args.ports.now c.args.port c.index-ports-port.result small) at c.in_ok-command.ensures.found in
-    let works = rw (at_port c.args.ports.now c.args.port c.index-ports-port-2.result small) at c.works_on.ensures.works c.if-works_on.true in
+    let works = rw (at_port c.args.ports.now c.args.port c.index-ports-port-2.result small) at c.is_working_on.ensures.works c.if-is_working_on.true in
     record {
       held = found;
       works = λ m. record { taken = slot_taken (held_in p.taken) c.in_ok-command.command.now c.args.slot found; working = works m };

@@ -1,5 +1,5 @@
 use Rattle.std.proofs.Common.{ℕ, ◌≡◌, ◌≤◌, ◌∙◌, List, take, arith, length-take}
-use Rattle.device_model.specs.Trims.{run_of, uncleared}
+use Rattle.device_model.specs.Trims.{trim_extent, uncleared}
 use Rattle.device_model.specs.View.{taken_of}
 use Rattle.device_model.proofs.Runs.{run_long}
 use Rattle.device_model.proofs.Trimming.{run_one}
@@ -9,7 +9,7 @@ use Rattle.device_model.proofs.trims.run_of_trim.Goals.{else-run-most-via-then-r
 pub returns-then-run-eq0-clause-none : goal.returns-then-run-eq0-clause-none
 returns-then-run-eq0-clause-none c = λ _ can.
     let run = c.next_run-run.result in
-    let count : run.count ≡ run_of (take c.args.most (uncleared (taken_of c.args.command.now))) = rw c.requires.block at c.next_run-run.ensures.count in
+    let count : run.count ≡ trim_extent (take c.args.most (uncleared (taken_of c.args.command.now))) = rw c.requires.block at c.next_run-run.ensures.count in
     let some = run_one c.args.most (uncleared (taken_of c.args.command.now)) can.some can.enough in
     let none = c.if-run-eq0.true in
     absurd (omega (arith, count, some, none))
@@ -20,7 +20,7 @@ returns-clause-can c =
     let left : List ℕ = uncleared (taken_of c.args.command.now) in
     let ne = c.if-run-eq0.false in
     let some : 1 ≤ run.count = omega (arith, ne) in
-    let count : run.count ≡ run_of (take c.args.most left) = rw c.requires.block at c.next_run-run.ensures.count in
+    let count : run.count ≡ trim_extent (take c.args.most left) = rw c.requires.block at c.next_run-run.ensures.count in
     let few = c.next_run-run.ensures.few in
     record {
       trim = c.is_trim.ensures.0 c.if-not-is_trim.false;

@@ -2,12 +2,12 @@ use Rattle.ata_types.specs.declared.memory.TheConstants.{MOST_FRAMES}
 use Rattle.std.proofs.Common.{ℕ, ◌≡◌, ◌<◌, ◌≤◌, ◌+◌, ◌*◌, get_or, length, None, Some, ap, ◌∙◌, arith, inl, inr}
 use Rattle.std.proofs.lemmas.Bool.{cases_eq}
 use Rattle.std.proofs.lemmas.List.{length-set}
-use Rattle.dma_frames.specs.Table.{Run, IsRun}
+use Rattle.dma_frames.specs.Table.{FrameExtent, IsOwnerExtent}
 use Rattle.dma_frames.specs.Words.{owners_of}
 use Rattle.dma_frames.proofs.OwnerWords.{later, owner_put, owners_stay}
 use Rattle.dma_frames.proofs.words.mark.Goals as goal
 
-in_memory : (run : Run) (k : ℕ) → IsRun run → run.1.0 ≤ k → k < run.1.0 + run.2 → k < MOST_FRAMES
+in_memory : (run : FrameExtent) (k : ℕ) → IsOwnerExtent run → run.1.0 ≤ k → k < run.1.0 + run.2 → k < MOST_FRAMES
 in_memory run k is low high = is.2 (record { 0 = k }) (low, high)
 
 pub bounds-owners-place-in-loop-place : goal.bounds-owners-place-in-loop-place

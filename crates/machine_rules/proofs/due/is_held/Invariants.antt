@@ -1,7 +1,7 @@
 use Rattle.std.proofs.Common.{◌≡◌, false, take}
 use Rattle.std.specs.List.{list_any}
-use Rattle.block_machine.specs.Due.{holds_back}
+use Rattle.block_machine.specs.Due.{waits_for}
 use Rattle.machine_rules.proofs.due.is_held.Given as goal
 
 abbrev pub invariant-loop-other : goal.invariant-loop-other
-invariant-loop-other l = list_any (holds_back l.mode l.r) (take l.other-index l.book) ≡ false
+invariant-loop-other l = list_any (waits_for l.mode l.r) (take l.other-index l.book) ≡ false

@@ -1,10 +1,10 @@
 use Rattle.ata_types.specs.declared.memory.TheConstants.{MOST_FRAMES}
 use Rattle.std.proofs.Common.{◌∙◌, All, AllPairs, ap, arith, length, map, refl, subst, sym}
-use Rattle.configuration.specs.Ranges.{IsClient, IsGrant, IsPort}
+use Rattle.configuration.specs.Ranges.{IsClientConfig, IsGrant, IsPort}
 use Rattle.configuration.specs.Rules.{DifferInNumber}
 use Rattle.configuration.specs.declared.Kind.TheVariants.{Duplicate}
 use Rattle.plan.proofs.Fits.{clients_within, few_clients, in_range, plan_fits}
-use Rattle.plan.specs.Parts.{AreWantedOf, row_of, run_of}
+use Rattle.plan.specs.Parts.{AreWantedOf, row_of, owner_extent}
 use Rattle.plan.proofs.Plan.of.Goals as goal
 
 pub overflow_cast-result : goal.overflow_cast-result
@@ -16,7 +16,7 @@ runs_of-requires-clause-few c =
 
 pub runs_of-requires-clause-clients : goal.runs_of-requires-clause-clients
 runs_of-requires-clause-clients c =
-    subst (All (IsClient MOST_FRAMES)) (sym c.as_slice.ensures.value) (clients_within c.args.config.now c.in_ok-check.ensures.sound)
+    subst (All (IsClientConfig MOST_FRAMES)) (sym c.as_slice.ensures.value) (clients_within c.args.config.now c.in_ok-check.ensures.sound)
 
 pub rows_of-requires-clause-few : goal.rows_of-requires-clause-few
 rows_of-requires-clause-few c =
@@ -37,7 +37,7 @@ wanted_of-requires-clause-once c =
 pub returns-clause-made : goal.returns-clause-made
 returns-clause-made c = record {
   frames = refl;
-  owners = c.runs_of.ensures ∙ ap (map run_of) c.as_slice.ensures.value;
+  owners = c.runs_of.ensures ∙ ap (map owner_extent) c.as_slice.ensures.value;
   grants = c.rows_of.ensures ∙ ap (map row_of) c.as_slice-2.ensures.value;
   wanted = subst (λ ports. AreWantedOf ports c.wanted_of.result) c.as_slice-3.ensures.value c.wanted_of.ensures;
 }

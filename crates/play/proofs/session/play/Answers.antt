@@ -2,7 +2,7 @@ use Rattle.std.proofs.Common.{ℕ, ◌≡◌, List, Bool, Option, Some, sym, sub
 use Rattle.block_server.specs.View.{ServerView}
 use Rattle.device_model.specs.declared.model.Model.{Model}
 use Rattle.device_model.specs.Modelled.{is_starved}
-use Rattle.play.specs.Played.{Played, Ends, IsStarted, IsWhy, ended_by_stop}
+use Rattle.play.specs.Played.{Played, Ends, IsServerOfModel, IsWhy, ended_by_stop}
 use Rattle.play.specs.declared.session.Ended.{Ended}
 use Rattle.play.specs.declared.session.Stop.{Stop}
 use Rattle.play.specs.declared.session.Stop.TheVariants.{NoMemory, Unwritten}
@@ -19,22 +19,22 @@ stopped size told config script image blank trace old new model Unwritten played
 pub returns-in-Ok-performed : goal.returns-in-Ok-performed
 returns-in-Ok-performed g c =
     let ran = c.in-Ok-performed.ensures in
-    let Started : ServerView (Model g.row.S.Denot) → Type 0 = λ server. IsStarted g.S.SectorStore.size g.S.SectorStore.told c.in-Ok.values c.args.image c.args.blank server in (
+    let Started : ServerView (Model g.row.S.Denot) → Type 0 = λ server. IsServerOfModel g.S.SectorStore.size g.S.SectorStore.told c.in-Ok.values c.args.image c.args.blank server in (
       played_of g.S.SectorStore.size g.S.SectorStore.told c.args.config.now c.args.script.now c.args.image c.args.blank c.args.trace _ _ c.in-Ok.values
           c.in-Ok.ensures.read c.deref_mut.result.now c.perform-performed.new.server (subst Started (sym c.deref_mut.ensures.value) c.in-Ok-start.ensures) ran.0
-          (record { none = c.runs_keep_their_promise.ensures.none; more = c.runs_keep_their_promise.ensures.more }) c.closed.result c.closed.ensures,
+          (record { none = c.law_runs_keep_their_promise.ensures.none; more = c.law_runs_keep_their_promise.ensures.more }) c.closed.result c.closed.ensures,
       ran.1,
     )
 
 pub returns : goal.returns
 returns g c =
     let ran = c.in-Err-performed.ensures in
-    let Started : ServerView (Model g.row.S.Denot) → Type 0 = λ server. IsStarted g.S.SectorStore.size g.S.SectorStore.told c.in-Ok.values c.args.image c.args.blank server in
+    let Started : ServerView (Model g.row.S.Denot) → Type 0 = λ server. IsServerOfModel g.S.SectorStore.size g.S.SectorStore.told c.in-Ok.values c.args.image c.args.blank server in
     let left : c.closed.result ≡ c.perform-performed.new.server.adapter = c.closed.ensures in
     subst (λ (ended : Ended). Ends g.S.SectorStore.size g.S.SectorStore.told c.args.config.now c.args.script.now c.args.image c.args.blank c.args.trace
     (g.W.Write.contents c.args.out.now) (g.W.Write.contents c.perform-performed.new.out) ended (Some c.closed.result)) (sym c.from.ensures)
     (stopped _ _ c.args.config.now c.args.script.now c.args.image c.args.blank c.args.trace _ _ c.closed.result c.in-Err-performed.stop
     (played_of g.S.SectorStore.size g.S.SectorStore.told c.args.config.now c.args.script.now c.args.image c.args.blank c.args.trace _ _ c.in-Ok.values
     c.in-Ok.ensures.read c.deref_mut.result.now c.perform-performed.new.server (subst Started (sym c.deref_mut.ensures.value) c.in-Ok-start.ensures) ran.0
-    (record { none = c.runs_keep_their_promise.ensures.none; more = c.runs_keep_their_promise.ensures.more }) c.closed.result left)
+    (record { none = c.law_runs_keep_their_promise.ensures.none; more = c.law_runs_keep_their_promise.ensures.more }) c.closed.result left)
     (subst (λ (m : Model g.row.S.Denot). IsWhy (is_starved m) ran.0.part c.in-Err-performed.stop) (sym left) ran.2))

@@ -1,7 +1,7 @@
 use Rattle.std.proofs.Common.{ℕ, ◌≡◌, ◌≢◌, List, length, get_or, sym, ap, subst, arith}
 use Rattle.std.specs.List.{All}
 use Rattle.range_index.specs.declared.Item.{Item}
-use Rattle.range_index.specs.declared.Entry.{Entry}
+use Rattle.range_index.specs.declared.IndexEntry.{IndexEntry}
 use Rattle.range_index.specs.Items.{StandsBefore}
 use Rattle.range_index.specs.Index.{items_of}
 use Rattle.range_index.proofs.Sorting.{as_many}
@@ -34,9 +34,9 @@ invariant_of-self c =
     let had = c.self.invariant.1 in (
       inserted_index old c.insert.new.self.items c.note_ends.new.entries.items place (record { item = c.args.item; greatest_end = 0 }) c.self.invariant.0 c.in-Ok.ensures.items (omega (arith, within, len))
           c.note_ends.ensures.items c.note_ends.ensures.ends
-          (λ k d lt. subst (λ (f : ℕ). StandsBefore (get_or (items_of old) k d) f c.args.item.id.0) from (subst (λ (es : List Entry). StandsBefore (get_or (items_of es) k d) c.from-first.result c.args.item.id.0) value (p.before k d lt)))
+          (λ k d lt. subst (λ (f : ℕ). StandsBefore (get_or (items_of old) k d) f c.args.item.id.0) from (subst (λ (es : List IndexEntry). StandsBefore (get_or (items_of es) k d) c.from-first.result c.args.item.id.0) value (p.before k d lt)))
           (λ k d ge lt is. p.behind k d ge (omega (arith, len, lt))
-          (subst (λ (es : List Entry). StandsBefore (get_or (items_of es) k d) c.from-first.result c.args.item.id.0) (sym value) (subst (λ (f : ℕ). StandsBefore (get_or (items_of old) k d) f c.args.item.id.0) (sym from) is)))
+          (subst (λ (es : List IndexEntry). StandsBefore (get_or (items_of es) k d) c.from-first.result c.args.item.id.0) (sym value) (subst (λ (f : ℕ). StandsBefore (get_or (items_of old) k d) f c.args.item.id.0) (sym from) is)))
           (subst (λ (xs : List Item). All (λ (y : Item). y.id ≢ c.args.item.id) xs) (sym c.self.view_is) c.requires.fresh),
       omega (arith, room, more, had),
     )

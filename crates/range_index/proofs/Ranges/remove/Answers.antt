@@ -2,15 +2,15 @@ use Rattle.std.proofs.Common.{ℕ, ◌≡◌, ◌<◌, ◌≤◌, List, length, 
 use Rattle.std.specs.List.{Contains}
 use Rattle.std.proofs.lemmas.Option.{slice_get-get_or}
 use Rattle.range_index.specs.declared.Item.{Item}
-use Rattle.range_index.specs.declared.Entry.{Entry}
-use Rattle.range_index.specs.Items.{StandsBefore, first_of}
+use Rattle.range_index.specs.declared.IndexEntry.{IndexEntry}
+use Rattle.range_index.specs.Items.{StandsBefore, item_first}
 use Rattle.range_index.specs.Index.{IsIndex, items_of}
 use Rattle.range_index.proofs.Sorting.{as_many}
 use Rattle.range_index.proofs.Editing.{its_place, removed_below, removed_follow, removed_view, removed_index}
 use Rattle.range_index.proofs.Ranges.remove.Goals as goal
 
 -- the place that the search gives is the item's
-placed : (slice es : List Entry) (x : Item) (place first : ℕ) → slice ≡ es → IsIndex es → Contains (items_of es) x → first ≡ first_of x
+placed : (slice es : List IndexEntry) (x : Item) (place first : ℕ) → slice ≡ es → IsIndex es → Contains (items_of es) x → first ≡ item_first x
     → ((k : ℕ) (d : Item) → k < place → StandsBefore (get_or (items_of slice) k d) first x.id.0)
     → ((k : ℕ) (d : Item) → place ≤ k → k < length slice → StandsBefore (get_or (items_of slice) k d) first x.id.0 → ⊥)
     → (place < length (items_of es)) × (get_or (items_of es) place x ≡ x)
@@ -18,9 +18,9 @@ placed slice es x place first value is there from before behind =
     let n = as_many es in
     let len = ap length value in
     its_place (items_of es) x place is.sorted there
-    (λ k d lt. subst (λ (f : ℕ). StandsBefore (get_or (items_of es) k d) f x.id.0) from (subst (λ (xs : List Entry). StandsBefore (get_or (items_of xs) k d) first x.id.0) value (before k d lt)))
+    (λ k d lt. subst (λ (f : ℕ). StandsBefore (get_or (items_of es) k d) f x.id.0) from (subst (λ (xs : List IndexEntry). StandsBefore (get_or (items_of xs) k d) first x.id.0) value (before k d lt)))
     (λ k d ge lt h. behind k d ge (omega (arith, len, n, lt))
-    (subst (λ (xs : List Entry). StandsBefore (get_or (items_of xs) k d) first x.id.0) (sym value) (subst (λ (f : ℕ). StandsBefore (get_or (items_of es) k d) f x.id.0) (sym from) h)))
+    (subst (λ (xs : List IndexEntry). StandsBefore (get_or (items_of xs) k d) first x.id.0) (sym value) (subst (λ (f : ℕ). StandsBefore (get_or (items_of es) k d) f x.id.0) (sym from) h)))
 
 pub remove-requires : goal.remove-requires
 remove-requires c =

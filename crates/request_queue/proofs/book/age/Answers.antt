@@ -3,9 +3,9 @@ use Rattle.std.proofs.lemmas.Bool.{and_parts, not-true, false≢true}
 use Rattle.std.proofs.lemmas.List.{length-map, get_or-map}
 use Rattle.ata_types.specs.declared.request.RequestId.{RequestId}
 use Rattle.block_machine.specs.declared.due.Unanswered.{Unanswered}
-use Rattle.request_queue.specs.Entries.{Held, asks, asks_of, is_among, older}
+use Rattle.request_queue.specs.Entries.{Held, asks, asks_of, is_among, older_entry}
 use Rattle.request_queue.specs.Holders.{IsHolderOf, may_have_holder}
-use Rattle.request_queue.specs.Store.{blank}
+use Rattle.request_queue.specs.Store.{blank_entry}
 use Rattle.request_queue.proofs.Aging as aging
 use Rattle.request_queue.proofs.Changing.{all_are_changed, keeps_its_id, next_changed, older_spares, request_is}
 use Rattle.request_queue.proofs.Holding.{a_holder}
@@ -26,7 +26,7 @@ held_waits es i h lt some its d =
 
 pub replace-requires-clause-same_id : goal.replace-requires-clause-same_id
 replace-requires-clause-same_id c =
-    keeps_its_id (older (is_among c.args.ports.now)) (older_spares (is_among c.args.ports.now)) c.loop-place.store c.loop-place.place c.request-request.result _ c.request-request.ensures c.older-grown.ensures
+    keeps_its_id (older_entry (is_among c.args.ports.now)) (older_spares (is_among c.args.ports.now)) c.loop-place.store c.loop-place.place c.request-request.result _ c.request-request.ensures c.older_entry-grown.ensures
 
 pub loop-place-preserved : goal.loop-place-preserved
 loop-place-preserved c =
@@ -48,8 +48,8 @@ loop-place-preserved c =
           let d : Held = record { entry = r; frames = [] } in
           let its = sym (ap (λ (e : Held). e.entry) (v.changed.rest i d (omega arith))) ∙ request_is now i r d w.request-request.ensures in
           record {
-            changed = rw w.store-is (next_changed (older ports) old now _ i r _ v.changed w.request-request.ensures w.older-grown.ensures w.replace.ensures);
-            overdue = w.overdue-is ∙ aging.issued_more ports old now i c.loop-place.overdue lt v.changed v.overdue d r w.older-grown.result its w.if-request.true w.older-grown.ensures;
+            changed = rw w.store-is (next_changed (older_entry ports) old now _ i r _ v.changed w.request-request.ensures w.older_entry-grown.ensures w.replace.ensures);
+            overdue = w.overdue-is ∙ aging.issued_more ports old now i c.loop-place.overdue lt v.changed v.overdue d r w.older_entry-grown.result its w.if-request.true w.older_entry-grown.ensures;
           }
       | then-is_none+else-request w ↦
           let r = w.request-request.result in
@@ -59,18 +59,18 @@ loop-place-preserved c =
           let both = aging.waiting_more ports old now i c.loop-place.overdue lt v.changed v.overdue d (waits d) waits in
           record { changed = rw w.store-is both.0; overdue = w.overdue-is ∙ both.1 }
       | else-is_none w ↦
-          let d : Held = record { entry = blank; frames = [] } in
+          let d : Held = record { entry = blank_entry; frames = [] } in
           let waits = held_waits old i (get_or c.args.holders.now i None) lt (is_one _ c.is_none.result c.is_none.ensures w.if-is_none.false) (λ x. are.each i x inside) in
           let both = aging.waiting_more ports old now i c.loop-place.overdue lt v.changed v.overdue d (waits d) waits in
           record { changed = rw w.store-is both.0; overdue = w.overdue-is ∙ both.1 }
     ]
 
-pub returns-clause-older : goal.returns-clause-older
-returns-clause-older c =
+pub returns-clause-older_entry : goal.returns-clause-older_entry
+returns-clause-older_entry c =
     let n = c.requires.holders.number in
     let long = length-map c.args.store.now (λ (e : Held). asks e.entry) in
     let low = c.loop-place-test.false in
-    all_are_changed (older (is_among c.args.ports.now)) c.args.store.now c.loop-place.store c.loop-place.place (omega (arith, n, long, low)) c.loop-place.invariant.changed
+    all_are_changed (older_entry (is_among c.args.ports.now)) c.args.store.now c.loop-place.store c.loop-place.place (omega (arith, n, long, low)) c.loop-place.invariant.changed
 
 pub returns-clause-overdue : goal.returns-clause-overdue
 returns-clause-overdue c =

@@ -5,18 +5,18 @@ use Rattle.std.proofs.lemmas.Option.{slice_get-get_or}
 use Rattle.std.specs.List.{AllPairs, slice_get}
 use Rattle.ata_types.specs.declared.request.RequestId.{RequestId}
 use Rattle.request_queue.specs.Entries.{Held, IsEarlier}
-use Rattle.request_queue.specs.declared.Entry.{Entry}
+use Rattle.request_queue.specs.declared.PendingRequest.{PendingRequest}
 use Rattle.request_queue.proofs.Changing.{request_is}
 use Rattle.request_queue.proofs.book.place_of.Goals as goal
 
 -- where the last one has no later id, it has this one
-last_is : (es : List Held) (last : ℕ) (r : Entry) (id : RequestId) → AllPairs IsEarlier es → last + 1 ≡ length es → slice_get (map (λ (e : Held). e.entry) es) last ≡ Some r
+last_is : (es : List Held) (last : ℕ) (r : PendingRequest) (id : RequestId) → AllPairs IsEarlier es → last + 1 ≡ length es → slice_get (map (λ (e : Held). e.entry) es) last ≡ Some r
     → (k : ℕ) (d : Held) → k < length es → (get_or es k d).entry.id.0 ≡ id.0 → r.id.0 ≤ id.0 → k ≡ last
 last_is es last r id ordered long is k d lt its low = ⊎_elim
     (λ same. same)
     (λ (other : k ≢ last).
     let rise = ordered k last d (omega (arith, lt, long, other)) (omega (arith, long)) in
-    let at = ap (λ (x : Entry). x.id.0) (request_is es last r d is) in
+    let at = ap (λ (x : PendingRequest). x.id.0) (request_is es last r d is) in
     absurd (omega (arith, rise, at, its, low)))
     (cases_eq k last)
 
@@ -33,7 +33,7 @@ loop-past-init c =
     let id = its c.args.store.now e.0 c.args.id e.1.0 e.1.1 e.1.2 e.2 in
     let before : e.1.0 < last = ⊎_elim
     (λ (same : e.1.0 ≡ last).
-    let at = ap (λ (x : Entry). x.id.0) (request_is c.args.store.now last c.request.result e.0 c.request.ensures) in
+    let at = ap (λ (x : PendingRequest). x.id.0) (request_is c.args.store.now last c.request.result e.0 c.request.ensures) in
     let mine = ap (λ (n : ℕ). (get_or c.args.store.now n e.0).entry.id.0) same in
     let i = id e.0 in
     let high = c.if-request-id.false in absurd (omega (arith, at, mine, i, high)))
@@ -77,7 +77,7 @@ loop-past-preserved-then-request-id-2 c = record {
 
     here : (get_or c.args.store.now middle d).entry.id.0 ≤ c.args.id.0
     here =
-        let same = ap (λ (r : Entry). r.id.0) (request_is c.args.store.now middle c.request-in-loop-past.result d c.request-in-loop-past.ensures) in
+        let same = ap (λ (r : PendingRequest). r.id.0) (request_is c.args.store.now middle c.request-in-loop-past.result d c.request-in-loop-past.ensures) in
         let low = c.if-request-id-2.true in omega (arith, same, low)
 
     -- one before the middle has a lower id than it
@@ -111,7 +111,7 @@ loop-past-preserved c = record {
 
     high : c.args.id.0 < (get_or c.args.store.now middle d).entry.id.0
     high =
-        let same = ap (λ (r : Entry). r.id.0) (request_is c.args.store.now middle c.request-in-loop-past.result d c.request-in-loop-past.ensures) in
+        let same = ap (λ (r : PendingRequest). r.id.0) (request_is c.args.store.now middle c.request-in-loop-past.result d c.request-in-loop-past.ensures) in
         let more = c.if-request-id-2.false in omega (arith, same, more)
 
     -- one from the middle on has no lower id than it

@@ -3,11 +3,11 @@ use Rattle.std.specs.List.{remove, slice_get}
 use Rattle.std.proofs.lemmas.Option.{slice_get-get_or}
 use Rattle.block_machine.specs.declared.due.Unanswered.{Unanswered}
 use Rattle.request_queue.specs.Counts.{AreCounts}
-use Rattle.request_queue.specs.Entries.{Held, IsInOrder, asks_of, without}
+use Rattle.request_queue.specs.Entries.{Held, BookIsInOrder, asks_of, without_entry}
 use Rattle.request_queue.specs.Flushes.{flushes_of}
 use Rattle.request_queue.specs.Holders.{AreHolders}
 use Rattle.request_queue.specs.Sectors.{AreIndexed}
-use Rattle.request_queue.specs.declared.Entry.{Entry}
+use Rattle.request_queue.specs.declared.PendingRequest.{PendingRequest}
 use Rattle.request_queue.proofs.Changing.{asks_in_order, dropped_at, request_is}
 use Rattle.request_queue.proofs.Counts.{is_counted, one_uncounted}
 use Rattle.request_queue.proofs.Flushing.{fewer_flushes}
@@ -15,7 +15,7 @@ use Rattle.request_queue.proofs.Holding.{fewer_holders}
 use Rattle.request_queue.proofs.Indexing.{asks_less}
 use Rattle.request_queue.proofs.book.take_beside.Goals as goal
 
-module _ (es : List Held) (i : ℕ) (r : Entry) (lt : i < length es) (s : IsInOrder es) (is : slice_get (map (λ (e : Held). e.entry) es) i ≡ Some r) where
+module _ (es : List Held) (i : ℕ) (r : PendingRequest) (lt : i < length es) (s : BookIsInOrder es) (is : slice_get (map (λ (e : Held). e.entry) es) i ≡ Some r) where
   abbrev d : Held
   d = record { entry = r; frames = [] }
 
@@ -24,15 +24,15 @@ module _ (es : List Held) (i : ℕ) (r : Entry) (lt : i < length es) (s : IsInOr
   e = record { entry = r; frames = (get_or es i d).frames }
 
   at : slice_get es i ≡ Some e
-  at = slice_get-get_or es i d lt ∙ ap (λ (x : Entry). Some (record { entry = x; frames = (get_or es i d).frames })) (request_is es i r d is)
+  at = slice_get-get_or es i d lt ∙ ap (λ (x : PendingRequest). Some (record { entry = x; frames = (get_or es i d).frames })) (request_is es i r d is)
 
-  dropped : remove es i ≡ without r.id es
+  dropped : remove es i ≡ without_entry r.id es
   dropped = dropped_at es i e r.id s.ordered at refl
 
   small : r.client.0 < 9
   small =
       let c = (s.clients i d lt).1 in
-      let same = ap (λ (x : Entry). x.client.0) (request_is es i r d is) in
+      let same = ap (λ (x : PendingRequest). x.client.0) (request_is es i r d is) in
       omega (arith, c, same)
 
   some : (counts : List ℕ) → AreCounts es counts → 1 ≤ get_or counts r.client.0 0

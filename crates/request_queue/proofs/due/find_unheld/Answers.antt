@@ -9,7 +9,7 @@ use Rattle.block_machine.specs.declared.due.Unanswered.{Unanswered}
 use Rattle.request_queue.specs.Entries.{Held, asks, asks_of}
 use Rattle.request_queue.specs.Holders.{IsHolderOf, has_holder}
 use Rattle.request_queue.specs.Walk.{is_issued_alone}
-use Rattle.request_queue.specs.Store.{asks_at, blank}
+use Rattle.request_queue.specs.Store.{asks_at, blank_entry}
 use Rattle.request_queue.proofs.Holding.{a_holder, no_holder}
 use Rattle.request_queue.proofs.Own.{one_in, one_out, counted_more, any_more}
 use Rattle.request_queue.proofs.due.find_unheld.Goals as goal
@@ -71,10 +71,10 @@ loop-place-preserved c =
             alone = w.alone-is ∙ v.alone;
           })
       | else-is_none w ↦
-          let r = get_or book i (asks blank) in
-          let held = a_holder book r (get_or c.args.holders.now i None) (is_one _ c.is_none.result c.is_none.ensures w.if-is_none.false) (are.each i (asks blank) inside) in
+          let r = get_or book i (asks blank_entry) in
+          let held = a_holder book r (get_or c.args.holders.now i None) (is_one _ c.is_none.result c.is_none.ensures w.if-is_none.false) (are.each i (asks blank_entry) inside) in
           rw w.places-is (record {
-            unheld = one_out p es places i r (slice_get-get_or book i (asks blank) inside) v.unheld
+            unheld = one_out p es places i r (slice_get-get_or book i (asks blank_entry) inside) v.unheld
                 (false_from_ne_true _ (λ both. both_ways _ (not-true _ (and_parts (r.port.0 == c.args.port.0) _ both).1) held));
             within = v.within;
             few = omega (arith, v.few);

@@ -2,7 +2,7 @@ use Rattle.std.proofs.Common.{◌≡◌, ◌∙◌, ◌≤◌, ◌<◌, ◌+◌,
 use Rattle.std.specs.Prelude.{nat_lt}
 use Rattle.std.proofs.lemmas.Bool.{cases_eq}
 use Rattle.std.proofs.lemmas.Option.{get_or_from_slice_get}
-use Rattle.block_machine.specs.declared.due.Mode.{Mode}
+use Rattle.block_machine.specs.declared.due.QueueMode.{QueueMode}
 use Rattle.block_machine.specs.Due.{is_plain}
 use Rattle.std.specs.List.{filter, slice_get}
 use Rattle.std.proofs.lemmas.List.{take_all}
@@ -19,7 +19,7 @@ or_false : (a b : Bool) → (a || b) ≡ false → a ≡ false
 or_false false b e = refl
 or_false true b e = e
 
-queued_more : (mode : Mode) (book : List Unanswered) (i : ℕ) (r : Unanswered) → slice_get book i ≡ Some r → is_plain mode r.op ≡ false
+queued_more : (mode : QueueMode) (book : List Unanswered) (i : ℕ) (r : Unanswered) → slice_get book i ≡ Some r → is_plain mode r.op ≡ false
     → ((k : ℕ) (d : Unanswered) → k < i → is_plain mode (get_or book k d).op ≡ false) → (k : ℕ) (d : Unanswered) → k < i + 1 → is_plain mode (get_or book k d).op ≡ false
 queued_more mode book i r at here before k d lt = elim (cases_eq k i) [
   | inl e ↦ ap (λ (n : ℕ). is_plain mode (get_or book n d).op) e ∙ (ap (λ (u : Unanswered). is_plain mode u.op) (get_or_from_slice_get book i r d at) ∙ here)
@@ -36,11 +36,11 @@ returns-then-ends c =
     let clear = c.is_clear-clear.ensures book (reached c.args.port all book is c.requires.ordered c.args.mode c.loop-number.number c.nth-asks.result c.nth-asks.ensures c.loop-number.invariant.queued) c.find_unheld-issued.ensures.issued in
     let free = own_free c.args.port all book is c.args.mode c.free_slots-free.result (c.free_slots-free.ensures ∙ ap (λ (n : ℕ). c.args.mode.usable - n) c.find_unheld-issued.ensures.issued.0) in
     let so_far =
-    steps_on c.earlier_ones_stand_before.ensures c.slots_by_due.ensures c.args.mode c.args.port book ordered c.loop-number.number c.nth-asks.result c.nth-asks.ensures mine
+    steps_on c.law_earlier_ones_stand_before.ensures c.law_slots_by_due.ensures c.args.mode c.args.port book ordered c.loop-number.number c.nth-asks.result c.nth-asks.ensures mine
     c.loop-number.due.items c.loop-number.invariant.so_far c.len.result c.free_slots-free.result c.len.ensures.value free c.if-goes.due.items c.goes.result (c.goes.ensures ∙ ap (λ (b : Bool). b && (is_plain c.args.mode c.nth-asks.result.op || nat_lt c.len.result c.free_slots-free.result)) clear)
     (elim c.if-goes.branch [ then-goes w ↦ rw (w.due-is, w.push.ensures.items, w.if-goes.true) refl | else-goes w ↦ rw (w.due-is, w.if-goes.false) refl ]) in
     own_due c.args.port all book is c.args.mode c.if-goes.due.items
-    (has_all c.earlier_ones_stand_before.ensures c.slots_by_due.ensures c.args.mode c.args.port book ordered c.loop-number.number c.nth-asks.result c.nth-asks.ensures mine
+    (has_all c.law_earlier_ones_stand_before.ensures c.law_slots_by_due.ensures c.args.mode c.args.port book ordered c.loop-number.number c.nth-asks.result c.nth-asks.ensures mine
     c.if-goes.due.items so_far c.len-in-loop-number.result c.free_slots-free.result c.len-in-loop-number.ensures.value free (sym c.ends.ensures ∙ c.if-ends.true))
 
 pub loop-number-preserved : goal.loop-number-preserved
@@ -54,7 +54,7 @@ loop-number-preserved c =
     let free = own_free c.args.port all book is c.args.mode c.free_slots-free.result (c.free_slots-free.ensures ∙ ap (λ (n : ℕ). c.args.mode.usable - n) c.find_unheld-issued.ensures.issued.0) in
     let small = has_room c.args.mode c.args.port book c.nth-asks.result c.len-in-loop-number.result c.free_slots-free.result free c.requires.usable (sym c.ends.ensures ∙ c.if-ends.false) in
     record {
-      so_far = steps_on c.earlier_ones_stand_before.ensures c.slots_by_due.ensures c.args.mode c.args.port book ordered c.loop-number.number c.nth-asks.result c.nth-asks.ensures mine
+      so_far = steps_on c.law_earlier_ones_stand_before.ensures c.law_slots_by_due.ensures c.args.mode c.args.port book ordered c.loop-number.number c.nth-asks.result c.nth-asks.ensures mine
           c.loop-number.due.items c.loop-number.invariant.so_far c.len.result c.free_slots-free.result c.len.ensures.value free c.if-goes.due.items c.goes.result (c.goes.ensures ∙ ap (λ (b : Bool). b && (is_plain c.args.mode c.nth-asks.result.op || nat_lt c.len.result c.free_slots-free.result)) clear)
           (elim c.if-goes.branch [ then-goes w ↦ rw (w.due-is, w.push.ensures.items, w.if-goes.true) refl | else-goes w ↦ rw (w.due-is, w.if-goes.false) refl ]);
       few = omega (arith, small, c.len-in-loop-number.ensures.value);

@@ -1,9 +1,9 @@
 use Rattle.std.proofs.Common.{ℕ, ◌≡◌, arith, sym, ap, ◌∙◌, subst}
 use Rattle.ata_types.specs.declared.Port.{Port}
 use Rattle.hba_regs.specs.Bits.{bit}
-use Rattle.agreement.specs.Driven.{AnyUse, IsControl}
-use Rattle.agreement.proofs.driver.PortAccesses.{agreeing_goes_on, same_over}
-use Rattle.host_boot.specs.declared.Found.TheVariants.{Ready, Unserved}
+use Rattle.refinement.specs.Driven.{AnyUse, IsControl}
+use Rattle.refinement.proofs.driver.PortAccesses.{law_agreeing_goes_on, same_over}
+use Rattle.host_boot.specs.declared.ProbeResult.TheVariants.{Ready, Unserved}
 use Rattle.host_boot.proofs.Beginning.{taken_there}
 use Rattle.port_control.specs.Calls.{MayBeginReceiving}
 use Rattle.port_control.specs.Ports.{WritesCommand}
@@ -28,7 +28,7 @@ receive-requires g c =
       may = subst M (sym c.in-Ok.ensures.names) (record {
         on = c.stop.ensures.on;
         there = (there.0, ap (λ (pi : ℕ). bit pi 0) same.pi ∙ there.1);
-        agreed = (taken.uses, tt, agreeing_goes_on WritesCommand AnyUse (record { 0 = 0 }) taken.uses _ _ tt followed taken.agreed);
+        agreed = (taken.uses, tt, law_agreeing_goes_on WritesCommand AnyUse (record { 0 = 0 }) taken.uses _ _ tt followed taken.agreed);
         stopped = c.in-Ok.ensures.halts.stopped;
         room = let size = same.size in let had = taken.same.size in let room = c.requires.room in omega (arith, room, size, had);
       });

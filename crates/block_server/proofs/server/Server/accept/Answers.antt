@@ -2,7 +2,7 @@ use Rattle.std.proofs.Common.{ℕ, ◌≡◌, ◌≤◌, ◌+◌, ◌++◌, ◌�
 use Rattle.ata_types.specs.declared.request.Frame.{Frame}
 use Rattle.block_machine.specs.Events.{Submit, Submitted}
 use Rattle.block_machine.specs.Due.{due_of}
-use Rattle.block_machine.specs.declared.due.Mode.{Mode}
+use Rattle.block_machine.specs.declared.due.QueueMode.{QueueMode}
 use Rattle.block_machine.specs.declared.due.Unanswered.{Unanswered}
 use Rattle.ata_types.specs.declared.request.RequestId.{RequestId}
 use Rattle.block_machine.specs.Refusals.{IsAcceptable}
@@ -13,9 +13,9 @@ use Rattle.block_server.specs.Ports.{with_part}
 use Rattle.block_server.specs.Seen.{seen}
 use Rattle.block_server.specs.View.{ServerView, server_of}
 use Rattle.request_queue.specs.Entries.{Held, asks, asks_of}
-use Rattle.server_history.specs.Histories.{AddsEvent}
+use Rattle.server_history.specs.Histories.{ExtendsHistory}
 use Rattle.server_history.specs.Served.{Accepts, accepted_as, accepting}
-use Rattle.server_history.specs.Server.{Server, mode_in, situation_of}
+use Rattle.server_history.specs.Server.{ServerState, mode_in, server_situation}
 use Rattle.block_server.proofs.Standing.{is_on, of_on}
 use Rattle.block_server.proofs.Accepting as accepted
 use Rattle.block_server.proofs.Newest as newest
@@ -24,25 +24,25 @@ use Rattle.block_server.proofs.server.Server.accept.Goals as goal
 use Rattle.block_server.proofs.server.Server.accept.Goals.{After-issue_due}
 
 pub overflow_add-id : goal.overflow_add-id
-overflow_add-id g c = let h = accepted.next_fits (server_of g.A.Adapter.device (seen c.self.inside)) c.args.r.now (subst (λ (v : ServerView g.row.A.Denot). IsAcceptable (situation_of (server_of g.A.Adapter.device v)) c.args.r.now) (sym c.self.view_is) c.requires.acceptable) in omega (arith, h)
+overflow_add-id g c = let h = accepted.next_fits (server_of g.A.Adapter.device (seen c.self.inside)) c.args.r.now (subst (λ (v : ServerView g.row.A.Denot). IsAcceptable (server_situation (server_of g.A.Adapter.device v)) c.args.r.now) (sym c.self.view_is) c.requires.acceptable) in omega (arith, h)
 
 pub lend-loan-requires-clause-clear : goal.lend-loan-requires-clause-clear
 lend-loan-requires-clause-clear g c =
     rw c.deref_mut.ensures.value (subst (λ (frames : List Frame). HasNoFault (owner_of c.self.inside.table.value) (lent_to c.self.inside.table.value) c.args.r.now.client frames) (sym c.as_slice.ensures.value)
-    (accepted.faultless (server_of g.A.Adapter.device (seen c.self.inside)) c.args.r.now (subst (λ (v : ServerView g.row.A.Denot). IsAcceptable (situation_of (server_of g.A.Adapter.device v)) c.args.r.now) (sym c.self.view_is) c.requires.acceptable)))
+    (accepted.faultless (server_of g.A.Adapter.device (seen c.self.inside)) c.args.r.now (subst (λ (v : ServerView g.row.A.Denot). IsAcceptable (server_situation (server_of g.A.Adapter.device v)) c.args.r.now) (sym c.self.view_is) c.requires.acceptable)))
 
 pub accept-requires-clause-few : goal.accept-requires-clause-few
-accept-requires-clause-few g c = accepted.has_place (server_of g.A.Adapter.device (seen c.self.inside)) c.args.r.now (subst (λ (v : ServerView g.row.A.Denot). IsAcceptable (situation_of (server_of g.A.Adapter.device v)) c.args.r.now) (sym c.self.view_is) c.requires.acceptable) (is_on g.A.Adapter.device (seen c.self.inside) c.args.self.now c.self.view_is c.requires.on c.self.invariant).kept c.args.port (subst (λ (v : ServerView g.row.A.Denot). IsFor v.grants c.args.r.now c.args.port) (sym c.self.view_is) c.requires.port)
+accept-requires-clause-few g c = accepted.has_place (server_of g.A.Adapter.device (seen c.self.inside)) c.args.r.now (subst (λ (v : ServerView g.row.A.Denot). IsAcceptable (server_situation (server_of g.A.Adapter.device v)) c.args.r.now) (sym c.self.view_is) c.requires.acceptable) (is_on g.A.Adapter.device (seen c.self.inside) c.args.self.now c.self.view_is c.requires.on c.self.invariant).kept c.args.port (subst (λ (v : ServerView g.row.A.Denot). IsFor v.grants c.args.r.now c.args.port) (sym c.self.view_is) c.requires.port)
 
 pub issue_due-requires : goal.issue_due-requires
 issue_due-requires g c = record {
   lends = (
     accepting c.args.port c.args.r.now (record { 0 = c.self.inside.last + 1 }) c.lend-loan.new.self (server_of g.A.Adapter.device (seen c.self.inside)),
-    accepted.lends (server_of g.A.Adapter.device (seen c.self.inside)) c.args.r.now (subst (λ (v : ServerView g.row.A.Denot). IsAcceptable (situation_of (server_of g.A.Adapter.device v)) c.args.r.now) (sym c.self.view_is) c.requires.acceptable) (is_on g.A.Adapter.device (seen c.self.inside) c.args.self.now c.self.view_is c.requires.on c.self.invariant).kept c.args.port (subst (λ (v : ServerView g.row.A.Denot). IsFor v.grants c.args.r.now c.args.port) (sym c.self.view_is) c.requires.port)
-        c.requests_keep.ensures.accepted (record { 0 = c.self.inside.last + 1 }) refl c.as_slice.result.now c.as_slice.ensures.value
+    accepted.lends (server_of g.A.Adapter.device (seen c.self.inside)) c.args.r.now (subst (λ (v : ServerView g.row.A.Denot). IsAcceptable (server_situation (server_of g.A.Adapter.device v)) c.args.r.now) (sym c.self.view_is) c.requires.acceptable) (is_on g.A.Adapter.device (seen c.self.inside) c.args.self.now c.self.view_is c.requires.on c.self.invariant).kept c.args.port (subst (λ (v : ServerView g.row.A.Denot). IsFor v.grants c.args.r.now c.args.port) (sym c.self.view_is) c.requires.port)
+        c.law_requests_keep.ensures.accepted (record { 0 = c.self.inside.last + 1 }) refl c.as_slice.result.now c.as_slice.ensures.value
         c.lend-loan.new.self (rw c.deref_mut.ensures.value at c.lend-loan.ensures.lent) c.lend-loan.result.frames c.lend-loan.ensures.frames c.accept.new.self c.accept.ensures
         (slice_index_or c.self.inside.slots c.from.result c.index-self-from.result)
-        (accepted.its_slots (server_of g.A.Adapter.device (seen c.self.inside)) c.args.r.now (subst (λ (v : ServerView g.row.A.Denot). IsAcceptable (situation_of (server_of g.A.Adapter.device v)) c.args.r.now) (sym c.self.view_is) c.requires.acceptable) (is_on g.A.Adapter.device (seen c.self.inside) c.args.self.now c.self.view_is c.requires.on c.self.invariant).kept c.args.port (subst (λ (v : ServerView g.row.A.Denot). IsFor v.grants c.args.r.now c.args.port) (sym c.self.view_is) c.requires.port) c.from.result c.from.ensures c.index-self-from.result) c.mode-mode.result (ap (λ (v : ServerView g.row.A.Denot). mode_in (server_of g.A.Adapter.device v) c.args.port) c.self.view_is ∙ sym c.mode-mode.ensures),
+        (accepted.its_slots (server_of g.A.Adapter.device (seen c.self.inside)) c.args.r.now (subst (λ (v : ServerView g.row.A.Denot). IsAcceptable (server_situation (server_of g.A.Adapter.device v)) c.args.r.now) (sym c.self.view_is) c.requires.acceptable) (is_on g.A.Adapter.device (seen c.self.inside) c.args.self.now c.self.view_is c.requires.on c.self.invariant).kept c.args.port (subst (λ (v : ServerView g.row.A.Denot). IsFor v.grants c.args.r.now c.args.port) (sym c.self.view_is) c.requires.port) c.from.result c.from.ensures c.index-self-from.result) c.mode-mode.result (ap (λ (v : ServerView g.row.A.Denot). mode_in (server_of g.A.Adapter.device v) c.args.port) c.self.view_is ∙ sym c.mode-mode.ensures),
   );
 }
 
@@ -64,41 +64,41 @@ after g c = record (seen c.self.inside) {
 sent : (g : Over) (c : After-issue_due g) → Accepts c.args.port c.args.r.now (record { 0 = c.self.inside.last + 1 }) (server_of g.A.Adapter.device (seen c.self.inside)) (server_of g.A.Adapter.device (after g c))
 sent g c =
     let s = (server_of g.A.Adapter.device (seen c.self.inside)) in
-    let accepts = accepted.accepts (server_of g.A.Adapter.device (seen c.self.inside)) c.args.r.now (subst (λ (v : ServerView g.row.A.Denot). IsAcceptable (situation_of (server_of g.A.Adapter.device v)) c.args.r.now) (sym c.self.view_is) c.requires.acceptable) (is_on g.A.Adapter.device (seen c.self.inside) c.args.self.now c.self.view_is c.requires.on c.self.invariant).kept c.args.port (subst (λ (v : ServerView g.row.A.Denot). IsFor v.grants c.args.r.now c.args.port) (sym c.self.view_is) c.requires.port)
-    c.requests_keep.ensures.accepted (record { 0 = c.self.inside.last + 1 }) refl c.as_slice.result.now c.as_slice.ensures.value
+    let accepts = accepted.accepts (server_of g.A.Adapter.device (seen c.self.inside)) c.args.r.now (subst (λ (v : ServerView g.row.A.Denot). IsAcceptable (server_situation (server_of g.A.Adapter.device v)) c.args.r.now) (sym c.self.view_is) c.requires.acceptable) (is_on g.A.Adapter.device (seen c.self.inside) c.args.self.now c.self.view_is c.requires.on c.self.invariant).kept c.args.port (subst (λ (v : ServerView g.row.A.Denot). IsFor v.grants c.args.r.now c.args.port) (sym c.self.view_is) c.requires.port)
+    c.law_requests_keep.ensures.accepted (record { 0 = c.self.inside.last + 1 }) refl c.as_slice.result.now c.as_slice.ensures.value
     c.lend-loan.new.self (rw c.deref_mut.ensures.value at c.lend-loan.ensures.lent) c.lend-loan.result.frames c.lend-loan.ensures.frames c.accept.new.self c.accept.ensures in
-    let lends = accepted.lends (server_of g.A.Adapter.device (seen c.self.inside)) c.args.r.now (subst (λ (v : ServerView g.row.A.Denot). IsAcceptable (situation_of (server_of g.A.Adapter.device v)) c.args.r.now) (sym c.self.view_is) c.requires.acceptable) (is_on g.A.Adapter.device (seen c.self.inside) c.args.self.now c.self.view_is c.requires.on c.self.invariant).kept c.args.port (subst (λ (v : ServerView g.row.A.Denot). IsFor v.grants c.args.r.now c.args.port) (sym c.self.view_is) c.requires.port)
-    c.requests_keep.ensures.accepted (record { 0 = c.self.inside.last + 1 }) refl c.as_slice.result.now c.as_slice.ensures.value
+    let lends = accepted.lends (server_of g.A.Adapter.device (seen c.self.inside)) c.args.r.now (subst (λ (v : ServerView g.row.A.Denot). IsAcceptable (server_situation (server_of g.A.Adapter.device v)) c.args.r.now) (sym c.self.view_is) c.requires.acceptable) (is_on g.A.Adapter.device (seen c.self.inside) c.args.self.now c.self.view_is c.requires.on c.self.invariant).kept c.args.port (subst (λ (v : ServerView g.row.A.Denot). IsFor v.grants c.args.r.now c.args.port) (sym c.self.view_is) c.requires.port)
+    c.law_requests_keep.ensures.accepted (record { 0 = c.self.inside.last + 1 }) refl c.as_slice.result.now c.as_slice.ensures.value
     c.lend-loan.new.self (rw c.deref_mut.ensures.value at c.lend-loan.ensures.lent) c.lend-loan.result.frames c.lend-loan.ensures.frames c.accept.new.self c.accept.ensures
     (slice_index_or c.self.inside.slots c.from.result c.index-self-from.result)
-    (accepted.its_slots (server_of g.A.Adapter.device (seen c.self.inside)) c.args.r.now (subst (λ (v : ServerView g.row.A.Denot). IsAcceptable (situation_of (server_of g.A.Adapter.device v)) c.args.r.now) (sym c.self.view_is) c.requires.acceptable) (is_on g.A.Adapter.device (seen c.self.inside) c.args.self.now c.self.view_is c.requires.on c.self.invariant).kept c.args.port (subst (λ (v : ServerView g.row.A.Denot). IsFor v.grants c.args.r.now c.args.port) (sym c.self.view_is) c.requires.port) c.from.result c.from.ensures c.index-self-from.result) c.mode-mode.result (mode_is g c) in
-    let more : Server = accepting c.args.port c.args.r.now (record { 0 = c.self.inside.last + 1 }) c.lend-loan.new.self s in
+    (accepted.its_slots (server_of g.A.Adapter.device (seen c.self.inside)) c.args.r.now (subst (λ (v : ServerView g.row.A.Denot). IsAcceptable (server_situation (server_of g.A.Adapter.device v)) c.args.r.now) (sym c.self.view_is) c.requires.acceptable) (is_on g.A.Adapter.device (seen c.self.inside) c.args.self.now c.self.view_is c.requires.on c.self.invariant).kept c.args.port (subst (λ (v : ServerView g.row.A.Denot). IsFor v.grants c.args.r.now c.args.port) (sym c.self.view_is) c.requires.port) c.from.result c.from.ensures c.index-self-from.result) c.mode-mode.result (mode_is g c) in
+    let more : ServerState = accepting c.args.port c.args.r.now (record { 0 = c.self.inside.last + 1 }) c.lend-loan.new.self s in
     subst (λ (n : ℕ). Accepts c.args.port c.args.r.now (record { 0 = c.self.inside.last + 1 }) s (record more { device = g.A.Adapter.device c.issue_due.new.adapter; slots = slice_set c.self.inside.slots n c.issue_due.new.slots; book = c.issue_due.new.book })) (sym c.from.ensures)
     (accepts (with_part more (g.A.Adapter.device c.issue_due.new.adapter) c.issue_due.new.book c.issue_due.new.slots c.args.port) (c.issue_due.ensures.issues more lends))
 
 pub invariant_of-self : goal.invariant_of-self
 invariant_of-self g c = of_on c.self.view_is c.requires.on (
-    (c.acceptances_add.ensures (server_of g.A.Adapter.device (seen c.self.inside)) (server_of g.A.Adapter.device (after g c)) c.args.port c.args.r.now (record { 0 = c.self.inside.last + 1 }) (is_on g.A.Adapter.device (seen c.self.inside) c.args.self.now c.self.view_is c.requires.on c.self.invariant) (subst (λ (v : ServerView g.row.A.Denot). IsAcceptable (situation_of (server_of g.A.Adapter.device v)) c.args.r.now) (sym c.self.view_is) c.requires.acceptable) (sent g c)).settled)
+    (c.law_acceptances_add.ensures (server_of g.A.Adapter.device (seen c.self.inside)) (server_of g.A.Adapter.device (after g c)) c.args.port c.args.r.now (record { 0 = c.self.inside.last + 1 }) (is_on g.A.Adapter.device (seen c.self.inside) c.args.self.now c.self.view_is c.requires.on c.self.invariant) (subst (λ (v : ServerView g.row.A.Denot). IsAcceptable (server_situation (server_of g.A.Adapter.device v)) c.args.r.now) (sym c.self.view_is) c.requires.acceptable) (sent g c)).settled)
 
 pub returns-clause-accepts : goal.returns-clause-accepts
 returns-clause-accepts g c =
     subst (λ (v : ServerView g.row.A.Denot). AcceptsRequest g.A.Adapter.device v (after g c) c.args.r.now (record { 0 = c.self.inside.last + 1 })) c.self.view_is (record {
-      acceptable = (subst (λ (v : ServerView g.row.A.Denot). IsAcceptable (situation_of (server_of g.A.Adapter.device v)) c.args.r.now) (sym c.self.view_is) c.requires.acceptable);
+      acceptable = (subst (λ (v : ServerView g.row.A.Denot). IsAcceptable (server_situation (server_of g.A.Adapter.device v)) c.args.r.now) (sym c.self.view_is) c.requires.acceptable);
       port = c.args.port;
       accepts = sent g c;
       stuck = refl;
       same = λ none.
-          let book = accepted.its_book (server_of g.A.Adapter.device (seen c.self.inside)) c.args.r.now (subst (λ (v : ServerView g.row.A.Denot). IsAcceptable (situation_of (server_of g.A.Adapter.device v)) c.args.r.now) (sym c.self.view_is) c.requires.acceptable) (is_on g.A.Adapter.device (seen c.self.inside) c.args.self.now c.self.view_is c.requires.on c.self.invariant).kept c.args.port (subst (λ (v : ServerView g.row.A.Denot). IsFor v.grants c.args.r.now c.args.port) (sym c.self.view_is) c.requires.port)
-          c.requests_keep.ensures.accepted (record { 0 = c.self.inside.last + 1 }) refl c.as_slice.result.now c.as_slice.ensures.value
+          let book = accepted.its_book (server_of g.A.Adapter.device (seen c.self.inside)) c.args.r.now (subst (λ (v : ServerView g.row.A.Denot). IsAcceptable (server_situation (server_of g.A.Adapter.device v)) c.args.r.now) (sym c.self.view_is) c.requires.acceptable) (is_on g.A.Adapter.device (seen c.self.inside) c.args.self.now c.self.view_is c.requires.on c.self.invariant).kept c.args.port (subst (λ (v : ServerView g.row.A.Denot). IsFor v.grants c.args.r.now c.args.port) (sym c.self.view_is) c.requires.port)
+          c.law_requests_keep.ensures.accepted (record { 0 = c.self.inside.last + 1 }) refl c.as_slice.result.now c.as_slice.ensures.value
           c.lend-loan.new.self (rw c.deref_mut.ensures.value at c.lend-loan.ensures.lent) c.lend-loan.result.frames c.lend-loan.ensures.frames c.accept.new.self c.accept.ensures in
           c.issue_due.ensures.none (subst (λ (b : List Held). due_of c.mode-mode.result c.args.port (asks_of b) ≡ []) book
-          (subst (λ (m : Mode). due_of m c.args.port (asks_of (accepting c.args.port c.args.r.now (record { 0 = c.self.inside.last + 1 }) (sent g c).table (server_of g.A.Adapter.device (seen c.self.inside))).book) ≡ []) (mode_is g c) none));
+          (subst (λ (m : QueueMode). due_of m c.args.port (asks_of (accepting c.args.port c.args.r.now (record { 0 = c.self.inside.last + 1 }) (sent g c).table (server_of g.A.Adapter.device (seen c.self.inside))).book) ≡ []) (mode_is g c) none));
     })
 
 pub returns-clause-adds : goal.returns-clause-adds
 returns-clause-adds g c =
-    subst (λ (v : ServerView g.row.A.Denot). AddsEvent (server_of g.A.Adapter.device v) (server_of g.A.Adapter.device (after g c)) (Submit c.args.r.now) (Submitted (Ok (record { 0 = c.self.inside.last + 1 })))) c.self.view_is
-    (c.acceptances_add.ensures (server_of g.A.Adapter.device (seen c.self.inside)) (server_of g.A.Adapter.device (after g c)) c.args.port c.args.r.now (record { 0 = c.self.inside.last + 1 }) (is_on g.A.Adapter.device (seen c.self.inside) c.args.self.now c.self.view_is c.requires.on c.self.invariant) (subst (λ (v : ServerView g.row.A.Denot). IsAcceptable (situation_of (server_of g.A.Adapter.device v)) c.args.r.now) (sym c.self.view_is) c.requires.acceptable) (sent g c)).adds
+    subst (λ (v : ServerView g.row.A.Denot). ExtendsHistory (server_of g.A.Adapter.device v) (server_of g.A.Adapter.device (after g c)) (Submit c.args.r.now) (Submitted (Ok (record { 0 = c.self.inside.last + 1 })))) c.self.view_is
+    (c.law_acceptances_add.ensures (server_of g.A.Adapter.device (seen c.self.inside)) (server_of g.A.Adapter.device (after g c)) c.args.port c.args.r.now (record { 0 = c.self.inside.last + 1 }) (is_on g.A.Adapter.device (seen c.self.inside) c.args.self.now c.self.view_is c.requires.on c.self.invariant) (subst (λ (v : ServerView g.row.A.Denot). IsAcceptable (server_situation (server_of g.A.Adapter.device v)) c.args.r.now) (sym c.self.view_is) c.requires.acceptable) (sent g c)).adds
 
 pub accept-requires-clause-fresh : goal.accept-requires-clause-fresh
 accept-requires-clause-fresh g c = search rules
@@ -109,7 +109,7 @@ returns-clause-cost g c =
     let s = server_of g.A.Adapter.device (seen c.self.inside) in
     let settled = is_on g.A.Adapter.device (seen c.self.inside) c.args.self.now c.self.view_is c.requires.on c.self.invariant in
     let id : RequestId = record { 0 = c.self.inside.last + 1 } in
-    let exact = c.due_is_exact.ensures in
+    let exact = c.law_due_is_exact.ensures in
     let m = mode_in s c.args.port in
     let book = asks_of s.book in
     let its = asks (accepted_as c.args.port c.args.r.now id).entry in
@@ -118,6 +118,6 @@ returns-clause-cost g c =
     let alone = newest.due_alone m book its refl c.args.port (newest.all_earlier s.book s.last its refl settled.kept.handed_out) none in
     let there : asks_of c.accept.new.self ≡ book ++ its ∷ [] = ap asks_of c.accept.ensures ∙ newest.asks_more s.book (record { entry = (accepted_as c.args.port c.args.r.now id).entry; frames = c.lend-loan.result.frames }) in
     let few : length (due_of m c.args.port (asks_of c.accept.new.self)) ≤ 1 = subst (λ (xs : List Unanswered). length (due_of m c.args.port xs) ≤ 1) (sym there) alone in
-    let one : length (due_of c.mode-mode.result c.args.port (asks_of c.accept.new.self)) ≤ 1 = subst (λ (m : Mode). length (due_of m c.args.port (asks_of c.accept.new.self)) ≤ 1) (mode_is g c) few in
+    let one : length (due_of c.mode-mode.result c.args.port (asks_of c.accept.new.self)) ≤ 1 = subst (λ (m : QueueMode). length (due_of m c.args.port (asks_of c.accept.new.self)) ≤ 1) (mode_is g c) few in
     let same = ap (λ (v : ServerView g.row.A.Denot). g.A.Adapter.access_count v.adapter) c.self.view_is in
     omega (arith, one, same, c.issue_due.ensures.each)

@@ -1,7 +1,7 @@
 use Rattle.std.proofs.Common.{rules, sym, subst}
 use Rattle.dma_frames.specs.Table.{Table}
 use Rattle.request_queue.specs.Entries.{GivesBack}
-use Rattle.server_history.specs.Server.{Server}
+use Rattle.server_history.specs.Server.{ServerState}
 use Rattle.server_history.specs.Kept.{MayGoBack}
 use Rattle.block_server.specs.Seen.{seen}
 use Rattle.block_server.specs.View.{server_of}
@@ -14,9 +14,9 @@ give_all_back-requires g c = search rules
 
 pub give_all_back-requires-2 : goal.give_all_back-requires-2
 give_all_back-requires-2 g c =
-    let s : Server = server_of g.A.Adapter.device (seen c.self.inside) in
-    let kept = holds_either c.self.inside.stuck c.self.invariant (λ _ settled. c.a_server_is_booked.ensures.kept s settled.kept) (λ _ stalled. stalled.booked) in
-    let laws = c.booked_loans_are_lent.ensures in
+    let s : ServerState = server_of g.A.Adapter.device (seen c.self.inside) in
+    let kept = holds_either c.self.inside.stuck c.self.invariant (λ _ settled. c.law_a_server_is_booked.ensures.kept s settled.kept) (λ _ stalled. stalled.booked) in
+    let laws = c.law_booked_loans_are_lent.ensures in
     subst (λ (table : Table). MayGoBack table c.self.inside.kept) (sym c.deref_mut-2.ensures.value)
     (may_go_back s c.give_all_back.new.table
     (record {

@@ -55,7 +55,7 @@ finished g c =
 
 pub invariant_of-self : goal.invariant_of-self
 invariant_of-self g c = of_on c.self.view_is c.requires.on (
-    c.a_finished_port_settles.ensures (server_of g.A.Adapter.device (seen c.self.inside)) (server_of g.A.Adapter.device (after g c)) c.args.port c.args.done (finished g c).0 (is_on g.A.Adapter.device (seen c.self.inside) c.args.self.now c.self.view_is c.requires.on c.self.invariant)
+    c.law_a_finished_port_settles.ensures (server_of g.A.Adapter.device (seen c.self.inside)) (server_of g.A.Adapter.device (after g c)) c.args.port c.args.done (finished g c).0 (is_on g.A.Adapter.device (seen c.self.inside) c.args.self.now c.self.view_is c.requires.on c.self.invariant)
     (finishing.ready_before g.A.Adapter.device (seen c.self.inside) c.args.self.now c.self.view_is (is_on g.A.Adapter.device (seen c.self.inside) c.args.self.now c.self.view_is c.requires.on c.self.invariant) c.args.port c.requires.ready)
     (finishing.over_before g.A.Adapter.device (seen c.self.inside) c.args.self.now c.self.view_is (is_on g.A.Adapter.device (seen c.self.inside) c.args.self.now c.self.view_is c.requires.on c.self.invariant) c.args.port c.requires.ready c.args.done c.requires.over)
     (finished g c).2)

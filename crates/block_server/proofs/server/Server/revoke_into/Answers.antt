@@ -3,16 +3,16 @@ use Rattle.ata_types.specs.declared.grant.GrantRow.{GrantRow}
 use Rattle.block_machine.specs.Events.{RevokeOf, WasRevoked}
 use Rattle.dma_frames.specs.Table.{Table}
 use Rattle.block_machine.specs.Due.{due_of}
-use Rattle.block_machine.specs.declared.due.Mode.{Mode}
+use Rattle.block_machine.specs.declared.due.QueueMode.{QueueMode}
 use Rattle.request_queue.specs.Entries.{Held, all_marked_under, asks_of}
-use Rattle.server_history.specs.Histories.{Adds, AddsEvent, AddsStalled, HoldsBy}
+use Rattle.server_history.specs.Histories.{ExtendsSettled, ExtendsHistory, ExtendsStuck, InvariantBy}
 use Rattle.server_history.specs.Revoked.{RevokesGrant}
 use Rattle.server_history.specs.Served.{IssuesAll}
-use Rattle.server_history.specs.Server.{IsKept, IsSettled, Server}
-use Rattle.host_boot.specs.declared.Found.TheVariants.{Unserved}
+use Rattle.server_history.specs.Server.{InCallInvariant, SettledInvariant, ServerState}
+use Rattle.host_boot.specs.declared.ProbeResult.TheVariants.{Unserved}
 use Rattle.block_server.specs.Ports.{LendsFound}
-use Rattle.server_history.specs.Stalled.{IsStalled, KeepsBooks}
-use Rattle.block_server.specs.Fates.{IsSound}
+use Rattle.server_history.specs.Stalled.{StuckInvariant, BookInvariant}
+use Rattle.block_server.specs.Dispositions.{BookIsSound}
 use Rattle.block_server.specs.Revoking.{RevokesAndIssues}
 use Rattle.block_server.specs.Seen.{seen}
 use Rattle.block_server.specs.View.{ServerView, server_of}
@@ -27,20 +27,20 @@ returns-in_default-clause-adds g c =
     let device = g.A.Adapter.device in
     let s = seen c.self.inside in
     let none = c.in_default.ensures.none refl in
-    let P : ServerView g.row.A.Denot → Type 0 = λ v. AddsEvent (server_of device v) (server_of device (record s { grants = c.revoke.new.self })) (RevokeOf c.args.client c.args.number) (WasRevoked None) in
-    let Q : List GrantRow → Type 0 = λ rows. AddsEvent (server_of device s) (server_of device (record s { grants = rows })) (RevokeOf c.args.client c.args.number) (WasRevoked None) in
-    subst P c.self.view_is (subst Q (sym none.0) (c.refusals_add.ensures.revoke c.self.inside.stuck (server_of device s) c.args.client c.args.number c.self.invariant none.1))
+    let P : ServerView g.row.A.Denot → Type 0 = λ v. ExtendsHistory (server_of device v) (server_of device (record s { grants = c.revoke.new.self })) (RevokeOf c.args.client c.args.number) (WasRevoked None) in
+    let Q : List GrantRow → Type 0 = λ rows. ExtendsHistory (server_of device s) (server_of device (record s { grants = rows })) (RevokeOf c.args.client c.args.number) (WasRevoked None) in
+    subst P c.self.view_is (subst Q (sym none.0) (c.law_refusals_add.ensures.revoke c.self.inside.stuck (server_of device s) c.args.client c.args.number c.self.invariant none.1))
 
 pub answer_waiting-requires-clause-sound : goal.answer_waiting-requires-clause-sound
 answer_waiting-requires-clause-sound g c =
     let s = server_of g.A.Adapter.device (seen c.self.inside) in
-    let b : KeepsBooks s = holds_either c.self.inside.stuck c.self.invariant (λ _ settled. c.a_server_is_booked.ensures.kept s settled.kept) (λ _ stalled. stalled.booked) in
-    let sound : IsSound s.table (all_marked_under c.args.client c.args.number s.book) = record {
-      ordered = c.the_book_stays_in_order.ensures.revoked s.book c.args.client c.args.number b.ordered;
-      accepted = c.accepted_requests_stay.ensures.revoked s.table s.book c.args.client c.args.number b.accepted;
+    let b : BookInvariant s = holds_either c.self.inside.stuck c.self.invariant (λ _ settled. c.law_a_server_is_booked.ensures.kept s settled.kept) (λ _ stalled. stalled.booked) in
+    let sound : BookIsSound s.table (all_marked_under c.args.client c.args.number s.book) = record {
+      ordered = c.law_the_book_stays_in_order.ensures.revoked s.book c.args.client c.args.number b.ordered;
+      accepted = c.law_accepted_requests_stay.ensures.revoked s.table s.book c.args.client c.args.number b.accepted;
     } in
-    subst (λ (book : List Held). IsSound c.deref_mut.result.now book) (sym c.revoke-2.ensures)
-    (subst (λ (table : Table). IsSound table (all_marked_under c.args.client c.args.number s.book)) (sym c.deref_mut.ensures.value) sound)
+    subst (λ (book : List Held). BookIsSound c.deref_mut.result.now book) (sym c.revoke-2.ensures)
+    (subst (λ (table : Table). BookIsSound table (all_marked_under c.args.client c.args.number s.book)) (sym c.deref_mut.ensures.value) sound)
 
 -- ---- since a reset that got stuck
 
@@ -54,14 +54,14 @@ revoked_off g c =
     c.deref_mut.result.now c.deref_mut.ensures.value c.clear.new.self.items c.clear.ensures c.answer_waiting.new.book c.answer_waiting.new.table c.answer_waiting.new.replies.items c.answer_waiting.ensures
 
 -- it adds an event
-added_off : (g : Over) (c : Then-self g) → AddsStalled (server_of g.A.Adapter.device (seen c.self.inside)) (server_of g.A.Adapter.device (after_off g c)) (RevokeOf c.args.client c.args.number) (WasRevoked (Some c.answer_waiting.new.replies.items))
+added_off : (g : Over) (c : Then-self g) → ExtendsStuck (server_of g.A.Adapter.device (seen c.self.inside)) (server_of g.A.Adapter.device (after_off g c)) (RevokeOf c.args.client c.args.number) (WasRevoked (Some c.answer_waiting.new.replies.items))
 added_off g c =
     let s = server_of g.A.Adapter.device (seen c.self.inside) in
-    let stalled : IsStalled s = holds_either c.self.inside.stuck c.self.invariant (λ on _. absurd (let z : false ≡ true = sym on ∙ c.if-self.true in cc)) (λ _ stalled. stalled) in
-    c.stalled_revocations_add.ensures s (server_of g.A.Adapter.device (after_off g c)) c.args.client c.args.number c.answer_waiting.new.replies.items stalled (revoked_off g c)
+    let stalled : StuckInvariant s = holds_either c.self.inside.stuck c.self.invariant (λ on _. absurd (let z : false ≡ true = sym on ∙ c.if-self.true in cc)) (λ _ stalled. stalled) in
+    c.law_stalled_revocations_add.ensures s (server_of g.A.Adapter.device (after_off g c)) c.args.client c.args.number c.answer_waiting.new.replies.items stalled (revoked_off g c)
 
 pub invariant_of-self-then-self : goal.invariant_of-self-then-self
-invariant_of-self-then-self g c = subst (λ (b : Bool). HoldsBy b (server_of g.A.Adapter.device (after_off g c))) (sym c.if-self.true) (added_off g c).stalled
+invariant_of-self-then-self g c = subst (λ (b : Bool). InvariantBy b (server_of g.A.Adapter.device (after_off g c))) (sym c.if-self.true) (added_off g c).stalled
 
 pub returns-then-self-clause-revokes : goal.returns-then-self-clause-revokes
 returns-then-self-clause-revokes g c =
@@ -80,16 +80,16 @@ returns-then-self-clause-revokes g c =
 pub returns-then-self-clause-adds : goal.returns-then-self-clause-adds
 returns-then-self-clause-adds g c =
     let device = g.A.Adapter.device in
-    let P : ServerView g.row.A.Denot → Type 0 = λ v. AddsEvent (server_of device v) (server_of device (after_off g c)) (RevokeOf c.args.client c.args.number) (WasRevoked (Some c.answer_waiting.new.replies.items)) in
+    let P : ServerView g.row.A.Denot → Type 0 = λ v. ExtendsHistory (server_of device v) (server_of device (after_off g c)) (RevokeOf c.args.client c.args.number) (WasRevoked (Some c.answer_waiting.new.replies.items)) in
     subst P c.self.view_is (added_off g c).adds
 
 -- ---- while the adapter is on
 
 -- the server once those that waited are told
-abbrev mid_on : (g : Over) (c : After-index-self-place g) → Server
+abbrev mid_on : (g : Over) (c : After-index-self-place g) → ServerState
 mid_on g c = record (server_of g.A.Adapter.device (seen c.self.inside)) { grants = c.revoke.new.self; table = c.answer_waiting.new.table; book = c.answer_waiting.new.book }
 
-is_on : (g : Over) (c : After-index-self-place g) → IsSettled (server_of g.A.Adapter.device (seen c.self.inside))
+is_on : (g : Over) (c : After-index-self-place g) → SettledInvariant (server_of g.A.Adapter.device (seen c.self.inside))
 is_on g c = holds_either c.self.inside.stuck c.self.invariant (λ _ settled. settled) (λ off _. absurd (let z : true ≡ false = sym off ∙ c.if-self.false in cc))
 
 abbrev revoked_on : (g : Over) (c : After-index-self-place g) → RevokesGrant c.args.client c.args.number c.answer_waiting.new.replies.items (server_of g.A.Adapter.device (seen c.self.inside)) (mid_on g c)
@@ -98,8 +98,8 @@ revoked_on g c =
     c.deref_mut.result.now c.deref_mut.ensures.value c.clear.new.self.items c.clear.ensures c.answer_waiting.new.book c.answer_waiting.new.table c.answer_waiting.new.replies.items c.answer_waiting.ensures
 
 -- it goes on
-keeps_on : (g : Over) (c : After-index-self-place g) → IsKept (mid_on g c)
-keeps_on g c = c.requests_keep.ensures.revoked (server_of g.A.Adapter.device (seen c.self.inside)) (mid_on g c) c.args.client c.args.number c.answer_waiting.new.replies.items (is_on g c).kept (revoked_on g c)
+keeps_on : (g : Over) (c : After-index-self-place g) → InCallInvariant (mid_on g c)
+keeps_on g c = c.law_requests_keep.ensures.revoked (server_of g.A.Adapter.device (seen c.self.inside)) (mid_on g c) c.args.client c.args.number c.answer_waiting.new.replies.items (is_on g c).kept (revoked_on g c)
 
 lends_on : (g : Over) (c : After-index-self-place g)
     → LendsFound (mid_on g c) (g.A.Adapter.device c.self.inside.adapter) c.answer_waiting.new.book (slice_index_or c.self.inside.slots c.from-place.result c.index-self-place.result) c.in-Some.row.port
@@ -136,11 +136,11 @@ issued_on g c =
     (c.issue_where_ready.ensures.issues (mid_on g (before g c)) (lends_on g (before g c)))
 
 -- it adds an event
-added_on : (g : Over) (c : After-issue_where_ready g) → Adds (server_of g.A.Adapter.device (seen c.self.inside)) (server_of g.A.Adapter.device (after_on g c)) (RevokeOf c.args.client c.args.number) (WasRevoked (Some c.answer_waiting.new.replies.items))
-added_on g c = c.revocations_add.ensures (server_of g.A.Adapter.device (seen c.self.inside)) (mid_on g (before g c)) (server_of g.A.Adapter.device (after_on g c)) c.args.client c.args.number c.answer_waiting.new.replies.items (is_on g (before g c)) (revoked_on g (before g c)) (issued_on g c)
+added_on : (g : Over) (c : After-issue_where_ready g) → ExtendsSettled (server_of g.A.Adapter.device (seen c.self.inside)) (server_of g.A.Adapter.device (after_on g c)) (RevokeOf c.args.client c.args.number) (WasRevoked (Some c.answer_waiting.new.replies.items))
+added_on g c = c.law_revocations_add.ensures (server_of g.A.Adapter.device (seen c.self.inside)) (mid_on g (before g c)) (server_of g.A.Adapter.device (after_on g c)) c.args.client c.args.number c.answer_waiting.new.replies.items (is_on g (before g c)) (revoked_on g (before g c)) (issued_on g c)
 
 pub invariant_of-self-2 : goal.invariant_of-self-2
-invariant_of-self-2 g c = subst (λ (b : Bool). HoldsBy b (server_of g.A.Adapter.device (after_on g c))) (sym c.if-self.false) (added_on g c).settled
+invariant_of-self-2 g c = subst (λ (b : Bool). InvariantBy b (server_of g.A.Adapter.device (after_on g c))) (sym c.if-self.false) (added_on g c).settled
 
 -- and no access was made where nothing was due
 revokes_on : (g : Over) (c : After-issue_where_ready g) → RevokesAndIssues g.A.Adapter.device c.args.client c.args.number c.answer_waiting.new.replies.items (seen c.self.inside) (after_on g c)
@@ -151,7 +151,7 @@ revokes_on g c = record {
   stalled = λ off. absurd (let z : true ≡ false = sym off ∙ c.if-self.false in cc);
   quiet = λ why. ⊎_elim
       (λ off. absurd (let z : true ≡ false = sym off ∙ c.if-self.false in cc))
-      (λ none. c.issue_where_ready.ensures.none (subst (λ (m : Mode). due_of m c.in-Some.row.port (asks_of c.answer_waiting.new.book) ≡ []) (lends_on g (before g c)).mode_is none))
+      (λ none. c.issue_where_ready.ensures.none (subst (λ (m : QueueMode). due_of m c.in-Some.row.port (asks_of c.answer_waiting.new.book) ≡ []) (lends_on g (before g c)).mode_is none))
       why;
 }
 
@@ -163,5 +163,5 @@ returns-clause-revokes g c =
 pub returns-clause-adds : goal.returns-clause-adds
 returns-clause-adds g c =
     let device = g.A.Adapter.device in
-    let P : ServerView g.row.A.Denot → Type 0 = λ v. AddsEvent (server_of device v) (server_of device (after_on g c)) (RevokeOf c.args.client c.args.number) (WasRevoked (Some c.answer_waiting.new.replies.items)) in
+    let P : ServerView g.row.A.Denot → Type 0 = λ v. ExtendsHistory (server_of device v) (server_of device (after_on g c)) (RevokeOf c.args.client c.args.number) (WasRevoked (Some c.answer_waiting.new.replies.items)) in
     subst P c.self.view_is (added_on g c).adds

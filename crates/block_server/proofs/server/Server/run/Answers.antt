@@ -11,7 +11,7 @@ use Rattle.block_server.proofs.server.Server.run.Goals as goal
 
 pub loop-at-init : goal.loop-at-init
 loop-at-init g c = record {
-  ran = record { said = []; told = sym (append-nil (said_in c.args.out.now)); each = refl; keeps = c.runs_keep_their_promise.ensures.none c.args.self.now };
+  ran = record { said = []; told = sym (append-nil (said_in c.args.out.now)); each = refl; keeps = c.law_runs_keep_their_promise.ensures.none c.args.self.now };
   length = omega arith;
   last = λ some. absurd (omega (arith, some));
   room = omega arith;
@@ -33,7 +33,7 @@ loop-at-preserved g c =
         said = so_far.said ++ one ∷ [];
         told = ap (λ (l : List Said). l ++ one ∷ []) before ∙ append_assoc (said_in c.args.out.now) so_far.said (one ∷ []);
         each = subst Q calls (length-append so_far.said (one ∷ []) ∙ ap (λ n. n + 1) so_far.each ∙ sym (length-append (take c.loop-at.at c.args.events.now) (event ∷ [])));
-        keeps = subst P calls (c.runs_keep_their_promise.ensures.more _ _ _ _ _ _ _ so_far.keeps (c.runs_keep_their_promise.ensures.one _ _ event one c.answer-told.ensures.adds c.answer-told.ensures.wanted));
+        keeps = subst P calls (c.law_runs_keep_their_promise.ensures.more _ _ _ _ _ _ _ so_far.keeps (c.law_runs_keep_their_promise.ensures.one _ _ event one c.answer-told.ensures.adds c.answer-told.ensures.wanted));
       };
       length = omega (arith, c.go_on.ensures.len, c.reserve.ensures.len, c.loop-at.invariant.length);
       last = λ some. refl;

@@ -1,19 +1,19 @@
 use Rattle.std.proofs.Common.{ℕ, ◌≡◌, ◌+◌, ◌*◌, ◌≤◌, ◌++◌, false, List, drop, length}
 use Rattle.adapter.specs.Counted.{MakesAtMost}
 use Rattle.block_server.specs.Costs.{TURN_ACCESSES}
-use Rattle.host_boot.specs.Taken.{found_of}
+use Rattle.host_boot.specs.Taken.{probe_result_of}
 use Rattle.ata_types.specs.declared.request.Reply.{Reply}
 use Rattle.ata_types.specs.declared.limits.TheConstants.{MOST_UNANSWERED}
 use Rattle.server_history.specs.Turns.{ServePorts}
-use Rattle.server_history.specs.Server.{Server}
+use Rattle.server_history.specs.Server.{ServerState}
 use Rattle.block_server.specs.View.{server_of}
 use Rattle.block_server.proofs.server.Server.service_into.Given as goal
 
 abbrev pub invariant-loop-number : goal.invariant-loop-number
 invariant-loop-number g l = record {
-  rest : (later : List Reply) (new : Server) → ServePorts l.number (drop l.number l.ports) later (server_of g.A.Adapter.device l.self) new
+  rest : (later : List Reply) (new : ServerState) → ServePorts l.number (drop l.number l.ports) later (server_of g.A.Adapter.device l.self) new
       → ServePorts 0 l.fn.self.ports (l.replies.items ++ later) (server_of g.A.Adapter.device l.fn.self) new;
-  ports : (q : ℕ) → l.number ≤ q → found_of l.self.ports q ≡ found_of l.ports q;
+  ports : (q : ℕ) → l.number ≤ q → probe_result_of l.self.ports q ≡ probe_result_of l.ports q;
   room : length l.replies.items + length l.self.book ≤ MOST_UNANSWERED;
   on : l.self.stuck ≡ false;
   cost : MakesAtMost (TURN_ACCESSES * l.number) (g.A.Adapter.access_count l.fn.self.adapter) (g.A.Adapter.access_count l.self.adapter);

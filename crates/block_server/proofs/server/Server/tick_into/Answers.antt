@@ -1,14 +1,14 @@
 use Rattle.std.proofs.Common.{◌≡◌, ◌↔◌, ◌<◌, ◌++◌, Bool, IsTrue, List, append_assoc, arith, false, length, slice_index_or, refl, sym, ap, ◌∙◌, subst, rules}
 use Rattle.ata_types.specs.declared.Port.{Port}
 use Rattle.ata_types.specs.declared.request.Reply.{Reply}
-use Rattle.agreement.specs.Agrees.{port_at}
-use Rattle.host_boot.specs.Taken.{found_of}
-use Rattle.host_boot.specs.declared.Found.{Found}
+use Rattle.refinement.specs.Relation.{port_at}
+use Rattle.host_boot.specs.Taken.{probe_result_of}
+use Rattle.host_boot.specs.declared.ProbeResult.{ProbeResult}
 use Rattle.request_queue.specs.Entries.{IsOverdue}
 use Rattle.block_machine.specs.Events.{Served, Tick}
 use Rattle.block_server.specs.Calls.{TicksBy}
-use Rattle.server_history.specs.Histories.{AddsEvent}
-use Rattle.server_history.specs.Server.{Server}
+use Rattle.server_history.specs.Histories.{ExtendsHistory}
+use Rattle.server_history.specs.Server.{ServerState}
 use Rattle.server_history.specs.Turns.{TakeTurns, Ticks, TicksPort, a_tick_older}
 use Rattle.block_server.specs.View.{ServerView, server_of}
 use Rattle.block_server.proofs.Turns.{all_turns, idle_turn, one_turn}
@@ -18,7 +18,7 @@ use Rattle.block_server.proofs.server.Server.tick_into.Goals as goal
 use Rattle.block_server.proofs.server.Server.tick_into.Goals.{After-loop-place}
 
 -- nothing is done of a port that isn't ready
-abbrev Rests : Port → Server → Server → Type 0
+abbrev Rests : Port → ServerState → ServerState → Type 0
 Rests port one other = other ≡ one
 
 pub loop-place-preserved-in_default : goal.loop-place-preserved-in_default
@@ -53,7 +53,7 @@ loop-place-preserved g c =
     let old = server_of device c.args.self.now in
     let book = (a_tick_older old).book in
     let low : c.loop-place.place < length ports = omega (arith, four, c.loop-place-test.true) in
-    let O : Server → Type 0 = λ x. IsTrue (slice_index_or c.grow_older-overdue.result c.loop-place.place false) ↔ IsOverdue (port_at c.loop-place.place) x.book in
+    let O : ServerState → Type 0 = λ x. IsTrue (slice_index_or c.grow_older-overdue.result c.loop-place.place false) ↔ IsOverdue (port_at c.loop-place.place) x.book in
     let exact = subst O c.grow_older-overdue.ensures.older (c.grow_older-overdue.ensures.overdue c.loop-place.place (omega (arith, four, c.loop-place-test.true))) in
     let ticked = c.tick_port.ensures.ticks book exact in
     record {
@@ -89,7 +89,7 @@ returns-clause-ticks g c =
 pub returns-clause-adds : goal.returns-clause-adds
 returns-clause-adds g c =
     let device = g.A.Adapter.device in
-    (c.ticks_add.ensures (server_of device c.args.self.now) (server_of device c.loop-place.self) c.loop-place.replies.items
+    (c.law_ticks_add.ensures (server_of device c.args.self.now) (server_of device c.loop-place.self) c.loop-place.replies.items
     (now_on device c.self.view_is c.if-self.false c.self.invariant) (ticked g c)).adds
 
 -- since a reset that got stuck there is no ready port
@@ -101,8 +101,8 @@ returns-then-self-clause-ticks g c =
 pub returns-then-self-clause-adds : goal.returns-then-self-clause-adds
 returns-then-self-clause-adds g c =
     let s = server_of g.A.Adapter.device c.args.self.now in
-    subst (λ (replies : List Reply). AddsEvent s s Tick (Served replies)) (sym c.clear.ensures)
-    (c.stalled_ticks_add.ensures s (now_off g.A.Adapter.device c.self.view_is c.if-self.true c.self.invariant)).adds
+    subst (λ (replies : List Reply). ExtendsHistory s s Tick (Served replies)) (sym c.clear.ensures)
+    (c.law_stalled_ticks_add.ensures s (now_off g.A.Adapter.device c.self.view_is c.if-self.true c.self.invariant)).adds
 
 pub loop-place-init : goal.loop-place-init
 loop-place-init g c =
@@ -113,12 +113,12 @@ loop-place-init g c =
     let ports = ap (λ (v : ServerView g.row.A.Denot). v.ports) c.self.view_is in
     record {
       rest = λ later new turns.
-          let F : List Found → Server → Type 0 = λ found s. TakeTurns (TicksPort book) Rests 0 found later s new in
+          let F : List ProbeResult → ServerState → Type 0 = λ found s. TakeTurns (TicksPort book) Rests 0 found later s new in
           let T : List Reply → Type 0 = λ told. TakeTurns (TicksPort book) Rests 0 c.args.self.now.ports (told ++ later) (a_tick_older old) new in
-          subst T (sym c.clear.ensures) (subst (F c.args.self.now.ports) older (subst (λ (found : List Found). F found (server_of device c.grow_older-overdue.new.self)) ports turns));
-      ports = λ q more. ap (λ (s : Server). found_of s.ports q) older ∙ sym (ap (λ (found : List Found). found_of found q) ports);
+          subst T (sym c.clear.ensures) (subst (F c.args.self.now.ports) older (subst (λ (found : List ProbeResult). F found (server_of device c.grow_older-overdue.new.self)) ports turns));
+      ports = λ q more. ap (λ (s : ServerState). probe_result_of s.ports q) older ∙ sym (ap (λ (found : List ProbeResult). probe_result_of found q) ports);
       room =
-          let all = c.the_book_stays_in_order.ensures.all c.grow_older-overdue.new.self.book c.grow_older-overdue.ensures.settled.kept.ordered in
+          let all = c.law_the_book_stays_in_order.ensures.all c.grow_older-overdue.new.self.book c.grow_older-overdue.ensures.settled.kept.ordered in
           let none = ap length c.clear.ensures in omega (arith, all, none);
       on = c.grow_older-overdue.ensures.on;
       settled = c.grow_older-overdue.ensures.settled;

@@ -5,9 +5,9 @@ use Rattle.device_model.proofs.Absurd.{none_and, some_and, some_one, true-false}
 use Rattle.device_model.specs.Cached.{HasOldRoom}
 use Rattle.device_model.specs.Fetched.{bytes_of}
 use Rattle.device_model.specs.Finishing.{MayFinish}
-use Rattle.device_model.specs.Slots.{HasUntaken, HoldsAt}
+use Rattle.device_model.specs.Slots.{HasUntaken, WorksOnIn}
 use Rattle.device_model.specs.Trims.{changes_ahead}
-use Rattle.device_model.specs.View.{blank, taken_of}
+use Rattle.device_model.specs.View.{blank_port, taken_of}
 use Rattle.device_model.specs.Whole.{Outside, device_of}
 use Rattle.device_model.specs.declared.cache.Cache.{Cache}
 use Rattle.device_model.specs.declared.hardware.Hardware.{Hardware}
@@ -18,7 +18,7 @@ use Rattle.device_model.proofs.hardware.Hardware.begin.Goals as goal
 
 pub begin_said-requires-clause-may : goal.begin_said-requires-clause-may
 begin_said-requires-clause-may c =
-    let P : ℕ → Type 0 = λ q. HasUntaken (slice_index_or c.args.self.now.ports q blank) c.args.slot in
+    let P : ℕ → Type 0 = λ q. HasUntaken (slice_index_or c.args.self.now.ports q blank_port) c.args.slot in
     subst P c.from-place.ensures (c.has_untaken.ensures.may c.if-has_untaken.true)
 
 pub returns-in_err-rest-clause-left : goal.returns-in_err-rest-clause-left
@@ -27,7 +27,7 @@ returns-in_err-rest-clause-left c = λ _.
       λ o left clears ready.
           let w = ready_held c.args.self.now o c.from-place.result c.args.port c.args.slot left clears c.from-place.ensures ready
           (c.has_untaken.ensures.only c.if-has_untaken.false) in
-          let P : ℕ → Type 0 = λ q. HoldsAt (slice_index_or c.args.self.now.ports q blank) c.args.slot w.0 in
+          let P : ℕ → Type 0 = λ q. WorksOnIn (slice_index_or c.args.self.now.ports q blank_port) c.args.slot w.0 in
           let rest = ready_is_held c.args.self.now c.from-place.result c.args.port c.args.slot w.0 c.from-place.ensures w.1
           (c.has_untaken.ensures.only c.if-has_untaken.false) o left clears ready in
           none_and _ _ (c.rest_at.ensures.only w.0 left clears (subst P c.from-place.ensures w.1) rest) c.in_err-rest.was,
@@ -43,7 +43,7 @@ returns-then-not-grow-clause-left c = λ _.
     let rest = c.in_ok-rest.rest in
     let found = c.in_ok-rest.ensures.found in
     let never = c.has_untaken.ensures.only c.if-has_untaken.false in
-    let P : ℕ → Type 0 = λ q. HoldsAt (slice_index_or h.ports q blank) c.args.slot found.0 in
+    let P : ℕ → Type 0 = λ q. WorksOnIn (slice_index_or h.ports q blank_port) c.args.slot found.0 in
     let held = subst P (sym c.from-place.ensures) found.1 in
     let one = some_and _ _ rest (c.rest_at.ensures.only found.0 n m found.1 (ready_is_held h c.from-place.result c.args.port c.args.slot found.0 c.from-place.ensures held never o n m may)) c.in_ok-rest.was in
     let w = ready_held h o c.from-place.result c.args.port c.args.slot n m c.from-place.ensures may never in
@@ -56,7 +56,7 @@ returns-then-not-grow-clause-left c = λ _.
     let h = c.args.self.now in
     let rest = c.in_ok-rest.rest in
     let found = c.in_ok-rest.ensures.found in
-    let P : ℕ → Type 0 = λ q. HoldsAt (slice_index_or h.ports q blank) c.args.slot found.0 in
+    let P : ℕ → Type 0 = λ q. WorksOnIn (slice_index_or h.ports q blank_port) c.args.slot found.0 in
     let held = subst P (sym c.from-place.ensures) found.1 in
     let entries = c.growths_of.ensures.entries in
     inr (record {
@@ -81,7 +81,7 @@ pub returns-clause-ahead : goal.returns-clause-ahead
 returns-clause-ahead c = λ o t taken.
     let h = c.args.self.now in
     let found = c.in_ok-rest.ensures.found in
-    let P : ℕ → Type 0 = λ q. HoldsAt (slice_index_or h.ports q blank) c.args.slot found.0 in
+    let P : ℕ → Type 0 = λ q. WorksOnIn (slice_index_or h.ports q blank_port) c.args.slot found.0 in
     let same : taken_of found.0 ≡ t = some_one (sym (found.1.works (o.media c.args.port)).taken ∙ taken) in
     ahead_of c.grow.new.cache (bytes_of h.memory.items) c.in_ok-rest.rest.left c.growths_of.result.old_sectors found.0 t same
     (c.growths_of.ensures.old_sectors ∙ c.in_ok-rest.ensures.changes found.0 found.1) (c.grow.ensures.old_room c.if-not-grow.false)
@@ -91,7 +91,7 @@ returns-clause-begun c =
     let h = c.args.self.now in
     let rest = c.in_ok-rest.rest in
     let found = c.in_ok-rest.ensures.found in
-    let P : ℕ → Type 0 = λ q. HoldsAt (slice_index_or h.ports q blank) c.args.slot found.0 in
+    let P : ℕ → Type 0 = λ q. WorksOnIn (slice_index_or h.ports q blank_port) c.args.slot found.0 in
     let held = subst P (sym c.from-place.ensures) found.1 in
     let new : Hardware = record h { tape = c.grow.new.tape } in
     let room : vec_len c.grow.new.tape + c.growths_of.result.entries ≤ vec_capacity c.grow.new.tape = c.grow.ensures.room c.if-not-grow.false in

@@ -4,13 +4,13 @@ use Rattle.adapter.specs.Asked.{DoesFetch}
 use Rattle.adapter.specs.Device.{Device}
 use Rattle.adapter.specs.declared.tape.Entry.{Entry}
 use Rattle.device_model.proofs.Absurd.{none_and, some_and, true-false}
-use Rattle.adapter.specs.Says.{Says}
+use Rattle.adapter.specs.Decoding.{DecodesTo}
 use Rattle.device_model.specs.Cached.{HasOldRoom}
 use Rattle.device_model.specs.Fetched.{bytes_of}
 use Rattle.device_model.specs.Finishing.{MayFinish}
 use Rattle.device_model.specs.Slots.{HasUntaken}
 use Rattle.device_model.specs.Trims.{changes_ahead}
-use Rattle.device_model.specs.View.{blank, taken_of}
+use Rattle.device_model.specs.View.{blank_port, taken_of}
 use Rattle.device_model.specs.Whole.{Outside, device_of}
 use Rattle.device_model.specs.declared.hardware.Hardware.{Hardware}
 use Rattle.device_model.specs.declared.cache.Cache.{Cache}
@@ -26,13 +26,13 @@ take-requires-clause-alone c = λ m.
     let ports = c.args.self.now.ports in
     let small : c.from-place.result < length ports = search rules in
     rw (at_port ports c.from-place.result c.index-self-place-3.result small)
-    (rw (at_port ports c.from-place.result c.index-self-place-2.result small) at ((c.is_open_to.ensures.open c.if-not-is_open_to.false).1 m))
+    (rw (at_port ports c.from-place.result c.index-self-place-2.result small) at ((c.may_take_command.ensures.open c.if-not-may_take_command.false).1 m))
 
 pub returns-then-not-read_into-clause-left : goal.returns-then-not-read_into-clause-left
 returns-then-not-read_into-clause-left c = λ _.
     inl (
       λ o left clears ready.
-          let P : ℕ → Type 0 = λ q. HasUntaken (slice_index_or c.args.self.now.ports q blank) c.args.slot in
+          let P : ℕ → Type 0 = λ q. HasUntaken (slice_index_or c.args.self.now.ports q blank_port) c.args.slot in
           let may = subst P (sym c.from-place.ensures) c.requires.may in
           let says = ready_said c.args.self.now o c.from-place.result c.args.port c.args.slot left clears c.from-place.ensures ready may in
           let small : c.from-place.result < length c.args.self.now.ports = search rules in
@@ -45,7 +45,7 @@ pub returns-in_err-rest-clause-left : goal.returns-in_err-rest-clause-left
 returns-in_err-rest-clause-left c = λ _.
     inl (
       λ o left clears ready.
-          let P : ℕ → Type 0 = λ q. HasUntaken (slice_index_or c.args.self.now.ports q blank) c.args.slot in
+          let P : ℕ → Type 0 = λ q. HasUntaken (slice_index_or c.args.self.now.ports q blank_port) c.args.slot in
           let may = subst P (sym c.from-place.ensures) c.requires.may in
           let small : c.from-place.result < length c.args.self.now.ports = search rules in
           let said = c.read_into.ensures.found c.if-not-read_into.false in
@@ -62,7 +62,7 @@ returns-then-not-grow-clause-left c = λ _.
     λ o n m ready cache.
     let h = c.args.self.now in
     let rest = c.in_ok-rest.rest in
-    let P : ℕ → Type 0 = λ q. HasUntaken (slice_index_or h.ports q blank) c.args.slot in
+    let P : ℕ → Type 0 = λ q. HasUntaken (slice_index_or h.ports q blank_port) c.args.slot in
     let may = subst P (sym c.from-place.ensures) c.requires.may in
     let small : c.from-place.result < length c.args.self.now.ports = search rules in
     let said = c.read_into.ensures.found c.if-not-read_into.false in
@@ -77,7 +77,7 @@ returns-then-not-grow-clause-left c = λ _.
     ) in
     let h = c.args.self.now in
     let rest = c.in_ok-rest.rest in
-    let P : ℕ → Type 0 = λ q. HasUntaken (slice_index_or h.ports q blank) c.args.slot in
+    let P : ℕ → Type 0 = λ q. HasUntaken (slice_index_or h.ports q blank_port) c.args.slot in
     let may = subst P (sym c.from-place.ensures) c.requires.may in
     let small : c.from-place.result < length c.args.self.now.ports = search rules in
     let said = c.read_into.ensures.found c.if-not-read_into.false in
@@ -87,7 +87,7 @@ returns-then-not-grow-clause-left c = λ _.
       left = rest.left;
       clears = rest.clears;
       ready = ready_to_take h c.from-place.result c.args.port c.args.slot c.read_into.new.command c.from-place.ensures rest.left rest.clears
-          (rw c.deref-2.ensures.value at c.in_ok-rest.ensures.rest) said.0 may (rw (at_port c.args.self.now.ports c.from-place.result c.index-self-place-2.result small) at (c.is_open_to.ensures.open c.if-not-is_open_to.false)) says;
+          (rw c.deref-2.ensures.value at c.in_ok-rest.ensures.rest) said.0 may (rw (at_port c.args.self.now.ports c.from-place.result c.index-self-place-2.result small) at (c.may_take_command.ensures.open c.if-not-may_take_command.false)) says;
       lacked = λ o n m may room old.
           let one = ready_one o n m may c.args.cache.now in
           let left = one.0 in
@@ -109,13 +109,13 @@ did c o =
     let h = c.args.self.now in
     let held : Hardware = record h { tape = c.grow.new.tape } in
     let new : Hardware = record held { ports = slice_set h.ports c.from-place.result c.take.new.self } in
-    let P : ℕ → Type 0 = λ q. HasUntaken (slice_index_or h.ports q blank) c.args.slot in
+    let P : ℕ → Type 0 = λ q. HasUntaken (slice_index_or h.ports q blank_port) c.args.slot in
     let may = subst P (sym c.from-place.ensures) c.requires.may in
     let small : c.from-place.result < length h.ports = search rules in
     let said = c.read_into.ensures.found c.if-not-read_into.false in
     let says = rw (at_port h.ports c.from-place.result c.index-self-place.result small) at (rw c.deref.ensures.value at said.1) in
-    let alone = rw (at_port c.args.self.now.ports c.from-place.result c.index-self-place-2.result small) at (c.is_open_to.ensures.open c.if-not-is_open_to.false) in
-    let taken = may_be_taken (slice_index_or h.ports c.from-place.result blank) c.args.slot c.read_into.new.command may alone in
+    let alone = rw (at_port c.args.self.now.ports c.from-place.result c.index-self-place-2.result small) at (c.may_take_command.ensures.open c.if-not-may_take_command.false) in
+    let taken = may_be_taken (slice_index_or h.ports c.from-place.result blank_port) c.args.slot c.read_into.new.command may alone in
     let kept : device_of held o ≡ device_of h o = ap (λ (items : List Entry). record (device_of h o) { tape = items }) c.grow.ensures.items in
     let Q : Device → Type 0 = λ d. DoesFetch c.args.port c.args.slot d (device_of new o) in
     subst Q kept
@@ -128,7 +128,7 @@ returns-clause-ahead c = λ o t taken.
     let said = c.read_into.ensures.found c.if-not-read_into.false in
     let small : c.from-place.result < length h.ports = search rules in
     let says = rw (at_port h.ports c.from-place.result c.index-self-place.result small) at (rw c.deref.ensures.value at said.1) in
-    let P : ℕ → Type 0 = λ q. Says (bytes_of h.memory.items) (slice_index_or h.ports q blank).addresses.clb c.args.slot (taken_of c.read_into.new.command).meaning (taken_of c.read_into.new.command).places in
+    let P : ℕ → Type 0 = λ q. DecodesTo (bytes_of h.memory.items) (slice_index_or h.ports q blank_port).addresses.clb c.args.slot (taken_of c.read_into.new.command).meaning (taken_of c.read_into.new.command).places in
     let new : Hardware = record h { tape = c.grow.new.tape; ports = slice_set h.ports c.from-place.result c.take.new.self } in
     let same = fetched_is c.args.port c.args.slot (device_of h o) (device_of new o) c.read_into.new.command (did c o) said.0 (subst P c.from-place.ensures says) t taken in
     ahead_of c.grow.new.cache (bytes_of h.memory.items) c.in_ok-rest.rest.left c.growths_of.result.old_sectors c.read_into.new.command t same
@@ -139,12 +139,12 @@ returns-clause-begun c =
     let h = c.args.self.now in
     let rest = c.in_ok-rest.rest in
     let held : Hardware = record h { tape = c.grow.new.tape } in
-    let P : ℕ → Type 0 = λ q. HasUntaken (slice_index_or h.ports q blank) c.args.slot in
+    let P : ℕ → Type 0 = λ q. HasUntaken (slice_index_or h.ports q blank_port) c.args.slot in
     let may = subst P (sym c.from-place.ensures) c.requires.may in
     let small : c.from-place.result < length h.ports = search rules in
     let said = c.read_into.ensures.found c.if-not-read_into.false in
     let says = rw (at_port h.ports c.from-place.result c.index-self-place.result small) at (rw c.deref.ensures.value at said.1) in
-    let alone = rw (at_port c.args.self.now.ports c.from-place.result c.index-self-place-2.result small) at (c.is_open_to.ensures.open c.if-not-is_open_to.false) in
+    let alone = rw (at_port c.args.self.now.ports c.from-place.result c.index-self-place-2.result small) at (c.may_take_command.ensures.open c.if-not-may_take_command.false) in
     let room : vec_len c.grow.new.tape + c.growths_of.result.entries ≤ vec_capacity c.grow.new.tape = c.grow.ensures.room c.if-not-grow.false in
     let entries = c.growths_of.ensures.entries in
     let ready : (o : Outside) → MayFinish (device_of h o) c.args.port c.args.slot rest.left rest.clears =
@@ -164,17 +164,17 @@ returns-clause-begun c =
     }
 
 -- another command is taken
-pub returns-then-not-is_open_to-clause-left : goal.returns-then-not-is_open_to-clause-left
-returns-then-not-is_open_to-clause-left c = λ _.
+pub returns-then-not-may_take_command-clause-left : goal.returns-then-not-may_take_command-clause-left
+returns-then-not-may_take_command-clause-left c = λ _.
     inl (
       λ o left clears ready.
-          let P : ℕ → Type 0 = λ q. HasUntaken (slice_index_or c.args.self.now.ports q blank) c.args.slot in
+          let P : ℕ → Type 0 = λ q. HasUntaken (slice_index_or c.args.self.now.ports q blank_port) c.args.slot in
           let may = subst P (sym c.from-place.ensures) c.requires.may in
           let small : c.from-place.result < length c.args.self.now.ports = search rules in
           let said = c.read_into.ensures.found c.if-not-read_into.false in
           let both = ready_beside c.args.self.now c.from-place.result c.args.port c.args.slot c.read_into.new.command c.from-place.ensures may
           said.0 (rw (at_port c.args.self.now.ports c.from-place.result c.index-self-place.result small) at (rw c.deref.ensures.value at said.1)) o left clears ready in
-          (rw (at_port c.args.self.now.ports c.from-place.result c.index-self-place-2.result small) at (c.is_open_to.ensures.only c.if-not-is_open_to.true (o.media c.from-place.result)))
+          (rw (at_port c.args.self.now.ports c.from-place.result c.index-self-place-2.result small) at (c.may_take_command.ensures.only c.if-not-may_take_command.true (o.media c.from-place.result)))
           both.0 both.1,
       refl,
     )

@@ -1,11 +1,11 @@
 use Rattle.std.proofs.Common.{rules, arith, inl, inr, refl, ℕ, sym, subst, ◌≡◌, ◌<◌, length, slice_index_or}
-use Rattle.adapter.specs.Device.{Taken}
+use Rattle.adapter.specs.Device.{FetchedCommand}
 use Rattle.adapter.specs.Steps.{IsFinished}
 use Rattle.device_model.proofs.Absurd.{true-false}
-use Rattle.device_model.specs.Slots.{HoldsAt}
-use Rattle.adapter.specs.Asked.{Ends}
+use Rattle.device_model.specs.Slots.{WorksOnIn}
+use Rattle.adapter.specs.Asked.{EndsAndPosts}
 use Rattle.device_model.specs.Sent.{SendsEnd}
-use Rattle.device_model.specs.View.{blank, cause_of, operation_of, taken_of}
+use Rattle.device_model.specs.View.{blank_port, cause_of, transfer_operation, taken_of}
 use Rattle.device_model.specs.Whole.{device_of, outside_ended}
 use Rattle.device_model.specs.declared.port.Transfer.{Transfer}
 use Rattle.device_model.specs.declared.hardware.Hardware.{Hardware}
@@ -22,19 +22,19 @@ returns-clause-did c = λ o.
     let small : p < length h.ports = search rules in
     let found = c.in-Some.ensures.found in
     let kind : c.in-Some.transfer ≡ found.0.transfer = found.3 in
-    let P : ℕ → Type 0 = λ q. HoldsAt (slice_index_or h.ports q blank) c.args.slot found.0 in
-    let R : Transfer → ℕ → Type 0 = λ k q. Ends (SendsEnd c.args.slot) port c.args.slot (device_of h o) (device_of c.send_end.new.self (outside_ended o q (operation_of k))) in
+    let P : ℕ → Type 0 = λ q. WorksOnIn (slice_index_or h.ports q blank_port) c.args.slot found.0 in
+    let R : Transfer → ℕ → Type 0 = λ k q. EndsAndPosts (SendsEnd c.args.slot) port c.args.slot (device_of h o) (device_of c.send_end.new.self (outside_ended o q (transfer_operation k))) in
     subst (λ q. R c.in-Some.transfer q) c.from-place.ensures
     (subst (λ k. R k p) (sym kind)
     (port_ends h o p port c.args.slot c.end.new.self found.0 c.record.new.tape _ c.from-place.ensures small (subst P (sym c.from-place.ensures) found.1)
     found.2 (rw kind at (rw (at_port h.ports p c.index-self-place.result small) at (rw (c.len-here.ensures, h.tape.ok.0) at (c.end.ensures (o.media p))))) (rw kind at (rw c.operation.ensures at c.record.ensures.added c.if-not-record.false))
-    (rw kind at (c.send_end.ensures.sent (outside_ended o p (operation_of c.in-Some.transfer))))))
+    (rw kind at (c.send_end.ensures.sent (outside_ended o p (transfer_operation c.in-Some.transfer))))))
 
 pub returns-in_default-clause-left : goal.returns-in_default-clause-left
 returns-in_default-clause-left c = λ _ o.
     inl (
       λ may.
-          let t : Taken = may.1 in
+          let t : FetchedCommand = may.1 in
           let w = holds c.args.self.now o c.args.port c.args.slot t may.2.works in
           absurd (c.finished_at.ensures.none c.in_default.is w.0 w.1 (subst IsFinished w.2 may.2.finished)),
       refl,

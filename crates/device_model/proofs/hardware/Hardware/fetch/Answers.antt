@@ -1,12 +1,12 @@
 use Rattle.std.proofs.Common.{ℕ, subst, slice_index_or}
 use Rattle.device_model.specs.Slots.{HasUntaken}
-use Rattle.device_model.specs.View.{blank}
+use Rattle.device_model.specs.View.{blank_port}
 use Rattle.device_model.proofs.Stepping.{fetch_takes}
 use Rattle.device_model.proofs.hardware.Hardware.fetch.Goals as goal
 
 pub fetch_said-requires-clause-may : goal.fetch_said-requires-clause-may
 fetch_said-requires-clause-may c =
-    let P : ℕ → Type 0 = λ q. HasUntaken (slice_index_or c.args.self.now.ports q blank) c.args.slot in
+    let P : ℕ → Type 0 = λ q. HasUntaken (slice_index_or c.args.self.now.ports q blank_port) c.args.slot in
     subst P c.from.ensures (c.has_untaken.ensures.may c.if-has_untaken.true)
 
 pub returns-else-has_untaken-clause-only : goal.returns-else-has_untaken-clause-only

@@ -1,6 +1,6 @@
 use Rattle.std.proofs.Common.{rules, arith, ◌≡◌, ◌<◌, ◌∙◌, Bool, length, nat_eq, ℕ, inl, inr, ap, refl, sym}
 use Rattle.std.specs.Prelude.{if◌then◌else◌, slice_index_or}
-use Rattle.device_model.specs.View.{blank}
+use Rattle.device_model.specs.View.{blank_port}
 use Rattle.device_model.proofs.Absurd.{true-false}
 use Rattle.device_model.proofs.Stepping.{plugged_in}
 use Rattle.device_model.proofs.SlotLemmas.{at_port}
@@ -19,7 +19,7 @@ returns-clause-did c = λ _ o disk name same.
     let h = c.args.self.now in
     let p : ℕ = c.from-place.result in
     let small : p < length h.ports = search rules in
-    let at : ℕ = (slice_index_or h.ports p blank).lasting_at in
+    let at : ℕ = (slice_index_or h.ports p blank_port).lasting_at in
     let since : c.lasting_since-lasting_at.result ≡ (if c.args.same then at else length h.tape.items) =
     rw (c.len-here.ensures, h.tape.ok.0) at (rw (at_port h.ports p c.index-self-place-2.result small) at c.lasting_since-lasting_at.ensures) in
     plugged_in h o p c.args.port _ c.record.new.tape disk c.args.number c.lasting_since-lasting_at.result name c.from-place.ensures small

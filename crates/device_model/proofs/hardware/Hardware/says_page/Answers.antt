@@ -1,17 +1,17 @@
 use Rattle.std.proofs.Common.{rules, ◌<◌, length, Bool, Option, refl, subst, sym}
-use Rattle.device_model.specs.Finishing.{FindsPage}
+use Rattle.device_model.specs.Finishing.{LooksForPage}
 use Rattle.device_model.specs.Whole.{device_of}
 use Rattle.device_model.proofs.Ready.{finds, page_crowded, page_said, page_unmeant, page_unsaid, page_endless, may_page, ready_may}
 use Rattle.device_model.proofs.SlotLemmas.{at_port}
 use Rattle.device_model.proofs.hardware.Hardware.says_page.Goals as goal
 
-pub returns-then-is_open_to : goal.returns-then-is_open_to
-returns-then-is_open_to c = λ o.
+pub returns-then-may_take_command : goal.returns-then-may_take_command
+returns-then-may_take_command c = λ o.
     let h = c.args.self.now in
     let some : c.args.port < length c.args.self.now.ports = search rules in
     let said = rw (at_port h.ports c.args.port c.index-self-port.result some) at (rw c.deref.ensures.value at c.in_ok-command.ensures.found) in
     let kind = c.in_ok-command.ensures.kind in
-    let beside = rw (at_port h.ports c.args.port c.index-self-port-2.result some) at (c.is_open_to.ensures.open c.if-is_open_to.true) in
+    let beside = rw (at_port h.ports c.args.port c.index-self-port-2.result some) at (c.may_take_command.ensures.open c.if-may_take_command.true) in
     finds (device_of h o) c.args.port c.args.slot c.can_end.result
     (λ e. page_said h c.args.port c.args.slot c.len.result c.len.ensures c.in_ok-command.command said.0 said.1 kind c.requires.may beside (c.can_end.ensures.ends e) o)
     (λ e. (
@@ -25,12 +25,12 @@ returns c = λ o.
     let h = c.args.self.now in
     let some : c.args.port < length c.args.self.now.ports = search rules in
     let said = rw (at_port h.ports c.args.port c.index-self-port.result some) at (rw c.deref.ensures.value at c.in_ok-command.ensures.found) in
-    let never = page_crowded h c.args.port c.args.slot c.in_ok-command.command said.1 (rw (at_port h.ports c.args.port c.index-self-port-2.result some) at (c.is_open_to.ensures.only c.if-is_open_to.false)) o in
+    let never = page_crowded h c.args.port c.args.slot c.in_ok-command.command said.1 (rw (at_port h.ports c.args.port c.index-self-port-2.result some) at (c.may_take_command.ensures.only c.if-may_take_command.false)) o in
     (never, λ has. never (ready_may h c.args.port c.args.slot c.requires.may o has))
 
 pub returns-in_err-command : goal.returns-in_err-command
 returns-in_err-command c = λ o.
     let some : c.args.port < length c.args.self.now.ports = search rules in
     let none = rw (at_port c.args.self.now.ports c.args.port c.index-self-port.result some) at (rw c.deref.ensures.value at c.read_page.ensures.only c.in_err-command.was) in
-    let P : Option Bool → Type 0 = λ r. FindsPage (device_of c.args.self.now o) c.args.port c.args.slot r in
+    let P : Option Bool → Type 0 = λ r. LooksForPage (device_of c.args.self.now o) c.args.port c.args.slot r in
     subst P (sym c.from_residual.ensures) (page_unmeant c.args.self.now c.args.port c.args.slot none o, page_unsaid c.args.self.now c.args.port c.args.slot _ refl none c.requires.may o)

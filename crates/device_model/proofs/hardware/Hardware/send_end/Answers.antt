@@ -2,12 +2,12 @@ use Rattle.std.proofs.Common.{rules, ◌<◌, length, ℕ, ◌%◌, ◌∙◌, a
 use Rattle.std.specs.Prelude.{bit_and}
 use Rattle.std.specs.Int.Bits.{and_zero_r}
 use Rattle.std.proofs.lemmas.Nat.{and_assoc}
-use Rattle.fis.specs.Spelling.{SpellsDeviceToHost, SpellsPioSetup, SpellsSetDeviceBits}
+use Rattle.fis.specs.Encoding.{EncodesDeviceToHost, EncodesPioSetup, EncodesSetDeviceBits}
 use Rattle.fis.specs.declared.DeviceToHost.{DeviceToHost}
 use Rattle.fis.specs.declared.PioSetup.{PioSetup}
 use Rattle.fis.specs.declared.SetDeviceBits.{SetDeviceBits}
 use Rattle.adapter.specs.Device.{Device}
-use Rattle.device_model.specs.Sent.{SendsBits, SendsRegisters, SendsSetup, end_of, page_setup, tag_of}
+use Rattle.device_model.specs.Sent.{SendsBits, SendsRegisters, SendsSetup, end_fis, page_setup, tag_of}
 use Rattle.device_model.specs.View.{port_of}
 use Rattle.device_model.specs.Whole.{device_of, no_media}
 use Rattle.device_model.proofs.SlotLemmas.{at_port}
@@ -21,7 +21,7 @@ encode_d2h-fis-requires c = let e = ap (λ (f : DeviceToHost). f.lba) (c.end_reg
 
 pub returns-in-Identify-clause-sent : goal.returns-in-Identify-clause-sent
 returns-in-Identify-clause-sent c = λ o.
-    let P : PioSetup → Type 0 = λ f. SpellsPioSetup c.encode_pio_setup-fis.result f in
+    let P : PioSetup → Type 0 = λ f. EncodesPioSetup c.encode_pio_setup-fis.result f in
     let small : c.args.port < length c.args.self.now.ports = search rules in
     let d : Device = device_of c.args.self.now o in
     let sent : SendsSetup c.args.port (page_setup (d.port c.args.port)) d (device_of c.send.new.self o) =
@@ -32,9 +32,9 @@ pub returns-in-Read : goal.returns-in-Read
 returns-in-Read c = record {
   sent = λ o.
       let small : c.args.port < length c.args.self.now.ports = search rules in
-      let P : DeviceToHost → Type 0 = λ f. SpellsDeviceToHost c.encode_d2h-fis.result f in
+      let P : DeviceToHost → Type 0 = λ f. EncodesDeviceToHost c.encode_d2h-fis.result f in
       let d : Device = device_of c.args.self.now o in
-      let sent : SendsRegisters c.args.port (end_of (d.port c.args.port)) d (device_of c.send-in-Read.new.self o) =
+      let sent : SendsRegisters c.args.port (end_fis (d.port c.args.port)) d (device_of c.send-in-Read.new.self o) =
       (c.encode_d2h-fis.result, subst P (rw (at_port c.args.self.now.ports c.args.port c.index-self-port-in-Read.result small) at (c.end_registers.ensures (o.media c.args.port))) c.encode_d2h-fis.ensures, c.send-in-Read.ensures.sent o) in
       elim c.in-Read.is [
         | inl read ↦ rw read (refl, sent)
@@ -55,7 +55,7 @@ encode_set_device_bits-fis-requires c =
 pub returns-in-ReadQueued-clause-sent : goal.returns-in-ReadQueued-clause-sent
 returns-in-ReadQueued-clause-sent c = λ o.
     let small : c.args.port < length c.args.self.now.ports = search rules in
-    let P : SetDeviceBits → Type 0 = λ f. SpellsSetDeviceBits c.encode_set_device_bits-fis.result f in
+    let P : SetDeviceBits → Type 0 = λ f. EncodesSetDeviceBits c.encode_set_device_bits-fis.result f in
     let d : Device = device_of c.args.self.now o in
     let sent : SendsBits c.args.port (tag_of c.args.slot (d.port c.args.port)) d (device_of c.send-in-ReadQueued.new.self o) =
     (c.encode_set_device_bits-fis.result, subst P (rw (at_port c.args.self.now.ports c.args.port c.index-self-port-in-ReadQueued.result small) at (c.ended_tag.ensures (o.media c.args.port))) c.encode_set_device_bits-fis.ensures, c.send-in-ReadQueued.ensures.sent o) in

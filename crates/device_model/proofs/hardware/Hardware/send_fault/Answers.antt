@@ -2,11 +2,11 @@ use Rattle.std.proofs.Common.{rules, ◌<◌, length, ℕ, ◌%◌, ◌∙◌, a
 use Rattle.std.specs.Prelude.{bit_and}
 use Rattle.std.specs.Int.Bits.{and_zero_r}
 use Rattle.std.proofs.lemmas.Nat.{and_assoc}
-use Rattle.fis.specs.Spelling.{SpellsDeviceToHost, SpellsSetDeviceBits}
+use Rattle.fis.specs.Encoding.{EncodesDeviceToHost, EncodesSetDeviceBits}
 use Rattle.fis.specs.declared.DeviceToHost.{DeviceToHost}
 use Rattle.fis.specs.declared.SetDeviceBits.{SetDeviceBits}
 use Rattle.adapter.specs.Device.{Device}
-use Rattle.device_model.specs.Sent.{SendsBits, SendsRegisters, end_of, no_tag_of}
+use Rattle.device_model.specs.Sent.{SendsBits, SendsRegisters, end_fis, no_tag_of}
 use Rattle.device_model.specs.View.{port_of}
 use Rattle.device_model.specs.Whole.{device_of, no_media}
 use Rattle.device_model.proofs.SlotLemmas.{at_port}
@@ -23,7 +23,7 @@ encode_set_device_bits-fis-requires c =
 pub returns-then-queued-clause-sent : goal.returns-then-queued-clause-sent
 returns-then-queued-clause-sent c = λ o.
     let small : c.args.port < length c.args.self.now.ports = search rules in
-    let P : SetDeviceBits → Type 0 = λ f. SpellsSetDeviceBits c.encode_set_device_bits-fis.result f in
+    let P : SetDeviceBits → Type 0 = λ f. EncodesSetDeviceBits c.encode_set_device_bits-fis.result f in
     let d : Device = device_of c.args.self.now o in
     let sent : SendsBits c.args.port (no_tag_of (d.port c.args.port)) d (device_of c.send.new.self o) =
     (c.encode_set_device_bits-fis.result, subst P (rw (at_port c.args.self.now.ports c.args.port c.index-self-port.result small) at (c.failed_bits.ensures (o.media c.args.port))) c.encode_set_device_bits-fis.ensures, c.send.ensures.sent o) in
@@ -32,8 +32,8 @@ returns-then-queued-clause-sent c = λ o.
 pub returns-else-queued-clause-sent : goal.returns-else-queued-clause-sent
 returns-else-queued-clause-sent c = λ o.
     let small : c.args.port < length c.args.self.now.ports = search rules in
-    let P : DeviceToHost → Type 0 = λ f. SpellsDeviceToHost c.encode_d2h-fis.result f in
+    let P : DeviceToHost → Type 0 = λ f. EncodesDeviceToHost c.encode_d2h-fis.result f in
     let d : Device = device_of c.args.self.now o in
-    let sent : SendsRegisters c.args.port (end_of (d.port c.args.port)) d (device_of c.send-else-queued.new.self o) =
+    let sent : SendsRegisters c.args.port (end_fis (d.port c.args.port)) d (device_of c.send-else-queued.new.self o) =
     (c.encode_d2h-fis.result, subst P (rw (at_port c.args.self.now.ports c.args.port c.index-self-port-else-queued.result small) at (c.end_registers.ensures (o.media c.args.port))) c.encode_d2h-fis.ensures, c.send-else-queued.ensures.sent o) in
     rw c.if-queued.false sent

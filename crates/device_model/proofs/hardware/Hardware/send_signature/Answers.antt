@@ -1,5 +1,5 @@
 use Rattle.std.proofs.Common.{rules, ◌<◌, length, ap, subst, arith}
-use Rattle.fis.specs.Spelling.{SpellsDeviceToHost}
+use Rattle.fis.specs.Encoding.{EncodesDeviceToHost}
 use Rattle.fis.specs.declared.DeviceToHost.{DeviceToHost}
 use Rattle.device_model.specs.Whole.{no_media}
 use Rattle.device_model.proofs.SlotLemmas.{at_port}
@@ -11,5 +11,5 @@ encode_d2h-fis-requires c = let e = ap (λ (f : DeviceToHost). f.lba) (c.signatu
 pub returns-clause-sent : goal.returns-clause-sent
 returns-clause-sent c = λ o.
     let small : c.args.port < length c.args.self.now.ports = search rules in
-    let P : DeviceToHost → Type 0 = λ f. SpellsDeviceToHost c.encode_d2h-fis.result f in
+    let P : DeviceToHost → Type 0 = λ f. EncodesDeviceToHost c.encode_d2h-fis.result f in
     (c.encode_d2h-fis.result, subst P (rw (at_port c.args.self.now.ports c.args.port c.index-self-port.result small) at (c.signature.ensures (o.media c.args.port))) c.encode_d2h-fis.ensures, c.send.ensures.sent o)

@@ -3,7 +3,7 @@ use Rattle.adapter.specs.declared.access.DeviceStep.TheVariants as asked
 use Rattle.adapter.specs.Steps.{disk_cleared}
 use Rattle.device_model.specs.Cached.{CallFails, HasOldRoom}
 use Rattle.device_model.specs.Disks.{bay_of, disk_over, failing, lasting_of}
-use Rattle.device_model.specs.Does.{Completes, HasCleared, HasFailed, IsCause, LacksMemory, cleared_on_disk}
+use Rattle.device_model.specs.Does.{Completes, HasCleared, CommandFails, IsCause, LacksMemory, cleared_on_disk}
 use Rattle.device_model.specs.Modelled.{device_at, media_of, outside_at}
 use Rattle.device_model.specs.Trims.{HasClear, next_uncleared, span}
 use Rattle.device_model.specs.View.{taken_of}
@@ -312,7 +312,7 @@ failed g c =
     (c.clear.ensures.left 1 (c.reserve-room.ensures.room c.if-not-room.false))
 
 has_failed : (g : Over) (c : goal.After-fail-failed g) →
-    HasFailed g.S.SectorStore.size g.S.SectorStore.told g.S.SectorStore.failures (asked.Clear c.args.port c.args.slot c.args.most) c.args.self.now c.fail-failed.new.self
+    CommandFails g.S.SectorStore.size g.S.SectorStore.told g.S.SectorStore.failures (asked.Clear c.args.port c.args.slot c.args.most) c.args.self.now c.fail-failed.new.self
 has_failed g c =
     let found = c.in-Some.ensures.found in
     let f = failed g c in
@@ -364,21 +364,21 @@ returns-then-not-reserve-clause-answers g c =
     let o : Outside = outside_at g.S.SectorStore.size g.S.SectorStore.told m in
     let found = c.in-Some.ensures.found in
     let t = taken_of found.0 in
-    let seat = seat_is m c.from-place.result c.args.port.0 c.index_mut.result.now a c.from-place.ensures
+    let push_bay = seat_is m c.from-place.result c.args.port.0 c.index_mut.result.now a c.from-place.ensures
     (let there = c.has_disks.ensures.there c.if-not-has_disks.false in let long = ap length c.as_slice.ensures.value in omega (arith, there, long))
     c.index_mut.ensures.value c.in-Some-index_mut.is in
     let has = found_clear c.reserve-room.new.self o _ c.args.port.0 c.args.slot.0 c.args.most c.in-Some.run' found.0
-    (has_disks g.S.SectorStore.size g.S.SectorStore.told m c.args.port.0 a seat) (c.reserve-room.ensures.same o) found.1 in
+    (has_disks g.S.SectorStore.size g.S.SectorStore.told m c.args.port.0 a push_bay) (c.reserve-room.ensures.same o) found.1 in
     let size : ((device_at g.S.SectorStore.size g.S.SectorStore.told m).port c.args.port.0).disk.size ≡ c.sectors.result =
-    ap (λ x. (media_of g.S.SectorStore.size g.S.SectorStore.told x).disk.size) seat ∙ sym c.sectors.ensures in
+    ap (λ x. (media_of g.S.SectorStore.size g.S.SectorStore.told x).disk.size) push_bay ∙ sym c.sectors.ensures in
     let cut : c.cut-on_disk.result.count ≡ min c.in-Some.run'.count (c.sectors.result - c.in-Some.run'.first) = c.cut-on_disk.ensures.count in
     let whole : c.in-Some.run'.count ≡ span c.args.most t = found.1.count_is in
     let start : c.in-Some.run'.first ≡ next_uncleared t = found.1.first_is in
     let here : cleared_on_disk ((device_at g.S.SectorStore.size g.S.SectorStore.told m).port c.args.port.0).disk.size c.args.most t ≡ c.cut-on_disk.result.count =
     sym (cut ∙ (λ i. min (whole i) (sym size i - start i))) in
     let lacks : LacksMemory (asked.Clear c.args.port c.args.slot c.args.most) (device_at g.S.SectorStore.size g.S.SectorStore.told m) m.hardware m.bays.items =
-    (t, has, λ _ old. c.reserve.ensures.lacked c.if-not-reserve.true (subst (HasOldRoom a.cache) here (room_here m c.args.port.0 _ a seat old))) in
-    grown_left g.S.SectorStore.size g.S.SectorStore.told g.S.SectorStore.failures m _ c.args.port.0 a c.reserve.new.self.cache seat
+    (t, has, λ _ old. c.reserve.ensures.lacked c.if-not-reserve.true (subst (HasOldRoom a.cache) here (room_here m c.args.port.0 _ a push_bay old))) in
+    grown_left g.S.SectorStore.size g.S.SectorStore.told g.S.SectorStore.failures m _ c.args.port.0 a c.reserve.new.self.cache push_bay
     (ap (λ k. slice_set m.bays.items k (Some c.reserve.new.self)) c.from-place.ensures ∙ ap (λ (x : Bay g.row.S.Denot). slice_set m.bays.items c.args.port.0 (Some x)) c.reserve.ensures.rest)
     c.reserve.ensures.same (asked.Clear c.args.port c.args.slot c.args.most) refl (c.reserve-room.ensures.same o) refl refl refl (λ _ _. (lacks, refl)) (λ _. refl)
     (λ _. inr ((c.requires, t, has), lacks))

@@ -1,7 +1,7 @@
 use Rattle.std.proofs.Common.{ℕ, false, true, ◌≡◌, ◌∙◌, ap, arith, subst}
 use Rattle.adapter.specs.Device.{Device}
-use Rattle.adapter.specs.Steps.{Can, after}
-use Rattle.adapter.specs.Steps.Step.{FetchFault}
+use Rattle.adapter.specs.Steps.{Can, device_after}
+use Rattle.adapter.specs.Steps.DeviceTransition.{FetchFault}
 use Rattle.device_model.specs.Finishing.{IsPassed}
 use Rattle.device_model.specs.Modelled.{outside_at}
 use Rattle.device_model.specs.Sent.{SendsFault}
@@ -18,15 +18,15 @@ returns-then-fetch g c =
     (omega (arith, c.if-port-ge4.false)) (omega (arith, c.if-slot-ge32.false)) (f.did c.if-fetch.true _) f.tape f.starved
 
 -- nothing was taken, and nothing failed
-pub returns-then-not-fail_senseless : goal.returns-then-not-fail_senseless
-returns-then-not-fail_senseless g c =
+pub returns-then-not-abort_invalid : goal.returns-then-not-abort_invalid
+returns-then-not-abort_invalid g c =
     let m = c.args.self.now in
     let o : Outside = outside_at g.S.SectorStore.size g.S.SectorStore.told m in
-    let f = c.fail_senseless.ensures in
+    let f = c.abort_invalid.ensures in
     let kept : c.fetch.new.self ≡ m.hardware = c.fetch.ensures.refused c.if-fetch.false in
-    let not : c.fail_senseless.result ≡ false = c.if-not-fail_senseless.true in
-    let Q : Hardware → Type 0 = λ h. IsPassed h c.fail_senseless.new.self (Can (FetchFault c.args.port.0 c.args.slot.0 false 0) (device_of h o)) in
-    senseless_answers g.S.SectorStore.size g.S.SectorStore.told g.S.SectorStore.failures m c.fail_senseless.new.self c.args.port c.args.slot
+    let not : c.abort_invalid.result ≡ false = c.if-not-abort_invalid.true in
+    let Q : Hardware → Type 0 = λ h. IsPassed h c.abort_invalid.new.self (Can (FetchFault c.args.port.0 c.args.slot.0 false 0) (device_of h o)) in
+    senseless_answers g.S.SectorStore.size g.S.SectorStore.told g.S.SectorStore.failures m c.abort_invalid.new.self c.args.port c.args.slot
     false (omega (arith, c.if-port-ge4.false)) (omega (arith, c.if-slot-ge32.false)) (c.fetch.ensures.only c.if-fetch.false o)
     (λ e. absurd (cc e)) (λ _. f.refused not o ∙ ap (λ (h : Hardware). device_of h o) kept) (λ _. subst Q kept (f.left not o)) (λ e. absurd (cc e))
 
@@ -35,15 +35,15 @@ pub returns : goal.returns
 returns g c =
     let m = c.args.self.now in
     let o : Outside = outside_at g.S.SectorStore.size g.S.SectorStore.told m in
-    let f = c.fail_senseless.ensures in
+    let f = c.abort_invalid.ensures in
     let kept : c.fetch.new.self ≡ m.hardware = c.fetch.ensures.refused c.if-fetch.false in
-    let did = f.did c.if-not-fail_senseless.false o in
+    let did = f.did c.if-not-abort_invalid.false o in
     let new : Device = device_of c.send_fault.new.self o in
     let P : Hardware → Type 0 = λ h. Can (FetchFault c.args.port.0 c.args.slot.0 false 0) (device_of h o)
-    × SendsFault false c.args.port.0 (after (FetchFault c.args.port.0 c.args.slot.0 false 0) (device_of h o)) new in
-    let sent : SendsFault false c.args.port.0 (device_of c.fail_senseless.new.self o) new =
-    subst (λ (q : ℕ). SendsFault false q (device_of c.fail_senseless.new.self o) new) c.from.ensures (c.send_fault.ensures.sent o) in
+    × SendsFault false c.args.port.0 (device_after (FetchFault c.args.port.0 c.args.slot.0 false 0) (device_of h o)) new in
+    let sent : SendsFault false c.args.port.0 (device_of c.abort_invalid.new.self o) new =
+    subst (λ (q : ℕ). SendsFault false q (device_of c.abort_invalid.new.self o) new) c.from.ensures (c.send_fault.ensures.sent o) in
     senseless_answers g.S.SectorStore.size g.S.SectorStore.told g.S.SectorStore.failures m c.send_fault.new.self c.args.port c.args.slot
     true (omega (arith, c.if-port-ge4.false)) (omega (arith, c.if-slot-ge32.false)) (c.fetch.ensures.only c.if-fetch.false o)
     (λ _. subst P kept (did.0, subst (λ (d : Device). SendsFault false c.args.port.0 d new) did.1 sent)) (λ e. absurd (cc e)) (λ e. absurd (cc e))
-    (λ _. ap (λ (h : Hardware). h.starved) c.send_fault.ensures.rest ∙ (f.fed c.if-not-fail_senseless.false ∙ ap (λ (h : Hardware). h.starved) kept))
+    (λ _. ap (λ (h : Hardware). h.starved) c.send_fault.ensures.rest ∙ (f.fed c.if-not-abort_invalid.false ∙ ap (λ (h : Hardware). h.starved) kept))

@@ -2,17 +2,17 @@ use Rattle.std.proofs.Common.{rules, ℕ, suc, Some, ◌≡◌, ◌≤◌, lengt
 use Rattle.std.specs.Prelude.{slice_set}
 use Rattle.std.specs.Vec.{with_item}
 use Rattle.adapter.specs.Asked.{DoesFetch}
-use Rattle.adapter.specs.Device.{Device, Taken}
+use Rattle.adapter.specs.Device.{Device, FetchedCommand}
 use Rattle.adapter.specs.declared.access.DeviceStep.TheVariants as asked
-use Rattle.device_model.specs.Finishing.{HasPage, HasRoom, IsGoing, MayFinish}
+use Rattle.device_model.specs.Finishing.{HasPageCommand, TapeHasRoom, IsGoing, MayFinish}
 use Rattle.device_model.specs.Cached.{HasOldRoom}
 use Rattle.device_model.specs.Disks.{bay_of}
 use Rattle.device_model.specs.Does.{LacksMemory, Possible, answer_of}
 use Rattle.device_model.specs.Modelled.{device_at, outside_at}
 use Rattle.device_model.specs.Sent.{SendsEnd}
-use Rattle.device_model.specs.Slots.{HoldsAt}
+use Rattle.device_model.specs.Slots.{WorksOnIn}
 use Rattle.device_model.specs.Trims.{HasClear, changes_ahead, uncleared}
-use Rattle.device_model.specs.View.{blank, taken_of}
+use Rattle.device_model.specs.View.{blank_port, taken_of}
 use Rattle.device_model.specs.Whole.{HasDisks, Outside, device_of}
 use Rattle.device_model.specs.declared.bay.Bay.{Bay}
 use Rattle.device_model.specs.declared.hardware.Hardware.{Hardware}
@@ -154,7 +154,7 @@ returns-in-Left-clause-answers g c =
     let disks : HasDisks (device_at g.S.SectorStore.size g.S.SectorStore.told first) c.args.port.0 = found_disks g.S.SectorStore.size g.S.SectorStore.told c.args.self.now c.from.result c.args.port.0 _ c.from.ensures c.as_slice.ensures.value (sym c.has_disks.ensures.disks ∙ c.if-not-has_disks.false) in
     let going = subst P next is.going in
     let move = going_has_move d c.args.port.0 c.args.slot.0 left clears (disks_kept g.S.SectorStore.size g.S.SectorStore.told first m c.args.port.0 is.meanwhile.which disks) going in
-    let room : HasRoom m.hardware 1 = omega (arith, is.room) in
+    let room : TapeHasRoom m.hardware 1 = omega (arith, is.room) in
     cut_short g.S.SectorStore.size g.S.SectorStore.told g.S.SectorStore.failures (asked.Move c.args.port c.args.slot) c.args.port c.args.slot c.loop-piece.did first m _
     (disks, c.requires, c.in-Some-begin.field-0.rest.left, c.in-Some-begin.field-0.rest.clears, c.in-Some-begin.ensures.begun.ready o) is.did is.refused is.meanwhile is.disks is.untouched
     is.fine refl step (λ small_enough. omega (arith, is.size, small_enough)) (c.requires, going.t, move)
@@ -200,10 +200,10 @@ loop-run-init g c =
 
 -- as many sectors as are left to clear
 as_many : (h : Hardware) (o : Outside) (port slot left clears most : ℕ) (going : IsGoing (device_of h o) port slot left clears) →
-    ((t : TakenCommand) → HoldsAt (slice_index_or h.ports port blank) slot t → most ≡ length (uncleared (taken_of t))) → most ≡ length (uncleared going.t)
+    ((t : TakenCommand) → WorksOnIn (slice_index_or h.ports port blank_port) slot t → most ≡ length (uncleared (taken_of t))) → most ≡ length (uncleared going.t)
 as_many h o port slot left clears most going counted =
     let w = holds h o port slot going.t going.works in
-    counted w.0 w.1 ∙ ap (λ (t : Taken). length (uncleared t)) (sym w.2)
+    counted w.0 w.1 ∙ ap (λ (t : FetchedCommand). length (uncleared t)) (sym w.2)
 
 pub loop-run-preserved : goal.loop-run-preserved
 loop-run-preserved g c =
@@ -256,7 +256,7 @@ returns-in-Left-clear_run-clause-answers g c =
     let going = subst P next is.going in
     let whole = as_many m.hardware o c.args.port.0 c.args.slot.0 0 (suc left) most going c.count_uncleared-most.ensures in
     let has = subst (λ (n : ℕ). HasClear d c.args.port.0 c.args.slot.0 n going.t) (sym whole) (going_has_clear d c.args.port.0 c.args.slot.0 left (disks_kept g.S.SectorStore.size g.S.SectorStore.told first m c.args.port.0 is.meanwhile.which disks) going) in
-    let room : HasRoom m.hardware 2 = omega (arith, is.room, next) in
+    let room : TapeHasRoom m.hardware 2 = omega (arith, is.room, next) in
     cut_short g.S.SectorStore.size g.S.SectorStore.told g.S.SectorStore.failures (asked.Clear c.args.port c.args.slot most) c.args.port c.args.slot c.loop-run.did first m _
     (disks, c.requires, c.in-Some-begin.field-0.rest.left, c.in-Some-begin.field-0.rest.clears, c.in-Some-begin.ensures.begun.ready start) is.did is.refused is.meanwhile is.disks is.untouched
     is.fine refl step (λ _. tt) (c.requires, going.t, has)
@@ -400,7 +400,7 @@ returns-in-Left-clause-sends g c = λ disks has.
     let next : c.in-Some-begin.field-0.rest.left - c.loop-piece._piece ≡ suc left = omega (arith, c.loop-piece-test.true) in
     let going = subst P next is.going in
     let move = going_has_move d c.args.port.0 c.args.slot.0 left clears (disks_kept g.S.SectorStore.size g.S.SectorStore.told first m c.args.port.0 is.meanwhile.which disks) going in
-    let t : Taken = going.t in
+    let t : FetchedCommand = going.t in
     let page = page_taken c.args.port.0 c.args.slot.0 c.loop-piece.did _ _ is.did is.refused has t going.works.taken in
     let low = page.1 t.moved move.left in
     absurd (c.move_piece.ensures.page t going.works.taken page.0 c.in-Left.is move (omega (arith, low)) (omega (arith, is.room)))
@@ -443,7 +443,7 @@ returns-in_default-begin-clause-sends g c = λ disks has.
     ]
 
 -- it clears nothing
-no_clears : (d : Device) (port slot left clears : ℕ) → HasPage d port slot → MayFinish d port slot left clears → 1 ≤ clears → ⊥
+no_clears : (d : Device) (port slot left clears : ℕ) → HasPageCommand d port slot → MayFinish d port slot left clears → 1 ≤ clears → ⊥
 no_clears d port slot left clears has may some = page_asks_none d port slot left clears has may (inr some)
 
 pub returns-in-Left-clear_run-clause-sends : goal.returns-in-Left-clear_run-clause-sends

@@ -6,22 +6,22 @@ use Rattle.std.proofs.Common.{Bool, Some, Option, refl, ◌++◌, ℕ, true, fal
 use Rattle.device_model.proofs.Absurd.{some_one, true-false}
 use Rattle.adapter.specs.Asked.{DoesMove}
 use Rattle.adapter.specs.Commands.{is_ranged, reads_memory}
-use Rattle.adapter.specs.Device.{Device, Taken}
-use Rattle.adapter.specs.Steps.{next_place, next_sector, Can, after, move_of}
-use Rattle.adapter.specs.Steps.Step.{Move}
+use Rattle.adapter.specs.Device.{Device, FetchedCommand}
+use Rattle.adapter.specs.Steps.{next_place, next_sector, Can, device_after, move_of}
+use Rattle.adapter.specs.Steps.DeviceTransition.{Move}
 use Rattle.adapter.specs.declared.tape.Entry.{Entry}
 use Rattle.adapter.specs.declared.tape.Entry.TheVariants as entry
 use Rattle.sector_store.specs.declared.store.Failures.{Failures}
 use Rattle.adapter.specs.declared.access.DeviceStep.TheVariants as asked
-use Rattle.device_model.specs.Disks.{bay_of, caches, disk_in_bay, failing, failures_of, has_cache, lasting_of}
+use Rattle.device_model.specs.Disks.{bay_of, caches, disk_in_bay, failing, disk_failures, has_cache, lasting_of}
 use Rattle.device_model.specs.Cached.{CallFails, HasOldRoom}
-use Rattle.device_model.specs.Does.{Completes, HasFailed, LacksMemory}
+use Rattle.device_model.specs.Does.{Completes, CommandFails, LacksMemory}
 use Rattle.device_model.specs.Exchanged.{Exchanges, piece_of}
 use Rattle.device_model.specs.Finishing.{HasMove}
 use Rattle.device_model.specs.Modelled.{device_at, media_of, outside_at}
 use Rattle.device_model.specs.Slots.{IsNext}
 use Rattle.device_model.specs.Trims.{written_ahead}
-use Rattle.device_model.specs.View.{Media, operation_of, taken_of}
+use Rattle.device_model.specs.View.{Media, transfer_operation, taken_of}
 use Rattle.device_model.specs.declared.port.Transfer.{Transfer}
 use Rattle.device_model.specs.Whole.{Outside, device_of, outside_after}
 use Rattle.device_model.specs.declared.bay.Bay.{Bay}
@@ -98,25 +98,25 @@ was g c =
 
 -- it was exchanged with the bay as it was, but that its cache has grown
 exchanged : (g : Over) (c : goal.After-note_move g) →
-    Exchanges g.S.SectorStore.size g.S.SectorStore.told g.S.SectorStore.failures (record c.in-Some-index_mut.bay { cache = c.reserve.new.self.cache }) c.exchange.new.self c.in-Some.next
-    (piece_of c.reserve-room.new.self c.in-Some.next) (piece_of c.exchange.new.hardware c.in-Some.next) c.exchange.result
+    Exchanges g.S.SectorStore.size g.S.SectorStore.told g.S.SectorStore.failures (record c.in-Some-index_mut.bay { cache = c.reserve.new.self.cache }) c.transfer_piece.new.self c.in-Some.next
+    (piece_of c.reserve-room.new.self c.in-Some.next) (piece_of c.transfer_piece.new.hardware c.in-Some.next) c.transfer_piece.result
 exchanged g c =
-    let P : Bay g.row.S.Denot → Type 0 = λ x. Exchanges g.S.SectorStore.size g.S.SectorStore.told g.S.SectorStore.failures x c.exchange.new.self c.in-Some.next
-    (piece_of c.reserve-room.new.self c.in-Some.next) (piece_of c.exchange.new.hardware c.in-Some.next) c.exchange.result in
-    subst P c.reserve.ensures.rest c.exchange.ensures.exchanges
+    let P : Bay g.row.S.Denot → Type 0 = λ x. Exchanges g.S.SectorStore.size g.S.SectorStore.told g.S.SectorStore.failures x c.transfer_piece.new.self c.in-Some.next
+    (piece_of c.reserve-room.new.self c.in-Some.next) (piece_of c.transfer_piece.new.hardware c.in-Some.next) c.transfer_piece.result in
+    subst P c.reserve.ensures.rest c.transfer_piece.ensures.exchanges
 
-lasts : (g : Over) (c : goal.After-note_move g) → lasting_of g.S.SectorStore.told c.exchange.new.self ≡ lasting_of g.S.SectorStore.told c.in-Some-index_mut.bay
+lasts : (g : Over) (c : goal.After-note_move g) → lasting_of g.S.SectorStore.told c.transfer_piece.new.self ≡ lasting_of g.S.SectorStore.told c.in-Some-index_mut.bay
 lasts g c = (exchanged g c).lasting ∙ grown_lasts g.S.SectorStore.told c.in-Some-index_mut.bay c.reserve.new.self.cache c.reserve.ensures.same
 
-cached : (g : Over) (c : goal.After-note_move g) → c.exchange.new.self.cache.is_on ≡ c.in-Some-index_mut.bay.cache.is_on
+cached : (g : Over) (c : goal.After-note_move g) → c.transfer_piece.new.self.cache.is_on ≡ c.in-Some-index_mut.bay.cache.is_on
 cached g c = (exchanged g c).cached ∙ c.reserve.ensures.same.is_on
 
 -- the model afterwards
 abbrev moved_model : (g : Over) (c : goal.After-note_move g) → Model g.row.S.Denot
-moved_model g c = record c.args.self.now { hardware = c.note_move.new.self; bays = with_item c.args.self.now.bays c.from-place.result (Some c.exchange.new.self) }
+moved_model g c = record c.args.self.now { hardware = c.note_move.new.self; bays = with_item c.args.self.now.bays c.from-place.result (Some c.transfer_piece.new.self) }
 
-items : (g : Over) (c : goal.After-note_move g) → (moved_model g c).bays.items ≡ slice_set c.args.self.now.bays.items c.args.port.0 (Some c.exchange.new.self)
-items g c = ap (λ k. slice_set c.args.self.now.bays.items k (Some c.exchange.new.self)) c.from-place.ensures
+items : (g : Over) (c : goal.After-note_move g) → (moved_model g c).bays.items ≡ slice_set c.args.self.now.bays.items c.args.port.0 (Some c.transfer_piece.new.self)
+items g c = ap (λ k. slice_set c.args.self.now.bays.items k (Some c.transfer_piece.new.self)) c.from-place.ensures
 
 fits : (g : Over) (c : goal.After-note_move g) →
     HasMove (device_at g.S.SectorStore.size g.S.SectorStore.told c.args.self.now) c.args.port.0 c.args.slot.0 (taken_of c.in-Some.ensures.found.0)
@@ -134,14 +134,14 @@ moved g c =
     let a = c.in-Some-index_mut.bay in
     let o : Outside = outside_at g.S.SectorStore.size g.S.SectorStore.told m in
     let h = c.reserve-room.new.self in
-    let bytes = piece_of c.exchange.new.hardware c.in-Some.next in
-    let did = c.if-not-exchange.false in
+    let bytes = piece_of c.transfer_piece.new.hardware c.in-Some.next in
+    let did = c.if-not-transfer_piece.false in
     let r : TakenCommand = c.in-Some.ensures.found.0 in
     let is : IsNext h c.args.port.0 c.args.slot.0 c.in-Some.next r = c.in-Some.ensures.found.1 in
     let here : Media = media_of g.S.SectorStore.size g.S.SectorStore.told (Some a) in
     let at : here ≡ o.media c.args.port.0 = sym (ap (media_of g.S.SectorStore.size g.S.SectorStore.told) (was g c)) in
     let behind : outside_at g.S.SectorStore.size g.S.SectorStore.told (moved_model g c) ≡ outside_after o c.args.port.0 (taken_of r) bytes =
-    outside_moved m (moved_model g c) c.args.port.0 a c.exchange.new.self (was g c) (items g c)
+    outside_moved m (moved_model g c) c.args.port.0 a c.transfer_piece.new.self (was g c) (items g c)
     (exchanged g c).rest g.S.SectorStore.size g.S.SectorStore.told
     c.in-Some.next r bytes (lasts g c) is.transfer_is is.sector_is ((exchanged g c).disk did) in
     let R : Device → Type 0 = λ d. Can (Move c.args.port.0 c.args.slot.0 (taken_of r) bytes) d in
@@ -150,14 +150,14 @@ moved g c =
       bytes = bytes;
       can = subst R (c.reserve-room.ensures.same o)
           (may_move h o c.args.port.0 c.args.slot.0 c.in-Some.next r bytes is (exchanged g c).sector
-          (subst (λ (x : Media). is_ranged (operation_of c.in-Some.next.transfer) ≡ true →
+          (subst (λ (x : Media). is_ranged (transfer_operation c.in-Some.next.transfer) ≡ true →
           c.in-Some.next.sector < x.disk.size) at ((exchanged g c).inside did))
-          (subst (λ (x : Media). is_ranged (operation_of c.in-Some.next.transfer) ≡ true → reads_memory (operation_of c.in-Some.next.transfer) ≡ false →
+          (subst (λ (x : Media). is_ranged (transfer_operation c.in-Some.next.transfer) ≡ true → reads_memory (transfer_operation c.in-Some.next.transfer) ≡ false →
           IfSome x.disk.sectors (λ f. bytes ≡ f c.in-Some.next.sector)) at ((exchanged g c).gives did))
           (exchanged g c).takes);
       effect = ap (λ (x : Outside). device_of c.note_move.new.self x) behind
-          ∙ (c.note_move.ensures.moved h o r c.exchange.ensures.memory is
-          ∙ ap (λ (d : Device). after (Move c.args.port.0 c.args.slot.0 (taken_of r) bytes) d)
+          ∙ (c.note_move.ensures.moved h o r c.transfer_piece.ensures.memory is
+          ∙ ap (λ (d : Device). device_after (Move c.args.port.0 c.args.slot.0 (taken_of r) bytes) d)
           (c.reserve-room.ensures.same o));
     }
 
@@ -168,10 +168,10 @@ whole g c =
     let a = c.in-Some-index_mut.bay in
     record {
       asked = moved g c;
-      fine = λ _. store_fine m (moved_model g c) c.args.port.0 a c.exchange.new.self (was g c) (items g c)
+      fine = λ _. store_fine m (moved_model g c) c.args.port.0 a c.transfer_piece.new.self (was g c) (items g c)
           (exchanged g c).rest g.S.SectorStore.failures
-          ((exchanged g c).fine c.if-not-exchange.false);
-      says = store_says m (moved_model g c) c.args.port.0 a c.exchange.new.self (was g c) (items g c)
+          ((exchanged g c).fine c.if-not-transfer_piece.false);
+      says = store_says m (moved_model g c) c.args.port.0 a c.transfer_piece.new.self (was g c) (items g c)
           (exchanged g c).rest c.args.port.0;
       ends = λ _. tt;
       loses = λ yes. true-false yes refl;
@@ -184,11 +184,11 @@ pub returns-clause-answers : goal.returns-clause-answers
 returns-clause-answers g c =
     let m = c.args.self.now in
     let a = c.in-Some-index_mut.bay in
-    let b = c.exchange.new.self in
+    let b = c.transfer_piece.new.self in
     let o : Outside = outside_at g.S.SectorStore.size g.S.SectorStore.told m in
     let found = c.in-Some.ensures.found in
-    let bytes = piece_of c.exchange.new.hardware c.in-Some.next in
-    let noted = c.note_move.ensures.moved c.reserve-room.new.self o found.0 c.exchange.ensures.memory found.1 in
+    let bytes = piece_of c.transfer_piece.new.hardware c.in-Some.next in
+    let noted = c.note_move.ensures.moved c.reserve-room.new.self o found.0 c.transfer_piece.ensures.memory found.1 in
     let entry : Entry = entry.Move (move_of c.args.port.0 c.args.slot.0 (taken_of found.0) bytes) in
     let disks = has_disks g.S.SectorStore.size g.S.SectorStore.told m c.args.port.0 a (was g c) in (
       (c.requires.small, taken_of c.in-Some.ensures.found.0, fits g c),
@@ -202,8 +202,8 @@ returns-clause-answers g c =
             (move_of c.args.port.0 c.args.slot.0 (taken_of found.0) bytes) (was g c)
             (ap (λ (d : Device). d.tape) noted ∙ ap (λ (d : Device). d.tape ++ entry ∷ [])
             (c.reserve-room.ensures.same o)) refl
-            (λ identify. (exchanged g c).page c.if-not-exchange.false (found.1.transfer_is ∙ identify))
-            (λ log. (exchanged g c).log c.if-not-exchange.false (found.1.transfer_is ∙ log));
+            (λ identify. (exchanged g c).page c.if-not-transfer_piece.false (found.1.transfer_is ∙ identify))
+            (λ log. (exchanged g c).log c.if-not-transfer_piece.false (found.1.transfer_is ∙ log));
         disks = λ none w.
             seated_same m (moved_model g c) c.args.port.0 a b (was g c) (items g c) (option_map (λ (x : Bay g.row.S.Denot). disk_in_bay x w))
             (ap (λ (x : Bay g.row.S.Denot). Some (disk_in_bay x w))
@@ -212,7 +212,7 @@ returns-clause-answers g c =
             (c.reserve-room.ensures.same o) c.in-Some.ensures.found.1 none))) c.args.port.0;
         keeps = store_keeps m (moved_model g c) c.args.port.0 a b (was g c) (items g c)
             (exchanged g c).rest g.S.SectorStore.size (exchanged g c).sized (cached g c) refl refl;
-        starved = c.note_move.ensures.starved ∙ (starved_over c.exchange.ensures.memory
+        starved = c.note_move.ensures.starved ∙ (starved_over c.transfer_piece.ensures.memory
             ∙ c.reserve-room.ensures.starved);
       },
     )
@@ -264,20 +264,20 @@ past g c =
 
 -- it names one
 past_ranged : (g : Over) (c : goal.After-fail-failed g) → (next_sector (taken_of c.in-Some.ensures.found.0) ≡ c.in-Some.next.sector)
-    × (is_ranged (operation_of c.in-Some.ensures.found.0.transfer) ≡ true) × (g.S.SectorStore.size c.in-Some-index_mut.bay.disk.store ≤ c.in-Some.next.sector)
-past_ranged g c = by (is_ranged (operation_of c.in-Some.next.transfer)) refl
+    × (is_ranged (transfer_operation c.in-Some.ensures.found.0.transfer) ≡ true) × (g.S.SectorStore.size c.in-Some-index_mut.bay.disk.store ≤ c.in-Some.next.sector)
+past_ranged g c = by (is_ranged (transfer_operation c.in-Some.next.transfer)) refl
   where
     found : (t : TakenCommand) × IsNext c.reserve-room.new.self c.args.port.0 c.args.slot.0 c.in-Some.next t
     found = c.in-Some.ensures.found
 
-    never : (is_ranged (operation_of c.in-Some.next.transfer) ≡ true → c.in-Some.next.sector < c.sectors.result) → ⊥
+    never : (is_ranged (transfer_operation c.in-Some.next.transfer) ≡ true → c.in-Some.next.sector < c.sectors.result) → ⊥
     never on = true-false (c.is_on.ensures.1 on) c.if-not-is_on.true
 
-    by : (b : Bool) → is_ranged (operation_of c.in-Some.next.transfer) ≡ b → (next_sector (taken_of found.0) ≡ c.in-Some.next.sector)
-        × (is_ranged (operation_of found.0.transfer) ≡ true) × (g.S.SectorStore.size c.in-Some-index_mut.bay.disk.store ≤ c.in-Some.next.sector)
+    by : (b : Bool) → is_ranged (transfer_operation c.in-Some.next.transfer) ≡ b → (next_sector (taken_of found.0) ≡ c.in-Some.next.sector)
+        × (is_ranged (transfer_operation found.0.transfer) ≡ true) × (g.S.SectorStore.size c.in-Some-index_mut.bay.disk.store ≤ c.in-Some.next.sector)
     by true e = (
       sym found.1.sector_is,
-      ap (λ (k : Transfer). is_ranged (operation_of k)) (sym found.1.transfer_is) ∙ e,
+      ap (λ (k : Transfer). is_ranged (transfer_operation k)) (sym found.1.transfer_is) ∙ e,
       elim (cases_lt c.in-Some.next.sector c.sectors.result) [
         | inl below ↦ absurd (never (λ _. below))
         | inr past ↦ let size = c.sectors.ensures in omega (arith, past, size)
@@ -286,7 +286,7 @@ past_ranged g c = by (is_ranged (operation_of c.in-Some.next.transfer)) refl
     by false e = absurd (never (λ ranged. true-false ranged e))
 
 past_failed : (g : Over) (c : goal.After-fail-failed g) →
-    HasFailed g.S.SectorStore.size g.S.SectorStore.told g.S.SectorStore.failures (asked.Move c.args.port c.args.slot) c.args.self.now c.fail-failed.new.self
+    CommandFails g.S.SectorStore.size g.S.SectorStore.told g.S.SectorStore.failures (asked.Move c.args.port c.args.slot) c.args.self.now c.fail-failed.new.self
 past_failed g c =
     let m = c.args.self.now in
     let a = c.in-Some-index_mut.bay in
@@ -296,7 +296,7 @@ past_failed g c =
     ap (λ x. (media_of g.S.SectorStore.size g.S.SectorStore.told x).disk.size) (was_past g c) in
     let sector = is.0 in
     let below = is.2 in
-    let calls : failures_of g.S.SectorStore.failures (past_model g c) c.args.port.0 ≡ failures_of g.S.SectorStore.failures m c.args.port.0 =
+    let calls : disk_failures g.S.SectorStore.failures (past_model g c) c.args.port.0 ≡ disk_failures g.S.SectorStore.failures m c.args.port.0 =
     seated_same m (past_model g c) c.args.port.0 a a (was_past g c) (past_items g c) (failing g.S.SectorStore.failures) refl c.args.port.0 in
     fails_to_move g.S.SectorStore.size g.S.SectorStore.told g.S.SectorStore.failures c.args.port c.args.slot 0x10 (taken_of found.0) m
     (past_model g c) c.fail-failed.new.self (past g c) (past_same g c)
@@ -324,38 +324,38 @@ returns-then-not-is_on-clause-answers g c =
 
 -- ---- the store failed
 
-was_store : (g : Over) (c : goal.After-fail-failed-then-not-exchange g) → bay_of c.args.self.now c.args.port.0 ≡ Some c.in-Some-index_mut.bay
+was_store : (g : Over) (c : goal.After-fail-failed-then-not-transfer_piece g) → bay_of c.args.self.now c.args.port.0 ≡ Some c.in-Some-index_mut.bay
 was_store g c =
     seat_is c.args.self.now c.from-place.result c.args.port.0 c.index_mut.result.now c.in-Some-index_mut.bay c.from-place.ensures
     (let there = c.has_disks.ensures.there c.if-not-has_disks.false in let long = ap length c.as_slice.ensures.value in omega (arith, there, long))
     c.index_mut.ensures.value c.in-Some-index_mut.is
 
-exchanged_so : (g : Over) (c : goal.After-fail-failed-then-not-exchange g) →
-    Exchanges g.S.SectorStore.size g.S.SectorStore.told g.S.SectorStore.failures (record c.in-Some-index_mut.bay { cache = c.reserve.new.self.cache }) c.exchange.new.self c.in-Some.next
-    (piece_of c.reserve-room.new.self c.in-Some.next) (piece_of c.exchange.new.hardware c.in-Some.next) c.exchange.result
+exchanged_so : (g : Over) (c : goal.After-fail-failed-then-not-transfer_piece g) →
+    Exchanges g.S.SectorStore.size g.S.SectorStore.told g.S.SectorStore.failures (record c.in-Some-index_mut.bay { cache = c.reserve.new.self.cache }) c.transfer_piece.new.self c.in-Some.next
+    (piece_of c.reserve-room.new.self c.in-Some.next) (piece_of c.transfer_piece.new.hardware c.in-Some.next) c.transfer_piece.result
 exchanged_so g c =
-    let P : Bay g.row.S.Denot → Type 0 = λ x. Exchanges g.S.SectorStore.size g.S.SectorStore.told g.S.SectorStore.failures x c.exchange.new.self c.in-Some.next
-    (piece_of c.reserve-room.new.self c.in-Some.next) (piece_of c.exchange.new.hardware c.in-Some.next) c.exchange.result in
-    subst P c.reserve.ensures.rest c.exchange.ensures.exchanges
+    let P : Bay g.row.S.Denot → Type 0 = λ x. Exchanges g.S.SectorStore.size g.S.SectorStore.told g.S.SectorStore.failures x c.transfer_piece.new.self c.in-Some.next
+    (piece_of c.reserve-room.new.self c.in-Some.next) (piece_of c.transfer_piece.new.hardware c.in-Some.next) c.transfer_piece.result in
+    subst P c.reserve.ensures.rest c.transfer_piece.ensures.exchanges
 
-lasts_so : (g : Over) (c : goal.After-fail-failed-then-not-exchange g) → lasting_of g.S.SectorStore.told c.exchange.new.self ≡ lasting_of g.S.SectorStore.told c.in-Some-index_mut.bay
+lasts_so : (g : Over) (c : goal.After-fail-failed-then-not-transfer_piece g) → lasting_of g.S.SectorStore.told c.transfer_piece.new.self ≡ lasting_of g.S.SectorStore.told c.in-Some-index_mut.bay
 lasts_so g c = (exchanged_so g c).lasting ∙ grown_lasts g.S.SectorStore.told c.in-Some-index_mut.bay c.reserve.new.self.cache c.reserve.ensures.same
 
-cached_so : (g : Over) (c : goal.After-fail-failed-then-not-exchange g) → c.exchange.new.self.cache.is_on ≡ c.in-Some-index_mut.bay.cache.is_on
+cached_so : (g : Over) (c : goal.After-fail-failed-then-not-transfer_piece g) → c.transfer_piece.new.self.cache.is_on ≡ c.in-Some-index_mut.bay.cache.is_on
 cached_so g c = (exchanged_so g c).cached ∙ c.reserve.ensures.same.is_on
 
-abbrev store_model : (g : Over) (c : goal.After-fail-failed-then-not-exchange g) → Model g.row.S.Denot
+abbrev store_model : (g : Over) (c : goal.After-fail-failed-then-not-transfer_piece g) → Model g.row.S.Denot
 store_model g c = record c.args.self.now {
-  hardware = c.exchange.new.hardware;
+  hardware = c.transfer_piece.new.hardware;
   bays = with_item c.args.self.now.bays
-      c.from-place.result (Some c.exchange.new.self);
+      c.from-place.result (Some c.transfer_piece.new.self);
 }
 
-store_items : (g : Over) (c : goal.After-fail-failed-then-not-exchange g) →
-    (store_model g c).bays.items ≡ slice_set c.args.self.now.bays.items c.args.port.0 (Some c.exchange.new.self)
-store_items g c = ap (λ k. slice_set c.args.self.now.bays.items k (Some c.exchange.new.self)) c.from-place.ensures
+store_items : (g : Over) (c : goal.After-fail-failed-then-not-transfer_piece g) →
+    (store_model g c).bays.items ≡ slice_set c.args.self.now.bays.items c.args.port.0 (Some c.transfer_piece.new.self)
+store_items g c = ap (λ k. slice_set c.args.self.now.bays.items k (Some c.transfer_piece.new.self)) c.from-place.ensures
 
-store_fits : (g : Over) (c : goal.After-fail-failed-then-not-exchange g) →
+store_fits : (g : Over) (c : goal.After-fail-failed-then-not-transfer_piece g) →
     HasMove (device_at g.S.SectorStore.size g.S.SectorStore.told c.args.self.now) c.args.port.0 c.args.slot.0 (taken_of c.in-Some.ensures.found.0)
 store_fits g c =
     let m = c.args.self.now in
@@ -363,83 +363,83 @@ store_fits g c =
     (has_disks g.S.SectorStore.size g.S.SectorStore.told m c.args.port.0 c.in-Some-index_mut.bay (was_store g c))
     (c.reserve-room.ensures.same (outside_at g.S.SectorStore.size g.S.SectorStore.told m)) c.in-Some.ensures.found.1
 
-store : (g : Over) (c : goal.After-fail-failed-then-not-exchange g) →
+store : (g : Over) (c : goal.After-fail-failed-then-not-transfer_piece g) →
     IsFailed g.S.SectorStore.size g.S.SectorStore.told g.S.SectorStore.failures c.args.port c.args.slot 0x40 (taken_of c.in-Some.ensures.found.0)
-    (store_model g c) c.fail-failed-then-not-exchange.new.self
+    (store_model g c) c.fail-failed-then-not-transfer_piece.new.self
 store g c =
     let mid = store_model g c in
     let o : Outside = outside_at g.S.SectorStore.size g.S.SectorStore.told mid in
     let found = c.in-Some.ensures.found in
-    let works = (next_over c.args.port.0 c.args.slot.0 c.exchange.ensures.memory found.1).holds.works
+    let works = (next_over c.args.port.0 c.args.slot.0 c.transfer_piece.ensures.memory found.1).holds.works
     (o.media c.args.port.0) in
     let small = c.if-place-ge-PORTS.false in
     let at = c.from-place.ensures in
-    is_failed g.S.SectorStore.size g.S.SectorStore.told g.S.SectorStore.failures c.args.port c.args.slot 0x40 (taken_of found.0) c.fail-failed-then-not-exchange.result
-    mid c.fail-failed-then-not-exchange.new.self c.fail-failed-then-not-exchange.ensures (omega (arith, small, at)) c.requires.small
+    is_failed g.S.SectorStore.size g.S.SectorStore.told g.S.SectorStore.failures c.args.port c.args.slot 0x40 (taken_of found.0) c.fail-failed-then-not-transfer_piece.result
+    mid c.fail-failed-then-not-transfer_piece.new.self c.fail-failed-then-not-transfer_piece.ensures (omega (arith, small, at)) c.requires.small
     (record { taken = works.taken; running = works.working.running; is_byte = omega arith; kept = refl })
-    (room_over 1 c.exchange.ensures.memory (c.reserve-room.ensures.room c.if-not-room.false))
+    (room_over 1 c.transfer_piece.ensures.memory (c.reserve-room.ensures.room c.if-not-room.false))
 
 -- it is as it was, but for the store
-store_same : (g : Over) (c : goal.After-fail-failed-then-not-exchange g) →
+store_same : (g : Over) (c : goal.After-fail-failed-then-not-transfer_piece g) →
     device_at g.S.SectorStore.size g.S.SectorStore.told (store_model g c) ≡ device_at g.S.SectorStore.size g.S.SectorStore.told c.args.self.now
 store_same g c =
     let m = c.args.self.now in
-    ap (λ (x : Outside). device_of c.exchange.new.hardware x)
-    (outside_kept m (store_model g c) c.args.port.0 c.in-Some-index_mut.bay c.exchange.new.self (was_store g c)
+    ap (λ (x : Outside). device_of c.transfer_piece.new.hardware x)
+    (outside_kept m (store_model g c) c.args.port.0 c.in-Some-index_mut.bay c.transfer_piece.new.self (was_store g c)
     (store_items g c) (exchanged_so g c).rest
     g.S.SectorStore.size g.S.SectorStore.told (exchanged_so g c).sized
-    ((exchanged_so g c).kept c.if-not-exchange.true) (lasts_so g c))
-    ∙ (c.exchange.ensures.stays c.if-not-exchange.true (outside_at g.S.SectorStore.size g.S.SectorStore.told m)
+    ((exchanged_so g c).kept c.if-not-transfer_piece.true) (lasts_so g c))
+    ∙ (c.transfer_piece.ensures.stays c.if-not-transfer_piece.true (outside_at g.S.SectorStore.size g.S.SectorStore.told m)
     ∙ c.reserve-room.ensures.same (outside_at g.S.SectorStore.size g.S.SectorStore.told m))
 
-store_failed : (g : Over) (c : goal.After-fail-failed-then-not-exchange g) →
-    HasFailed g.S.SectorStore.size g.S.SectorStore.told g.S.SectorStore.failures (asked.Move c.args.port c.args.slot) c.args.self.now c.fail-failed-then-not-exchange.new.self
+store_failed : (g : Over) (c : goal.After-fail-failed-then-not-transfer_piece g) →
+    CommandFails g.S.SectorStore.size g.S.SectorStore.told g.S.SectorStore.failures (asked.Move c.args.port c.args.slot) c.args.self.now c.fail-failed-then-not-transfer_piece.new.self
 store_failed g c =
     let m = c.args.self.now in
     let a = c.in-Some-index_mut.bay in
-    let b = c.exchange.new.self in
+    let b = c.transfer_piece.new.self in
     let next = c.in-Some.ensures.found in
-    let ranged = (exchanged_so g c).ranged c.if-not-exchange.true in
+    let ranged = (exchanged_so g c).ranged c.if-not-transfer_piece.true in
     let here = c.is_on.ensures.0 c.if-not-is_on.false ranged in
     let listed = c.sectors.ensures in
     let on : c.reserve.new.self.cache.is_on ≡ caches m c.args.port.0 = c.reserve.ensures.same.is_on ∙ sym (ap has_cache (was_store g c)) in
     let Q : Bool → ℕ → Type 0 = λ writes sector. CallFails (caches m c.args.port.0) writes sector (g.S.SectorStore.failures a.disk.store) (g.S.SectorStore.failures b.disk.store) in
-    let O : Bool → Type 0 = λ x. CallFails x (reads_memory (operation_of c.in-Some.next.transfer)) c.in-Some.next.sector (g.S.SectorStore.failures a.disk.store) (g.S.SectorStore.failures b.disk.store) in
-    let failed = subst O on ((exchanged_so g c).fails c.if-not-exchange.true (omega (arith, here, listed))) in
-    let writes = ap (λ (k : Transfer). reads_memory (operation_of k)) next.1.transfer_is in
+    let O : Bool → Type 0 = λ x. CallFails x (reads_memory (transfer_operation c.in-Some.next.transfer)) c.in-Some.next.sector (g.S.SectorStore.failures a.disk.store) (g.S.SectorStore.failures b.disk.store) in
+    let failed = subst O on ((exchanged_so g c).fails c.if-not-transfer_piece.true (omega (arith, here, listed))) in
+    let writes = ap (λ (k : Transfer). reads_memory (transfer_operation k)) next.1.transfer_is in
     let size : ((device_at g.S.SectorStore.size g.S.SectorStore.told m).port c.args.port.0).disk.size ≡ g.S.SectorStore.size a.disk.store =
     ap (λ x. (media_of g.S.SectorStore.size g.S.SectorStore.told x).disk.size) (was_store g c) in
     let sector : c.in-Some.next.sector ≡ next_sector (taken_of next.0) = next.1.sector_is in
-    let before : failures_of g.S.SectorStore.failures m c.args.port.0 ≡ g.S.SectorStore.failures a.disk.store = ap (failing g.S.SectorStore.failures) (was_store g c) in
-    let now : failures_of g.S.SectorStore.failures (store_model g c) c.args.port.0 ≡ g.S.SectorStore.failures b.disk.store =
+    let before : disk_failures g.S.SectorStore.failures m c.args.port.0 ≡ g.S.SectorStore.failures a.disk.store = ap (failing g.S.SectorStore.failures) (was_store g c) in
+    let now : disk_failures g.S.SectorStore.failures (store_model g c) c.args.port.0 ≡ g.S.SectorStore.failures b.disk.store =
     ap (failing g.S.SectorStore.failures) (seated_here m (store_model g c) c.args.port.0 a b (was_store g c) (store_items g c)) in
-    let R : Option Failures → Option Failures → Type 0 = λ x y. CallFails (caches m c.args.port.0) (reads_memory (operation_of next.0.transfer)) (next_sector (taken_of next.0)) x y in
-    let called = subst (λ w. Q w (next_sector (taken_of next.0))) writes (subst (Q (reads_memory (operation_of c.in-Some.next.transfer))) next.1.sector_is failed) in
+    let R : Option Failures → Option Failures → Type 0 = λ x y. CallFails (caches m c.args.port.0) (reads_memory (transfer_operation next.0.transfer)) (next_sector (taken_of next.0)) x y in
+    let called = subst (λ w. Q w (next_sector (taken_of next.0))) writes (subst (Q (reads_memory (transfer_operation c.in-Some.next.transfer))) next.1.sector_is failed) in
     fails_to_move g.S.SectorStore.size g.S.SectorStore.told g.S.SectorStore.failures c.args.port c.args.slot 0x40 (taken_of next.0) m
-    (store_model g c) c.fail-failed-then-not-exchange.new.self (store g c) (store_same g c)
+    (store_model g c) c.fail-failed-then-not-transfer_piece.new.self (store g c) (store_same g c)
     (store_says m (store_model g c) c.args.port.0 a b (was_store g c) (store_items g c)
     (exchanged_so g c).rest c.args.port.0) (store_fits g c)
-    (ap (λ (k : Transfer). is_ranged (operation_of k)) (sym next.1.transfer_is) ∙ ranged)
+    (ap (λ (k : Transfer). is_ranged (transfer_operation k)) (sym next.1.transfer_is) ∙ ranged)
     (inr (
       omega (arith, here, listed, size, sector),
       refl,
-      subst (R (failures_of g.S.SectorStore.failures m c.args.port.0)) (sym now) (subst (λ x. R x (g.S.SectorStore.failures b.disk.store)) (sym before) called),
+      subst (R (disk_failures g.S.SectorStore.failures m c.args.port.0)) (sym now) (subst (λ x. R x (g.S.SectorStore.failures b.disk.store)) (sym before) called),
     ))
 
-pub returns-then-not-exchange-clause-failed : goal.returns-then-not-exchange-clause-failed
-returns-then-not-exchange-clause-failed g c = λ _. store_failed g c
+pub returns-then-not-transfer_piece-clause-failed : goal.returns-then-not-transfer_piece-clause-failed
+returns-then-not-transfer_piece-clause-failed g c = λ _. store_failed g c
 
-pub returns-then-not-exchange-clause-answers : goal.returns-then-not-exchange-clause-answers
-returns-then-not-exchange-clause-answers g c =
+pub returns-then-not-transfer_piece-clause-answers : goal.returns-then-not-transfer_piece-clause-answers
+returns-then-not-transfer_piece-clause-answers g c =
     let m = c.args.self.now in
     let a = c.in-Some-index_mut.bay in
-    let b = c.exchange.new.self in
+    let b = c.transfer_piece.new.self in
     let next = c.in-Some.ensures.found in
-    let ranged = ap (λ (k : Transfer). is_ranged (operation_of k)) (sym next.1.transfer_is)
-    ∙ (exchanged_so g c).ranged c.if-not-exchange.true in (
+    let ranged = ap (λ (k : Transfer). is_ranged (transfer_operation k)) (sym next.1.transfer_is)
+    ∙ (exchanged_so g c).ranged c.if-not-transfer_piece.true in (
       (c.requires.small, taken_of next.0, store_fits g c),
       did_fail g.S.SectorStore.size g.S.SectorStore.told g.S.SectorStore.failures c.args.port c.args.slot 0x40 (taken_of next.0) m
-          (store_model g c) c.fail-failed-then-not-exchange.new.self (store g c) (asked.Move c.args.port c.args.slot) refl (store_failed g c) refl refl refl
+          (store_model g c) c.fail-failed-then-not-transfer_piece.new.self (store g c) (asked.Move c.args.port c.args.slot) refl (store_failed g c) refl refl refl
           (store_says m (store_model g c) c.args.port.0 a b (was_store g c) (store_items g c)
           (exchanged_so g c).rest c.args.port.0)
           (store_whichs m (store_model g c) c.args.port.0 a b (was_store g c) (store_items g c)
@@ -448,7 +448,7 @@ returns-then-not-exchange-clause-answers g c =
           (gains_none g.S.SectorStore.size m _ (ap (λ (d : Device). d.tape) (store_same g c)))
           (store_keeps m (store_model g c) c.args.port.0 a b (was_store g c) (store_items g c)
           (exchanged_so g c).rest g.S.SectorStore.size (exchanged_so g c).sized (cached_so g c) refl refl)
-          (starved_over c.exchange.ensures.memory ∙ c.reserve-room.ensures.starved)
+          (starved_over c.transfer_piece.ensures.memory ∙ c.reserve-room.ensures.starved)
           (c.requires.small, taken_of next.0, store_fits g c, ranged),
     )
 
@@ -456,7 +456,7 @@ returns-then-not-exchange-clause-answers g c =
 
 pub returns-clause-left : goal.returns-clause-left
 returns-clause-left g c = λ _ n room. c.note_move.ensures.left n
-    (room_over (n + 1) c.exchange.ensures.memory (c.reserve-room.ensures.kept (n + 1) room))
+    (room_over (n + 1) c.transfer_piece.ensures.memory (c.reserve-room.ensures.kept (n + 1) room))
 
 -- ---- a page, for which no store is asked
 
@@ -476,18 +476,18 @@ returns-clause-old_room g c = λ _ t taken n room.
     let found = c.in-Some.ensures.found in
     let o : Outside = outside_at g.S.SectorStore.size g.S.SectorStore.told m in
     let one : t ≡ taken_of found.0 = some_one (sym taken ∙ (fits g c).works.taken) in
-    let kind : written_ahead t.meaning.operation 1 ≡ written_ahead (operation_of c.in-Some.next.transfer) 1 =
-    ap (λ (x : Taken). written_ahead x.meaning.operation 1) one ∙ ap (λ (k : Transfer). written_ahead (operation_of k) 1) (sym found.1.transfer_is) in
+    let kind : written_ahead t.meaning.operation 1 ≡ written_ahead (transfer_operation c.in-Some.next.transfer) 1 =
+    ap (λ (x : FetchedCommand). written_ahead x.meaning.operation 1) one ∙ ap (λ (k : Transfer). written_ahead (transfer_operation k) 1) (sym found.1.transfer_is) in
     let P : ℕ → Type 0 = λ k. HasOldRoom a.cache (k + n) in
-    room_there (moved_model g c) c.args.port.0 n c.exchange.new.self (seated_here m (moved_model g c) c.args.port.0 a c.exchange.new.self (was g c) (items g c))
+    room_there (moved_model g c) c.args.port.0 n c.transfer_piece.new.self (seated_here m (moved_model g c) c.args.port.0 a c.transfer_piece.new.self (was g c) (items g c))
     ((exchanged g c).old_room n
-    (c.reserve.ensures.kept (written_ahead (operation_of c.in-Some.next.transfer) 1 + n)
+    (c.reserve.ensures.kept (written_ahead (transfer_operation c.in-Some.next.transfer) 1 + n)
     (subst P kind (room_here m c.args.port.0 (written_ahead t.meaning.operation 1 + n) a (was g c) room))))
 
 -- ---- the cache had no memory for what the sector holds, and that is told
 
-pub exchange-requires-clause-room : goal.exchange-requires-clause-room
-exchange-requires-clause-room g c = subst (HasOldRoom c.reserve.new.self.cache) c.written.ensures (c.reserve.ensures.room c.if-not-reserve.false)
+pub transfer_piece-requires-clause-room : goal.transfer_piece-requires-clause-room
+transfer_piece-requires-clause-room g c = subst (HasOldRoom c.reserve.new.self.cache) c.written.ensures (c.reserve.ensures.room c.if-not-reserve.false)
 
 pub returns-then-not-reserve-clause-answers : goal.returns-then-not-reserve-clause-answers
 returns-then-not-reserve-clause-answers g c =
@@ -502,12 +502,12 @@ returns-then-not-reserve-clause-answers g c =
     let fits : HasMove (device_at g.S.SectorStore.size g.S.SectorStore.told m) c.args.port.0 c.args.slot.0 (taken_of r) =
     next_has_move c.reserve-room.new.self o _ c.args.port.0 c.args.slot.0 c.in-Some.next r (has_disks g.S.SectorStore.size g.S.SectorStore.told m c.args.port.0 a was)
     (c.reserve-room.ensures.same o) found.1 in
-    let changes : written_ahead (operation_of r.transfer) 1 ≡ c.written.result = ap (λ (k : Transfer). written_ahead (operation_of k) 1) (sym found.1.transfer_is) ∙ sym c.written.ensures in
+    let changes : written_ahead (transfer_operation r.transfer) 1 ≡ c.written.result = ap (λ (k : Transfer). written_ahead (transfer_operation k) 1) (sym found.1.transfer_is) ∙ sym c.written.ensures in
     let lacks : LacksMemory (asked.Move c.args.port c.args.slot) (device_at g.S.SectorStore.size g.S.SectorStore.told m) m.hardware m.bays.items = (
       taken_of r,
       fits,
       λ _ old. c.reserve.ensures.lacked c.if-not-reserve.true
-          (subst (HasOldRoom a.cache) changes (room_here m c.args.port.0 (written_ahead (operation_of r.transfer) 1) a was old)),
+          (subst (HasOldRoom a.cache) changes (room_here m c.args.port.0 (written_ahead (transfer_operation r.transfer) 1) a was old)),
     ) in
     grown_left g.S.SectorStore.size g.S.SectorStore.told g.S.SectorStore.failures m _ c.args.port.0 a c.reserve.new.self.cache was
     (ap (λ k. slice_set m.bays.items k (Some c.reserve.new.self)) c.from-place.ensures ∙ ap (λ (x : Bay g.row.S.Denot). slice_set m.bays.items c.args.port.0 (Some x)) c.reserve.ensures.rest)
@@ -524,9 +524,9 @@ returns-then-not-reserve-clause-page g c = λ t taken sends _ _ _ _.
     let P : Device → Type 0 = λ d. (d.port c.args.port.0).taken c.args.slot.0 ≡ Some (taken_of found.0) in
     let here = subst P (c.reserve-room.ensures.same o) (found.1.holds.works (o.media c.args.port.0)).taken in
     let one : t ≡ taken_of found.0 = some_one (sym taken ∙ here) in
-    let none : written_ahead (operation_of found.0.transfer) 1 ≡ 0 =
-    ap (λ (x : Taken). written_ahead x.meaning.operation 1) (sym one) ∙ page_unwritten t.meaning.operation 1 sends in
-    let changes : written_ahead (operation_of found.0.transfer) 1 ≡ c.written.result = ap (λ (k : Transfer). written_ahead (operation_of k) 1) (sym found.1.transfer_is) ∙ sym c.written.ensures in
+    let none : written_ahead (transfer_operation found.0.transfer) 1 ≡ 0 =
+    ap (λ (x : FetchedCommand). written_ahead x.meaning.operation 1) (sym one) ∙ page_unwritten t.meaning.operation 1 sends in
+    let changes : written_ahead (transfer_operation found.0.transfer) 1 ≡ c.written.result = ap (λ (k : Transfer). written_ahead (transfer_operation k) 1) (sym found.1.transfer_is) ∙ sym c.written.ensures in
     c.reserve.ensures.lacked c.if-not-reserve.true (subst (HasOldRoom a.cache) (sym none ∙ changes) (no_room a.cache))
 
 -- ---- the move that was known

@@ -6,7 +6,7 @@ use Rattle.adapter.specs.declared.access.DeviceStep.TheVariants as asked
 use Rattle.ata_types.specs.declared.Port.{Port}
 use Rattle.ata_types.specs.declared.Slot.{Slot}
 use Rattle.device_model.specs.Disks.{disk_in_bay}
-use Rattle.device_model.specs.Finishing.{HasPage, MayPage}
+use Rattle.device_model.specs.Finishing.{HasPageCommand, MayPage}
 use Rattle.device_model.specs.Modelled.{device_at}
 use Rattle.device_model.specs.declared.bay.Bay.{Bay}
 use Rattle.device_model.proofs.Absurd.{true-false}
@@ -30,7 +30,7 @@ loop-found-preserved-then-lacks g c =
     let d : Device = device_at g.S.SectorStore.size g.S.SectorStore.told m in
     let found = c.in-Some.ensures.port in
     let t = c.take_page.ensures in
-    let stuck : c.loop-found.lacks ≡ false → MayPage d p.0 s.0 × (HasPage d p.0 s.0 → ⊥) =
+    let stuck : c.loop-found.lacks ≡ false → MayPage d p.0 s.0 × (HasPageCommand d p.0 s.0 → ⊥) =
     λ (fed : c.loop-found.lacks ≡ false).
     elim c.if-lacks.either [
       | inl ends ↦ found_stuck d p.0 s.0 c.in-Some.found.ends ends c.in-Some.ensures.found

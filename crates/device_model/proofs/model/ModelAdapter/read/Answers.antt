@@ -4,7 +4,7 @@ use Rattle.std.specs.Global.{Vec}
 use Rattle.std.specs.Vec.{vec_len, vec_capacity}
 use Rattle.adapter.specs.Device.{Device}
 use Rattle.adapter.specs.declared.tape.Entry.{Entry}
-use Rattle.device_model.specs.Finishing.{HasPage, MayPage}
+use Rattle.device_model.specs.Finishing.{HasPageCommand, MayPage}
 use Rattle.device_model.specs.Held.{IsPortHeld}
 use Rattle.device_model.specs.Settled.{DoesOwn, EndsReset, IsSettled}
 use Rattle.device_model.specs.Modelled.{device_at, outside_at}
@@ -27,7 +27,7 @@ pub returns-clause-reads : goal.returns-clause-reads
 returns-clause-reads g c =
     let o : Outside = outside_at g.S.SectorStore.size g.S.SectorStore.told c.do_queued.new.self in
     let last : Outside = outside_at g.S.SectorStore.size g.S.SectorStore.told c.send_pages.new.self in
-    let settled = c.settle.ensures.own o in
+    let settled = c.settle_links.ensures.own o in
     record {
       mid = device_of c.send_pages.new.self.hardware last;
       steps = Steps-trans (begins_steps g.S.SectorStore.size g.S.SectorStore.told g.S.SectorStore.failures _ _ c.do_queued.ensures)
@@ -44,7 +44,7 @@ returns-clause-settled g c =
     let Q : List Bool → Type 0 = λ held. IsSettled held (device_of c.send_pages.new.self.hardware last) in
     subst P (sym (c.note.ensures.notes last))
     (noted_settled c.args.r c.shown-value.result (device_of c.send_pages.new.self.hardware last) _
-    (subst Q (sym c.send_pages.ensures.rest.held) (c.send_pages.ensures.settled _ (c.settle.ensures.settled o))))
+    (subst Q (sym c.send_pages.ensures.rest.held) (c.send_pages.ensures.settled _ (c.settle_links.ensures.settled o))))
 
 pub returns-clause-left : goal.returns-clause-left
 returns-clause-left g c =
@@ -60,7 +60,7 @@ returns-clause-left g c =
           c.send_pages.ensures.left.taken port slot small low (had port disks)
           (noted_may c.args.r c.shown-value.result sent port slot (subst P (c.note.ensures.notes last) may));
       done = λ port slot small low disks has.
-          let P : Device → Type 0 = λ d. HasPage d port slot in
+          let P : Device → Type 0 = λ d. HasPageCommand d port slot in
           subst (Q port) (sym c.note.ensures.starved)
           (c.send_pages.ensures.left.done port slot small low (had port disks)
           (noted_page c.args.r c.shown-value.result sent port slot (subst P (c.note.ensures.notes last) has)));
@@ -71,8 +71,8 @@ returns-clause-alone g c =
     let mid = c.do_queued.new.self in
     let o : Outside = outside_at g.S.SectorStore.size g.S.SectorStore.told mid in
     let last : Outside = outside_at g.S.SectorStore.size g.S.SectorStore.told c.send_pages.new.self in
-    let after = record mid { hardware = c.settle.new.self; held = c.settle.new.held } in
-    let settled = c.settle.ensures.own o in
+    let after = record mid { hardware = c.settle_links.new.self; held = c.settle_links.new.held } in
+    let settled = c.settle_links.ensures.own o in
     let own = c.send_pages.ensures.rest in
     let P : List Bool → Type 0 = λ held. EndsReset mid.held held (device_at g.S.SectorStore.size g.S.SectorStore.told mid) settled.0 in
     let Q : List Bool → Type 0 = λ held. DoesOwn held settled.0 (device_of c.send_pages.new.self.hardware last) in
@@ -82,13 +82,13 @@ returns-clause-alone g c =
       reset = settled.0;
       ends = subst P (sym own.held) settled.1;
       last = device_of c.send_pages.new.self.hardware last;
-      own = subst Q (sym own.held) (record { settled = device_of c.settle.new.self o; settles = settled.2; sends = c.send_pages.ensures.own });
+      own = subst Q (sym own.held) (record { settled = device_of c.settle_links.new.self o; settles = settled.2; sends = c.send_pages.ensures.own });
       shows = c.shown-value.ensures last;
       effect = c.note.ensures.notes last;
       says = own.says;
       which = own.which;
       pages = gains_on g.S.SectorStore.size mid after _ (λ _. refl) (λ _. refl)
-          (gains_none g.S.SectorStore.size mid after (ap (λ (v : Vec Entry). v.items) c.settle.ensures.tape))
+          (gains_none g.S.SectorStore.size mid after (ap (λ (v : Vec Entry). v.items) c.settle_links.ensures.tape))
           (gains_on g.S.SectorStore.size after c.send_pages.new.self _ own.says
           (λ q. identity_kept g.S.SectorStore.size after c.send_pages.new.self q (own.which q) (own.keeps.identities q)) own.pages
           (gains_none g.S.SectorStore.size c.send_pages.new.self _
@@ -103,10 +103,10 @@ returns-clause-alone g c =
       };
       starved_since = λ now.
           elim (c.send_pages.ensures.told (sym c.note.ensures.starved ∙ now)) [
-            | inl before ↦ inl (sym c.settle.ensures.starved ∙ before)
+            | inl before ↦ inl (sym c.settle_links.ensures.starved ∙ before)
             | inr one ↦
                 let R : Vec Entry → Type 0 = λ tape. vec_len tape + (one.5.left + 1) ≤ vec_capacity tape in
                 inr (one.0, one.1, one.2, one.3, one.4, one.5, λ room. one.6 (subst R c.note.ensures.tape room))
           ];
-      starved_on = λ told. c.note.ensures.starved ∙ own.starved_on (c.settle.ensures.starved ∙ told);
+      starved_on = λ told. c.note.ensures.starved ∙ own.starved_on (c.settle_links.ensures.starved ∙ told);
     }

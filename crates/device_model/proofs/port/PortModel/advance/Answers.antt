@@ -1,10 +1,10 @@
 use Rattle.std.proofs.Common.{ℕ, List, ◌≡◌, ◌∙◌, ◌+◌, Option, Some, sym, ap}
-use Rattle.adapter.specs.Device.{Taken}
+use Rattle.adapter.specs.Device.{FetchedCommand}
 use Rattle.adapter.specs.Memory.{changed}
 use Rattle.adapter.specs.Steps.{block_after, noted_bytes}
 use Rattle.device_model.proofs.Absurd.{some_one, true-false}
 use Rattle.device_model.specs.Block.{brought}
-use Rattle.device_model.specs.View.{held_in, media_after, operation_of, port_of, slots_of, taken_of}
+use Rattle.device_model.specs.View.{held_in, media_after, transfer_operation, port_of, taken_slots, taken_of}
 use Rattle.device_model.specs.declared.port.TakenCommand.{TakenCommand}
 use Rattle.device_model.specs.declared.port.Transfer.{Transfer}
 use Rattle.device_model.specs.declared.port.Transfer.TheVariants.{Trim}
@@ -26,11 +26,11 @@ returns-then-is_trim-clause-moved c = λ m t held.
     let u : TakenCommand = record t { moved = t.moved + 1; block = Some (noted_bytes bytes) } in
     let kind : t.transfer ≡ Trim =
     same_kind (was slot) c.requires.held.0 t c.args.transfer c.requires.held.1 c.requires.held.2 held ∙ c.is_trim.ensures.0 c.if-is_trim.true in
-    let kept : block_after (operation_of t.transfer) bytes (brought t.block) ≡ bytes = ap (λ (k : Transfer). block_after (operation_of k) bytes (brought t.block)) kind in
-    ap (λ (f : ℕ → Option Taken). record (port_of c.args.self.now (media_after m (taken_of t) bytes)) { taken = f })
-    (ap slots_of (c.add_block.ensures t held)
+    let kept : block_after (transfer_operation t.transfer) bytes (brought t.block) ≡ bytes = ap (λ (k : Transfer). block_after (transfer_operation k) bytes (brought t.block)) kind in
+    ap (λ (f : ℕ → Option FetchedCommand). record (port_of c.args.self.now (media_after m (taken_of t) bytes)) { taken = f })
+    (ap taken_slots (c.add_block.ensures t held)
     ∙ (slots_changed was slot (Some u)
-    ∙ ap (λ (b : List ℕ). changed (slots_of was) slot (Some (record (taken_of t) { moved = t.moved + 1; block = b }))) (sym kept)))
+    ∙ ap (λ (b : List ℕ). changed (taken_slots was) slot (Some (record (taken_of t) { moved = t.moved + 1; block = b }))) (sym kept)))
 
 -- no other command has one
 pub returns-else-is_trim-clause-moved : goal.returns-else-is_trim-clause-moved
@@ -40,10 +40,10 @@ returns-else-is_trim-clause-moved c = λ m t held.
     let bytes : List ℕ = c.args.bytes.now in
     let kind = same_kind (was slot) c.requires.held.0 t c.args.transfer c.requires.held.1 c.requires.held.2 held in
     let other : t.transfer ≡ Trim → ⊥ = λ (trim : t.transfer ≡ Trim). true-false (c.is_trim.ensures.1 (sym kind ∙ trim)) c.if-is_trim.false in
-    ap (λ (f : ℕ → Option Taken). record (port_of c.args.self.now (media_after m (taken_of t) bytes)) { taken = f })
-    (ap slots_of (c.add_moved.ensures t held)
+    ap (λ (f : ℕ → Option FetchedCommand). record (port_of c.args.self.now (media_after m (taken_of t) bytes)) { taken = f })
+    (ap taken_slots (c.add_moved.ensures t held)
     ∙ (slots_changed was slot (Some (record t { moved = t.moved + 1 }))
-    ∙ ap (λ (b : List ℕ). changed (slots_of was) slot (Some (record (taken_of t) { moved = t.moved + 1; block = b })))
+    ∙ ap (λ (b : List ℕ). changed (taken_slots was) slot (Some (record (taken_of t) { moved = t.moved + 1; block = b })))
     (sym (no_block t.transfer bytes (brought t.block) other))))
 
 pub returns-then-is_trim-clause-held : goal.returns-then-is_trim-clause-held

@@ -1,5 +1,5 @@
 use Rattle.std.proofs.Common.{ap, arith, sym, ◌∙◌}
-use Rattle.adapter.specs.Device.{PortState}
+use Rattle.adapter.specs.Device.{DevicePort}
 use Rattle.device_model.specs.Whole.{no_media}
 use Rattle.device_model.proofs.port.PortModel.link.Goals as goal
 
@@ -9,4 +9,4 @@ returns-then-may-clause-up c = λ _ m.
     (record { present = may.0; det = may.1; due = may.2; fits = omega arith }, c.link_up.ensures.up m)
 
 pub returns-then-may-clause-linked : goal.returns-then-may-clause-linked
-returns-then-may-clause-linked c = λ _ _ due. sym (ap (λ (p : PortState). p.link_due) (c.link_up.ensures.up no_media)) ∙ due
+returns-then-may-clause-linked c = λ _ _ due. sym (ap (λ (p : DevicePort). p.link_due) (c.link_up.ensures.up no_media)) ∙ due

@@ -1,11 +1,11 @@
 use Rattle.std.proofs.Common.{ℕ, Bool, true, false, ◌≡◌, ◌∙◌, sym, ap}
 use Rattle.std.specs.Prelude.{bit_or, if◌then◌else◌}
 use Rattle.adapter.specs.Commands.{is_queued}
-use Rattle.adapter.specs.Device.{PortState}
+use Rattle.adapter.specs.Device.{DevicePort}
 use Rattle.adapter.specs.Memory.{changed}
 use Rattle.adapter.specs.Steps.{with_fetch}
-use Rattle.device_model.specs.Bits.{bits_of}
-use Rattle.device_model.specs.View.{held_in, operation_of, port_of, slots_of, taken_of}
+use Rattle.device_model.specs.Bits.{word_bits}
+use Rattle.device_model.specs.View.{held_in, transfer_operation, port_of, taken_slots, taken_of}
 use Rattle.device_model.specs.declared.port.PortModel.{PortModel}
 use Rattle.device_model.specs.declared.port.TakenCommand.{TakenCommand}
 use Rattle.device_model.specs.Whole.{no_media}
@@ -22,22 +22,22 @@ pub returns-then-queued : goal.returns-then-queued
 returns-then-queued c = λ m.
     let p : PortModel = c.args.self.now in
     let r : TakenCommand = c.args.command in
-    let state : PortState = with_fetch (port_of p m) c.args.slot (taken_of r).meaning (taken_of r).places in
-    let queued : true ≡ is_queued (operation_of r.transfer) = sym c.if-queued.true ∙ c.is_queued-queued.ensures in
-    let taken = ap slots_of c.put.ensures ∙ slots_begun (held_in p.taken) c.args.slot r c.requires.new in
-    let ci : bits_of c.with_bit_as-self.result ≡ changed (bits_of p.ci) c.args.slot false =
-    c.with_bit_as-self.ensures ∙ ap (λ (place : ℕ). changed (bits_of p.ci) place false) c.from.ensures in
+    let state : DevicePort = with_fetch (port_of p m) c.args.slot (taken_of r).meaning (taken_of r).places in
+    let queued : true ≡ is_queued (transfer_operation r.transfer) = sym c.if-queued.true ∙ c.is_queued-queued.ensures in
+    let taken = ap taken_slots c.put.ensures ∙ slots_begun (held_in p.taken) c.args.slot r c.requires.new in
+    let ci : word_bits c.with_bit_as-self.result ≡ changed (word_bits p.ci) c.args.slot false =
+    c.with_bit_as-self.ensures ∙ ap (λ (place : ℕ). changed (word_bits p.ci) place false) c.from.ensures in
     (λ i. record (port_of p m) { taken = taken i; ci = ci i })
-    ∙ ap (λ (b : Bool). record state { ci = if b then changed (bits_of p.ci) c.args.slot false else bits_of p.ci; tfd = if b then (port_of p m).tfd else bit_or (port_of p m).tfd 0x80 }) queued
+    ∙ ap (λ (b : Bool). record state { ci = if b then changed (word_bits p.ci) c.args.slot false else word_bits p.ci; tfd = if b then (port_of p m).tfd else bit_or (port_of p m).tfd 0x80 }) queued
 
 -- a plain one
 pub returns-else-queued : goal.returns-else-queued
 returns-else-queued c = λ m.
     let p : PortModel = c.args.self.now in
     let r : TakenCommand = c.args.command in
-    let state : PortState = with_fetch (port_of p m) c.args.slot (taken_of r).meaning (taken_of r).places in
-    let plain : false ≡ is_queued (operation_of r.transfer) = sym c.if-queued.false ∙ c.is_queued-queued.ensures in
-    let taken = ap slots_of c.put.ensures ∙ slots_begun (held_in p.taken) c.args.slot r c.requires.new in
+    let state : DevicePort = with_fetch (port_of p m) c.args.slot (taken_of r).meaning (taken_of r).places in
+    let plain : false ≡ is_queued (transfer_operation r.transfer) = sym c.if-queued.false ∙ c.is_queued-queued.ensures in
+    let taken = ap taken_slots c.put.ensures ∙ slots_begun (held_in p.taken) c.args.slot r c.requires.new in
     let tfd : bit_or c.task_file.result 0x80 ≡ bit_or (port_of p m).tfd 0x80 = ap (λ (n : ℕ). bit_or n 0x80) c.task_file.ensures in
     (λ i. record (port_of p m) { taken = taken i; tfd = tfd i })
-    ∙ ap (λ (b : Bool). record state { ci = if b then changed (bits_of p.ci) c.args.slot false else bits_of p.ci; tfd = if b then (port_of p m).tfd else bit_or (port_of p m).tfd 0x80 }) plain
+    ∙ ap (λ (b : Bool). record state { ci = if b then changed (word_bits p.ci) c.args.slot false else word_bits p.ci; tfd = if b then (port_of p m).tfd else bit_or (port_of p m).tfd 0x80 }) plain

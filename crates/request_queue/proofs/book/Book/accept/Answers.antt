@@ -10,7 +10,7 @@ use Rattle.request_queue.proofs.Flushing.{few_flushes, more_flushes}
 use Rattle.request_queue.proofs.Holding.{longer_holders}
 use Rattle.request_queue.proofs.Indexing.{asks_more, asks_newest}
 use Rattle.std.specs.List.{All}
-use Rattle.request_queue.specs.Entries.{Held, asks, asks_of, unanswered_of}
+use Rattle.request_queue.specs.Entries.{Held, asks, asks_of, unanswered_entries}
 use Rattle.request_queue.proofs.Counts.{fits, one_counted}
 use Rattle.request_queue.proofs.Changing.{longer_in_order}
 use Rattle.request_queue.proofs.book.Book.accept.Goals as goal
@@ -19,7 +19,7 @@ pub push-requires-clause-room : goal.push-requires-clause-room
 push-requires-clause-room c =
     let s = c.self.invariant.0 in
     fits c.self.inside.store (λ k d lt. (s.clients k d lt).0) s.few c.args.request.client.0 (λ k d lt. (s.clients k d lt).1) c.requires.client.0 c.requires.client.1
-    (subst (λ (es : List Held). unanswered_of es c.args.request.client.0 < 16) (sym c.self.view_is) c.requires.few)
+    (subst (λ (es : List Held). unanswered_entries es c.args.request.client.0 < 16) (sym c.self.view_is) c.requires.few)
 
 pub invariant_of-self : goal.invariant_of-self
 invariant_of-self c =
@@ -28,7 +28,7 @@ invariant_of-self c =
           (longer_in_order c.self.inside.store (record { entry = c.args.request; frames = c.args.loan.frames }) c.self.invariant.0
           (subst (λ (es : List Held). All (λ x. x.entry.id.0 < c.args.request.id.0) es) (sym c.self.view_is) c.requires.newest)
           c.requires.fresh c.requires.client.0 c.requires.client.1
-          (subst (λ (es : List Held). unanswered_of es c.args.request.client.0 < 16) (sym c.self.view_is) c.requires.few)),
+          (subst (λ (es : List Held). unanswered_entries es c.args.request.client.0 < 16) (sym c.self.view_is) c.requires.few)),
       subst (λ (es : List Held). AreIndexed (asks_of es) c.add_sectors.new.sectors) (sym c.push.ensures)
           (subst (λ (book : List Unanswered). AreIndexed book c.add_sectors.new.sectors) (sym (asks_more c.self.inside.store new))
           (subst (λ (r : Unanswered). AreIndexed (asks_of c.self.inside.store ++ r ∷ []) c.add_sectors.new.sectors) c.asks_of-asks.ensures c.add_sectors.ensures)),
@@ -51,7 +51,7 @@ pub add_sectors-requires-clause-room : goal.add_sectors-requires-clause-room
 add_sectors-requires-clause-room c =
     let s = c.self.invariant.0 in
     fits c.self.inside.store (λ k d lt. (s.clients k d lt).0) s.few c.args.request.client.0 (λ k d lt. (s.clients k d lt).1) c.requires.client.0 c.requires.client.1
-    (subst (λ (es : List Held). unanswered_of es c.args.request.client.0 < 16) (sym c.self.view_is) c.requires.few)
+    (subst (λ (es : List Held). unanswered_entries es c.args.request.client.0 < 16) (sym c.self.view_is) c.requires.few)
 
 pub add_sectors-requires-clause-newest : goal.add_sectors-requires-clause-newest
 add_sectors-requires-clause-newest c =
@@ -62,7 +62,7 @@ pub push_reserved-requires : goal.push_reserved-requires
 push_reserved-requires c =
     let s = c.self.invariant.0 in
     let few = fits c.self.inside.store (λ k d lt. (s.clients k d lt).0) s.few c.args.request.client.0 (λ k d lt. (s.clients k d lt).1) c.requires.client.0 c.requires.client.1
-    (subst (λ (es : List Held). unanswered_of es c.args.request.client.0 < 16) (sym c.self.view_is) c.requires.few) in
+    (subst (λ (es : List Held). unanswered_entries es c.args.request.client.0 < 16) (sym c.self.view_is) c.requires.few) in
     let n = c.self.invariant.2.number in
     let long = length-map c.self.inside.store (λ (e : Held). asks e.entry) in
     let room = c.self.invariant.3 in
@@ -73,7 +73,7 @@ pub add_flush-requires : goal.add_flush-requires
 add_flush-requires c =
     let s = c.self.invariant.0 in
     let few = fits c.self.inside.store (λ k d lt. (s.clients k d lt).0) s.few c.args.request.client.0 (λ k d lt. (s.clients k d lt).1) c.requires.client.0 c.requires.client.1
-    (subst (λ (es : List Held). unanswered_of es c.args.request.client.0 < 16) (sym c.self.view_is) c.requires.few) in
+    (subst (λ (es : List Held). unanswered_entries es c.args.request.client.0 < 16) (sym c.self.view_is) c.requires.few) in
     let long = length-map c.self.inside.store (λ (e : Held). asks e.entry) in
     let fewer = few_flushes (asks_of c.self.inside.store) in
     let same = ap length c.self.invariant.5 in

@@ -1,0 +1,14 @@
+use Rattle.adapter.proofs.Pending.{accesses_pend, pending_cleared, pending_shown, steps_pend}
+use Rattle.adapter.proofs.laws.law_a_pending_interrupt_stays.Goals as goal
+
+pub returns-clause-steps : goal.returns-clause-steps
+returns-clause-steps c = steps_pend
+
+pub returns-clause-accesses : goal.returns-clause-accesses
+returns-clause-accesses c = accesses_pend
+
+pub returns-clause-shown : goal.returns-clause-shown
+returns-clause-shown c = pending_shown
+
+pub returns-clause-cleared : goal.returns-clause-cleared
+returns-clause-cleared c = pending_cleared

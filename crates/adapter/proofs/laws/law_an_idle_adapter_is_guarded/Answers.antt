@@ -1,0 +1,8 @@
+use Rattle.adapter.proofs.OneCommand.{idle_guarded, idle_free}
+use Rattle.adapter.proofs.laws.law_an_idle_adapter_is_guarded.Goals as goal
+
+pub returns-clause-guarded : goal.returns-clause-guarded
+returns-clause-guarded c = idle_guarded
+
+pub returns-clause-free : goal.returns-clause-free
+returns-clause-free c = idle_free

@@ -1,8 +1,0 @@
-use Rattle.agreement.proofs.device.PortControls.{steps_disk, access_disk}
-use Rattle.agreement.proofs.facts.disk_stays.Goals as goal
-
-pub returns-clause-steps : goal.returns-clause-steps
-returns-clause-steps c = steps_disk
-
-pub returns-clause-access : goal.returns-clause-access
-returns-clause-access c = access_disk

@@ -1,8 +1,0 @@
-use Rattle.agreement.proofs.device.PortControls.{steps_link, access_link}
-use Rattle.agreement.proofs.facts.link_stays.Goals as goal
-
-pub returns-clause-steps : goal.returns-clause-steps
-returns-clause-steps c = steps_link
-
-pub returns-clause-access : goal.returns-clause-access
-returns-clause-access c = access_link

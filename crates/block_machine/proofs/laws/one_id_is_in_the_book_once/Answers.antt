@@ -1,5 +1,0 @@
-use Rattle.block_machine.proofs.Standing.{standing}
-use Rattle.block_machine.proofs.laws.one_id_is_in_the_book_once.Goals as goal
-
-pub returns : goal.returns
-returns c = λ m a b reached. (standing m reached).sound.one a b

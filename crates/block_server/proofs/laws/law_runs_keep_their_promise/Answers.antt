@@ -1,0 +1,15 @@
+use Rattle.block_server.proofs.Healthy.{HistoryLaws, more_calls, no_call, one_call}
+use Rattle.block_server.proofs.laws.law_runs_keep_their_promise.Goals as goal
+
+pub returns : goal.returns
+returns g c =
+    let laws : HistoryLaws = record {
+      seen = c.law_seen_are_answered.ensures;
+      well = c.law_healthy_calls_go_well.ensures;
+      rest = c.law_answers_rest.ensures;
+      moves = c.law_moves_keep_to_their_places.ensures;
+      run = c.law_histories_are_runs.ensures;
+      reads = c.law_reads_hold.ensures;
+      lasts = c.law_plugs_find.ensures;
+    } in
+    record { none = no_call laws g.A.Adapter.device; one = one_call laws g.A.Adapter.device; more = more_calls laws g.A.Adapter.device }

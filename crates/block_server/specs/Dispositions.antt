@@ -1,0 +1,22 @@
+-- What a port's unanswered requests hold, and room for what is kept of it (this project's own).
+use Rattle.std.specs.Prelude.{◌≤◌, ◌<◌, ◌+◌, ◌≡◌, true, List, All, count_by, length}
+use Rattle.dma_frames.specs.Loan.{Lending}
+use Rattle.dma_frames.specs.Table.{Table}
+use Rattle.request_queue.specs.Entries.{Held, IsAccepted, BookIsInOrder}
+use Rattle.request_queue.specs.Dispositions.{Holdings}
+
+abbrev pub holding : List Held → Table → List Lending → Holdings
+holding book table kept = record { book = book; table = table; kept = kept }
+
+-- a book in order, each request of which is as it was accepted, and has its frames lent to it
+pub record BookIsSound (table : Table) (book : List Held) : Type 0 where
+  pub ordered : BookIsInOrder book
+  pub accepted : All (IsAccepted table) book
+
+-- there is a place for the request's loan, if it is issued
+abbrev pub HasPlaces : Held → List Lending → Type 0
+HasPlaces request kept = request.entry.issued ≡ true → length kept < 32
+
+-- there are places for the loans of these requests that are issued
+abbrev pub HavePlaces : List Held → List Lending → Type 0
+HavePlaces requests kept = length kept + count_by (λ e. e.entry.issued) requests ≤ 32

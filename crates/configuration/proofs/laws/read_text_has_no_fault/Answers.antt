@@ -1,5 +1,0 @@
-use Rattle.configuration.proofs.One.{read-text-has-no-fault}
-use Rattle.configuration.proofs.laws.read_text_has_no_fault.Goals as goal
-
-pub returns : goal.returns
-returns c = read-text-has-no-fault

@@ -1,4 +1,0 @@
-use Rattle.driver_history.proofs.laws.due_are_issued.Goals as goal
-
-pub returns : goal.returns
-returns c = λ wanted first past h port history. history.2.issues port

@@ -1,5 +1,0 @@
-use Rattle.driver_history.proofs.Healthy.{goes_well}
-use Rattle.driver_history.proofs.laws.healthy_calls_go_well.Goals as goal
-
-pub returns : goal.returns
-returns c wanted first past h port = goes_well c.disks_are_told.ensures.entry (record { steps = c.healthy_stays.ensures.steps; runs = c.a_port_runs_on.ensures.runs; well = c.a_port_runs_on.ensures.well }) wanted first port past h

@@ -1,5 +1,0 @@
-use Rattle.driver_history.proofs.Telling.{history_runs}
-use Rattle.driver_history.proofs.laws.histories_are_runs.Goals as goal
-
-pub returns : goal.returns
-returns c = history_runs

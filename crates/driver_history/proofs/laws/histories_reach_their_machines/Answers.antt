@@ -1,5 +1,0 @@
-use Rattle.driver_history.proofs.Standing.{history_reached}
-use Rattle.driver_history.proofs.laws.histories_reach_their_machines.Goals as goal
-
-pub returns : goal.returns
-returns c = history_reached

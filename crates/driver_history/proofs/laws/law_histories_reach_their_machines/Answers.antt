@@ -1,0 +1,5 @@
+use Rattle.driver_history.proofs.Standing.{history_reached}
+use Rattle.driver_history.proofs.laws.law_histories_reach_their_machines.Goals as goal
+
+pub returns : goal.returns
+returns c = history_reached

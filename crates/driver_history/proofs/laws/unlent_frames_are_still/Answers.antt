@@ -1,5 +1,0 @@
-use Rattle.driver_history.proofs.Standing.{unlent_still}
-use Rattle.driver_history.proofs.laws.unlent_frames_are_still.Goals as goal
-
-pub returns : goal.returns
-returns c = unlent_still c.frames_are_still.ensures.unlent

@@ -1,6 +1,0 @@
-use Rattle.agreement.specs.Errors.{IsFatalOf}
-use Rattle.driver_history.proofs.Since.{running_in_part}
-use Rattle.driver_history.proofs.troubles.a_fatal_error_of_a_part_is_of_the_whole.Goals as goal
-
-pub returns : goal.returns
-returns c = λ port. running_in_part (IsFatalOf port) port

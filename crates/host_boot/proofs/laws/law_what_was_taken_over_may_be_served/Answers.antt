@@ -1,0 +1,23 @@
+use Rattle.refinement.specs.Relation.{port_at}
+use Rattle.host_boot.proofs.Beginning.{taken_there, taken_faults, taken_ready, taken_runs}
+use Rattle.host_boot.proofs.Running.{taken_own}
+use Rattle.host_boot.proofs.Showing.{taken_shown}
+use Rattle.host_boot.proofs.laws.law_what_was_taken_over_may_be_served.Goals as goal
+
+pub returns-clause-there : goal.returns-clause-there
+returns-clause-there c = taken_there
+
+pub returns-clause-ready : goal.returns-clause-ready
+returns-clause-ready c = λ wanted host port info old new taken. taken_ready wanted host port old new taken info
+
+pub returns-clause-well : goal.returns-clause-well
+returns-clause-well c = λ wanted host port info old new idle taken. taken_runs c.law_base.ensures wanted host port old new taken info idle
+
+pub returns-clause-recorded : goal.returns-clause-recorded
+returns-clause-recorded c = λ wanted host port info old new idle taken. taken_faults c.law_base.ensures wanted host port old new taken info idle
+
+pub returns-clause-shown : goal.returns-clause-shown
+returns-clause-shown c = λ wanted host port state old new idle taken bad is. taken_shown c.law_base.ensures (port_at port) state host.ports old new idle bad is taken.way
+
+pub returns-clause-own : goal.returns-clause-own
+returns-clause-own c = λ wanted host port info old new idle taken is. taken_own c.law_base.ensures (port_at port) info host.ports old new idle is taken.way

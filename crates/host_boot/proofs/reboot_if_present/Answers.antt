@@ -1,0 +1,60 @@
+use Rattle.std.proofs.Common.{ℕ, ◌≡◌, ◌+◌, ◌∙◌, sym, ap, subst}
+use Rattle.ata_types.specs.declared.Port.{Port}
+use Rattle.ata_types.specs.declared.limits.TheConstants.{READINGS}
+use Rattle.adapter.specs.Device.{Notes}
+use Rattle.refinement.specs.Driven.{AnyUse, IsControl, IsSimulated}
+use Rattle.port_control.specs.Ports.{IsClearing, IsStopped, IsUsable, BacksFault}
+use Rattle.port_control.specs.declared.PortFault.TheVariants.{NoDevice}
+use Rattle.host_boot.specs.Again.{BootsStopped}
+use Rattle.host_boot.specs.declared.ProbeResult.{ProbeResult}
+use Rattle.host_boot.proofs.Booting.{asked_bootable, asked_stopped, seen_absent, seen_bootable, seen_boots}
+use Rattle.host_boot.proofs.Leaving.{cap_leaves}
+use Rattle.host_boot.proofs.reboot_if_present.Goals as goal
+use Rattle.host_boot.proofs.reboot_if_present.Goals.{then-shows_device, else-shows_device}
+
+pub shows_device-requires : goal.shows_device-requires
+shows_device-requires g c =
+    let b = asked_bootable c.law_base.ensures _ _ _ c.read.ensures.does c.args.stopped.port c.requires.bootable in
+    let U : Port → Type 0 = λ p. IsUsable AnyUse p (g.A.Adapter.device c.read.new.self) in
+    record { usable = subst U (sym c.port.ensures) (record { on = b.on; there = b.there; agreed = (b.agreed.0, tt, b.agreed.2) }) }
+
+pub boot_stopped-found-requires-clause-bootable : goal.boot_stopped-found-requires-clause-bootable
+boot_stopped-found-requires-clause-bootable g c =
+    let laws = c.law_base.ensures in
+    let asked = asked_bootable laws _ _ _ c.read.ensures.does c.args.stopped.port c.requires.bootable in
+    let looks = subst (λ (p : Port). IsSimulated (IsControl IsClearing p) AnyUse (g.A.Adapter.device c.read.new.self) (g.A.Adapter.device c.shows_device.new.adapter)) c.port.ensures c.shows_device.ensures.followed in
+    seen_bootable laws _ _ _ c.read.ensures.does c.args.stopped.port _ looks c.shows_device.ensures.on asked
+
+pub boot_stopped-found-requires-clause-stopped : goal.boot_stopped-found-requires-clause-stopped
+boot_stopped-found-requires-clause-stopped g c =
+    let laws = c.law_base.ensures in
+    let port = c.args.stopped.port in
+    let asked = g.A.Adapter.device c.read.new.self in
+    let seen = g.A.Adapter.device c.shows_device.new.adapter in
+    let stays = subst (λ (p : Port). IsStopped (asked.port p.0) → IsStopped (seen.port p.0)) c.port.ensures c.shows_device.ensures.asks.stopped in
+    stays (asked_stopped laws _ _ _ c.read.ensures.does port (cap_leaves laws _ c.requires.bootable.on.no_reset port.0 _ _ c.read.ensures.does) c.requires.stopped)
+
+pub returns-clause-boots : goal.returns-clause-boots
+returns-clause-boots g c =
+    let laws = c.law_base.ensures in
+    let port = c.args.stopped.port in
+    let wanted = c.args.wanted.now in
+    let device = g.A.Adapter.device in
+    let asked = device c.read.new.self in
+    let seen = device c.shows_device.new.adapter in
+    let slots = ap (λ (n : ℕ). n + 1) c.last_slot.ensures in
+    let looks = subst (λ (p : Port). IsSimulated (IsControl IsClearing p) AnyUse asked seen) c.port.ensures c.shows_device.ensures.followed in
+    elim c.if-shows_device.branch [
+      | then-shows_device w ↦
+          let there = subst (λ (p : Port). (seen.port p.0).ssts_det ≡ 3) c.port.ensures (c.shows_device.ensures.asks.there w.if-shows_device.true) in
+          let booted = subst (λ (f : ProbeResult). BootsStopped wanted port f seen (device w.boot_stopped-found.new.adapter)) (sym w.found-is) w.boot_stopped-found.ensures.boots in
+          let boots = subst (λ a. BootsStopped wanted port c.if-shows_device.found seen (device a)) (sym w.adapter-is) booted in
+          seen_boots laws _ _ asked c.read.ensures.does port seen looks _ wanted _ there boots slots c.has_ncq.ensures
+      | else-shows_device w ↦
+          let left = cap_leaves laws _ c.requires.bootable.on.no_reset port.0 _ _ c.read.ensures.does in
+          let stays = subst (λ (p : Port). IsStopped (asked.port p.0) → IsStopped (seen.port p.0)) c.port.ensures c.shows_device.ensures.asks.stopped in
+          let none = subst (λ (p : Port). (asked.port p.0).notes.link_count ≡ READINGS → BacksFault NoDevice (seen.port p.0).notes) c.port.ensures (c.shows_device.ensures.asks.none w.if-shows_device.false) in
+          let stopped = stays (asked_stopped laws _ _ _ c.read.ensures.does port left c.requires.stopped) in
+          let full = ap (λ (n : Notes). n.link_count) left.notes ∙ c.requires.saw in
+          seen_absent laws _ _ asked c.read.ensures.does port seen looks _ wanted _ (ap device w.adapter-is) w.found-is stopped (none full)
+    ]

@@ -1,0 +1,16 @@
+use Rattle.std.proofs.Common.{ℕ, ◌+◌, ap}
+use Rattle.host_boot.proofs.Booting.{asked_bootable, asked_boots, asked_stopped}
+use Rattle.host_boot.proofs.Leaving.{cap_leaves}
+use Rattle.host_boot.proofs.reboot_port.Goals as goal
+
+pub boot_stopped-found-requires-clause-bootable : goal.boot_stopped-found-requires-clause-bootable
+boot_stopped-found-requires-clause-bootable g c = asked_bootable c.law_base.ensures _ _ _ c.read.ensures.does c.args.stopped.port c.requires.bootable
+
+pub boot_stopped-found-requires-clause-stopped : goal.boot_stopped-found-requires-clause-stopped
+boot_stopped-found-requires-clause-stopped g c =
+    let port = c.args.stopped.port in
+    asked_stopped c.law_base.ensures _ _ _ c.read.ensures.does port (cap_leaves c.law_base.ensures _ c.requires.bootable.on.no_reset port.0 _ _ c.read.ensures.does) c.requires.stopped
+
+pub returns-clause-boots : goal.returns-clause-boots
+returns-clause-boots g c =
+    asked_boots c.law_base.ensures _ _ _ c.read.ensures.does c.args.stopped.port _ c.args.wanted.now _ c.boot_stopped-found.ensures.boots (ap (λ (n : ℕ). n + 1) c.last_slot.ensures) c.has_ncq.ensures

@@ -1,0 +1,5 @@
+use Rattle.machine_runs.proofs.Touching.{law_ok_was_ended}
+use Rattle.machine_runs.proofs.laws.law_ok_was_ended.Goals as goal
+
+pub returns : goal.returns
+returns g c = law_ok_was_ended

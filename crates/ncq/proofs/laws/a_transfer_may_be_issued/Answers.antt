@@ -1,6 +1,0 @@
-use Rattle.ncq.proofs.Witness.{first_may_be_issued}
-use Rattle.ncq.proofs.laws.a_transfer_may_be_issued.Goals as goal
-
-pub returns : goal.returns
-returns c = first_may_be_issued c.a_prepared_read_agrees.ensures c.saying_is_one.ensures c.a_first_read_exists.ensures.says
-    (λ start history mode e starts legal may. (c.issues_keep_the_rules.ensures start history mode e starts legal may).0)

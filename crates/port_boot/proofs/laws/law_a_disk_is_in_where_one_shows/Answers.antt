@@ -1,0 +1,14 @@
+use Rattle.port_boot.proofs.Owning.{access_own, all_own, ready_own, steps_own}
+use Rattle.port_boot.proofs.laws.law_a_disk_is_in_where_one_shows.Goals as goal
+
+pub returns-clause-steps : goal.returns-clause-steps
+returns-clause-steps c = steps_own
+
+pub returns-clause-access : goal.returns-clause-access
+returns-clause-access c = access_own
+
+pub returns-clause-accesses : goal.returns-clause-accesses
+returns-clause-accesses c = all_own
+
+pub returns-clause-begins : goal.returns-clause-begins
+returns-clause-begins c = ready_own

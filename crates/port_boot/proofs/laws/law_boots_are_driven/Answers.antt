@@ -1,0 +1,16 @@
+use Rattle.std.proofs.Common.{inl}
+use Rattle.port_control.specs.Engines.{StopsBoth}
+use Rattle.port_boot.specs.Laws.RegisterSet.{BootRegisters, Commanding}
+use Rattle.port_boot.specs.States.{StopsOnWay}
+use Rattle.port_boot.proofs.Bringing.{starting}
+use Rattle.port_boot.proofs.Staying.{boot_driven}
+use Rattle.port_boot.proofs.laws.law_boots_are_driven.Goals as goal
+
+pub returns-clause-boots : goal.returns-clause-boots
+returns-clause-boots c = λ port state old new. boot_driven (StopsOnWay port state) port old new state
+
+pub returns-clause-stops : goal.returns-clause-stops
+returns-clause-stops c = λ port state old new. boot_driven (StopsBoth port) port old new state
+
+pub returns-clause-commanding : goal.returns-clause-commanding
+returns-clause-commanding c = λ port access is. inl (c.law_base.ensures.control_wider Commanding BootRegisters port starting access is)

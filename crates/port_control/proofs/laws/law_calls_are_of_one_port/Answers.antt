@@ -1,0 +1,22 @@
+use Rattle.std.proofs.Common.{◌≡◌, inl, inr}
+use Rattle.hba_regs.specs.declared.reg.PortReg.TheVariants.{Clb, Clbu, Cmd, Fb, Fbu, Sctl}
+use Rattle.port_control.specs.Laws.RegisterSet.{Commanding, Placing, Resetting}
+use Rattle.port_control.specs.Ports.{IsPlacing}
+use Rattle.port_control.proofs.laws.law_calls_are_of_one_port.Goals as goal
+
+no_control : IsPlacing Sctl → ⊥
+no_control (inl e) = absurd (let k : Sctl ≡ Cmd = e in cc)
+no_control (inr (inl e)) = absurd (let k : Sctl ≡ Clb = e in cc)
+no_control (inr (inr (inl e))) = absurd (let k : Sctl ≡ Clbu = e in cc)
+no_control (inr (inr (inr (inl e)))) = absurd (let k : Sctl ≡ Fb = e in cc)
+no_control (inr (inr (inr (inr e)))) = absurd (let k : Sctl ≡ Fbu = e in cc)
+
+pub returns-clause-commanding : goal.returns-clause-commanding
+returns-clause-commanding c = λ port access is.
+    (c.law_base.ensures.control_of Commanding port access is, c.law_base.ensures.control_spares Commanding port Sctl (λ e. absurd (let k : Sctl ≡ Cmd = e in cc)) access is)
+
+pub returns-clause-placing : goal.returns-clause-placing
+returns-clause-placing c = λ port access is. (c.law_base.ensures.control_of Placing port access is, c.law_base.ensures.control_spares Placing port Sctl no_control access is)
+
+pub returns-clause-resetting : goal.returns-clause-resetting
+returns-clause-resetting c = c.law_base.ensures.control_of Resetting

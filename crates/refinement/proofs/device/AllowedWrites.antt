@@ -1,0 +1,235 @@
+-- A write that may be made may be made later.
+use Rattle.std.proofs.Common.{ℕ, ◌≡◌, ◌≢◌, ◌⊎◌, ◌<◌, ◌≤◌, ◌+◌, ◌%◌, ◌||◌, Bool, true, false, refl, sym, ◌∙◌, ap, arith, inl, inr, ⊎_elim}
+use Rattle.std.proofs.lemmas.Bool.{cases_eq, both_ways}
+use Rattle.ata_types.specs.declared.Port.{Port}
+use Rattle.ata_types.specs.declared.memory.TheConstants.{LIST_BYTES}
+use Rattle.hba_regs.specs.Bits.{bit}
+use Rattle.hba_regs.specs.declared.reg.Reg.{Reg}
+use Rattle.hba_regs.specs.declared.reg.Reg.TheVariants.{Cap, Ghc, Pi, Vs, Cap2, Bohc, Px}
+use Rattle.hba_regs.specs.declared.reg.Reg.TheVariants as adapter
+use Rattle.hba_regs.specs.declared.reg.PortReg.{PortReg}
+use Rattle.hba_regs.specs.declared.reg.PortReg.TheVariants.{Clb, Clbu, Fb, Fbu, Is, Ie, Cmd, Tfd, Sig, Ssts, Sctl, Serr, Sact, Ci}
+use Rattle.adapter.specs.Access.{Writes}
+use Rattle.adapter.specs.Device.{Bases, Notes, DevicePort, Device}
+use Rattle.adapter.specs.Kept.{Keeps, KeepsOn, KeepsPort, KeepsControls}
+use Rattle.adapter.specs.Rules.{IsOn, HasPort, MayStart, MayReceive, MayStopReceiving, MayCommand, MayWritePort, MayWrite, IsStable}
+use Rattle.adapter.proofs.Calls.{PutAt, put, on_after, on_stays}
+use Rattle.adapter.proofs.KeptLemmas.{law_steps_keep}
+use Rattle.refinement.specs.Driver.{LeavesUses, AllFree, IsWrittenBack}
+use Rattle.refinement.specs.Facts.{KeepsRecord, IsQuiet}
+use Rattle.refinement.specs.Places.{list_of, received_of}
+use Rattle.refinement.specs.Slots.{SlotStates}
+use Rattle.refinement.proofs.device.StartConditions.{steps_quiet}
+
+-- ---- a port
+
+module _ (p q : DevicePort) (k : KeepsPort p q) (c : KeepsControls p q) (notes : q.notes ≡ p.notes) where
+  same_base : {A : Type 0} (f : Bases → A) → f q.bases ≡ f p.bases
+  same_base f = ap f k.bases
+
+  start_stays : MayStart p → MayStart q
+  start_stays x = record {
+    fallen = k.cr x.fallen;
+    receives = c.fre ∙ x.receives;
+    programmed = record {
+      clb = same_base (λ b. b.clb_set) ∙ x.programmed.clb;
+      clbu = same_base (λ b. b.clbu_set) ∙ x.programmed.clbu;
+      fb = same_base (λ b. b.fb_set) ∙ x.programmed.fb;
+      fbu = same_base (λ b. b.fbu_set) ∙ x.programmed.fbu;
+    };
+    link = ap (λ (n : Notes). n.last_ssts % 16) notes ∙ x.link;
+    not_busy = ap (λ (n : Notes). bit n.last_tfd 7 || bit n.last_tfd 3) notes ∙ x.not_busy;
+  }
+
+  receive_stays : MayReceive p → MayReceive q
+  receive_stays x = record {
+    fallen = k.fr x.fallen;
+    fb = same_base (λ b. b.fb_set) ∙ x.fb;
+    fbu = same_base (λ b. b.fbu_set) ∙ x.fbu;
+  }
+
+  stop_stays : MayStopReceiving p → MayStopReceiving q
+  stop_stays x = record { stopped = c.st ∙ x.stopped; fallen = k.cr x.fallen }
+
+  command_stays : (v : ℕ) → MayCommand p v → MayCommand q v
+  command_stays v x = record {
+    start = λ b. ⊎_elim (λ (on : p.st ≡ true). inl (c.st ∙ on)) (λ (y : MayStart p). inr (start_stays y)) (x.start b);
+    receive = λ b. ⊎_elim (λ (on : p.fre ≡ true). inl (c.fre ∙ on)) (λ (y : MayReceive p). inr (receive_stays y)) (x.receive b);
+    stop_receiving = λ b. ⊎_elim
+        (λ (off : p.fre ≡ false). inl (c.fre ∙ off))
+        (λ (y : MayStopReceiving p × (bit v 0 ≡ false)). inr (stop_stays y.0, y.1))
+        (x.stop_receiving b);
+    others = λ place small start receive. x.others place small start receive ∙ ap (λ (n : Notes). bit n.last_cmd place) (sym notes);
+  }
+
+  port_stays : (r : PortReg) (v : ℕ) (old new : Device) → new.size ≡ old.size → r ≢ Ci → MayWritePort r v old p → MayWritePort r v new q
+  port_stays Cmd v old new size other x = command_stays v x
+  port_stays Sctl v old new size other x = (c.st ∙ x.0, x.1)
+  port_stays Clb v old new size other x = (k.cr x.0, c.st ∙ x.1, x.2, omega (arith, size, x.3))
+  port_stays Clbu v old new size other x = (k.cr x.0, c.st ∙ x.1, x.2)
+  port_stays Fb v old new size other x = (k.fr x.0, c.fre ∙ x.1, x.2, omega (arith, size, x.3))
+  port_stays Fbu v old new size other x = (k.fr x.0, c.fre ∙ x.1, x.2)
+  port_stays Ci v old new size other x = absurd (other refl)
+  port_stays Sact v old new size other x = c.st ∙ x
+  port_stays Serr v old new size other x = x
+  port_stays Is v old new size other x = x
+  port_stays Ie v old new size other x = x
+  port_stays Tfd v old new size other x = x
+  port_stays Sig v old new size other x = x
+  port_stays Ssts v old new size other x = x
+
+-- ---- any register
+
+pub write_stays : (r : Reg) (v : ℕ) (d : Device) → ((port : Port) → r ≢ Px port Ci) → MayWrite r v d → IsStable (MayWrite r v) d
+write_stays Ghc v d other x mid s = x
+write_stays adapter.Is v d other x mid s = (
+  on_stays x.0 s,
+  λ port small set. ap (λ (n : Notes). n.acknowledged) ((law_steps_keep s).notes port) ∙ x.1 port small set,
+)
+write_stays (Px port r) v d other x mid s =
+    let k : Keeps d mid = law_steps_keep s in
+    let c : KeepsOn d mid = k.on x.0.no_reset in (
+      on_after x.0 c,
+      (x.1.0, ap (λ (n : ℕ). bit n port.0) k.pi ∙ x.1.1),
+      port_stays (d.port port.0) (mid.port port.0) (k.port port.0) (c.controls port.0) (k.notes port.0) r v d mid k.size (λ e. other port (ap (Px port) e)) x.2,
+    )
+write_stays Cap v d other x mid s = x
+write_stays Pi v d other x mid s = x
+write_stays Vs v d other x mid s = x
+write_stays Cap2 v d other x mid s = x
+write_stays Bohc v d other x mid s = x
+
+-- ---- what is asked beside the rules
+
+pub uses_stay : (uses : SlotStates) (r : Reg) (v : ℕ) (d : Device) → d.hr ≡ false → LeavesUses uses r v d → IsStable (LeavesUses uses r v) d
+uses_stay uses (Px port Cmd) v d off x mid s =
+    let k : Keeps d mid = law_steps_keep s in
+    let c : KeepsOn d mid = k.on off in
+    record {
+      start = λ b. ⊎_elim (λ (on : (d.port port.0).st ≡ true). inl ((c.controls port.0).st ∙ on)) (λ (free : AllFree uses port.0). inr free) (x.start b);
+      receive = λ b. let y = x.receive b in (y.0, ap (λ (z : Bases). z.fb) (k.port port.0).bases ∙ y.1);
+    }
+uses_stay uses (Px port Clb) v d off x mid s = x
+uses_stay uses (Px port Sact) v d off x mid s = x
+uses_stay uses (Px port Ci) v d off x mid s = x
+uses_stay uses (Px port Clbu) v d off x mid s = x
+uses_stay uses (Px port Fb) v d off x mid s = x
+uses_stay uses (Px port Fbu) v d off x mid s = x
+uses_stay uses (Px port Is) v d off x mid s = x
+uses_stay uses (Px port Ie) v d off x mid s = x
+uses_stay uses (Px port Tfd) v d off x mid s = x
+uses_stay uses (Px port Sig) v d off x mid s = x
+uses_stay uses (Px port Ssts) v d off x mid s = x
+uses_stay uses (Px port Sctl) v d off x mid s = x
+uses_stay uses (Px port Serr) v d off x mid s = x
+uses_stay uses Cap v d off x mid s = x
+uses_stay uses Ghc v d off x mid s = x
+uses_stay uses adapter.Is v d off x mid s = x
+uses_stay uses Pi v d off x mid s = x
+uses_stay uses Vs v d off x mid s = x
+uses_stay uses Cap2 v d off x mid s = x
+uses_stay uses Bohc v d off x mid s = x
+
+pub record_stays : (r : Reg) (v : ℕ) (d : Device) → d.hr ≡ false → KeepsRecord r v d → IsStable (KeepsRecord r v) d
+record_stays (Px port Cmd) v d off x mid s =
+    let c : KeepsOn d mid = (law_steps_keep s).on off in
+    λ b. ⊎_elim (λ (on : (d.port port.0).st ≡ true). inl ((c.controls port.0).st ∙ on)) (λ (quiet : IsQuiet (d.port port.0)). inr (steps_quiet port.0 d mid s quiet)) (x b)
+record_stays (Px port Sctl) v d off x mid s = ((law_steps_keep s).port port.0).cr x
+record_stays (Px port Clb) v d off x mid s = x
+record_stays (Px port Clbu) v d off x mid s = x
+record_stays (Px port Fb) v d off x mid s = x
+record_stays (Px port Fbu) v d off x mid s = x
+record_stays (Px port Is) v d off x mid s = x
+record_stays (Px port Ie) v d off x mid s = x
+record_stays (Px port Tfd) v d off x mid s = x
+record_stays (Px port Sig) v d off x mid s = x
+record_stays (Px port Ssts) v d off x mid s = x
+record_stays (Px port Serr) v d off x mid s = x
+record_stays (Px port Sact) v d off x mid s = x
+record_stays (Px port Ci) v d off x mid s = x
+record_stays Cap v d off x mid s = x
+record_stays Ghc v d off x mid s = x
+record_stays adapter.Is v d off x mid s = x
+record_stays Pi v d off x mid s = x
+record_stays Vs v d off x mid s = x
+record_stays Cap2 v d off x mid s = x
+record_stays Bohc v d off x mid s = x
+
+-- ---- the four registers of addresses
+
+module _ (d : Device) (port : Port) (on : IsOn d) (there : HasPort d port.0) where
+  module _ (st : (d.port port.0).st ≡ false) (cr : (d.port port.0).cr ≡ false) where
+    pub list_may : list_of port.0 + LIST_BYTES ≤ d.size → IsStable (MayWrite (Px port Clb) (list_of port.0)) d
+    list_may inside = write_stays (Px port Clb) (list_of port.0) d (λ p e. cc) (on, there, (cr, st, omega arith, inside))
+
+    pub list_upper_may : IsStable (MayWrite (Px port Clbu) 0) d
+    list_upper_may = write_stays (Px port Clbu) 0 d (λ p e. cc) (on, there, (cr, st, refl))
+
+  module _ (fre : (d.port port.0).fre ≡ false) (fr : (d.port port.0).fr ≡ false) where
+    pub received_may : received_of port.0 + 256 ≤ d.size → IsStable (MayWrite (Px port Fb) (received_of port.0)) d
+    received_may inside = write_stays (Px port Fb) (received_of port.0) d (λ p e. cc) (on, there, (fr, fre, omega arith, inside))
+
+    pub received_upper_may : IsStable (MayWrite (Px port Fbu) 0) d
+    received_upper_may = write_stays (Px port Fbu) 0 d (λ p e. cc) (on, there, (fr, fre, refl))
+
+-- ---- PxCMD, as it was last read but for ST and FRE
+
+module _ (port : Port) (was v : ℕ) (d : Device) (on : IsOn d) (there : HasPort d port.0) (last : (d.port port.0).notes.last_cmd ≡ was) where
+  may : MayCommand (d.port port.0) v → IsStable (MayWrite (Px port Cmd) v) d
+  may x = write_stays (Px port Cmd) v d (λ p e. cc) (on, there, x)
+
+  others : (st fre : Bool) → IsWrittenBack st fre was v → (place : ℕ) → place < 32 → place ≢ 0 → place ≢ 4 → bit v place ≡ bit (d.port port.0).notes.last_cmd place
+  others st fre x place small start receive = x.others place small start receive ∙ ap (λ (n : ℕ). bit n place) (sym last)
+
+  pub starting_may : MayStart (d.port port.0) → IsWrittenBack true true was v → IsStable (MayWrite (Px port Cmd) v) d
+  starting_may ready x = may (record {
+    start = λ b. inr ready;
+    receive = λ b. inl ready.receives;
+    stop_receiving = λ b. absurd (both_ways _ b x.receive);
+    others = others true true x;
+  })
+
+  pub stopping_may : IsWrittenBack false (d.port port.0).fre was v → IsStable (MayWrite (Px port Cmd) v) d
+  stopping_may x = may (record {
+    start = λ b. absurd (both_ways _ x.start b);
+    receive = λ b. inl (sym x.receive ∙ b);
+    stop_receiving = λ b. inl (sym x.receive ∙ b);
+    others = others false (d.port port.0).fre x;
+  })
+
+  pub receiving_may : MayReceive (d.port port.0) → IsWrittenBack (d.port port.0).st true was v → IsStable (MayWrite (Px port Cmd) v) d
+  receiving_may ready x = may (record {
+    start = λ b. inl (sym x.start ∙ b);
+    receive = λ b. inr ready;
+    stop_receiving = λ b. absurd (both_ways _ b x.receive);
+    others = others (d.port port.0).st true x;
+  })
+
+  pub no_receiving_may : MayStopReceiving (d.port port.0) → IsWrittenBack false false was v → IsStable (MayWrite (Px port Cmd) v) d
+  no_receiving_may ready x = may (record {
+    start = λ b. absurd (both_ways _ x.start b);
+    receive = λ b. absurd (both_ways _ x.receive b);
+    stop_receiving = λ b. inr (ready, x.start);
+    others = others false false x;
+  })
+
+-- ---- IS, after PxIS
+
+module _ (port : Port) (v : ℕ) (old new : Device) (on : IsOn old) (call : Writes (Px port Is) v old new) where
+  wrote : PutAt port.0 Is v old new
+  wrote = put port Is v old new call on.no_reset
+
+  acknowledged_here : (q : ℕ) → q ≡ port.0 → (new.port q).notes.acknowledged ≡ true
+  acknowledged_here q e = ap (λ (k : ℕ). (new.port k).notes.acknowledged) e ∙ ap (λ (p : DevicePort). p.notes.acknowledged) wrote.here
+
+  acknowledged_still : (q : ℕ) → (old.port q).notes.acknowledged ≡ true → (new.port q).notes.acknowledged ≡ true
+  acknowledged_still q was = ⊎_elim
+      (acknowledged_here q)
+      (λ (ne : q ≡ port.0 → ⊥). ap (λ (p : DevicePort). p.notes.acknowledged) (wrote.others q ne) ∙ (ap (λ (n : Notes). n.acknowledged) (wrote.notes q) ∙ was))
+      (cases_eq q port.0)
+
+  pub acknowledging_may : (ports : ℕ) → ((q : ℕ) → q < 32 → bit ports q ≡ true → (q ≡ port.0) ⊎ ((old.port q).notes.acknowledged ≡ true)) → IsStable (MayWrite adapter.Is ports) new
+  acknowledging_may ports h = write_stays adapter.Is ports new (λ p e. cc) (
+    record { ae = wrote.ae ∙ on.ae; no_reset = wrote.hr },
+    λ q small set. ⊎_elim (acknowledged_here q) (acknowledged_still q) (h q small set),
+  )

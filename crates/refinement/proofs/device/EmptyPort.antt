@@ -1,0 +1,203 @@
+-- A port with no disk in, and one whose disk has shown itself, while none comes.
+use Rattle.std.proofs.Common.{ℕ, ◌≡◌, ◌≢◌, ◌%◌, ◌++◌, Bool, true, false, List, [], ◌∷◌, length, refl, sym, ◌∙◌, ap, subst, arith, inl}
+use Rattle.std.specs.Prelude.{if◌then◌else◌, nat_eq}
+use Rattle.std.proofs.lemmas.Bool.{cond-true, cond-false, both_ways}
+use Rattle.ata_types.specs.declared.Port.{Port}
+use Rattle.hba_regs.specs.Bits.{bit}
+use Rattle.hba_regs.specs.declared.reg.Reg.TheVariants.{Ghc, Px}
+use Rattle.hba_regs.specs.declared.reg.PortReg.{PortReg}
+use Rattle.hba_regs.specs.declared.reg.PortReg.TheVariants.{Cmd, Sctl, Ssts}
+use Rattle.adapter.specs.Access.{Access, Does, Reads, Writes, note, unacknowledged, port_written, with_st, with_fre, with_det}
+use Rattle.adapter.specs.Device.{DevicePort, Device}
+use Rattle.adapter.specs.Idle.{IsIdle}
+use Rattle.adapter.specs.Kept.{Keeps}
+use Rattle.adapter.specs.Steps.{DeviceTransition, Can, device_after, StepLeads, Steps}
+use Rattle.adapter.specs.Steps.DeviceTransition.{Fetch, FetchFault, Move, Clear, Done, Fault, Fatal, Fall, FrFall, LinkUp, Unplug, Plug, ResetEnds, Scribble}
+use Rattle.adapter.specs.declared.tape.Entry.{Entry}
+use Rattle.adapter.proofs.Changed.{changed_same}
+use Rattle.adapter.proofs.KeptLemmas.{step_keeps, law_steps_keep}
+use Rattle.refinement.specs.Errors.{IsComing, NoneComes}
+use Rattle.refinement.specs.Links.{HasDeviceOrNone}
+use Rattle.refinement.proofs.device.FactsOverAccesses.{access_steps, effect_keeps}
+use Rattle.refinement.proofs.device.ErrorBits.{comes_parts, comes_before, command_beside}
+use Rattle.refinement.proofs.device.TapeGains.{NoneOf, gained_none}
+use Rattle.refinement.proofs.device.HaltedPort.{reset_read, law_reset_is_found, reset_idle}
+use Rattle.refinement.proofs.device.HealthyPort.{at_port}
+use Rattle.refinement.proofs.device.AdapterReset.{ghc_told}
+use Rattle.refinement.specs.Vacant.{IsVacant, IsFreshIfShown}
+
+-- ---- facts of a port that its steps keep while no disk comes
+
+-- what each step keeps that is no disk's coming, lists of them keep
+leads_without : (port : ℕ) (P : DevicePort → Type 0) →
+    ((d : Device) (gained : List Entry) → NoneOf (IsComing port) gained → (step : DeviceTransition) → Can step d → (device_after step d).tape ≡ d.tape ++ gained → P (d.port port) → P ((device_after step d).port port)) →
+    (steps : List DeviceTransition) (old new : Device) → StepLeads steps old new → NoneComes port old new → P (old.port port) → P (new.port port)
+leads_without port P keep [] old new e none h = subst (λ (d : Device). P (d.port port)) (sym e) h
+leads_without port P keep (step ∷ steps) old new (can, lead) none h =
+    let k : Keeps old (device_after step old) = step_keeps step old can in
+    let l : Keeps (device_after step old) new = law_steps_keep (record { steps = steps; lead = lead }) in
+    let parts = comes_parts port old (device_after step old) new k.gained l.gained k.tape l.tape none in
+    leads_without port P keep steps (device_after step old) new lead parts.1 (keep old parts.0.gained parts.0.none step can parts.0.tape h)
+
+-- and so do accesses, where their writes keep it
+access_without : (port : Port) (P : DevicePort → Type 0) →
+    ((d : Device) (gained : List Entry) → NoneOf (IsComing port.0) gained → (step : DeviceTransition) → Can step d → (device_after step d).tape ≡ d.tape ++ gained → P (d.port port.0) → P ((device_after step d).port port.0)) →
+    ((p : DevicePort) (r : PortReg) (v : ℕ) → P p → P (record p { notes = note r v p })) → ((p : DevicePort) → P p → P (unacknowledged p)) →
+    ((r : PortReg) (v tape : ℕ) (p : DevicePort) → P p → P (port_written r v tape p)) →
+    (access : Access) (old new : Device) → NoneComes port.0 old new → Does access old new → P (old.port port.0) → P (new.port port.0)
+access_without port P keep noting acknowledging writing access old new none x h =
+    let s = access_steps access old new x in
+    effect_keeps P port noting acknowledging access old new x (λ r v mid is steps y. writing r v (length mid.tape) (mid.port port.0) y)
+    (leads_without port.0 P keep s.1.steps old s.0 s.1.lead (comes_before port.0 old s.0 new s.2 none) h)
+
+not_three : {A : Type 0} → ◌≡◌ {A = ℕ} 0 3 → A
+not_three e = absurd (omega (arith, e))
+
+-- DET that COMRESET clears, or that stays
+det_was : (b : Bool) (det : ℕ) → (if b then 0 else det) ≡ 3 → det ≡ 3
+det_was true det e = not_three e
+det_was false det e = e
+
+-- ---- no disk is in
+
+abbrev Out : DevicePort → Type 0
+Out p = p.present ≡ false
+
+module _ (port : ℕ) (d : Device) (gained : List Entry) (none : NoneOf (IsComing port) gained) where
+  step_out : (step : DeviceTransition) → Can step d → (device_after step d).tape ≡ d.tape ++ gained → Out (d.port port) → Out ((device_after step d).port port)
+  step_out (Fetch p slot c places) can is h = at_port Out Out d p port _ h (λ e x. x) (λ ne x. x)
+  step_out (FetchFault p slot queued kept_bits) can is h = at_port Out Out d p port _ h (λ e x. x) (λ ne x. x)
+  step_out (Move p slot t bytes) can is h = at_port Out Out d p port _ h (λ e x. x) (λ ne x. x)
+  step_out (Clear p slot t first count) can is h = at_port Out Out d p port _ h (λ e x. x) (λ ne x. x)
+  step_out (Done p slot flag t) can is h = at_port Out Out d p port _ h (λ e x. x) (λ ne x. x)
+  step_out (Fault p slot error kept_bits t) can is h = at_port Out Out d p port _ h (λ e x. x) (λ ne x. x)
+  step_out (Fatal p place) can is h = at_port Out Out d p port _ h (λ e x. x) (λ ne x. x)
+  step_out (Fall p) can is h = at_port Out Out d p port _ h (λ e x. x) (λ ne x. x)
+  step_out (FrFall p) can is h = at_port Out Out d p port _ h (λ e x. x) (λ ne x. x)
+  step_out (LinkUp p sig n) can is h = at_port Out Out d p port _ h (λ e x. x) (λ ne x. x)
+  step_out (Unplug p) can is h = at_port Out Out d p port _ h (λ e x. refl) (λ ne x. x)
+  step_out (Plug p disk) can is h = at_port Out Out d p port _ h (λ e x. absurd (gained_none (IsComing port) d.tape _ gained is none e)) (λ ne x. x)
+  step_out ResetEnds can is h = h
+  step_out (Scribble p slot at bytes) can is h = h
+
+written_out : (r : PortReg) (v tape : ℕ) (p : DevicePort) → Out p → Out (port_written r v tape p)
+written_out Cmd v tape p h = (command_beside v tape p).6 ∙ h
+written_out _ v tape p h = h
+
+pub out_steps : (port : ℕ) (old new : Device) → NoneComes port old new → Steps old new → (old.port port).present ≡ false → (new.port port).present ≡ false
+out_steps port old new none s h = leads_without port Out (step_out port) s.steps old new s.lead none h
+
+pub out_access : (port : Port) (access : Access) (old new : Device) → NoneComes port.0 old new → Does access old new → (old.port port.0).present ≡ false → (new.port port.0).present ≡ false
+out_access port access old new none x h = access_without port Out (step_out port.0) (λ p r v y. y) (λ p y. y) written_out access old new none x h
+
+-- ---- and none shows
+
+abbrev Vacant : DevicePort → Type 0
+Vacant p = (p.present ≡ false) × (p.ssts_det ≢ 3)
+
+is_vacant : (p : DevicePort) → Vacant p → IsVacant p
+is_vacant p h = record { out = h.0; det = h.1 }
+
+module _ (port : ℕ) (d : Device) (gained : List Entry) (none : NoneOf (IsComing port) gained) where
+  step_vacant : (step : DeviceTransition) → Can step d → (device_after step d).tape ≡ d.tape ++ gained → Vacant (d.port port) → Vacant ((device_after step d).port port)
+  step_vacant (Fetch p slot c places) can is h = at_port Vacant Vacant d p port _ h (λ e x. x) (λ ne x. x)
+  step_vacant (FetchFault p slot queued kept_bits) can is h = at_port Vacant Vacant d p port _ h (λ e x. x) (λ ne x. x)
+  step_vacant (Move p slot t bytes) can is h = at_port Vacant Vacant d p port _ h (λ e x. x) (λ ne x. x)
+  step_vacant (Clear p slot t first count) can is h = at_port Vacant Vacant d p port _ h (λ e x. x) (λ ne x. x)
+  step_vacant (Done p slot flag t) can is h = at_port Vacant Vacant d p port _ h (λ e x. x) (λ ne x. x)
+  step_vacant (Fault p slot error kept_bits t) can is h = at_port Vacant Vacant d p port _ h (λ e x. x) (λ ne x. x)
+  step_vacant (Fatal p place) can is h = at_port Vacant Vacant d p port _ h (λ e x. x) (λ ne x. x)
+  step_vacant (Fall p) can is h = at_port Vacant Vacant d p port _ h (λ e x. x) (λ ne x. x)
+  step_vacant (FrFall p) can is h = at_port Vacant Vacant d p port _ h (λ e x. x) (λ ne x. x)
+  step_vacant (LinkUp p sig n) can is h = at_port Vacant Vacant d p port _ h (λ e x. absurd (both_ways _ x.0 can.present)) (λ ne x. x)
+  step_vacant (Unplug p) can is h = at_port Vacant Vacant d p port _ h (λ e x. (refl, λ z. not_three z)) (λ ne x. x)
+  step_vacant (Plug p disk) can is h = at_port Vacant Vacant d p port _ h (λ e x. absurd (gained_none (IsComing port) d.tape _ gained is none e)) (λ ne x. x)
+  step_vacant ResetEnds can is h = (h.0, λ z. not_three z)
+  step_vacant (Scribble p slot at bytes) can is h = h
+
+written_vacant : (r : PortReg) (v tape : ℕ) (p : DevicePort) → Vacant p → Vacant (port_written r v tape p)
+written_vacant Cmd v tape p h = let c = command_beside v tape p in (c.6 ∙ h.0, λ up. h.1 (sym c.3 ∙ up))
+written_vacant Sctl v tape p h = (h.0, λ up. h.1 (det_was (nat_eq (v % 16) 1) p.ssts_det up))
+written_vacant _ v tape p h = h
+
+pub vacant_steps : (port : ℕ) (old new : Device) → NoneComes port old new → Steps old new → IsVacant (old.port port) → IsVacant (new.port port)
+vacant_steps port old new none s h = is_vacant (new.port port) (leads_without port Vacant (step_vacant port) s.steps old new s.lead none (h.out, h.det))
+
+pub vacant_access : (port : Port) (access : Access) (old new : Device) → NoneComes port.0 old new → Does access old new → IsVacant (old.port port.0) → IsVacant (new.port port.0)
+vacant_access port access old new none x h =
+    is_vacant (new.port port.0) (access_without port Vacant (step_vacant port.0) (λ p r v y. y) (λ p y. y) written_vacant access old new none x (h.out, h.det))
+
+-- ---- a disk that shows has sent its first FIS
+
+module _ (port : ℕ) (d : Device) (gained : List Entry) (none : NoneOf (IsComing port) gained) where
+  step_fresh : (step : DeviceTransition) → Can step d → (device_after step d).tape ≡ d.tape ++ gained → IsFreshIfShown (d.port port) → IsFreshIfShown ((device_after step d).port port)
+  step_fresh (Fetch p slot c places) can is h = at_port IsFreshIfShown IsFreshIfShown d p port _ h (λ e x. x) (λ ne x. x)
+  step_fresh (FetchFault p slot queued kept_bits) can is h = at_port IsFreshIfShown IsFreshIfShown d p port _ h (λ e x. x) (λ ne x. x)
+  step_fresh (Move p slot t bytes) can is h = at_port IsFreshIfShown IsFreshIfShown d p port _ h (λ e x. x) (λ ne x. x)
+  step_fresh (Clear p slot t first count) can is h = at_port IsFreshIfShown IsFreshIfShown d p port _ h (λ e x. x) (λ ne x. x)
+  step_fresh (Done p slot flag t) can is h = at_port IsFreshIfShown IsFreshIfShown d p port _ h (λ e x. x) (λ ne x. x)
+  step_fresh (Fault p slot error kept_bits t) can is h = at_port IsFreshIfShown IsFreshIfShown d p port _ h (λ e x. x) (λ ne x. x)
+  step_fresh (Fatal p place) can is h = at_port IsFreshIfShown IsFreshIfShown d p port _ h (λ e x. x) (λ ne x. x)
+  step_fresh (Fall p) can is h = at_port IsFreshIfShown IsFreshIfShown d p port _ h (λ e x. x) (λ ne x. x)
+  step_fresh (FrFall p) can is h = at_port IsFreshIfShown IsFreshIfShown d p port _ h (λ e x. x) (λ ne x. x)
+  step_fresh (LinkUp p sig n) can is h = at_port IsFreshIfShown IsFreshIfShown d p port _ h (λ e x _. refl) (λ ne x. x)
+  step_fresh (Unplug p) can is h = at_port IsFreshIfShown IsFreshIfShown d p port _ h (λ e x z. not_three z) (λ ne x. x)
+  step_fresh (Plug p disk) can is h = at_port IsFreshIfShown IsFreshIfShown d p port _ h (λ e x. absurd (gained_none (IsComing port) d.tape _ gained is none e)) (λ ne x. x)
+  step_fresh ResetEnds can is h = λ z. not_three z
+  step_fresh (Scribble p slot at bytes) can is h = h
+
+-- a write of PxCMD leaves whether the first FIS has come
+command_fresh : (v tape : ℕ) (p : DevicePort) → (port_written Cmd v tape p).fresh ≡ p.fresh
+command_fresh v tape p = by (bit v 0) p.st refl
+  where
+    by : (b s : Bool) → p.st ≡ s → (with_fre (bit v 4) (with_st b tape p)).fresh ≡ p.fresh
+    by false s is = refl
+    by true true is = ap (λ (x : DevicePort). x.fresh) (cond-true p.st p _ is)
+    by true false is = ap (λ (x : DevicePort). x.fresh) (cond-false p.st p _ is)
+
+written_fresh : (r : PortReg) (v tape : ℕ) (p : DevicePort) → IsFreshIfShown p → IsFreshIfShown (port_written r v tape p)
+written_fresh Cmd v tape p h = λ up. command_fresh v tape p ∙ h (sym (command_beside v tape p).3 ∙ up)
+written_fresh Sctl v tape p h = λ up. h (det_was (nat_eq (v % 16) 1) p.ssts_det up)
+written_fresh _ v tape p h = h
+
+pub fresh_steps : (port : ℕ) (old new : Device) → NoneComes port old new → Steps old new → IsFreshIfShown (old.port port) → IsFreshIfShown (new.port port)
+fresh_steps port old new none s h = leads_without port IsFreshIfShown (step_fresh port) s.steps old new s.lead none h
+
+pub fresh_access : (port : Port) (access : Access) (old new : Device) → NoneComes port.0 old new → Does access old new → IsFreshIfShown (old.port port.0) → IsFreshIfShown (new.port port.0)
+fresh_access port access old new none x h = access_without port IsFreshIfShown (step_fresh port.0) (λ p r v y. y) (λ p y. y) written_fresh access old new none x h
+
+-- ---- where it begins
+
+module _ (v : ℕ) (old new : Device) (on : old.hr ≡ true) (call : Reads Ghc v old new) (clear : bit v 0 ≡ false) (port : ℕ) (none : NoneComes port old new) where
+  pub vacant_reset : (old.port port).present ≡ false → IsVacant (new.port port)
+  vacant_reset out =
+      let s = reset_read v old new on call clear in
+      let a : Keeps old (device_after ResetEnds s.0) = law_steps_keep s.2 in
+      let b : Keeps (device_after ResetEnds s.0) new = law_steps_keep s.1 in
+      let parts = comes_parts port old (device_after ResetEnds s.0) new a.gained b.gained a.tape b.tape none in
+      vacant_steps port (device_after ResetEnds s.0) new parts.1 s.1 (is_vacant _ (out_steps port old (device_after ResetEnds s.0) parts.0 s.2 out, λ z. not_three z))
+
+  pub fresh_reset : IsFreshIfShown (new.port port)
+  fresh_reset =
+      let s = reset_read v old new on call clear in
+      let a : Keeps old (device_after ResetEnds s.0) = law_steps_keep s.2 in
+      let b : Keeps (device_after ResetEnds s.0) new = law_steps_keep s.1 in
+      let parts = comes_parts port old (device_after ResetEnds s.0) new a.gained b.gained a.tape b.tape none in
+      fresh_steps port (device_after ResetEnds s.0) new parts.1 s.1 (λ z. not_three z)
+
+pub fresh_comreset : (port : Port) (v : ℕ) (old new : Device) → v % 16 ≡ 1 → Writes (Px port Sctl) v old new → IsFreshIfShown (new.port port.0)
+fresh_comreset port v old new one call =
+    subst IsFreshIfShown (sym (ap (λ (d : Device). d.port port.0) call.effect ∙ changed_same call.mid.port port.0 _))
+    (subst (λ (n : ℕ). IsFreshIfShown (with_det n (length call.mid.tape) (call.mid.port port.0))) (sym one) (λ z. not_three z))
+
+pub device_shown : (port : Port) (v : ℕ) (old new : Device) → Reads (Px port Ssts) v old new → v % 16 ≡ 3 → HasDeviceOrNone (new.port port.0)
+device_shown port v old new call three =
+    inl (ap (λ (d : Device). (d.port port.0).ssts_det) call.effect ∙ (ap (λ (p : DevicePort). p.ssts_det) (changed_same call.mid.port port.0 _) ∙ (sym call.shows ∙ three)))
+
+-- ---- a reset of the adapter
+
+pub reset_read_idle : (v : ℕ) (old new : Device) → old.hr ≡ true → Reads Ghc v old new → bit v 0 ≡ false → IsIdle new
+reset_read_idle v old new on call clear = record {
+  no_reset = (ghc_told v old new call).0 ∙ clear;
+  port = λ port. reset_idle (new.port port) (law_reset_is_found v old new on call clear port);
+}

@@ -1,0 +1,267 @@
+-- Bits that tell of a port's errors stay set, and rise for its disks alone.
+use Rattle.std.proofs.Common.{ℕ, ◌≡◌, ◌≢◌, ◌++◌, ◌%◌, not, Bool, true, false, List, [], ◌∷◌, length, refl, sym, ◌∙◌, ap, subst, arith, ⊎_elim, append-nil}
+use Rattle.std.specs.Prelude.{if◌then◌else◌, nat_eq}
+use Rattle.std.proofs.lemmas.Bool.{cases_eq, and_left, cond-true, cond-false, both_ways}
+use Rattle.std.proofs.lemmas.List.Elements.{All-nil, All-cons}
+use Rattle.ata_types.specs.declared.Port.{Port}
+use Rattle.hba_regs.specs.Bits.{bit}
+use Rattle.hba_regs.specs.declared.reg.Reg.TheVariants.{Px}
+use Rattle.hba_regs.specs.declared.reg.PortReg.{PortReg}
+use Rattle.hba_regs.specs.declared.reg.PortReg.TheVariants.{Is, Cmd, Sctl, Serr}
+use Rattle.adapter.specs.Access.{Access, Does, port_written, with_st, with_fre}
+use Rattle.adapter.specs.Device.{DevicePort, Device}
+use Rattle.adapter.specs.Kept.{Keeps, KeepsControls}
+use Rattle.adapter.specs.Memory.{changed}
+use Rattle.adapter.specs.Steps.{DeviceTransition, Can, device_after, StepLeads, Steps}
+use Rattle.adapter.specs.Steps.DeviceTransition.{Fetch, FetchFault, Move, Clear, Done, Fault, Fatal, Fall, FrFall, LinkUp, Unplug, Plug, ResetEnds, Scribble}
+use Rattle.adapter.specs.declared.tape.Entry.{Entry}
+use Rattle.adapter.specs.declared.tape.Entry.TheVariants as entry
+use Rattle.adapter.proofs.Changed.{changed_same, changed_other}
+use Rattle.adapter.proofs.KeptLemmas.{step_keeps, law_steps_keep}
+use Rattle.refinement.specs.Driven.{Grows}
+use Rattle.refinement.specs.Errors.{KeepsErrors, IsComing, NoneComes, ChangesByDisks}
+use Rattle.refinement.specs.Links.{SparesRegister, IsPlugging, PlugsNone}
+use Rattle.refinement.proofs.device.FactsOverAccesses.{access_steps, effect_keeps}
+use Rattle.refinement.proofs.device.TapeGains.{gains_nothing, gains_more, gains_parts, gained_none, none_narrower}
+use Rattle.refinement.proofs.device.HealthyPort.{at_port}
+use Rattle.refinement.proofs.device.PortControls.{spared, plugs_nothing, plugs_more, plugs_parts, plugs_before}
+
+-- ---- disks that come
+
+pub comes_nothing : (port : ℕ) (d : Device) → NoneComes port d d
+comes_nothing port d = let g = gains_nothing (IsComing port) d in record { gained = g.0; tape = g.1; none = g.2 }
+
+pub comes_more : (port : ℕ) (old mid new : Device) → NoneComes port old mid → NoneComes port mid new → NoneComes port old new
+comes_more port old mid new a b =
+    let g = gains_more (IsComing port) old mid new (a.gained, a.tape, a.none) (b.gained, b.tape, b.none) in
+    record { gained = g.0; tape = g.1; none = g.2 }
+
+pub comes_parts : (port : ℕ) (old mid new : Device) (early late : List Entry) → mid.tape ≡ old.tape ++ early → new.tape ≡ mid.tape ++ late → NoneComes port old new → NoneComes port old mid × NoneComes port mid new
+comes_parts port old mid new early late a b h =
+    let g = gains_parts (IsComing port) old mid new early late a b (h.gained, h.tape, h.none) in
+    (record { gained = g.0.0; tape = g.0.1; none = g.0.2 }, record { gained = g.1.0; tape = g.1.1; none = g.1.2 })
+
+pub plugs_come : (port : ℕ) (old new : Device) → PlugsNone port old new → NoneComes port old new
+plugs_come port old new p = record { gained = p.gained; tape = p.tape; none = none_narrower (IsPlugging port) (IsComing port) narrower p.gained p.none }
+  where
+    narrower : (e : Entry) → IsComing port e → IsPlugging port e
+    narrower (entry.Plug at name) x = x
+    narrower (entry.Unplug at) x = absurd x
+    narrower (entry.Move move) x = absurd x
+    narrower (entry.Clear clear) x = absurd x
+    narrower (entry.Done done) x = absurd x
+    narrower (entry.Fault fault) x = absurd x
+    narrower (entry.Fatal at) x = absurd x
+
+-- ---- what changes by disks
+
+pub change_none : (port : ℕ) (d : Device) → ChangesByDisks port d d
+change_none port d = record { serr_n = λ none h. h; serr_x = λ none h. h; det = λ none up. (up, plugs_nothing port d) }
+
+pub change_more : (port : ℕ) (old mid new : Device) → Grows old mid → Grows mid new → ChangesByDisks port old mid → ChangesByDisks port mid new → ChangesByDisks port old new
+change_more port old mid new early late a b = record {
+  serr_n = λ none h. let parts = plugs_parts port old mid new early.0 late.0 early.1 late.1 none in b.serr_n parts.1 (a.serr_n parts.0 h);
+  serr_x = λ none h. let parts = comes_parts port old mid new early.0 late.0 early.1 late.1 none in b.serr_x parts.1 (a.serr_x parts.0 h);
+  det = λ none up.
+      let parts = comes_parts port old mid new early.0 late.0 early.1 late.1 none in
+      let last = b.det parts.1 up in
+      let first = a.det parts.0 last.0 in
+      (first.0, plugs_more port old mid new first.1 last.1);
+}
+
+-- before the effect of an access the tape has what it has after it
+pub comes_before : (port : ℕ) (old mid new : Device) → new.tape ≡ mid.tape → NoneComes port old new → NoneComes port old mid
+comes_before port old mid new same h = record { gained = h.gained; tape = sym same ∙ h.tape; none = h.none }
+
+-- ---- a step while no link is due
+
+-- what tells of the link and of its disk is the same
+abbrev SameNews : DevicePort → DevicePort → Type 0
+SameNews p q = (q.link_due ≡ p.link_due) × (q.serr_n ≡ p.serr_n) × (q.serr_x ≡ p.serr_x) × (q.ssts_det ≡ p.ssts_det)
+
+-- the tape gains one entry, or none
+one_plugs : (port : ℕ) (d new : Device) (e : Entry) → (IsPlugging port e → ⊥) → new.tape ≡ d.tape ++ e ∷ [] → PlugsNone port d new
+one_plugs port d new e other is = record { gained = e ∷ []; tape = is; none = All-cons (λ e. IsPlugging port e → ⊥) e [] other (All-nil (λ e. IsPlugging port e → ⊥)) }
+
+no_plugs : (port : ℕ) (d new : Device) → new.tape ≡ d.tape → PlugsNone port d new
+no_plugs port d new is = record { gained = []; tape = is ∙ sym (append-nil d.tape); none = All-nil (λ e. IsPlugging port e → ⊥) }
+
+-- a step, and then steps, while no link is due
+abbrev Turns : ℕ → Device → Device → Type 0
+Turns port old new = ((new.port port).link_due ≡ false) × ChangesByDisks port old new
+
+module _ (port : ℕ) (d : Device) (off : d.hr ≡ false) (undue : (d.port port).link_due ≡ false) where
+  abbrev News : DevicePort → Type 0
+  News q = SameNews (d.port port) q
+
+  calm : (new : Device) → News (new.port port) → PlugsNone port d new → Turns port d new
+  calm new same none = (
+    same.0 ∙ undue,
+    record { serr_n = λ _ h. same.1 ∙ h; serr_x = λ _ h. same.2 ∙ h; det = λ _ up. (sym same.3 ∙ up, none) },
+  )
+
+  -- a disk of another port goes or comes
+  elsewhere : (p : ℕ) (new : DevicePort) (device_after : Device) → device_after.port ≡ changed d.port p new → PlugsNone port d device_after → (p ≡ port → ⊥) → Turns port d device_after
+  elsewhere p new device_after is none ne =
+      let same : device_after.port port ≡ d.port port = ap (λ (f : ℕ → DevicePort). f port) is ∙ changed_other d.port p new port (λ e. ne (sym e)) in
+      calm device_after (subst News (sym same) (refl, refl, refl, refl)) none
+
+  step_turns : (step : DeviceTransition) → Can step d → Turns port d (device_after step d)
+  step_turns (Fetch p slot c places) can = calm _ (at_port News News d p port _ (refl, refl, refl, refl) (λ e x. x) (λ ne x. x)) (no_plugs port d _ refl)
+  step_turns (FetchFault p slot queued kept_bits) can = calm _ (at_port News News d p port _ (refl, refl, refl, refl) (λ e x. x) (λ ne x. x)) (one_plugs port d _ _ (λ x. x) refl)
+  step_turns (Move p slot t bytes) can = calm _ (at_port News News d p port _ (refl, refl, refl, refl) (λ e x. x) (λ ne x. x)) (one_plugs port d _ _ (λ x. x) refl)
+  step_turns (Clear p slot t first count) can = calm _ (at_port News News d p port _ (refl, refl, refl, refl) (λ e x. x) (λ ne x. x)) (one_plugs port d _ _ (λ x. x) refl)
+  step_turns (Done p slot flag t) can = calm _ (at_port News News d p port _ (refl, refl, refl, refl) (λ e x. x) (λ ne x. x)) (one_plugs port d _ _ (λ x. x) refl)
+  step_turns (Fault p slot error kept_bits t) can = calm _ (at_port News News d p port _ (refl, refl, refl, refl) (λ e x. x) (λ ne x. x)) (one_plugs port d _ _ (λ x. x) refl)
+  step_turns (Fatal p place) can = calm _ (at_port News News d p port _ (refl, refl, refl, refl) (λ e x. x) (λ ne x. x)) (one_plugs port d _ _ (λ x. x) refl)
+  step_turns (Fall p) can = calm _ (at_port News News d p port _ (refl, refl, refl, refl) (λ e x. x) (λ ne x. x)) (no_plugs port d _ refl)
+  step_turns (FrFall p) can = calm _ (at_port News News d p port _ (refl, refl, refl, refl) (λ e x. x) (λ ne x. x)) (no_plugs port d _ refl)
+  step_turns (LinkUp p sig n) can = calm _ (at_port News News d p port _ (refl, refl, refl, refl) (λ e x. absurd (both_ways _ (x.0 ∙ undue) can.due)) (λ ne x. x)) (no_plugs port d _ refl)
+  step_turns (Unplug p) can = ⊎_elim
+      (λ (e : p ≡ port). (
+        at_port News (λ (q : DevicePort). q.link_due ≡ false) d p port _ (refl, refl, refl, refl) (λ _ x. x.0 ∙ undue) (λ _ x. undue),
+        record {
+          serr_n = λ none h. absurd (gained_none (IsPlugging port) d.tape _ none.gained none.tape none.none e);
+          serr_x = λ none h. at_port News (λ (q : DevicePort). q.serr_x ≡ false) d p port _ (refl, refl, refl, refl) (λ _ x. x.2 ∙ h) (λ _ x. h);
+          det = λ none up. absurd (lost p e up);
+        },
+      ))
+      (λ (ne : p ≡ port → ⊥). elsewhere p _ _ refl (one_plugs port d _ _ ne refl) ne)
+      (cases_eq p port)
+    where
+      lost : (p : ℕ) → p ≡ port → ((device_after (Unplug p) d).port port).ssts_det ≡ 3 → ⊥
+      lost p e up =
+          let z : 0 ≡ 3 = sym (ap (λ (q : DevicePort). q.ssts_det) (changed_same d.port p _)) ∙ (ap (λ (k : ℕ). ((device_after (Unplug p) d).port k).ssts_det) e ∙ up) in
+          omega (arith, z)
+  step_turns (Plug p disk) can = ⊎_elim
+      (λ (e : p ≡ port). (
+        at_port News (λ (q : DevicePort). q.link_due ≡ false) d p port _ (refl, refl, refl, refl) (λ _ x. x.0 ∙ undue) (λ _ x. undue),
+        record {
+          serr_n = λ none h. absurd (gained_none (IsPlugging port) d.tape _ none.gained none.tape none.none e);
+          serr_x = λ none h. absurd (gained_none (IsComing port) d.tape _ none.gained none.tape none.none e);
+          det = λ none up. absurd (gained_none (IsComing port) d.tape _ none.gained none.tape none.none e);
+        },
+      ))
+      (λ (ne : p ≡ port → ⊥). elsewhere p _ _ refl (one_plugs port d _ _ ne refl) ne)
+      (cases_eq p port)
+  step_turns ResetEnds can = absurd (both_ways _ off can)
+  step_turns (Scribble p slot at bytes) can = calm _ (refl, refl, refl, refl) (no_plugs port d _ refl)
+
+leads_turn : (port : ℕ) (steps : List DeviceTransition) (old new : Device) → old.hr ≡ false → (old.port port).link_due ≡ false → StepLeads steps old new → Turns port old new
+leads_turn port [] old new off undue e = subst (Turns port old) (sym e) (calm port old off undue old (refl, refl, refl, refl) (plugs_nothing port old))
+leads_turn port (step ∷ steps) old new off undue (can, lead) =
+    let k : Keeps old (device_after step old) = step_keeps step old can in
+    let l : Keeps (device_after step old) new = law_steps_keep (record { steps = steps; lead = lead }) in
+    let a = step_turns port old off undue step can in
+    let b = leads_turn port steps (device_after step old) new (k.on off).no_reset a.0 lead in (
+      b.0,
+      change_more port old (device_after step old) new (k.gained, k.tape) (l.gained, l.tape) a.1 b.1,
+    )
+
+-- ---- steps
+
+pub steps_errors : (port : ℕ) (old new : Device) → old.hr ≡ false → Steps old new → KeepsErrors (old.port port) (new.port port)
+steps_errors port old new off s =
+    let c : KeepsControls (old.port port) (new.port port) = ((law_steps_keep s).on off).controls port in
+    record { is = c.is; serr_n = c.serr_n; serr_x = c.serr_x }
+
+pub steps_change : (port : ℕ) (old new : Device) → old.hr ≡ false → (old.port port).link_due ≡ false → Steps old new → ChangesByDisks port old new
+steps_change port old new off undue s = (leads_turn port s.steps old new off undue s.lead).1
+
+pub steps_undue : (port : ℕ) (old new : Device) → old.hr ≡ false → (old.port port).link_due ≡ false → Steps old new → (new.port port).link_due ≡ false
+steps_undue port old new off undue s = (leads_turn port s.steps old new off undue s.lead).0
+
+-- ---- accesses
+
+-- what a write of PxCMD leaves of a port
+abbrev pub SameBeside : DevicePort → DevicePort → Type 0
+SameBeside p q = (q.is ≡ p.is) × (q.serr_n ≡ p.serr_n) × (q.serr_x ≡ p.serr_x) × (q.ssts_det ≡ p.ssts_det) × (q.link_due ≡ p.link_due) × (q.disk ≡ p.disk) × (q.present ≡ p.present)
+
+pub command_beside : (v tape : ℕ) (p : DevicePort) → SameBeside p (port_written Cmd v tape p)
+command_beside v tape p = by (bit v 0) p.st refl
+  where
+    by : (b s : Bool) → p.st ≡ s → SameBeside p (with_fre (bit v 4) (with_st b tape p))
+    by false s is = (refl, refl, refl, refl, refl, refl, refl)
+    by true true is = subst (λ (x : DevicePort). SameBeside p (with_fre (bit v 4) x)) (sym (cond-true p.st p _ is)) (refl, refl, refl, refl, refl, refl, refl)
+    by true false is = subst (λ (x : DevicePort). SameBeside p (with_fre (bit v 4) x)) (sym (cond-false p.st p _ is)) (refl, refl, refl, refl, refl, refl, refl)
+
+-- N and X rise no more, and DET isn't raised to 3
+abbrev Unraised : DevicePort → DevicePort → Type 0
+Unraised first p = (first.serr_n ≡ false → p.serr_n ≡ false) × (first.serr_x ≡ false → p.serr_x ≡ false) × (p.ssts_det ≡ 3 → first.ssts_det ≡ 3)
+
+written_unraised : (first : DevicePort) (r : PortReg) (v tape : ℕ) (p : DevicePort) → Unraised first p → Unraised first (port_written r v tape p)
+written_unraised first Cmd v tape p h =
+    let c = command_beside v tape p in
+    (λ n. c.1 ∙ h.0 n, λ x. c.2 ∙ h.1 x, λ up. h.2 (sym c.3 ∙ up))
+written_unraised first Serr v tape p h = (λ n. and_left p.serr_n (not (bit v 16)) (h.0 n), λ x. and_left p.serr_x (not (bit v 26)) (h.1 x), h.2)
+written_unraised first Sctl v tape p h = (h.0, h.1, λ up. h.2 (by (nat_eq (v % 16) 1) up))
+  where
+    by : (b : Bool) → (if b then 0 else p.ssts_det) ≡ 3 → p.ssts_det ≡ 3
+    by true up = absurd (omega (arith, up))
+    by false up = up
+written_unraised first _ v tape p h = h
+
+pub access_change : (port : Port) (access : Access) (old new : Device) → old.hr ≡ false → (old.port port.0).link_due ≡ false → Does access old new → ChangesByDisks port.0 old new
+access_change port access old new off undue x =
+    let s = access_steps access old new x in
+    let c : ChangesByDisks port.0 old s.0 = steps_change port.0 old s.0 off undue s.1 in
+    let first : DevicePort = s.0.port port.0 in
+    let u : Unraised first (new.port port.0) =
+    effect_keeps (Unraised first) port (λ p r v h. h) (λ p h. h) access old new x (λ r v mid is steps h. written_unraised first r v (length mid.tape) (mid.port port.0) h) (λ n. n, λ x. x, λ up. up) in
+    record {
+      serr_n = λ none h. u.0 (c.serr_n (plugs_before port.0 old s.0 new s.2 none) h);
+      serr_x = λ none h. u.1 (c.serr_x (comes_before port.0 old s.0 new s.2 none) h);
+      det = λ none up.
+          let y = c.det (comes_before port.0 old s.0 new s.2 none) (u.2 up) in
+          (y.0, record { gained = y.1.gained; tape = s.2 ∙ y.1.tape; none = y.1.none });
+    }
+
+-- no link is due
+abbrev Undue : DevicePort → Type 0
+Undue p = p.link_due ≡ false
+
+written_undue : (r : PortReg) (v tape : ℕ) (p : DevicePort) → r ≢ Sctl → Undue p → Undue (port_written r v tape p)
+written_undue Sctl v tape p other h = absurd (other refl)
+written_undue Cmd v tape p other h = (command_beside v tape p).4 ∙ h
+written_undue _ v tape p other h = h
+
+pub access_undue : (port : Port) (access : Access) (old new : Device) → old.hr ≡ false → (old.port port.0).link_due ≡ false → SparesRegister (Px port Sctl) access → Does access old new → (new.port port.0).link_due ≡ false
+access_undue port access old new off undue spares x =
+    let s = access_steps access old new x in
+    effect_keeps Undue port (λ p r v h. h) (λ p h. h) access old new x
+    (λ r v mid is steps h. written_undue r v (length mid.tape) (mid.port port.0) (spared port r Sctl access v spares is) h)
+    (steps_undue port.0 old s.0 off undue s.1)
+
+-- N and X stay set
+abbrev KeepsNews : DevicePort → DevicePort → Type 0
+KeepsNews first p = (first.serr_n ≡ true → p.serr_n ≡ true) × (first.serr_x ≡ true → p.serr_x ≡ true)
+
+written_news : (first : DevicePort) (r : PortReg) (v tape : ℕ) (p : DevicePort) → r ≢ Serr → KeepsNews first p → KeepsNews first (port_written r v tape p)
+written_news first Serr v tape p other h = absurd (other refl)
+written_news first Cmd v tape p other h = let c = command_beside v tape p in (λ n. c.1 ∙ h.0 n, λ x. c.2 ∙ h.1 x)
+written_news first _ v tape p other h = h
+
+pub access_news : (port : Port) (access : Access) (old new : Device) → old.hr ≡ false → SparesRegister (Px port Serr) access → Does access old new →
+    ((old.port port.0).serr_n ≡ true → (new.port port.0).serr_n ≡ true) × ((old.port port.0).serr_x ≡ true → (new.port port.0).serr_x ≡ true)
+access_news port access old new off spares x =
+    let s = access_steps access old new x in
+    let e : KeepsErrors (old.port port.0) (s.0.port port.0) = steps_errors port.0 old s.0 off s.1 in
+    effect_keeps (KeepsNews (old.port port.0)) port (λ p r v h. h) (λ p h. h) access old new x
+    (λ r v mid is steps h. written_news (old.port port.0) r v (length mid.tape) (mid.port port.0) (spared port r Serr access v spares is) h)
+    (e.serr_n, e.serr_x)
+
+-- bits of PxIS stay set
+abbrev KeepsCauses : DevicePort → DevicePort → Type 0
+KeepsCauses first p = (place : ℕ) → first.is place ≡ true → p.is place ≡ true
+
+written_causes : (first : DevicePort) (r : PortReg) (v tape : ℕ) (p : DevicePort) → r ≢ Is → KeepsCauses first p → KeepsCauses first (port_written r v tape p)
+written_causes first Is v tape p other h = absurd (other refl)
+written_causes first Cmd v tape p other h = λ place set. ap (λ (f : ℕ → Bool). f place) (command_beside v tape p).0 ∙ h place set
+written_causes first _ v tape p other h = h
+
+pub access_causes : (port : Port) (access : Access) (old new : Device) → old.hr ≡ false → SparesRegister (Px port Is) access → Does access old new → (place : ℕ) → (old.port port.0).is place ≡ true → (new.port port.0).is place ≡ true
+access_causes port access old new off spares x =
+    let s = access_steps access old new x in
+    effect_keeps (KeepsCauses (old.port port.0)) port (λ p r v h. h) (λ p h. h) access old new x
+    (λ r v mid is steps h. written_causes (old.port port.0) r v (length mid.tape) (mid.port port.0) (spared port r Is access v spares is) h)
+    (steps_errors port.0 old s.0 off s.1).is

@@ -1,0 +1,60 @@
+-- Stretches of the tape with no fatal error of a port, and with no fault of it.
+use Rattle.std.proofs.Common.{ℕ, ◌≡◌, ◌++◌, List}
+use Rattle.adapter.specs.Device.{Device}
+use Rattle.adapter.specs.declared.tape.Entry.{Entry}
+use Rattle.adapter.specs.declared.tape.Entry.TheVariants as entry
+use Rattle.refinement.specs.Errors.{IsFatalOf, NoneFatal, NoneFails}
+use Rattle.refinement.specs.Facts.{IsDisturbance, IsFaultOf, Undisturbed}
+use Rattle.refinement.proofs.device.TapeGains.{GainsNone, gains_nothing, gains_more, gains_parts, none_narrower}
+
+-- ---- fatal errors
+
+as_fatal : (port : ℕ) (old new : Device) → GainsNone (IsFatalOf port) old new → NoneFatal port old new
+as_fatal port old new g = record { gained = g.0; tape = g.1; none = g.2 }
+
+pub fatal_gains : (port : ℕ) (old new : Device) → NoneFatal port old new → GainsNone (IsFatalOf port) old new
+fatal_gains port old new h = (h.gained, h.tape, h.none)
+
+pub fatal_nothing : (port : ℕ) (d : Device) → NoneFatal port d d
+fatal_nothing port d = as_fatal port d d (gains_nothing (IsFatalOf port) d)
+
+pub fatal_more : (port : ℕ) (old mid new : Device) → NoneFatal port old mid → NoneFatal port mid new → NoneFatal port old new
+fatal_more port old mid new a b = as_fatal port old new (gains_more (IsFatalOf port) old mid new (fatal_gains port old mid a) (fatal_gains port mid new b))
+
+pub fatal_parts : (port : ℕ) (old mid new : Device) (early late : List Entry) → mid.tape ≡ old.tape ++ early → new.tape ≡ mid.tape ++ late → NoneFatal port old new → NoneFatal port old mid × NoneFatal port mid new
+fatal_parts port old mid new early late a b h =
+    let g = gains_parts (IsFatalOf port) old mid new early late a b (fatal_gains port old new h) in
+    (as_fatal port old mid g.0, as_fatal port mid new g.1)
+
+pub undisturbed_fatal : (port : ℕ) (old new : Device) → Undisturbed port old new → NoneFatal port old new
+undisturbed_fatal port old new u = record { gained = u.gained; tape = u.tape; none = none_narrower (IsDisturbance port) (IsFatalOf port) narrower u.gained u.calm }
+  where
+    narrower : (e : Entry) → IsFatalOf port e → IsDisturbance port e
+    narrower (entry.Fatal at) x = x
+    narrower _ x = absurd x
+
+-- ---- faults
+
+as_fails : (port : ℕ) (old new : Device) → GainsNone (IsFaultOf port) old new → NoneFails port old new
+as_fails port old new g = record { gained = g.0; tape = g.1; none = g.2 }
+
+pub fails_gains : (port : ℕ) (old new : Device) → NoneFails port old new → GainsNone (IsFaultOf port) old new
+fails_gains port old new h = (h.gained, h.tape, h.none)
+
+pub fails_nothing : (port : ℕ) (d : Device) → NoneFails port d d
+fails_nothing port d = as_fails port d d (gains_nothing (IsFaultOf port) d)
+
+pub fails_more : (port : ℕ) (old mid new : Device) → NoneFails port old mid → NoneFails port mid new → NoneFails port old new
+fails_more port old mid new a b = as_fails port old new (gains_more (IsFaultOf port) old mid new (fails_gains port old mid a) (fails_gains port mid new b))
+
+pub fails_parts : (port : ℕ) (old mid new : Device) (early late : List Entry) → mid.tape ≡ old.tape ++ early → new.tape ≡ mid.tape ++ late → NoneFails port old new → NoneFails port old mid × NoneFails port mid new
+fails_parts port old mid new early late a b h =
+    let g = gains_parts (IsFaultOf port) old mid new early late a b (fails_gains port old new h) in
+    (as_fails port old mid g.0, as_fails port mid new g.1)
+
+pub undisturbed_fails : (port : ℕ) (old new : Device) → Undisturbed port old new → NoneFails port old new
+undisturbed_fails port old new u = record { gained = u.gained; tape = u.tape; none = none_narrower (IsDisturbance port) (IsFaultOf port) narrower u.gained u.calm }
+  where
+    narrower : (e : Entry) → IsFaultOf port e → IsDisturbance port e
+    narrower (entry.Fault fault) x = x
+    narrower _ x = absurd x

@@ -1,0 +1,225 @@
+-- A port whose engine has stopped.
+use Rattle.std.proofs.Common.{ℕ, ◌≡◌, ◌⊎◌, Bool, true, false, List, [], ◌∷◌, length, Option, refl, sym, ◌∙◌, ap, subst, inl, inr}
+use Rattle.std.proofs.lemmas.Bool.{both_ways}
+use Rattle.ata_types.specs.declared.Port.{Port}
+use Rattle.hba_regs.specs.Bits.{bit}
+use Rattle.hba_regs.specs.declared.reg.Reg.{Reg}
+use Rattle.hba_regs.specs.declared.reg.Reg.TheVariants.{Ghc, Px}
+use Rattle.hba_regs.specs.declared.reg.PortReg.{PortReg}
+use Rattle.hba_regs.specs.declared.reg.PortReg.TheVariants as px
+use Rattle.hba_regs.specs.declared.reg.PortReg.TheVariants.{Cmd}
+use Rattle.adapter.specs.Access.{Reads, Writes, note, port_written, with_st, with_fre, unacknowledged}
+use Rattle.adapter.specs.Device.{FetchedCommand, DevicePort, Device}
+use Rattle.adapter.specs.Idle.{IsIdlePort}
+use Rattle.adapter.specs.Kept.{KeepsPort}
+use Rattle.adapter.specs.Rules.{MayWrite, MayWritePort, IsStable}
+use Rattle.adapter.specs.Steps.{DeviceTransition, Can, device_after, StepLeads, Steps}
+use Rattle.adapter.specs.Steps.DeviceTransition.{Fetch, FetchFault, Move, Clear, Done, Fault, Fatal, Fall, FrFall, LinkUp, Unplug, Plug, ResetEnds, Scribble}
+use Rattle.adapter.proofs.Changed.{changed_same}
+use Rattle.adapter.proofs.KeptLemmas.{law_steps_keep}
+use Rattle.block_machine.specs.State.{Machine}
+use Rattle.block_machine.specs.Histories.{IsReachable}
+use Rattle.block_machine.specs.Left as left
+use Rattle.refinement.specs.Relation.{StateRelation, port_at}
+use Rattle.refinement.specs.Facts.{IsHalted, IsAfterReset}
+use Rattle.refinement.specs.Follows.{SimulatesSteps}
+use Rattle.refinement.specs.Slots.{SlotState, Free, Own, Serves, SlotStates, Stage, OwnWaits, OwnTaken, OwnOver, IsOver, RelatesSlot, Armed}
+use Rattle.refinement.proofs.device.FactsOverAccesses.{noted_on, written_on}
+use Rattle.refinement.proofs.steps.FollowedSteps.{steps_follow}
+use Rattle.refinement.proofs.device.ClearSactBits.{if_false}
+
+-- ---- it stays so
+
+pub halted_on : {old new : DevicePort} → KeepsPort old new → IsHalted old → IsHalted new
+halted_on k h = record { st = k.st h.st; cr = k.cr h.cr; ci = λ s. k.ci s (h.ci s); taken = k.idle h.cr h.taken }
+
+pub reset_on : {old new : DevicePort} → KeepsPort old new → IsAfterReset old → IsAfterReset new
+reset_on k h = record { halted = halted_on k h.halted; sact = λ s. k.sact s (h.sact s); fre = k.fre h.fre; fr = k.fr h.fr }
+
+pub law_halted_stays : (port : ℕ) (old new : Device) → Steps old new → IsHalted (old.port port) → IsHalted (new.port port)
+law_halted_stays port old new s h = halted_on ((law_steps_keep s).port port) h
+
+pub reset_stays : (port : ℕ) (old new : Device) → Steps old new → IsAfterReset (old.port port) → IsAfterReset (new.port port)
+reset_stays port old new s h = reset_on ((law_steps_keep s).port port) h
+
+pub idle_halted : (p : DevicePort) → IsIdlePort p → IsHalted p
+idle_halted p i = record { st = i.st; cr = i.cr; ci = i.ci; taken = i.taken }
+
+pub idle_reset : (p : DevicePort) → IsIdlePort p → IsAfterReset p
+idle_reset p i = record { halted = idle_halted p i; sact = i.sact; fre = i.fre; fr = i.fr }
+
+pub reset_idle : (p : DevicePort) → IsAfterReset p → IsIdlePort p
+reset_idle p h = record { st = h.halted.st; cr = h.halted.cr; fre = h.fre; fr = h.fr; ci = h.halted.ci; sact = h.sact; taken = h.halted.taken }
+
+-- ---- over readings and writes
+
+-- a port is as its engine says
+same_halted : (p new : DevicePort) → new.st ≡ p.st → new.cr ≡ p.cr → new.ci ≡ p.ci → new.taken ≡ p.taken → IsHalted p → IsHalted new
+same_halted p new st cr ci taken h = record {
+  st = st ∙ h.st;
+  cr = cr ∙ h.cr;
+  ci = λ s. ap (λ (f : ℕ → Bool). f s) ci ∙ h.ci s;
+  taken = λ s. ap (λ (f : ℕ → Option FetchedCommand). f s) taken ∙ h.taken s;
+}
+
+same_reset : (p new : DevicePort) → new.sact ≡ p.sact → new.fre ≡ p.fre → new.fr ≡ p.fr → IsAfterReset p → IsHalted new → IsAfterReset new
+same_reset p new sact fre fr h halted = record { halted = halted; sact = λ s. ap (λ (f : ℕ → Bool). f s) sact ∙ h.sact s; fre = fre ∙ h.fre; fr = fr ∙ h.fr }
+
+noted_halted : (p : DevicePort) (r : PortReg) (v : ℕ) → IsHalted p → IsHalted (record p { notes = note r v p })
+noted_halted p r v h = same_halted p _ refl refl refl refl h
+
+noted_reset : (p : DevicePort) (r : PortReg) (v : ℕ) → IsAfterReset p → IsAfterReset (record p { notes = note r v p })
+noted_reset p r v h = same_reset p _ refl refl refl h (noted_halted p r v h.halted)
+
+unacknowledged_halted : (p : DevicePort) → IsHalted p → IsHalted (unacknowledged p)
+unacknowledged_halted p h = same_halted p _ refl refl refl refl h
+
+unacknowledged_reset : (p : DevicePort) → IsAfterReset p → IsAfterReset (unacknowledged p)
+unacknowledged_reset p h = same_reset p _ refl refl refl h (unacknowledged_halted p h.halted)
+
+-- ST stays 0
+module _ (v tape : ℕ) (p : DevicePort) (off : bit v 0 ≡ false) where
+  stopped_halted : IsHalted p → IsHalted (port_written Cmd v tape p)
+  stopped_halted h = subst (λ (b : Bool). IsHalted (with_fre (bit v 4) (with_st b tape p))) (sym off)
+      (record { st = refl; cr = h.cr; ci = λ s. if_false p.st p.ci s (h.ci s); taken = h.taken })
+
+  stopped_reset : bit v 4 ≡ false → IsAfterReset p → IsAfterReset (port_written Cmd v tape p)
+  stopped_reset fre h = record {
+    halted = stopped_halted h.halted;
+    sact = λ s. subst (λ (b : Bool). (with_fre (bit v 4) (with_st b tape p)).sact s ≡ false) (sym off) (if_false p.st p.sact s (h.sact s));
+    fre = fre;
+    fr = subst (λ (b : Bool). (with_fre b (with_st (bit v 0) tape p)).fr ≡ false) (sym fre) (subst (λ (b : Bool). (with_st b tape p).fr ≡ false) (sym off) h.fr);
+  }
+
+port_halted : (r : PortReg) (v : ℕ) (d : Device) (p : DevicePort) → MayWritePort r v d p → (r ≡ Cmd → bit v 0 ≡ false) → IsHalted p → IsHalted (port_written r v (length d.tape) p)
+port_halted Cmd v d p may off h = stopped_halted v (length d.tape) p (off refl) h
+port_halted px.Ci v d p may off h = absurd (both_ways _ h.st may.running)
+port_halted px.Clb v d p may off h = same_halted p _ refl refl refl refl h
+port_halted px.Clbu v d p may off h = same_halted p _ refl refl refl refl h
+port_halted px.Fb v d p may off h = same_halted p _ refl refl refl refl h
+port_halted px.Fbu v d p may off h = same_halted p _ refl refl refl refl h
+port_halted px.Ie v d p may off h = same_halted p _ refl refl refl refl h
+port_halted px.Is v d p may off h = same_halted p _ refl refl refl refl h
+port_halted px.Sctl v d p may off h = same_halted p _ refl refl refl refl h
+port_halted px.Serr v d p may off h = same_halted p _ refl refl refl refl h
+port_halted px.Sact v d p may off h = same_halted p _ refl refl refl refl h
+port_halted _ v d p may off h = h
+
+port_reset : (r : PortReg) (v : ℕ) (d : Device) (p : DevicePort) → MayWritePort r v d p → (r ≡ Cmd → (bit v 0 ≡ false) × (bit v 4 ≡ false)) → IsAfterReset p → IsAfterReset (port_written r v (length d.tape) p)
+port_reset Cmd v d p may off h = stopped_reset v (length d.tape) p (off refl).0 (off refl).1 h
+port_reset px.Sact v d p may off h = absurd (both_ways _ h.halted.st may)
+port_reset px.Ci v d p may off h = absurd (both_ways _ h.halted.st may.running)
+port_reset px.Clb v d p may off h = same_reset p _ refl refl refl h (port_halted px.Clb v d p may (λ e. (off e).0) h.halted)
+port_reset px.Clbu v d p may off h = same_reset p _ refl refl refl h (port_halted px.Clbu v d p may (λ e. (off e).0) h.halted)
+port_reset px.Fb v d p may off h = same_reset p _ refl refl refl h (port_halted px.Fb v d p may (λ e. (off e).0) h.halted)
+port_reset px.Fbu v d p may off h = same_reset p _ refl refl refl h (port_halted px.Fbu v d p may (λ e. (off e).0) h.halted)
+port_reset px.Ie v d p may off h = same_reset p _ refl refl refl h (port_halted px.Ie v d p may (λ e. (off e).0) h.halted)
+port_reset px.Is v d p may off h = same_reset p _ refl refl refl h (port_halted px.Is v d p may (λ e. (off e).0) h.halted)
+port_reset px.Sctl v d p may off h = same_reset p _ refl refl refl h (port_halted px.Sctl v d p may (λ e. (off e).0) h.halted)
+port_reset px.Serr v d p may off h = same_reset p _ refl refl refl h (port_halted px.Serr v d p may (λ e. (off e).0) h.halted)
+port_reset _ v d p may off h = h
+
+pub halted_reads : (port : ℕ) (r : Reg) (v : ℕ) (old new : Device) → Reads r v old new → IsHalted (old.port port) → IsHalted (new.port port)
+halted_reads port r v old new x h =
+    subst (λ (d : Device). IsHalted (d.port port)) (sym x.effect) (noted_on IsHalted (port_at port) noted_halted r v x.mid (law_halted_stays port old x.mid x.steps h))
+
+pub reset_reads : (port : ℕ) (r : Reg) (v : ℕ) (old new : Device) → Reads r v old new → IsAfterReset (old.port port) → IsAfterReset (new.port port)
+reset_reads port r v old new x h =
+    subst (λ (d : Device). IsAfterReset (d.port port)) (sym x.effect) (noted_on IsAfterReset (port_at port) noted_reset r v x.mid (reset_stays port old x.mid x.steps h))
+
+-- what may be written in a port's register
+may_port : (port : Port) (r : Reg) (q : PortReg) (v : ℕ) (d : Device) → r ≡ Px port q → MayWrite r v d → MayWritePort q v d (d.port port.0)
+may_port port r q v d is may = let w : MayWrite (Px port q) v d = subst (λ (z : Reg). MayWrite z v d) is may in w.2
+
+pub halted_writes : (port : Port) (r : Reg) (v : ℕ) (old new : Device) → IsStable (MayWrite r v) old → (r ≡ Px port Cmd → bit v 0 ≡ false) → Writes r v old new → IsHalted (old.port port.0) → IsHalted (new.port port.0)
+halted_writes port r v old new may off x h =
+    subst (λ (d : Device). IsHalted (d.port port.0)) (sym x.effect)
+    (written_on IsHalted port noted_halted unacknowledged_halted r v x.mid
+    (λ q is. port_halted q v x.mid (x.mid.port port.0) (may_port port r q v x.mid is (may x.mid x.steps)) (λ c. off (is ∙ ap (Px port) c)))
+    (law_halted_stays port.0 old x.mid x.steps h))
+
+pub reset_writes : (port : Port) (r : Reg) (v : ℕ) (old new : Device) → IsStable (MayWrite r v) old → (r ≡ Px port Cmd → (bit v 0 ≡ false) × (bit v 4 ≡ false)) → Writes r v old new → IsAfterReset (old.port port.0) → IsAfterReset (new.port port.0)
+reset_writes port r v old new may off x h =
+    subst (λ (d : Device). IsAfterReset (d.port port.0)) (sym x.effect)
+    (written_on IsAfterReset port noted_reset unacknowledged_reset r v x.mid
+    (λ q is. port_reset q v x.mid (x.mid.port port.0) (may_port port r q v x.mid is (may x.mid x.steps)) (λ c. off (is ∙ ap (Px port) c)))
+    (reset_stays port.0 old x.mid x.steps h))
+
+-- ---- CR is read 0
+
+-- with ST and CR 0 no slot waits or is taken
+over_of : (m : Machine) (d : Device) (port slot : ℕ) (u : SlotState) → (d.port port).st ≡ false → (d.port port).cr ≡ false →
+    RelatesSlot m d.memory d.tape (d.port port) port slot u → IsOver (d.port port) slot
+over_of m d port slot Free st cr h = record { issued = h.issued; free = h.free }
+over_of m d port slot Armed st cr h = record { issued = h.issued; free = h.free }
+over_of m d port slot (Own o) st cr h = of h.stage
+  where
+    of : OwnWaits (d.port port) slot ⊎ (OwnTaken d.memory d.tape (d.port port) port slot h.command ⊎ OwnOver d.memory d.tape (d.port port) port slot h.command) → IsOver (d.port port) slot
+    of (inl w) = absurd (both_ways _ st w.started)
+    of (inr (inl t)) = absurd (both_ways _ cr t.running)
+    of (inr (inr x)) = x.over
+over_of m d port slot (Serves id) st cr h = of h.stage
+  where
+    of : Stage d.memory (d.port port) port slot h.pending h.command h.places → IsOver (d.port port) slot
+    of (inl w) = absurd (both_ways _ st w.started)
+    of (inr (inl t)) = absurd (both_ways _ cr t.running)
+    of (inr (inr (inl x))) = record { issued = x.issued; free = x.free }
+    of (inr (inr (inr x))) = record { issued = x.issued; free = x.free }
+
+pub stopped_halts : (uses : SlotStates) (m : Machine) (d : Device) (port : ℕ) → StateRelation uses m d → (d.port port).st ≡ false → (d.port port).cr ≡ false → IsHalted (d.port port)
+stopped_halts uses m d port a st cr =
+    let over : (slot : ℕ) → IsOver (d.port port) slot = λ slot. over_of m d port slot (uses port slot) st cr (a.slot port slot) in
+    record { st = st; cr = cr; ci = λ s. (over s).issued; taken = λ s. (over s).free }
+
+pub law_stop_is_found : (uses : SlotStates) (m : Machine) (port : Port) (v : ℕ) (old new : Device) → IsReachable m → StateRelation uses m old →
+    (old.port port.0).st ≡ false → Reads (Px port Cmd) v old new → bit v 15 ≡ false → IsHalted (new.port port.0)
+law_stop_is_found uses m port v old new reached a st call clear =
+    let f : SimulatesSteps uses m old call.mid = steps_follow uses m old call.mid reached a call.steps in
+    let k : KeepsPort (old.port port.0) (call.mid.port port.0) = (law_steps_keep call.steps).port port.0 in
+    let h : IsHalted (call.mid.port port.0) = stopped_halts uses (left.after m f.steps) call.mid port.0 f.agrees (k.st st) (sym call.shows.3 ∙ clear) in
+    let is : new.port port.0 ≡ record (call.mid.port port.0) { notes = note Cmd v (call.mid.port port.0) } = ap (λ (d : Device). d.port port.0) call.effect ∙ changed_same call.mid.port port.0 _ in
+    subst IsHalted (sym is) (record { st = h.st; cr = h.cr; ci = h.ci; taken = h.taken })
+
+-- ---- HR is read 0
+
+pub reset_left : (d : Device) (port : ℕ) → IsAfterReset ((device_after ResetEnds d).port port)
+reset_left d port = record { halted = record { st = refl; cr = refl; ci = λ s. refl; taken = λ s. refl }; sact = λ s. refl; fre = refl; fr = refl }
+
+-- a step, and then steps
+step_first : (step : DeviceTransition) (old mid : Device) → Can step old → Steps (device_after step old) mid → Steps old mid
+step_first step old mid can s = record { steps = step ∷ s.steps; lead = (can, s.lead) }
+
+-- the reset ends in some step, and others come before and after it
+abbrev pub Ends : Device → Device → Type 0
+Ends old new = (mid : Device) × Steps (device_after ResetEnds mid) new × Steps old (device_after ResetEnds mid)
+
+-- a step comes before
+later : (step : DeviceTransition) (old new : Device) → Can step old → Ends (device_after step old) new → Ends old new
+later step old new can s = (s.0, s.1, step_first step old (device_after ResetEnds s.0) can s.2)
+
+reset_ends : (steps : List DeviceTransition) (old new : Device) → old.hr ≡ true → new.hr ≡ false → StepLeads steps old new → Ends old new
+reset_ends [] old new on off e = absurd (both_ways _ (sym (ap (λ (d : Device). d.hr) e) ∙ off) on)
+reset_ends (ResetEnds ∷ steps) old new on off (can, lead) = (old, record { steps = steps; lead = lead }, record { steps = ResetEnds ∷ []; lead = (can, refl) })
+reset_ends (Fetch p slot c places ∷ steps) old new on off (can, lead) = later (Fetch p slot c places) old new can (reset_ends steps (device_after (Fetch p slot c places) old) new on off lead)
+reset_ends (FetchFault p slot queued kept_bits ∷ steps) old new on off (can, lead) = later (FetchFault p slot queued kept_bits) old new can (reset_ends steps (device_after (FetchFault p slot queued kept_bits) old) new on off lead)
+reset_ends (Move p slot t bytes ∷ steps) old new on off (can, lead) = later (Move p slot t bytes) old new can (reset_ends steps (device_after (Move p slot t bytes) old) new on off lead)
+reset_ends (Clear p slot t first count ∷ steps) old new on off (can, lead) = later (Clear p slot t first count) old new can (reset_ends steps (device_after (Clear p slot t first count) old) new on off lead)
+reset_ends (Done p slot flag t ∷ steps) old new on off (can, lead) = later (Done p slot flag t) old new can (reset_ends steps (device_after (Done p slot flag t) old) new on off lead)
+reset_ends (Fault p slot error kept_bits t ∷ steps) old new on off (can, lead) = later (Fault p slot error kept_bits t) old new can (reset_ends steps (device_after (Fault p slot error kept_bits t) old) new on off lead)
+reset_ends (Fatal p place ∷ steps) old new on off (can, lead) = later (Fatal p place) old new can (reset_ends steps (device_after (Fatal p place) old) new on off lead)
+reset_ends (Fall p ∷ steps) old new on off (can, lead) = later (Fall p) old new can (reset_ends steps (device_after (Fall p) old) new on off lead)
+reset_ends (FrFall p ∷ steps) old new on off (can, lead) = later (FrFall p) old new can (reset_ends steps (device_after (FrFall p) old) new on off lead)
+reset_ends (LinkUp p sig n ∷ steps) old new on off (can, lead) = later (LinkUp p sig n) old new can (reset_ends steps (device_after (LinkUp p sig n) old) new on off lead)
+reset_ends (Unplug p ∷ steps) old new on off (can, lead) = later (Unplug p) old new can (reset_ends steps (device_after (Unplug p) old) new on off lead)
+reset_ends (Plug p disk ∷ steps) old new on off (can, lead) = later (Plug p disk) old new can (reset_ends steps (device_after (Plug p disk) old) new on off lead)
+reset_ends (Scribble p slot at bytes ∷ steps) old new on off (can, lead) = later (Scribble p slot at bytes) old new can (reset_ends steps (device_after (Scribble p slot at bytes) old) new on off lead)
+
+pub reset_read : (v : ℕ) (old new : Device) → old.hr ≡ true → Reads Ghc v old new → bit v 0 ≡ false → Ends old new
+reset_read v old new on call clear =
+    subst (Ends old) (sym call.effect) (reset_ends call.steps.steps old call.mid on (sym call.shows.0 ∙ clear) call.steps.lead)
+
+-- what it leaves stays
+pub law_reset_is_found : (v : ℕ) (old new : Device) → old.hr ≡ true → Reads Ghc v old new → bit v 0 ≡ false → (port : ℕ) → IsAfterReset (new.port port)
+law_reset_is_found v old new on call clear port =
+    let s = reset_read v old new on call clear in
+    reset_stays port (device_after ResetEnds s.0) new s.1 (reset_left s.0 port)

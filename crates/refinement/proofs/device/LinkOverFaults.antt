@@ -1,0 +1,141 @@
+-- A link that is up stays up over faults, and a port that runs with it runs on.
+use Rattle.std.proofs.Common.{ℕ, ◌≡◌, ◌≢◌, ◌++◌, Bool, true, false, List, [], ◌∷◌, length, refl, sym, ◌∙◌, ap, subst, ⊎_elim}
+use Rattle.std.proofs.lemmas.Bool.{cond-true, cond-false, both_ways}
+use Rattle.ata_types.specs.declared.Port.{Port}
+use Rattle.hba_regs.specs.Bits.{bit}
+use Rattle.hba_regs.specs.declared.reg.Reg.TheVariants.{Px}
+use Rattle.hba_regs.specs.declared.reg.PortReg.{PortReg}
+use Rattle.hba_regs.specs.declared.reg.PortReg.TheVariants.{Cmd, Sctl}
+use Rattle.adapter.specs.Access.{Access, Does, Writes, port_written, with_st, with_fre}
+use Rattle.adapter.specs.Access.Access.{Writing}
+use Rattle.adapter.specs.Device.{DevicePort, Device}
+use Rattle.adapter.specs.Device.Halt.{NotHalted}
+use Rattle.adapter.specs.Kept.{Keeps}
+use Rattle.adapter.specs.Steps.{DeviceTransition, Can, device_after, StepLeads, Steps}
+use Rattle.adapter.specs.Steps.DeviceTransition.{Fetch, FetchFault, Move, Clear, Done, Fault, Fatal, Fall, FrFall, LinkUp, Unplug, Plug, ResetEnds, Scribble}
+use Rattle.adapter.specs.declared.tape.Entry.{Entry}
+use Rattle.adapter.proofs.Changed.{changed_same}
+use Rattle.adapter.proofs.KeptLemmas.{step_keeps, law_steps_keep}
+use Rattle.refinement.specs.Errors.{NoneFatal, IsFatalOf}
+use Rattle.refinement.specs.Links.{SparesRegister, PlugsNone, LeavesDisk, SameLink, ComesUp, LeavesLink, IsPlugging}
+use Rattle.refinement.specs.Started.{IsUp, IsStarted, ClearsNoStart}
+use Rattle.refinement.proofs.device.FactsOverAccesses.{access_steps, effect_keeps}
+use Rattle.refinement.proofs.device.FaultlessStretches.{fatal_parts}
+use Rattle.refinement.proofs.device.TapeGains.{NoneOf, gained_none}
+use Rattle.refinement.proofs.device.HealthyPort.{at_port, written_tape}
+use Rattle.refinement.proofs.device.PortControls.{steps_link, access_link, steps_disk, access_disk, access_controls, plugs_parts, plugs_before, spared}
+use Rattle.refinement.specs.Recovering.{IsLinked, RunsLinked}
+
+-- ---- the link
+
+-- the same link of the same disk
+linked_on : (p new : DevicePort) → LeavesLink p new → LeavesDisk p new → new.sctl_det ≡ p.sctl_det → IsLinked p → IsLinked new
+linked_on p new l disk control h = record {
+  det = ⊎_elim (λ (s : SameLink p new). s.det ∙ h.det) (λ (c : ComesUp p new). c.det) l;
+  present = disk.present ∙ h.present;
+  fresh = ⊎_elim (λ (s : SameLink p new). s.fresh ∙ h.fresh) (λ (c : ComesUp p new). c.fresh) l;
+  linked = ⊎_elim (λ (s : SameLink p new). s.due ∙ h.linked) (λ (c : ComesUp p new). c.up) l;
+  released = λ one. h.released (sym control ∙ one);
+}
+
+pub steps_linked : (port : ℕ) (old new : Device) → old.hr ≡ false → PlugsNone port old new → Steps old new → IsLinked (old.port port) → IsLinked (new.port port)
+steps_linked port old new off none s h =
+    linked_on (old.port port) (new.port port) (steps_link port old new off s none) (steps_disk port old new s none) (((law_steps_keep s).on off).controls port).sctl_det h
+
+pub access_linked : (port : Port) (access : Access) (old new : Device) → old.hr ≡ false → SparesRegister (Px port Sctl) access → PlugsNone port.0 old new → Does access old new → IsLinked (old.port port.0) → IsLinked (new.port port.0)
+access_linked port access old new off spares none x h =
+    linked_on (old.port port.0) (new.port port.0) (access_link port access old new off spares x none) (access_disk port.0 access old new x none)
+    ((access_controls port access old new off x).control spares).0 h
+
+pub started_linked : (p : DevicePort) → IsStarted p → p.sctl_det ≢ 1 → IsLinked p
+started_linked p h released = record { det = h.det; present = h.present; fresh = h.fresh; linked = h.linked; released = released }
+
+pub up_linked : (p : DevicePort) → IsUp p → IsLinked p
+up_linked p h = record { det = h.det; present = h.present; fresh = h.fresh; linked = h.linked; released = h.released }
+
+-- ---- a port that runs with it
+
+abbrev Runs : DevicePort → Type 0
+Runs p = (p.st ≡ true) × (p.cr ≡ true) × (p.ssts_det ≡ 3) × (p.present ≡ true) × (p.fresh ≡ true) × (p.link_due ≡ false) × (p.broken ≡ false)
+
+runs_of : (p : DevicePort) → RunsLinked p → Runs p
+runs_of p h = (h.st, h.cr, h.det, h.present, h.fresh, h.linked, h.whole)
+
+is_running : (p : DevicePort) → Runs p → RunsLinked p
+is_running p h = record { st = h.0; cr = h.1; det = h.2; present = h.3; fresh = h.4; linked = h.5; whole = h.6 }
+
+module _ (port : ℕ) (d : Device) (gained others : List Entry) (none : NoneOf (IsPlugging port) gained) (calm : NoneOf (IsFatalOf port) others) where
+  step_runs : (step : DeviceTransition) → d.hr ≡ false → Can step d → (device_after step d).tape ≡ d.tape ++ gained → (device_after step d).tape ≡ d.tape ++ others → Runs (d.port port) → Runs ((device_after step d).port port)
+  step_runs (Fetch p slot c places) off can is too h = at_port Runs Runs d p port _ h (λ e x. x) (λ ne x. x)
+  step_runs (FetchFault p slot queued kept_bits) off can is too h = at_port Runs Runs d p port _ h (λ e x. x) (λ ne x. x)
+  step_runs (Move p slot t bytes) off can is too h = at_port Runs Runs d p port _ h (λ e x. x) (λ ne x. x)
+  step_runs (Clear p slot t first count) off can is too h = at_port Runs Runs d p port _ h (λ e x. x) (λ ne x. x)
+  step_runs (Done p slot flag t) off can is too h = at_port Runs Runs d p port _ h (λ e x. x) (λ ne x. x)
+  step_runs (Fault p slot error kept_bits t) off can is too h = at_port Runs Runs d p port _ h (λ e x. x) (λ ne x. x)
+  step_runs (Fatal p place) off can is too h = at_port Runs Runs d p port _ h
+      (λ e x. absurd (gained_none (IsFatalOf port) d.tape _ others too calm e)) (λ ne x. x)
+  step_runs (Fall p) off can is too h = at_port Runs Runs d p port _ h (λ e x. absurd (both_ways _ can.0 x.0)) (λ ne x. x)
+  step_runs (FrFall p) off can is too h = at_port Runs Runs d p port _ h (λ e x. x) (λ ne x. x)
+  step_runs (LinkUp p sig n) off can is too h = at_port Runs Runs d p port _ h (λ e x. absurd (both_ways _ x.5 can.due)) (λ ne x. x)
+  step_runs (Unplug p) off can is too h = at_port Runs Runs d p port _ h
+      (λ e x. absurd (gained_none (IsPlugging port) d.tape _ gained is none e)) (λ ne x. x)
+  step_runs (Plug p disk) off can is too h = at_port Runs Runs d p port _ h
+      (λ e x. absurd (gained_none (IsPlugging port) d.tape _ gained is none e)) (λ ne x. x)
+  step_runs ResetEnds off can is too h = absurd (both_ways _ off can)
+  step_runs (Scribble p slot at bytes) off can is too h = h
+
+leads_run : (port : ℕ) (steps : List DeviceTransition) (old new : Device) → old.hr ≡ false → PlugsNone port old new → NoneFatal port old new → StepLeads steps old new → Runs (old.port port) → Runs (new.port port)
+leads_run port [] old new off none calm e h = subst (λ (d : Device). Runs (d.port port)) (sym e) h
+leads_run port (step ∷ steps) old new off none calm (can, lead) h =
+    let k : Keeps old (device_after step old) = step_keeps step old can in
+    let l : Keeps (device_after step old) new = law_steps_keep (record { steps = steps; lead = lead }) in
+    let plugs = plugs_parts port old (device_after step old) new k.gained l.gained k.tape l.tape none in
+    let fatal = fatal_parts port old (device_after step old) new k.gained l.gained k.tape l.tape calm in
+    leads_run port steps (device_after step old) new (k.on off).no_reset plugs.1 fatal.1 lead
+    (step_runs port old plugs.0.gained fatal.0.gained plugs.0.none fatal.0.none step off can plugs.0.tape fatal.0.tape h)
+
+pub steps_run : (port : ℕ) (old new : Device) → old.hr ≡ false → PlugsNone port old new → NoneFatal port old new → Steps old new → RunsLinked (old.port port) → RunsLinked (new.port port)
+steps_run port old new off none calm s h = is_running (new.port port) (leads_run port s.steps old new off none calm s.lead (runs_of (old.port port) h))
+
+-- ST stays 1
+command_runs : (v tape : ℕ) (p : DevicePort) → bit v 0 ≡ true → Runs p → Runs (port_written Cmd v tape p)
+command_runs v tape p on h =
+    subst (λ (b : Bool). Runs (with_fre (bit v 4) (with_st b tape p))) (sym on)
+    (subst (λ (x : DevicePort). Runs (with_fre (bit v 4) x)) (sym (cond-true p.st p _ h.0)) h)
+
+written_runs : (r : PortReg) (v tape : ℕ) (p : DevicePort) → (r ≡ Cmd → bit v 0 ≡ true) → r ≢ Sctl → Runs p → Runs (port_written r v tape p)
+written_runs Cmd v tape p on other h = command_runs v tape p (on refl) h
+written_runs Sctl v tape p on other h = absurd (other refl)
+written_runs _ v tape p on other h = h
+
+-- before the effect of an access the tape has what it has after it
+fatal_before : (port : ℕ) (old mid new : Device) → new.tape ≡ mid.tape → NoneFatal port old new → NoneFatal port old mid
+fatal_before port old mid new same h = record { gained = h.gained; tape = sym same ∙ h.tape; none = h.none }
+
+pub access_runs : (port : Port) (access : Access) (old new : Device) → old.hr ≡ false → ClearsNoStart port access → SparesRegister (Px port Sctl) access → PlugsNone port.0 old new → NoneFatal port.0 old new → Does access old new →
+    RunsLinked (old.port port.0) → RunsLinked (new.port port.0)
+access_runs port access old new off keeps spares none calm x h =
+    let s = access_steps access old new x in
+    let c = leads_run port.0 s.1.steps old s.0 off (plugs_before port.0 old s.0 new s.2 none) (fatal_before port.0 old s.0 new s.2 calm) s.1.lead (runs_of (old.port port.0) h) in
+    is_running (new.port port.0)
+    (effect_keeps Runs port (λ p r v y. y) (λ p y. y) access old new x
+    (λ r v mid is steps y. written_runs r v (length mid.tape) (mid.port port.0)
+    (λ e. keeps v (is ∙ ap (λ (q : PortReg). Writing (Px port q) v) e)) (spared port r Sctl access v spares is) y) c)
+
+-- ST goes to 1
+running_now : (v tape : ℕ) (p : DevicePort) → bit v 0 ≡ true → p.st ≡ false → IsLinked p → RunsLinked (with_fre (bit v 4) (with_st (bit v 0) tape p))
+running_now v tape p on off u =
+    subst (λ (b : Bool). RunsLinked (with_fre (bit v 4) (with_st b tape p))) (sym on)
+    (subst (λ (x : DevicePort). RunsLinked (with_fre (bit v 4) x)) (sym (cond-false p.st p _ off))
+    (record { st = refl; cr = refl; det = u.det; present = u.present; fresh = u.fresh; linked = u.linked; whole = refl }))
+
+pub start_runs : (port : Port) (v : ℕ) (old new : Device) → old.hr ≡ false → (old.port port.0).st ≡ false → (old.port port.0).cr ≡ false → bit v 0 ≡ true → PlugsNone port.0 old new → Writes (Px port Cmd) v old new →
+    IsLinked (old.port port.0) → RunsLinked (new.port port.0)
+start_runs port v old new off stopped stands on none call h =
+    let k : Keeps old call.mid = law_steps_keep call.steps in
+    let before : PlugsNone port.0 old call.mid = plugs_before port.0 old call.mid new (ap (λ (d : Device). d.tape) call.effect ∙ written_tape (Px port Cmd) v call.mid) none in
+    subst RunsLinked (sym (ap (λ (d : Device). d.port port.0) call.effect ∙ changed_same call.mid.port port.0 _))
+    (running_now v (length call.mid.tape) (call.mid.port port.0) on ((k.port port.0).st stopped) (steps_linked port.0 old call.mid off before call.steps h))
+
+pub running_started : (p : DevicePort) → RunsLinked p → p.halt ≡ NotHalted → IsStarted p
+running_started p h ends = record { st = h.st; cr = h.cr; det = h.det; present = h.present; fresh = h.fresh; linked = h.linked; running = ends; whole = h.whole }

@@ -1,0 +1,130 @@
+-- A flag of a port tells of each disk that goes or comes.
+use Rattle.std.proofs.Common.{ℕ, ◌≡◌, ◌⊎◌, ◌++◌, Bool, true, false, List, [], ◌∷◌, refl, sym, ◌∙◌, ap, subst, inl, inr, append-nil, length, ◌≢◌}
+use Rattle.std.proofs.lemmas.List.{append_cancel_left}
+use Rattle.std.proofs.lemmas.List.Elements.{All-nil, All-cons, All-append}
+use Rattle.std.proofs.lemmas.Bool.{both_ways}
+use Rattle.ata_types.specs.declared.Port.{Port}
+use Rattle.hba_regs.specs.Bits.{bit}
+use Rattle.hba_regs.specs.declared.reg.Reg.TheVariants.{Px}
+use Rattle.hba_regs.specs.declared.reg.PortReg.{PortReg}
+use Rattle.hba_regs.specs.declared.reg.PortReg.TheVariants.{Cmd, Serr}
+use Rattle.adapter.specs.Access.{Access, Does, Reads, note, port_written}
+use Rattle.adapter.specs.Access.Access.{Reading}
+use Rattle.adapter.specs.Device.{DevicePort, Device}
+use Rattle.adapter.specs.Kept.{Keeps}
+use Rattle.adapter.specs.Memory.{changed}
+use Rattle.adapter.specs.Steps.{DeviceTransition, Can, device_after, StepLeads, Steps}
+use Rattle.adapter.specs.Steps.DeviceTransition.{Fetch, FetchFault, Move, Clear, Done, Fault, Fatal, Fall, FrFall, LinkUp, Unplug, Plug, ResetEnds, Scribble}
+use Rattle.adapter.specs.declared.tape.Entry.{Entry}
+use Rattle.adapter.proofs.Changed.{changed_same}
+use Rattle.adapter.proofs.KeptLemmas.{step_keeps, law_steps_keep}
+use Rattle.refinement.specs.Links.{SparesRegister, IsPlugging, PlugsNone}
+use Rattle.refinement.proofs.device.FactsOverAccesses.{access_steps, effect_keeps}
+use Rattle.refinement.proofs.device.ErrorBits.{command_beside}
+use Rattle.refinement.proofs.device.TapeGains.{NoneOf, gained_parts}
+use Rattle.refinement.proofs.device.PortControls.{spared}
+use Rattle.refinement.proofs.device.TroubleBits.{was_false}
+
+-- the flag of a disk that goes or comes
+abbrev IsNoted : DevicePort → Type 0
+IsNoted p = p.serr_n ≡ true
+
+-- ---- a step
+
+-- a step gains no entry, or one, and then the flag tells of a disk
+abbrev Raises : ℕ → Bool → List Entry → Type 0
+Raises port noted gained = (gained ≡ []) ⊎ ((e : Entry) × (gained ≡ e ∷ []) × (IsPlugging port e → noted ≡ true))
+
+-- what is shown of a port that was changed
+at_changed : (Q : DevicePort → Type 0) (d : Device) (p port : ℕ) (new : DevicePort) → p ≡ port → Q new → Q (changed d.port p new port)
+at_changed Q d p port new e h = subst (λ (k : ℕ). Q (changed d.port p new k)) e (subst Q (sym (changed_same d.port p new)) h)
+
+step_raises : (port : ℕ) (d : Device) (step : DeviceTransition) → Can step d → (gained : List Entry) → (device_after step d).tape ≡ d.tape ++ gained → Raises port ((device_after step d).port port).serr_n gained
+step_raises port d step can gained is = by step can is
+  where
+    nothing : {noted : Bool} → d.tape ≡ d.tape ++ gained → Raises port noted gained
+    nothing is = inl (sym (append_cancel_left d.tape [] gained (append-nil d.tape ∙ is)))
+
+    one : {noted : Bool} (e : Entry) → (IsPlugging port e → noted ≡ true) → d.tape ++ e ∷ [] ≡ d.tape ++ gained → Raises port noted gained
+    one e notes is = inr (e, sym (append_cancel_left d.tape (e ∷ []) gained is), notes)
+
+    plugged : (p : ℕ) (new : DevicePort) → new.serr_n ≡ true → p ≡ port → IsNoted (changed d.port p new port)
+    plugged p new n e = at_changed IsNoted d p port new e n
+
+    by : (step : DeviceTransition) → Can step d → (device_after step d).tape ≡ d.tape ++ gained → Raises port ((device_after step d).port port).serr_n gained
+    by (Fetch p slot c places) can is = nothing is
+    by (FetchFault p slot queued kept_bits) can is = one _ (λ x. absurd x) is
+    by (Move p slot t bytes) can is = one _ (λ x. absurd x) is
+    by (Clear p slot t first count) can is = one _ (λ x. absurd x) is
+    by (Done p slot flag t) can is = one _ (λ x. absurd x) is
+    by (Fault p slot error kept_bits t) can is = one _ (λ x. absurd x) is
+    by (Fatal p place) can is = one _ (λ x. absurd x) is
+    by (Fall p) can is = nothing is
+    by (FrFall p) can is = nothing is
+    by (LinkUp p sig n) can is = nothing is
+    by (Unplug p) can is = one _ (plugged p _ refl) is
+    by (Plug p disk) can is = one _ (plugged p _ refl) is
+    by ResetEnds can is = nothing is
+    by (Scribble p slot at bytes) can is = nothing is
+
+-- ---- lists of steps
+
+-- The flag stays raised while no reset is pending: what it doesn't tell hasn't come.
+leads_untold : (port : ℕ) (steps : List DeviceTransition) (old new : Device) → old.hr ≡ false → StepLeads steps old new → (IsNoted (new.port port) → ⊥) → (gained : List Entry) → new.tape ≡ old.tape ++ gained → NoneOf (IsPlugging port) gained
+leads_untold port [] old new off e untold gained is =
+    subst (NoneOf (IsPlugging port)) (append_cancel_left old.tape [] gained (append-nil old.tape ∙ ap (λ (d : Device). d.tape) (sym e) ∙ is)) (All-nil (λ e. IsPlugging port e → ⊥))
+leads_untold port (step ∷ steps) old new off (can, lead) untold gained is =
+    let k : Keeps old (device_after step old) = step_keeps step old can in
+    let l : Keeps (device_after step old) new = law_steps_keep (record { steps = steps; lead = lead }) in
+    let off' : (device_after step old).hr ≡ false = (k.on off).no_reset in
+    subst (NoneOf (IsPlugging port)) (sym (gained_parts old.tape (device_after step old).tape new.tape k.gained l.gained gained k.tape l.tape is))
+    (All-append (λ e. IsPlugging port e → ⊥) k.gained l.gained
+    (plugs port ((device_after step old).port port).serr_n k.gained (step_raises port old step can k.gained k.tape) (λ x. untold (((l.on off').controls port).serr_n x)))
+    (leads_untold port steps (device_after step old) new off' lead untold l.gained l.tape))
+  where
+    plugs : (port : ℕ) (noted : Bool) (gained : List Entry) → Raises port noted gained → (noted ≡ true → ⊥) → NoneOf (IsPlugging port) gained
+    plugs port noted gained (inl e) untold = subst (NoneOf (IsPlugging port)) (sym e) (All-nil (λ e. IsPlugging port e → ⊥))
+    plugs port noted gained (inr (x, e, notes)) untold = subst (NoneOf (IsPlugging port)) (sym e) (All-cons (λ e. IsPlugging port e → ⊥) x [] (λ k. untold (notes k)) (All-nil (λ e. IsPlugging port e → ⊥)))
+
+pub noted_plugs : (port : ℕ) (old new : Device) → old.hr ≡ false → Steps old new → (new.port port).serr_n ≡ false → ((old.port port).serr_n ≡ false) × PlugsNone port old new
+noted_plugs port old new off s clear =
+    let k : Keeps old new = law_steps_keep s in (
+      was_false (old.port port).serr_n (new.port port).serr_n ((k.on off).controls port).serr_n clear,
+      record { gained = k.gained; tape = k.tape; none = leads_untold port s.steps old new off s.lead (λ n. absurd (both_ways _ clear n)) k.gained k.tape },
+    )
+
+-- ---- accesses
+
+-- the flag is that of a port that an access finds
+abbrev SameFlag : DevicePort → DevicePort → Type 0
+SameFlag first p = p.serr_n ≡ first.serr_n
+
+written_flag : (first : DevicePort) (r : PortReg) (v tape : ℕ) (p : DevicePort) → r ≢ Serr → SameFlag first p → SameFlag first (port_written r v tape p)
+written_flag first Serr v tape p other h = absurd (other refl)
+written_flag first Cmd v tape p other h = (command_beside v tape p).1 ∙ h
+written_flag first _ v tape p other h = h
+
+effect_flag : (port : Port) (access : Access) (old new : Device) (x : Does access old new) → SparesRegister (Px port Serr) access → SameFlag ((access_steps access old new x).0.port port.0) (new.port port.0)
+effect_flag port access old new x spares =
+    let first : DevicePort = (access_steps access old new x).0.port port.0 in
+    effect_keeps (SameFlag first) port (λ p r v h. h) (λ p h. h) access old new x
+    (λ r v mid is steps h. written_flag first r v (length mid.tape) (mid.port port.0) (spared port r Serr access v spares is) h)
+    refl
+
+pub access_plugs : (port : Port) (access : Access) (old new : Device) → old.hr ≡ false → SparesRegister (Px port Serr) access → Does access old new → (new.port port.0).serr_n ≡ false →
+    ((old.port port.0).serr_n ≡ false) × PlugsNone port.0 old new
+access_plugs port access old new off spares x clear =
+    let s = access_steps access old new x in
+    let before : (s.0.port port.0).serr_n ≡ false = sym (effect_flag port access old new x spares) ∙ clear in
+    let found = noted_plugs port.0 old s.0 off s.1 before in
+    (found.0, record { gained = found.1.gained; tape = s.2 ∙ found.1.tape; none = found.1.none })
+
+-- ---- what is read
+
+pub read_plugs : (port : Port) (v : ℕ) (old new : Device) → old.hr ≡ false → Reads (Px port Serr) v old new → bit v 16 ≡ false →
+    ((new.port port.0).serr_n ≡ false) × ((old.port port.0).serr_n ≡ false) × PlugsNone port.0 old new
+read_plugs port v old new off x clear =
+    let is : new.port port.0 ≡ record (x.mid.port port.0) { notes = note Serr v (x.mid.port port.0) } = ap (λ (d : Device). d.port port.0) x.effect ∙ changed_same x.mid.port port.0 _ in
+    let n : (new.port port.0).serr_n ≡ false = ap (λ (p : DevicePort). p.serr_n) is ∙ sym x.shows.0 ∙ clear in
+    let found = access_plugs port (Reading (Px port Serr) v) old new off tt x n in
+    (n, found.0, found.1)

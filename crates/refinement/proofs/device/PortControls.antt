@@ -1,0 +1,292 @@
+-- What the device and accesses leave of a port's controls, of its disk and of its link.
+use Rattle.std.proofs.Common.{ℕ, ◌≡◌, ◌≢◌, ◌++◌, Bool, true, false, List, [], ◌∷◌, length, refl, sym, ◌∙◌, ap, subst, inl, inr, ⊎_elim}
+use Rattle.std.proofs.lemmas.Bool.{cond-true, cond-false, both_ways}
+use Rattle.ata_types.specs.declared.Port.{Port}
+use Rattle.hba_regs.specs.Bits.{bit}
+use Rattle.hba_regs.specs.declared.reg.Reg.TheVariants.{Px}
+use Rattle.hba_regs.specs.declared.reg.PortReg.{PortReg}
+use Rattle.hba_regs.specs.declared.reg.PortReg.TheVariants.{Clb, Clbu, Fb, Fbu, Ie, Is, Cmd, Sctl, Serr, Sact, Ci}
+use Rattle.adapter.specs.Access.{Access, Does, note, port_written, with_st, with_fre}
+use Rattle.adapter.specs.Access.Access.{Writing}
+use Rattle.adapter.specs.Device.{Bases, Disk, Notes, DevicePort, Device}
+use Rattle.adapter.specs.Kept.{Keeps, KeepsControls}
+use Rattle.adapter.specs.Steps.{DeviceTransition, Can, device_after, StepLeads, Steps, disk_after}
+use Rattle.adapter.specs.Steps.DeviceTransition.{Fetch, FetchFault, Move, Clear, Done, Fault, Fatal, Fall, FrFall, LinkUp, Unplug, Plug, ResetEnds, Scribble}
+use Rattle.adapter.specs.declared.command.Operation.{Operation}
+use Rattle.adapter.specs.declared.command.Operation.TheVariants as operation
+use Rattle.adapter.specs.declared.tape.Entry.{Entry}
+use Rattle.adapter.specs.declared.tape.Entry.TheVariants as entry
+use Rattle.adapter.proofs.KeptLemmas.{step_keeps, law_steps_keep}
+use Rattle.refinement.specs.Relation.{port_at}
+use Rattle.refinement.specs.Facts.{IsDisturbance, Undisturbed}
+use Rattle.refinement.specs.Links.{SparesRegister, LeavesControls, IsPlugging, PlugsNone, LeavesDisk, SameLink, ComesUp, LeavesLink}
+use Rattle.refinement.proofs.steps.AdapterCalls.{note_times}
+use Rattle.refinement.proofs.device.FactsOverAccesses.{access_steps, effect_keeps}
+use Rattle.refinement.proofs.device.TapeGains.{NoneOf, gains_nothing, gains_more, gains_parts, gained_none, none_narrower}
+use Rattle.refinement.proofs.device.HealthyPort.{at_port}
+
+-- ---- disks that go or come
+
+pub plugs_nothing : (port : ℕ) (d : Device) → PlugsNone port d d
+plugs_nothing port d = let g = gains_nothing (IsPlugging port) d in record { gained = g.0; tape = g.1; none = g.2 }
+
+pub plugs_more : (port : ℕ) (old mid new : Device) → PlugsNone port old mid → PlugsNone port mid new → PlugsNone port old new
+plugs_more port old mid new a b =
+    let g = gains_more (IsPlugging port) old mid new (a.gained, a.tape, a.none) (b.gained, b.tape, b.none) in
+    record { gained = g.0; tape = g.1; none = g.2 }
+
+pub plugs_parts : (port : ℕ) (old mid new : Device) (early late : List Entry) → mid.tape ≡ old.tape ++ early → new.tape ≡ mid.tape ++ late → PlugsNone port old new → PlugsNone port old mid × PlugsNone port mid new
+plugs_parts port old mid new early late a b h =
+    let g = gains_parts (IsPlugging port) old mid new early late a b (h.gained, h.tape, h.none) in
+    (record { gained = g.0.0; tape = g.0.1; none = g.0.2 }, record { gained = g.1.0; tape = g.1.1; none = g.1.2 })
+
+pub undisturbed_plugs : (port : ℕ) (old new : Device) → Undisturbed port old new → PlugsNone port old new
+undisturbed_plugs port old new u = record { gained = u.gained; tape = u.tape; none = none_narrower (IsDisturbance port) (IsPlugging port) narrower u.gained u.calm }
+  where
+    narrower : (e : Entry) → IsPlugging port e → IsDisturbance port e
+    narrower (entry.Unplug at) x = x
+    narrower (entry.Plug at name) x = x
+    narrower (entry.Move move) x = absurd x
+    narrower (entry.Clear clear) x = absurd x
+    narrower (entry.Done done) x = absurd x
+    narrower (entry.Fault fault) x = absurd x
+    narrower (entry.Fatal at) x = absurd x
+
+-- ---- the disk
+
+disk_refl : (p : DevicePort) → LeavesDisk p p
+disk_refl p = record { present = refl; plugged = refl; name = refl; size = refl }
+
+disk_on : (p q new : DevicePort) → new.present ≡ q.present → new.plugged ≡ q.plugged → new.disk.name ≡ q.disk.name → new.disk.size ≡ q.disk.size → LeavesDisk p q → LeavesDisk p new
+disk_on p q new present plugged name size h = record { present = present ∙ h.present; plugged = plugged ∙ h.plugged; name = name ∙ h.name; size = size ∙ h.size }
+
+-- a move changes sectors alone
+moved_disk : (o : Operation) (disk : Disk) (sector : ℕ) (bytes : List ℕ) → ((disk_after o disk sector bytes).name ≡ disk.name) × ((disk_after o disk sector bytes).size ≡ disk.size)
+moved_disk operation.Write disk sector bytes = (refl, refl)
+moved_disk operation.WriteQueued disk sector bytes = (refl, refl)
+moved_disk operation.Read disk sector bytes = (refl, refl)
+moved_disk operation.ReadQueued disk sector bytes = (refl, refl)
+moved_disk operation.Flush disk sector bytes = (refl, refl)
+moved_disk operation.Trim disk sector bytes = (refl, refl)
+moved_disk operation.Identify disk sector bytes = (refl, refl)
+moved_disk operation.ReadLog disk sector bytes = (refl, refl)
+
+module _ (first : DevicePort) (port : ℕ) (d : Device) (gained : List Entry) (none : NoneOf (IsPlugging port) gained) where
+  abbrev Stays : DevicePort → Type 0
+  Stays p = LeavesDisk first p
+
+  step_disk : (step : DeviceTransition) → (device_after step d).tape ≡ d.tape ++ gained → Stays (d.port port) → Stays ((device_after step d).port port)
+  step_disk (Fetch p slot c places) is h = at_port Stays Stays d p port _ h (λ e x. disk_on first _ _ refl refl refl refl x) (λ ne x. x)
+  step_disk (FetchFault p slot queued kept_bits) is h = at_port Stays Stays d p port _ h (λ e x. disk_on first _ _ refl refl refl refl x) (λ ne x. x)
+  step_disk (Move p slot t bytes) is h = at_port Stays Stays d p port _ h
+      (λ e x. let same = moved_disk t.meaning.operation (d.port p).disk _ bytes in disk_on first _ _ refl refl same.0 same.1 x) (λ ne x. x)
+  step_disk (Clear p slot t from count) is h = at_port Stays Stays d p port _ h (λ e x. disk_on first _ _ refl refl refl refl x) (λ ne x. x)
+  step_disk (Done p slot flag t) is h = at_port Stays Stays d p port _ h (λ e x. disk_on first _ _ refl refl refl refl x) (λ ne x. x)
+  step_disk (Fault p slot error kept_bits t) is h = at_port Stays Stays d p port _ h (λ e x. disk_on first _ _ refl refl refl refl x) (λ ne x. x)
+  step_disk (Fatal p place) is h = at_port Stays Stays d p port _ h (λ e x. disk_on first _ _ refl refl refl refl x) (λ ne x. x)
+  step_disk (Fall p) is h = at_port Stays Stays d p port _ h (λ e x. disk_on first _ _ refl refl refl refl x) (λ ne x. x)
+  step_disk (FrFall p) is h = at_port Stays Stays d p port _ h (λ e x. disk_on first _ _ refl refl refl refl x) (λ ne x. x)
+  step_disk (LinkUp p sig n) is h = at_port Stays Stays d p port _ h (λ e x. disk_on first _ _ refl refl refl refl x) (λ ne x. x)
+  step_disk (Unplug p) is h = at_port Stays Stays d p port _ h (λ e x. absurd (gained_none (IsPlugging port) d.tape _ gained is none e)) (λ ne x. x)
+  step_disk (Plug p disk) is h = at_port Stays Stays d p port _ h (λ e x. absurd (gained_none (IsPlugging port) d.tape _ gained is none e)) (λ ne x. x)
+  step_disk ResetEnds is h = disk_on first (d.port port) _ refl refl refl refl h
+  step_disk (Scribble p slot at bytes) is h = h
+
+leads_disk : (first : DevicePort) (port : ℕ) (steps : List DeviceTransition) (old new : Device) → StepLeads steps old new → PlugsNone port old new → LeavesDisk first (old.port port) → LeavesDisk first (new.port port)
+leads_disk first port [] old new e plugs h = subst (λ (d : Device). LeavesDisk first (d.port port)) (sym e) h
+leads_disk first port (step ∷ steps) old new (can, lead) plugs h =
+    let k : Keeps old (device_after step old) = step_keeps step old can in
+    let l : Keeps (device_after step old) new = law_steps_keep (record { steps = steps; lead = lead }) in
+    let parts = plugs_parts port old (device_after step old) new k.gained l.gained k.tape l.tape plugs in
+    leads_disk first port steps (device_after step old) new lead parts.1 (step_disk first port old parts.0.gained parts.0.none step parts.0.tape h)
+
+pub steps_disk : (port : ℕ) (old new : Device) → Steps old new → PlugsNone port old new → LeavesDisk (old.port port) (new.port port)
+steps_disk port old new s plugs = leads_disk (old.port port) port s.steps old new s.lead plugs (disk_refl (old.port port))
+
+command_disk : (first : DevicePort) (v tape : ℕ) (p : DevicePort) → LeavesDisk first p → LeavesDisk first (port_written Cmd v tape p)
+command_disk first v tape p h = by (bit v 0) p.st refl
+  where
+    by : (b s : Bool) → p.st ≡ s → LeavesDisk first (with_fre (bit v 4) (with_st b tape p))
+    by false s is = disk_on first p _ refl refl refl refl h
+    by true true is = subst (λ (x : DevicePort). LeavesDisk first (with_fre (bit v 4) x)) (sym (cond-true p.st p _ is)) (disk_on first p _ refl refl refl refl h)
+    by true false is = subst (λ (x : DevicePort). LeavesDisk first (with_fre (bit v 4) x)) (sym (cond-false p.st p _ is)) (disk_on first p _ refl refl refl refl h)
+
+written_disk : (first : DevicePort) (r : PortReg) (v tape : ℕ) (p : DevicePort) → LeavesDisk first p → LeavesDisk first (port_written r v tape p)
+written_disk first Cmd v tape p h = command_disk first v tape p h
+written_disk first Clb v tape p h = disk_on first p _ refl refl refl refl h
+written_disk first Clbu v tape p h = disk_on first p _ refl refl refl refl h
+written_disk first Fb v tape p h = disk_on first p _ refl refl refl refl h
+written_disk first Fbu v tape p h = disk_on first p _ refl refl refl refl h
+written_disk first Ie v tape p h = disk_on first p _ refl refl refl refl h
+written_disk first Is v tape p h = disk_on first p _ refl refl refl refl h
+written_disk first Sctl v tape p h = disk_on first p _ refl refl refl refl h
+written_disk first Serr v tape p h = disk_on first p _ refl refl refl refl h
+written_disk first Sact v tape p h = disk_on first p _ refl refl refl refl h
+written_disk first Ci v tape p h = disk_on first p _ refl refl refl refl h
+written_disk first _ v tape p h = h
+
+-- before the effect of an access the tape has what it has after it
+pub plugs_before : (port : ℕ) (old mid new : Device) → new.tape ≡ mid.tape → PlugsNone port old new → PlugsNone port old mid
+plugs_before port old mid new same plugs = record { gained = plugs.gained; tape = sym same ∙ plugs.tape; none = plugs.none }
+
+pub access_disk : (port : ℕ) (access : Access) (old new : Device) → Does access old new → PlugsNone port old new → LeavesDisk (old.port port) (new.port port)
+access_disk port access old new x plugs =
+    let s = access_steps access old new x in
+    effect_keeps (LeavesDisk (old.port port)) (port_at port) (λ p r v h. disk_on (old.port port) p _ refl refl refl refl h) (λ p h. disk_on (old.port port) p _ refl refl refl refl h) access old new x
+    (λ r v mid is steps h. written_disk (old.port port) r v (length mid.tape) (mid.port port) h)
+    (steps_disk port old s.0 s.1 (plugs_before port old s.0 new s.2 plugs))
+
+-- ---- the link
+
+link_refl : (p : DevicePort) → LeavesLink p p
+link_refl p = inl (record { due = refl; det = refl; fresh = refl; sig = refl })
+
+link_on : (p q new : DevicePort) → new.link_due ≡ q.link_due → new.ssts_det ≡ q.ssts_det → new.fresh ≡ q.fresh → new.sig ≡ q.sig → new.present ≡ q.present → new.sctl_det ≡ q.sctl_det → LeavesLink p q → LeavesLink p new
+link_on p q new due det fresh sig present control (inl h) = inl (record { due = due ∙ h.due; det = det ∙ h.det; fresh = fresh ∙ h.fresh; sig = sig ∙ h.sig })
+link_on p q new due det fresh sig present control (inr h) =
+    inr (record { due = h.due; up = due ∙ h.up; det = det ∙ h.det; fresh = fresh ∙ h.fresh; present = present ∙ h.present; released = control ∙ h.released })
+
+module _ (first : DevicePort) (port : ℕ) (d : Device) (gained : List Entry) (none : NoneOf (IsPlugging port) gained) where
+  abbrev Linked : DevicePort → Type 0
+  Linked p = LeavesLink first p
+
+  step_link : (step : DeviceTransition) → d.hr ≡ false → Can step d → (device_after step d).tape ≡ d.tape ++ gained → Linked (d.port port) → Linked ((device_after step d).port port)
+  step_link (Fetch p slot c places) off can is h = at_port Linked Linked d p port _ h (λ e x. link_on first _ _ refl refl refl refl refl refl x) (λ ne x. x)
+  step_link (FetchFault p slot queued kept_bits) off can is h = at_port Linked Linked d p port _ h (λ e x. link_on first _ _ refl refl refl refl refl refl x) (λ ne x. x)
+  step_link (Move p slot t bytes) off can is h = at_port Linked Linked d p port _ h (λ e x. link_on first _ _ refl refl refl refl refl refl x) (λ ne x. x)
+  step_link (Clear p slot t from count) off can is h = at_port Linked Linked d p port _ h (λ e x. link_on first _ _ refl refl refl refl refl refl x) (λ ne x. x)
+  step_link (Done p slot flag t) off can is h = at_port Linked Linked d p port _ h (λ e x. link_on first _ _ refl refl refl refl refl refl x) (λ ne x. x)
+  step_link (Fault p slot error kept_bits t) off can is h = at_port Linked Linked d p port _ h (λ e x. link_on first _ _ refl refl refl refl refl refl x) (λ ne x. x)
+  step_link (Fatal p place) off can is h = at_port Linked Linked d p port _ h (λ e x. link_on first _ _ refl refl refl refl refl refl x) (λ ne x. x)
+  step_link (Fall p) off can is h = at_port Linked Linked d p port _ h (λ e x. link_on first _ _ refl refl refl refl refl refl x) (λ ne x. x)
+  step_link (FrFall p) off can is h = at_port Linked Linked d p port _ h (λ e x. link_on first _ _ refl refl refl refl refl refl x) (λ ne x. x)
+  step_link (LinkUp p sig n) off can is h = at_port Linked Linked d p port _ h
+      (λ e x. ⊎_elim
+      (λ (s : SameLink first (d.port p)). inr (record { due = sym s.due ∙ can.due; up = refl; det = refl; fresh = refl; present = can.present; released = can.det }))
+      (λ (s : ComesUp first (d.port p)). absurd (both_ways _ s.up can.due))
+      x)
+      (λ ne x. x)
+  step_link (Unplug p) off can is h = at_port Linked Linked d p port _ h (λ e x. absurd (gained_none (IsPlugging port) d.tape _ gained is none e)) (λ ne x. x)
+  step_link (Plug p disk) off can is h = at_port Linked Linked d p port _ h (λ e x. absurd (gained_none (IsPlugging port) d.tape _ gained is none e)) (λ ne x. x)
+  step_link ResetEnds off can is h = absurd (both_ways _ off can)
+  step_link (Scribble p slot at bytes) off can is h = h
+
+leads_link : (first : DevicePort) (port : ℕ) (steps : List DeviceTransition) (old new : Device) → old.hr ≡ false → StepLeads steps old new → PlugsNone port old new → LeavesLink first (old.port port) → LeavesLink first (new.port port)
+leads_link first port [] old new off e plugs h = subst (λ (d : Device). LeavesLink first (d.port port)) (sym e) h
+leads_link first port (step ∷ steps) old new off (can, lead) plugs h =
+    let k : Keeps old (device_after step old) = step_keeps step old can in
+    let l : Keeps (device_after step old) new = law_steps_keep (record { steps = steps; lead = lead }) in
+    let parts = plugs_parts port old (device_after step old) new k.gained l.gained k.tape l.tape plugs in
+    leads_link first port steps (device_after step old) new (k.on off).no_reset lead parts.1 (step_link first port old parts.0.gained parts.0.none step off can parts.0.tape h)
+
+pub steps_link : (port : ℕ) (old new : Device) → old.hr ≡ false → Steps old new → PlugsNone port old new → LeavesLink (old.port port) (new.port port)
+steps_link port old new off s plugs = leads_link (old.port port) port s.steps old new off s.lead plugs (link_refl (old.port port))
+
+command_link : (first : DevicePort) (v tape : ℕ) (p : DevicePort) → LeavesLink first p → LeavesLink first (port_written Cmd v tape p)
+command_link first v tape p h = by (bit v 0) p.st refl
+  where
+    by : (b s : Bool) → p.st ≡ s → LeavesLink first (with_fre (bit v 4) (with_st b tape p))
+    by false s is = link_on first p _ refl refl refl refl refl refl h
+    by true true is = subst (λ (x : DevicePort). LeavesLink first (with_fre (bit v 4) x)) (sym (cond-true p.st p _ is)) (link_on first p _ refl refl refl refl refl refl h)
+    by true false is = subst (λ (x : DevicePort). LeavesLink first (with_fre (bit v 4) x)) (sym (cond-false p.st p _ is)) (link_on first p _ refl refl refl refl refl refl h)
+
+written_link : (first : DevicePort) (r : PortReg) (v tape : ℕ) (p : DevicePort) → r ≢ Sctl → LeavesLink first p → LeavesLink first (port_written r v tape p)
+written_link first Sctl v tape p other h = absurd (other refl)
+written_link first Cmd v tape p other h = command_link first v tape p h
+written_link first Clb v tape p other h = link_on first p _ refl refl refl refl refl refl h
+written_link first Clbu v tape p other h = link_on first p _ refl refl refl refl refl refl h
+written_link first Fb v tape p other h = link_on first p _ refl refl refl refl refl refl h
+written_link first Fbu v tape p other h = link_on first p _ refl refl refl refl refl refl h
+written_link first Ie v tape p other h = link_on first p _ refl refl refl refl refl refl h
+written_link first Is v tape p other h = link_on first p _ refl refl refl refl refl refl h
+written_link first Serr v tape p other h = link_on first p _ refl refl refl refl refl refl h
+written_link first Sact v tape p other h = link_on first p _ refl refl refl refl refl refl h
+written_link first Ci v tape p other h = link_on first p _ refl refl refl refl refl refl h
+written_link first _ v tape p other h = h
+
+-- a write of the port's register is of another one
+pub spared : (port : Port) (r q : PortReg) (access : Access) (v : ℕ) → SparesRegister (Px port q) access → access ≡ Writing (Px port r) v → r ≢ q
+spared port r q access v spares is e = subst (SparesRegister (Px port q)) is spares (ap (Px port) e)
+
+pub access_link : (port : Port) (access : Access) (old new : Device) → old.hr ≡ false → SparesRegister (Px port Sctl) access → Does access old new → PlugsNone port.0 old new → LeavesLink (old.port port.0) (new.port port.0)
+access_link port access old new off spares x plugs =
+    let s = access_steps access old new x in
+    effect_keeps (LeavesLink (old.port port.0)) port (λ p r v h. link_on (old.port port.0) p _ refl refl refl refl refl refl h) (λ p h. link_on (old.port port.0) p _ refl refl refl refl refl refl h) access old new x
+    (λ r v mid is steps h. written_link (old.port port.0) r v (length mid.tape) (mid.port port.0) (spared port r Sctl access v spares is) h)
+    (steps_link port.0 old s.0 off s.1 (plugs_before port.0 old s.0 new s.2 plugs))
+
+-- ---- the controls
+
+-- PxSCTL, the addresses and PxIE are the same
+abbrev SameRest : DevicePort → DevicePort → Type 0
+SameRest p new = (new.sctl_det ≡ p.sctl_det) × (new.notes.sctl_written_at ≡ p.notes.sctl_written_at) × (new.bases ≡ p.bases) × (new.ie ≡ p.ie)
+
+module _ (access : Access) (port : Port) (first : DevicePort) where
+  abbrev Controls : DevicePort → Type 0
+  Controls p = LeavesControls access port first p
+
+  controls_on : (p new : DevicePort) → new.st ≡ p.st → new.fre ≡ p.fre → new.notes.st_set_at ≡ p.notes.st_set_at → new.cr ≡ p.cr → new.sctl_det ≡ p.sctl_det → new.notes.sctl_written_at ≡ p.notes.sctl_written_at → new.bases ≡ p.bases → new.ie ≡ p.ie →
+      Controls p → Controls new
+  controls_on p new st fre set cr det written bases ie h = record {
+    command = λ s. (st ∙ (h.command s).0, fre ∙ (h.command s).1, set ∙ (h.command s).2, λ on runs. cr ∙ (h.command s).3 on runs);
+    control = λ s. (det ∙ (h.control s).0, written ∙ (h.control s).1);
+    interrupts = λ s. ie ∙ h.interrupts s;
+    list = λ s. (ap (λ (b : Bases). b.clb) bases ∙ (h.list s).0, ap (λ (b : Bases). b.clb_set) bases ∙ (h.list s).1);
+    list_upper = λ s. ap (λ (b : Bases). b.clbu_set) bases ∙ h.list_upper s;
+    received = λ s. (ap (λ (b : Bases). b.fb) bases ∙ (h.received s).0, ap (λ (b : Bases). b.fb_set) bases ∙ (h.received s).1);
+    received_upper = λ s. ap (λ (b : Bases). b.fbu_set) bases ∙ h.received_upper s;
+  }
+
+  noted_controls : (p : DevicePort) (r : PortReg) (v : ℕ) → Controls p → Controls (record p { notes = note r v p })
+  noted_controls p r v h = controls_on p _ refl refl (note_times r v p).0 refl refl (note_times r v p).1 refl refl h
+
+  -- PxCMD leaves the others
+  command_controls : (v tape : ℕ) (p : DevicePort) → (SparesRegister (Px port Cmd) access → ⊥) → Controls p → Controls (port_written Cmd v tape p)
+  command_controls v tape p here h = record {
+    command = λ s. absurd (here s);
+    control = λ s. (rest.0 ∙ (h.control s).0, rest.1 ∙ (h.control s).1);
+    interrupts = λ s. rest.3 ∙ h.interrupts s;
+    list = λ s. (ap (λ (b : Bases). b.clb) rest.2 ∙ (h.list s).0, ap (λ (b : Bases). b.clb_set) rest.2 ∙ (h.list s).1);
+    list_upper = λ s. ap (λ (b : Bases). b.clbu_set) rest.2 ∙ h.list_upper s;
+    received = λ s. (ap (λ (b : Bases). b.fb) rest.2 ∙ (h.received s).0, ap (λ (b : Bases). b.fb_set) rest.2 ∙ (h.received s).1);
+    received_upper = λ s. ap (λ (b : Bases). b.fbu_set) rest.2 ∙ h.received_upper s;
+  }
+    where
+      by : (b s : Bool) → p.st ≡ s → SameRest p (with_fre (bit v 4) (with_st b tape p))
+      by false s is = (refl, refl, refl, refl)
+      by true true is = subst (λ (x : DevicePort). SameRest p (with_fre (bit v 4) x)) (sym (cond-true p.st p _ is)) (refl, refl, refl, refl)
+      by true false is = subst (λ (x : DevicePort). SameRest p (with_fre (bit v 4) x)) (sym (cond-false p.st p _ is)) (refl, refl, refl, refl)
+
+      rest : SameRest p (with_fre (bit v 4) (with_st (bit v 0) tape p))
+      rest = by (bit v 0) p.st refl
+
+  written_controls : (r : PortReg) (v tape : ℕ) (p : DevicePort) → (SparesRegister (Px port r) access → ⊥) → Controls p → Controls (port_written r v tape p)
+  written_controls Cmd v tape p here h = command_controls v tape p here h
+  written_controls Sctl v tape p here h = record { command = h.command; control = λ s. absurd (here s); interrupts = h.interrupts; list = h.list; list_upper = h.list_upper; received = h.received; received_upper = h.received_upper }
+  written_controls Clb v tape p here h = record { command = h.command; control = h.control; interrupts = h.interrupts; list = λ s. absurd (here s); list_upper = h.list_upper; received = h.received; received_upper = h.received_upper }
+  written_controls Clbu v tape p here h = record { command = h.command; control = h.control; interrupts = h.interrupts; list = h.list; list_upper = λ s. absurd (here s); received = h.received; received_upper = h.received_upper }
+  written_controls Fb v tape p here h = record { command = h.command; control = h.control; interrupts = h.interrupts; list = h.list; list_upper = h.list_upper; received = λ s. absurd (here s); received_upper = h.received_upper }
+  written_controls Fbu v tape p here h = record { command = h.command; control = h.control; interrupts = h.interrupts; list = h.list; list_upper = h.list_upper; received = h.received; received_upper = λ s. absurd (here s) }
+  written_controls Ie v tape p here h = record { command = h.command; control = h.control; interrupts = λ s. absurd (here s); list = h.list; list_upper = h.list_upper; received = h.received; received_upper = h.received_upper }
+  written_controls Is v tape p here h = controls_on p _ refl refl refl refl refl refl refl refl h
+  written_controls Serr v tape p here h = controls_on p _ refl refl refl refl refl refl refl refl h
+  written_controls Sact v tape p here h = controls_on p _ refl refl refl refl refl refl refl refl h
+  written_controls Ci v tape p here h = controls_on p _ refl refl refl refl refl refl refl refl h
+  written_controls _ v tape p here h = h
+
+pub access_controls : (port : Port) (access : Access) (old new : Device) → old.hr ≡ false → Does access old new → LeavesControls access port (old.port port.0) (new.port port.0)
+access_controls port access old new off x =
+    let s = access_steps access old new x in
+    let k : Keeps old s.0 = law_steps_keep s.1 in
+    let c : KeepsControls (old.port port.0) (s.0.port port.0) = (k.on off).controls port.0 in
+    effect_keeps (LeavesControls access port (old.port port.0)) port (noted_controls access port (old.port port.0)) (λ p h. controls_on access port (old.port port.0) p _ refl refl refl refl refl refl refl refl h) access old new x
+    (λ r v mid is steps h. written_controls access port (old.port port.0) r v (length mid.tape) (mid.port port.0) (λ spares. spared port r r access v spares is refl) h)
+    (record {
+      command = λ s. (c.st, c.fre, ap (λ (n : Notes). n.st_set_at) (k.notes port.0), c.runs);
+      control = λ s. (c.sctl_det, ap (λ (n : Notes). n.sctl_written_at) (k.notes port.0));
+      interrupts = λ s. c.ie;
+      list = λ s. (ap (λ (b : Bases). b.clb) (k.port port.0).bases, ap (λ (b : Bases). b.clb_set) (k.port port.0).bases);
+      list_upper = λ s. ap (λ (b : Bases). b.clbu_set) (k.port port.0).bases;
+      received = λ s. (ap (λ (b : Bases). b.fb) (k.port port.0).bases, ap (λ (b : Bases). b.fb_set) (k.port port.0).bases);
+      received_upper = λ s. ap (λ (b : Bases). b.fbu_set) (k.port port.0).bases;
+    })

@@ -1,0 +1,164 @@
+-- What readings of a port note, and what leaves it.
+use Rattle.std.proofs.Common.{ℕ, ◌≡◌, Bool, true, false, length, refl, sym, ◌∙◌, ap, subst}
+use Rattle.std.specs.Prelude.{if◌then◌else◌}
+use Rattle.std.proofs.lemmas.Bool.{cond-true, cond-false}
+use Rattle.ata_types.specs.declared.Port.{Port}
+use Rattle.hba_regs.specs.Bits.{bit}
+use Rattle.hba_regs.specs.declared.reg.Reg.{Reg}
+use Rattle.hba_regs.specs.declared.reg.Reg.TheVariants.{Cap, Ghc, Pi, Vs, Cap2, Bohc, Px}
+use Rattle.hba_regs.specs.declared.reg.Reg.TheVariants as adapter
+use Rattle.hba_regs.specs.declared.reg.PortReg.{PortReg}
+use Rattle.hba_regs.specs.declared.reg.PortReg.TheVariants.{Is, Cmd, Tfd, Sig, Ssts, Sctl, Sact, Ci}
+use Rattle.adapter.specs.Access.{Access, Does, Reads, PortShows, note, noted, written, port_written, with_st, with_fre, unacknowledged}
+use Rattle.adapter.specs.Access.Access.{Reading, Writing, Loading, Storing}
+use Rattle.adapter.specs.Device.{Notes, DevicePort, Device}
+use Rattle.adapter.specs.Kept.{KeepsControls}
+use Rattle.adapter.specs.Steps.{Steps}
+use Rattle.adapter.proofs.Calls.{seen}
+use Rattle.adapter.proofs.Changed.{changed_same}
+use Rattle.adapter.proofs.KeptLemmas.{law_steps_keep}
+use Rattle.block_machine.proofs.Keeps.{same_port}
+use Rattle.refinement.specs.Links.{SparesRegister}
+use Rattle.refinement.specs.Noted.{SparesReading, LeavesNotes}
+use Rattle.refinement.proofs.device.HealthyPort.{at_port}
+
+-- ---- what is noted
+
+read_notes : (port : Port) (r : PortReg) (v : ℕ) (old new : Device) (x : Reads (Px port r) v old new) → (new.port port.0).notes ≡ note r v (x.mid.port port.0)
+read_notes port r v old new x = ap (λ (d : Device). (d.port port.0).notes) x.effect ∙ ap (λ (p : DevicePort). p.notes) (changed_same x.mid.port port.0 _)
+
+pub command_noted : (port : Port) (v : ℕ) (old new : Device) → Reads (Px port Cmd) v old new → (new.port port.0).notes.last_cmd ≡ v
+command_noted port v old new x = ap (λ (n : Notes). n.last_cmd) (read_notes port Cmd v old new x)
+
+pub link_noted : (port : Port) (v : ℕ) (old new : Device) → Reads (Px port Ssts) v old new → (new.port port.0).notes.last_ssts ≡ v
+link_noted port v old new x = ap (λ (n : Notes). n.last_ssts) (read_notes port Ssts v old new x)
+
+pub file_noted : (port : Port) (v : ℕ) (old new : Device) → Reads (Px port Tfd) v old new → (new.port port.0).notes.last_tfd ≡ v
+file_noted port v old new x = ap (λ (n : Notes). n.last_tfd) (read_notes port Tfd v old new x)
+
+pub issued_noted : (port : Port) (v : ℕ) (old new : Device) → Reads (Px port Ci) v old new → (new.port port.0).notes.last_ci ≡ v
+issued_noted port v old new x = ap (λ (n : Notes). n.last_ci) (read_notes port Ci v old new x)
+
+pub active_noted : (port : Port) (v : ℕ) (old new : Device) → Reads (Px port Sact) v old new → (new.port port.0).notes.last_sact ≡ v
+active_noted port v old new x = ap (λ (n : Notes). n.last_sact) (read_notes port Sact v old new x)
+
+pub signature_noted : (port : Port) (v : ℕ) (old new : Device) → Reads (Px port Sig) v old new → (new.port port.0).notes.last_sig ≡ v
+signature_noted port v old new x = ap (λ (n : Notes). n.last_sig) (read_notes port Sig v old new x)
+
+-- the controls and the notes of a port say what is noted
+note_same : (r : PortReg) (v : ℕ) (p q : DevicePort) → q.st ≡ p.st → q.fre ≡ p.fre → q.sctl_det ≡ p.sctl_det → q.notes ≡ p.notes → note r v q ≡ note r v p
+note_same Cmd v p q st fre det notes = rw st (rw fre (rw notes refl))
+note_same Ssts v p q st fre det notes = rw det (rw notes refl)
+note_same Tfd v p q st fre det notes = rw det (rw notes refl)
+note_same Ci v p q st fre det notes = rw det (rw notes refl)
+note_same Sig v p q st fre det notes = rw notes refl
+note_same Sact v p q st fre det notes = rw notes refl
+note_same Is v p q st fre det notes = rw notes refl
+note_same _ v p q st fre det notes = notes
+
+pub notes_read : (port : Port) (r : PortReg) (v : ℕ) (old new : Device) → old.hr ≡ false → Reads (Px port r) v old new → (new.port port.0).notes ≡ note r v (old.port port.0)
+notes_read port r v old new off x =
+    let k = law_steps_keep x.steps in
+    let c : KeepsControls (old.port port.0) (x.mid.port port.0) = (k.on off).controls port.0 in
+    read_notes port r v old new x ∙ note_same r v (old.port port.0) (x.mid.port port.0) c.st c.fre c.sctl_det (k.notes port.0)
+
+pub shown_after : (port : Port) (r : PortReg) (v : ℕ) (old new : Device) → old.hr ≡ false → Reads (Px port r) v old new → PortShows r v (new.port port.0)
+shown_after port r v old new off x = (seen port r v old new x off).shows
+
+-- ---- what leaves it
+
+pub law_notes_stay : (port : ℕ) (old new : Device) → Steps old new → (new.port port).notes ≡ (old.port port).notes
+law_notes_stay port old new s = (law_steps_keep s).notes port
+
+module _ (access : Access) (port : Port) (first : Notes) where
+  -- the fields of `LeavesNotes`
+  abbrev Leaves : DevicePort → Type 0
+  Leaves p =
+      (SparesReading (Px port Cmd) access → (p.notes.last_cmd ≡ first.last_cmd) × (p.notes.engine_count ≡ first.engine_count))
+      × (SparesReading (Px port Ssts) access → (p.notes.last_ssts ≡ first.last_ssts) × (SparesRegister (Px port Sctl) access → p.notes.link_count ≡ first.link_count))
+      × (SparesReading (Px port Tfd) access → (p.notes.last_tfd ≡ first.last_tfd) × (SparesRegister (Px port Sctl) access → p.notes.busy_count ≡ first.busy_count))
+      × (SparesReading (Px port Ci) access → (p.notes.last_ci ≡ first.last_ci) × (SparesRegister (Px port Sctl) access → p.notes.command_count ≡ first.command_count))
+      × (SparesReading (Px port Sact) access → p.notes.last_sact ≡ first.last_sact)
+      × (SparesReading (Px port Sig) access → p.notes.last_sig ≡ first.last_sig)
+
+  noted_leaves : (r : PortReg) (v : ℕ) (p : DevicePort) → (SparesReading (Px port r) access → ⊥) → Leaves p → Leaves (record p { notes = note r v p })
+  noted_leaves Cmd v p here h = (λ s. absurd (here s), h.1, h.2, h.3, h.4, h.5)
+  noted_leaves Ssts v p here h = (h.0, λ s. absurd (here s), h.2, h.3, h.4, h.5)
+  noted_leaves Tfd v p here h = (h.0, h.1, λ s. absurd (here s), h.3, h.4, h.5)
+  noted_leaves Ci v p here h = (h.0, h.1, h.2, λ s. absurd (here s), h.4, h.5)
+  noted_leaves Sact v p here h = (h.0, h.1, h.2, h.3, λ s. absurd (here s), h.5)
+  noted_leaves Sig v p here h = (h.0, h.1, h.2, h.3, h.4, λ s. absurd (here s))
+  noted_leaves _ v p here h = h
+
+  command_leaves : (v tape : ℕ) (p : DevicePort) → Leaves p → Leaves (port_written Cmd v tape p)
+  command_leaves v tape p h = by (bit v 0) p.st refl
+    where
+      by : (b s : Bool) → p.st ≡ s → Leaves (with_fre (bit v 4) (with_st b tape p))
+      by false s is = h
+      by true true is = subst (λ (x : DevicePort). Leaves (with_fre (bit v 4) x)) (sym (cond-true p.st p _ is)) h
+      by true false is = subst (λ (x : DevicePort). Leaves (with_fre (bit v 4) x)) (sym (cond-false p.st p _ is)) h
+
+  written_leaves : (r : PortReg) (v tape : ℕ) (p : DevicePort) → (SparesRegister (Px port r) access → ⊥) → Leaves p → Leaves (port_written r v tape p)
+  written_leaves Cmd v tape p here h = command_leaves v tape p h
+  written_leaves Sctl v tape p here h = (
+    h.0,
+    λ s. ((h.1 s).0, λ c. absurd (here c)),
+    λ s. ((h.2 s).0, λ c. absurd (here c)),
+    λ s. ((h.3 s).0, λ c. absurd (here c)),
+    h.4,
+    h.5,
+  )
+  written_leaves _ v tape p here h = h
+
+  left_notes : (p : DevicePort) → p.notes ≡ first → Leaves p
+  left_notes p is = (
+    λ s. (ap (λ (n : Notes). n.last_cmd) is, ap (λ (n : Notes). n.engine_count) is),
+    λ s. (ap (λ (n : Notes). n.last_ssts) is, λ c. ap (λ (n : Notes). n.link_count) is),
+    λ s. (ap (λ (n : Notes). n.last_tfd) is, λ c. ap (λ (n : Notes). n.busy_count) is),
+    λ s. (ap (λ (n : Notes). n.last_ci) is, λ c. ap (λ (n : Notes). n.command_count) is),
+    λ s. ap (λ (n : Notes). n.last_sact) is,
+    λ s. ap (λ (n : Notes). n.last_sig) is,
+  )
+
+-- a reading, and a write
+reading_leaves : (port : Port) (first : Notes) (r : Reg) (v : ℕ) (d : Device) → Leaves (Reading r v) port first (d.port port.0) → Leaves (Reading r v) port first ((noted r v d).port port.0)
+reading_leaves port first (Px p r) v d h = at_port (Leaves (Reading (Px p r) v) port first) (Leaves (Reading (Px p r) v) port first) d p.0 port.0 _ h
+    (λ e x. noted_leaves (Reading (Px p r) v) port first r v (d.port p.0) (λ s. s (ap (λ (q : Port). Px q r) (same_port p port e))) x)
+    (λ ne x. x)
+reading_leaves port first Cap v d h = h
+reading_leaves port first Ghc v d h = h
+reading_leaves port first adapter.Is v d h = h
+reading_leaves port first Pi v d h = h
+reading_leaves port first Vs v d h = h
+reading_leaves port first Cap2 v d h = h
+reading_leaves port first Bohc v d h = h
+
+writing_leaves : (port : Port) (first : Notes) (r : Reg) (v : ℕ) (d : Device) → Leaves (Writing r v) port first (d.port port.0) → Leaves (Writing r v) port first ((written r v d).port port.0)
+writing_leaves port first (Px p r) v d h = at_port (Leaves (Writing (Px p r) v) port first) (Leaves (Writing (Px p r) v) port first) d p.0 port.0 _ h
+    (λ e x. written_leaves (Writing (Px p r) v) port first r v (length d.tape) (d.port p.0) (λ s. s (ap (λ (q : Port). Px q r) (same_port p port e))) x)
+    (λ ne x. x)
+writing_leaves port first adapter.Is v d h = by (bit v port.0)
+  where
+    by : (b : Bool) → Leaves (Writing adapter.Is v) port first (if b then unacknowledged (d.port port.0) else d.port port.0)
+    by true = h
+    by false = h
+writing_leaves port first Cap v d h = h
+writing_leaves port first Ghc v d h = h
+writing_leaves port first Pi v d h = h
+writing_leaves port first Vs v d h = h
+writing_leaves port first Cap2 v d h = h
+writing_leaves port first Bohc v d h = h
+
+access_leaves : (port : Port) (access : Access) (old new : Device) → Does access old new → Leaves access port (old.port port.0).notes (new.port port.0)
+access_leaves port (Reading r v) old new x = subst (λ (d : Device). Leaves (Reading r v) port (old.port port.0).notes (d.port port.0)) (sym x.effect)
+    (reading_leaves port (old.port port.0).notes r v x.mid (left_notes (Reading r v) port (old.port port.0).notes (x.mid.port port.0) (law_notes_stay port.0 old x.mid x.steps)))
+access_leaves port (Writing r v) old new x = subst (λ (d : Device). Leaves (Writing r v) port (old.port port.0).notes (d.port port.0)) (sym x.effect)
+    (writing_leaves port (old.port port.0).notes r v x.mid (left_notes (Writing r v) port (old.port port.0).notes (x.mid.port port.0) (law_notes_stay port.0 old x.mid x.steps)))
+access_leaves port (Loading at bytes) old new x = left_notes (Loading at bytes) port (old.port port.0).notes (new.port port.0) (law_notes_stay port.0 old new x.steps)
+access_leaves port (Storing at bytes) old new x = left_notes (Storing at bytes) port (old.port port.0).notes (new.port port.0)
+    (ap (λ (d : Device). (d.port port.0).notes) x.effect ∙ law_notes_stay port.0 old x.mid x.steps)
+
+pub access_notes : (port : Port) (access : Access) (old new : Device) → Does access old new → LeavesNotes access port (old.port port.0).notes (new.port port.0).notes
+access_notes port access old new x =
+    let h : Leaves access port (old.port port.0).notes (new.port port.0) = access_leaves port access old new x in
+    record { command = h.0; link = h.1; file = h.2; issued = h.3; active = h.4; signature = h.5 }

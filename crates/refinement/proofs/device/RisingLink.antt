@@ -1,0 +1,169 @@
+-- A link that comes up while the engine stands.
+use Rattle.std.proofs.Common.{ℕ, ◌≡◌, ◌≢◌, ◌⊎◌, ◌%◌, ◌++◌, ◌&&◌, Bool, true, false, List, [], ◌∷◌, length, refl, sym, ◌∙◌, ap, subst, arith, ⊎_elim}
+use Rattle.std.specs.Prelude.{if◌then◌else◌, nat_eq}
+use Rattle.std.proofs.lemmas.Bool.{cases_eq, both_ways}
+use Rattle.ata_types.specs.declared.Port.{Port}
+use Rattle.hba_regs.specs.Bits.{bit}
+use Rattle.hba_regs.specs.declared.reg.Reg.TheVariants.{Ghc, Px}
+use Rattle.hba_regs.specs.declared.reg.PortReg.{PortReg}
+use Rattle.hba_regs.specs.declared.reg.PortReg.TheVariants.{Cmd, Ssts, Sctl}
+use Rattle.adapter.specs.Access.{Access, Does, Reads, Writes, port_written, with_st, with_fre, with_det}
+use Rattle.adapter.specs.Access.Access.{Reading, Writing}
+use Rattle.adapter.specs.Device.{DevicePort, Device}
+use Rattle.adapter.specs.Device.Halt.{NotHalted}
+use Rattle.adapter.specs.Kept.{Keeps, KeepsPort}
+use Rattle.adapter.specs.Steps.{DeviceTransition, Can, device_after, StepLeads, Steps, restarted}
+use Rattle.adapter.specs.Steps.DeviceTransition.{Fetch, FetchFault, Move, Clear, Done, Fault, Fatal, Fall, FrFall, LinkUp, Unplug, Plug, ResetEnds, Scribble}
+use Rattle.adapter.specs.declared.tape.Entry.{Entry}
+use Rattle.adapter.proofs.Changed.{changed_same}
+use Rattle.adapter.proofs.KeptLemmas.{step_keeps, law_steps_keep}
+use Rattle.refinement.specs.Errors.{IsComing, NoneComes}
+use Rattle.refinement.specs.Links.{SparesRegister, PlugsNone, SameLink, ComesUp}
+use Rattle.refinement.specs.Started.{IsUp, IsComingUp, SetsNoStart}
+use Rattle.refinement.proofs.device.FactsOverAccesses.{access_steps, effect_keeps}
+use Rattle.refinement.proofs.device.ErrorBits.{comes_parts, comes_before, plugs_come}
+use Rattle.refinement.proofs.device.TapeGains.{NoneOf, gained_none}
+use Rattle.refinement.proofs.device.HaltedPort.{reset_read}
+use Rattle.refinement.proofs.device.HealthyPort.{at_port}
+use Rattle.refinement.proofs.device.PortControls.{steps_link, access_link}
+use Rattle.refinement.proofs.device.StartConditions.{neither, not_one}
+
+-- ---- as facts of a port's fields
+
+abbrev pub Up : DevicePort → Type 0
+Up p = (p.ssts_det ≡ 3) × (p.present ≡ true) × (p.fresh ≡ true) × (p.link_due ≡ false) × (p.sctl_det ≢ 1) × (restarted p.halt ≡ NotHalted)
+
+abbrev Coming : DevicePort → Type 0
+Coming p = (p.cr ≡ false) × (p.ssts_det ≡ 3 → Up p)
+
+pub up_of : (p : DevicePort) → IsUp p → Up p
+up_of p u = (u.det, u.present, u.fresh, u.linked, u.released, u.restarts)
+
+pub is_up : (p : DevicePort) → Up p → IsUp p
+is_up p u = record { det = u.0; present = u.1; fresh = u.2; linked = u.3; released = u.4; restarts = u.5 }
+
+coming_of : (p : DevicePort) → IsComingUp p → Coming p
+coming_of p h = (h.stands, λ det. up_of p (h.up det))
+
+is_coming : (p : DevicePort) → Coming p → IsComingUp p
+is_coming p h = record { stands = h.0; up = λ det. is_up p (h.1 det) }
+
+-- no device shows
+not_three : {A : Type 0} → ◌≡◌ {A = ℕ} 0 3 → A
+not_three e = absurd (omega (arith, e))
+
+pub unlinked : (p : DevicePort) → p.cr ≡ false → p.ssts_det ≢ 3 → IsComingUp p
+unlinked p stands other = record { stands = stands; up = λ det. absurd (other det) }
+
+-- ---- a step
+
+module _ (port : ℕ) (d : Device) (gained : List Entry) (none : NoneOf (IsComing port) gained) (h : Coming (d.port port)) where
+  -- a step of an engine that runs
+  works : {Q : Type 0} (p : ℕ) → (d.port p).cr ≡ true → p ≡ port → Q
+  works p runs e = absurd (both_ways _ (ap (λ (k : ℕ). (d.port k).cr) e ∙ h.0) runs)
+
+  step_coming : (step : DeviceTransition) → Can step d → (device_after step d).tape ≡ d.tape ++ gained → Coming ((device_after step d).port port)
+  step_coming (Fetch p slot c places) can is = at_port Coming Coming d p port _ h (λ e x. works p can.working.running e) (λ ne x. x)
+  step_coming (FetchFault p slot queued kept_bits) can is = at_port Coming Coming d p port _ h (λ e x. works p can.working.running e) (λ ne x. x)
+  step_coming (Move p slot t bytes) can is = at_port Coming Coming d p port _ h (λ e x. x) (λ ne x. x)
+  step_coming (Clear p slot t first count) can is = at_port Coming Coming d p port _ h (λ e x. x) (λ ne x. x)
+  step_coming (Done p slot flag t) can is = at_port Coming Coming d p port _ h (λ e x. works p can.works.working.running e) (λ ne x. x)
+  step_coming (Fault p slot error kept_bits t) can is = at_port Coming Coming d p port _ h (λ e x. works p can.running e) (λ ne x. x)
+  step_coming (Fatal p place) can is = at_port Coming Coming d p port _ h (λ e x. x) (λ ne x. x)
+  step_coming (Fall p) can is = at_port Coming Coming d p port _ h (λ e x. works p can.1 e) (λ ne x. x)
+  step_coming (FrFall p) can is = at_port Coming Coming d p port _ h (λ e x. x) (λ ne x. x)
+  step_coming (LinkUp p sig n) can is = at_port Coming Coming d p port _ h
+      (λ e x. (x.0, λ _. (refl, can.present, refl, refl, λ one. absurd (let z = can.det in omega (arith, one, z)), refl))) (λ ne x. x)
+  step_coming (Unplug p) can is = at_port Coming Coming d p port _ h (λ e x. (x.0, λ det. not_three det)) (λ ne x. x)
+  step_coming (Plug p disk) can is = at_port Coming Coming d p port _ h
+      (λ e x. absurd (gained_none (IsComing port) d.tape _ gained is none e)) (λ ne x. x)
+  step_coming ResetEnds can is = (refl, λ det. not_three det)
+  step_coming (Scribble p slot at bytes) can is = h
+
+leads_coming : (port : ℕ) (steps : List DeviceTransition) (old new : Device) → StepLeads steps old new → NoneComes port old new → Coming (old.port port) → Coming (new.port port)
+leads_coming port [] old new e none h = subst (λ (d : Device). Coming (d.port port)) (sym e) h
+leads_coming port (step ∷ steps) old new (can, lead) none h =
+    let k : Keeps old (device_after step old) = step_keeps step old can in
+    let l : Keeps (device_after step old) new = law_steps_keep (record { steps = steps; lead = lead }) in
+    let parts = comes_parts port old (device_after step old) new k.gained l.gained k.tape l.tape none in
+    leads_coming port steps (device_after step old) new lead parts.1 (step_coming port old parts.0.gained parts.0.none h step can parts.0.tape)
+
+pub steps_coming : (port : ℕ) (old new : Device) → NoneComes port old new → Steps old new → IsComingUp (old.port port) → IsComingUp (new.port port)
+steps_coming port old new none s h = is_coming (new.port port) (leads_coming port s.steps old new s.lead none (coming_of (old.port port) h))
+
+-- ---- an access
+
+module _ (v tape : ℕ) (p : DevicePort) where
+  command_coming : bit v 0 ≡ false → Coming p → Coming (port_written Cmd v tape p)
+  command_coming off h = subst (λ (b : Bool). Coming (with_fre (bit v 4) (with_st b tape p))) (sym off) h
+
+  -- DET of PxSCTL isn't 1, and wasn't
+  released_up : (w : ℕ) → w ≢ 1 → Up p → Up (with_det w tape p)
+  released_up w other u = (
+    ap (λ (b : Bool). if b then 0 else p.ssts_det) (not_one w other) ∙ u.0,
+    u.1,
+    u.2,
+    neither p.link_due (nat_eq p.sctl_det 1 && nat_eq w 0) u.3 (ap (λ (b : Bool). b && nat_eq w 0) (not_one p.sctl_det u.4)),
+    other,
+    u.5,
+  )
+
+  control_coming : (w : ℕ) → Coming p → Coming (with_det w tape p)
+  control_coming w h = ⊎_elim
+      (λ (one : w ≡ 1). subst (λ (n : ℕ). Coming (with_det n tape p)) (sym one) (h.0, λ det. not_three det))
+      (λ (other : w ≡ 1 → ⊥). (h.0, λ det. released_up w other (h.1 (sym (ap (λ (b : Bool). if b then 0 else p.ssts_det) (not_one w other)) ∙ det))))
+      (cases_eq w 1)
+
+written_coming : (r : PortReg) (v tape : ℕ) (p : DevicePort) → (r ≡ Cmd → bit v 0 ≡ false) → Coming p → Coming (port_written r v tape p)
+written_coming Cmd v tape p off h = command_coming v tape p (off refl) h
+written_coming Sctl v tape p off h = control_coming v tape p (v % 16) h
+written_coming _ v tape p off h = h
+
+module _ (port : Port) (access : Access) (old new : Device) (off : SetsNoStart port access) (x : Does access old new) where
+  pub access_coming : NoneComes port.0 old new → IsComingUp (old.port port.0) → IsComingUp (new.port port.0)
+  access_coming none h =
+      let s = access_steps access old new x in
+      let c = leads_coming port.0 s.1.steps old s.0 s.1.lead (comes_before port.0 old s.0 new s.2 none) (coming_of (old.port port.0) h) in
+      is_coming (new.port port.0)
+      (effect_keeps Coming port (λ p r v y. y) (λ p y. y) access old new x
+      (λ r v mid is steps y. written_coming r v (length mid.tape) (mid.port port.0) (λ e. off v (is ∙ ap (λ (q : PortReg). Writing (Px port q) v) e)) y) c)
+
+-- ---- it begins
+
+pub comreset_comes : (port : Port) (v : ℕ) (old new : Device) → (old.port port.0).cr ≡ false → v % 16 ≡ 1 → Writes (Px port Sctl) v old new → IsComingUp (new.port port.0)
+comreset_comes port v old new stands one call =
+    let k : KeepsPort (old.port port.0) (call.mid.port port.0) = (law_steps_keep call.steps).port port.0 in
+    subst IsComingUp (sym (ap (λ (d : Device). d.port port.0) call.effect ∙ changed_same call.mid.port port.0 _))
+    (is_coming _ (subst (λ (n : ℕ). Coming (with_det n (length call.mid.tape) (call.mid.port port.0))) (sym one) (k.cr stands, λ det. not_three det)))
+
+pub reset_comes : (v : ℕ) (old new : Device) → old.hr ≡ true → Reads Ghc v old new → bit v 0 ≡ false → (port : ℕ) → NoneComes port old new → IsComingUp (new.port port)
+reset_comes v old new on call clear port none =
+    let s = reset_read v old new on call clear in
+    let a : Keeps old (device_after ResetEnds s.0) = law_steps_keep s.2 in
+    let b : Keeps (device_after ResetEnds s.0) new = law_steps_keep s.1 in
+    let parts = comes_parts port old (device_after ResetEnds s.0) new a.gained b.gained a.tape b.tape none in
+    steps_coming port (device_after ResetEnds s.0) new parts.1 s.1 (is_coming _ (refl, λ det. not_three det))
+
+-- ---- it is found up
+
+pub up_is_found : (port : Port) (v : ℕ) (old new : Device) → NoneComes port.0 old new → Reads (Px port Ssts) v old new → v % 16 ≡ 3 → IsComingUp (old.port port.0) → IsUp (new.port port.0)
+up_is_found port v old new none call three h =
+    (access_coming port (Reading (Px port Ssts) v) old new (λ w e. absurd (let z : Reading (Px port Ssts) v ≡ Writing (Px port Cmd) w = e in cc)) call none h).up
+    (ap (λ (d : Device). (d.port port.0).ssts_det) call.effect ∙ ap (λ (p : DevicePort). p.ssts_det) (changed_same call.mid.port port.0 _) ∙ sym call.shows ∙ three)
+
+-- ---- and stays so
+
+-- the link is as it was, or has come up
+still_three : (p new : DevicePort) → p.ssts_det ≡ 3 → SameLink p new ⊎ ComesUp p new → new.ssts_det ≡ 3
+still_three p new three = ⊎_elim (λ (s : SameLink p new). s.det ∙ three) (λ (c : ComesUp p new). c.det)
+
+pub steps_up : (port : ℕ) (old new : Device) → old.hr ≡ false → (old.port port).cr ≡ false → PlugsNone port old new → Steps old new → IsUp (old.port port) → IsUp (new.port port)
+steps_up port old new off stands none s u =
+    (steps_coming port old new (plugs_come port old new none) s (record { stands = stands; up = λ _. u })).up
+    (still_three (old.port port) (new.port port) u.det (steps_link port old new off s none))
+
+pub access_up : (port : Port) (access : Access) (old new : Device) → old.hr ≡ false → (old.port port.0).cr ≡ false → SetsNoStart port access → SparesRegister (Px port Sctl) access → PlugsNone port.0 old new → Does access old new →
+    IsUp (old.port port.0) → IsUp (new.port port.0)
+access_up port access old new off stands sets spares none x u =
+    (access_coming port access old new sets x (plugs_come port.0 old new none) (record { stands = stands; up = λ _. u })).up
+    (still_three (old.port port.0) (new.port port.0) u.det (access_link port access old new off spares x none))

@@ -1,0 +1,197 @@
+-- A port that was started goes on while nothing disturbs it, its bits of trouble stay clear, and so it runs well.
+use Rattle.std.proofs.Common.{ℕ, ◌≡◌, ◌≤◌, ◌++◌, Bool, true, false, List, [], ◌∷◌, length, refl, sym, ◌∙◌, ap, subst}
+use Rattle.std.proofs.lemmas.Bool.{cond-true, both_ways}
+use Rattle.ata_types.specs.declared.Port.{Port}
+use Rattle.hba_regs.specs.Bits.{bit}
+use Rattle.hba_regs.specs.declared.reg.Reg.{Reg}
+use Rattle.hba_regs.specs.declared.reg.Reg.TheVariants.{Px}
+use Rattle.hba_regs.specs.declared.reg.PortReg.{PortReg}
+use Rattle.hba_regs.specs.declared.reg.PortReg.TheVariants.{Cmd, Sctl}
+use Rattle.adapter.specs.Access.{Access, Does, Reads, Writes, port_written, with_st, with_fre}
+use Rattle.adapter.specs.Access.Access.{Reading, Writing}
+use Rattle.adapter.specs.Device.{DevicePort, Device}
+use Rattle.adapter.specs.Device.Halt.{NotHalted}
+use Rattle.adapter.specs.Kept.{Keeps}
+use Rattle.adapter.specs.Steps.{DeviceTransition, Can, device_after, StepLeads, Steps}
+use Rattle.adapter.specs.Steps.DeviceTransition.{Fetch, FetchFault, Move, Clear, Done, Fault, Fatal, Fall, FrFall, LinkUp, Unplug, Plug, ResetEnds, Scribble}
+use Rattle.adapter.specs.declared.tape.Entry.{Entry}
+use Rattle.adapter.proofs.KeptLemmas.{step_keeps, law_steps_keep}
+use Rattle.refinement.specs.Relation.{port_at}
+use Rattle.refinement.specs.Errors.{ChangesByDisks, StaysClear}
+use Rattle.refinement.specs.Facts.{RunsWell, IsDisturbance, Undisturbed, ShowsNoTrouble}
+use Rattle.refinement.specs.Links.{SparesRegister}
+use Rattle.refinement.specs.Started.{IsStarted, ClearsNoStart}
+use Rattle.refinement.proofs.device.FactsOverAccesses.{access_steps, effect_keeps}
+use Rattle.refinement.proofs.device.ErrorBits.{plugs_come, steps_change, access_change}
+use Rattle.refinement.proofs.device.TapeGains.{NoneOf, gained_none}
+use Rattle.refinement.proofs.device.HealthyPort.{at_port, undisturbed_parts}
+use Rattle.refinement.proofs.device.PortControls.{spared, undisturbed_plugs}
+use Rattle.refinement.proofs.device.RaisedBits.{steps_unset, access_unset}
+
+-- ---- steps that disturb nothing
+
+-- before the effect of an access the tape has what it has after it
+pub calm_before : (port : ℕ) (old mid new : Device) → new.tape ≡ mid.tape → Undisturbed port old new → Undisturbed port old mid
+calm_before port old mid new same u = record { gained = u.gained; tape = sym same ∙ u.tape; calm = u.calm }
+
+-- what each step keeps that is no disturbance, lists of them keep
+pub leads_calmly : (port : ℕ) (P : Device → Type 0) →
+    ((d : Device) (gained : List Entry) → NoneOf (IsDisturbance port) gained → (step : DeviceTransition) → Can step d → (device_after step d).tape ≡ d.tape ++ gained → P d → P (device_after step d)) →
+    (steps : List DeviceTransition) (old new : Device) → StepLeads steps old new → Undisturbed port old new → P old → P new
+leads_calmly port P keep [] old new e u h = subst P (sym e) h
+leads_calmly port P keep (step ∷ steps) old new (can, lead) u h =
+    let k : Keeps old (device_after step old) = step_keeps step old can in
+    let l : Keeps (device_after step old) new = law_steps_keep (record { steps = steps; lead = lead }) in
+    let parts = undisturbed_parts port old (device_after step old) new k.gained l.gained k.tape l.tape u in
+    leads_calmly port P keep steps (device_after step old) new lead parts.1 (keep old parts.0.gained parts.0.calm step can parts.0.tape h)
+
+-- ---- a port that was started
+
+abbrev Started : DevicePort → Type 0
+Started p =
+    (p.st ≡ true) × (p.cr ≡ true) × (p.ssts_det ≡ 3) × (p.present ≡ true) × (p.fresh ≡ true) × (p.link_due ≡ false) × (p.halt ≡ NotHalted)
+    × (p.broken ≡ false)
+
+started_of : (p : DevicePort) → IsStarted p → Started p
+started_of p h = (h.st, h.cr, h.det, h.present, h.fresh, h.linked, h.running, h.whole)
+
+is_started : (p : DevicePort) → Started p → IsStarted p
+is_started p h = record { st = h.0; cr = h.1; det = h.2; present = h.3; fresh = h.4; linked = h.5; running = h.6; whole = h.7 }
+
+module _ (port : ℕ) (d : Device) (gained : List Entry) (calm : NoneOf (IsDisturbance port) gained) where
+  abbrev At : DevicePort → Type 0
+  At p = Started p
+
+  step_started : (step : DeviceTransition) → d.hr ≡ false → Can step d → (device_after step d).tape ≡ d.tape ++ gained → At (d.port port) → At ((device_after step d).port port)
+  step_started (Fetch p slot c places) off can is h = at_port At At d p port _ h (λ e x. x) (λ ne x. x)
+  step_started (FetchFault p slot queued kept_bits) off can is h = at_port At At d p port _ h
+      (λ e x. absurd (gained_none (IsDisturbance port) d.tape _ gained is calm e)) (λ ne x. x)
+  step_started (Move p slot t bytes) off can is h = at_port At At d p port _ h (λ e x. x) (λ ne x. x)
+  step_started (Clear p slot t first count) off can is h = at_port At At d p port _ h (λ e x. x) (λ ne x. x)
+  step_started (Done p slot flag t) off can is h = at_port At At d p port _ h (λ e x. (x.0, x.1, x.2, x.3, x.4, x.5, refl, x.7)) (λ ne x. x)
+  step_started (Fault p slot error kept_bits t) off can is h = at_port At At d p port _ h
+      (λ e x. absurd (gained_none (IsDisturbance port) d.tape _ gained is calm e)) (λ ne x. x)
+  step_started (Fatal p place) off can is h = at_port At At d p port _ h
+      (λ e x. absurd (gained_none (IsDisturbance port) d.tape _ gained is calm e)) (λ ne x. x)
+  step_started (Fall p) off can is h = at_port At At d p port _ h (λ e x. absurd (both_ways _ can.0 x.0)) (λ ne x. x)
+  step_started (FrFall p) off can is h = at_port At At d p port _ h (λ e x. x) (λ ne x. x)
+  step_started (LinkUp p sig n) off can is h = at_port At At d p port _ h (λ e x. absurd (both_ways _ x.5 can.due)) (λ ne x. x)
+  step_started (Unplug p) off can is h = at_port At At d p port _ h
+      (λ e x. absurd (gained_none (IsDisturbance port) d.tape _ gained is calm e)) (λ ne x. x)
+  step_started (Plug p disk) off can is h = at_port At At d p port _ h
+      (λ e x. absurd (gained_none (IsDisturbance port) d.tape _ gained is calm e)) (λ ne x. x)
+  step_started ResetEnds off can is h = absurd (both_ways _ off can)
+  step_started (Scribble p slot at bytes) off can is h = h
+
+-- no reset is pending, either
+abbrev OnStarted : ℕ → Device → Type 0
+OnStarted port d = (d.hr ≡ false) × Started (d.port port)
+
+on_started : (port : ℕ) (old new : Device) → old.hr ≡ false → Undisturbed port old new → Steps old new → Started (old.port port) → Started (new.port port)
+on_started port old new off u s h =
+    (leads_calmly port (OnStarted port)
+    (λ d gained calm step can is x. (((step_keeps step d can).on x.0).no_reset, step_started port d gained calm step x.0 can is x.1))
+    s.steps old new s.lead u (off, h)).1
+
+pub steps_started : (port : ℕ) (old new : Device) → old.hr ≡ false → Undisturbed port old new → Steps old new → IsStarted (old.port port) → IsStarted (new.port port)
+steps_started port old new off u s h = is_started (new.port port) (on_started port old new off u s (started_of (old.port port) h))
+
+-- ST stays 1
+command_started : (v tape : ℕ) (p : DevicePort) → bit v 0 ≡ true → Started p → Started (port_written Cmd v tape p)
+command_started v tape p on h =
+    subst (λ (b : Bool). Started (with_fre (bit v 4) (with_st b tape p))) (sym on)
+    (subst (λ (x : DevicePort). Started (with_fre (bit v 4) x)) (sym (cond-true p.st p _ h.0)) h)
+
+written_started : (r : PortReg) (v tape : ℕ) (p : DevicePort) → (r ≡ Cmd → bit v 0 ≡ true) → (r ≡ Sctl → ⊥) → Started p → Started (port_written r v tape p)
+written_started Cmd v tape p on other h = command_started v tape p (on refl) h
+written_started Sctl v tape p on other h = absurd (other refl)
+written_started _ v tape p on other h = h
+
+pub access_started : (port : Port) (access : Access) (old new : Device) → old.hr ≡ false → ClearsNoStart port access → SparesRegister (Px port Sctl) access → Undisturbed port.0 old new → Does access old new →
+    IsStarted (old.port port.0) → IsStarted (new.port port.0)
+access_started port access old new off keeps spares u x h =
+    let s = access_steps access old new x in
+    let c = on_started port.0 old s.0 off (calm_before port.0 old s.0 new s.2 u) s.1 (started_of (old.port port.0) h) in
+    is_started (new.port port.0)
+    (effect_keeps Started port (λ p r v y. y) (λ p y. y) access old new x
+    (λ r v mid is steps y. written_started r v (length mid.tape) (mid.port port.0)
+    (λ e. keeps v (is ∙ ap (λ (q : PortReg). Writing (Px port q) v) e)) (spared port r Sctl access v spares is) y) c)
+
+-- ---- the bits of trouble
+
+abbrev Quiets : DevicePort → DevicePort → Type 0
+Quiets first p = (place : ℕ) → 27 ≤ place → place ≤ 30 → first.is place ≡ false → p.is place ≡ false
+
+-- faults and fatal errors are disturbances
+on_quiets : (port : ℕ) (old new : Device) → Undisturbed port old new → Steps old new → Quiets (old.port port) (new.port port)
+on_quiets port old new u s = λ place low up clear. steps_unset (IsDisturbance port) port place low (λ f e z. e) (λ at e z. e) old new s (u.gained, u.tape, u.calm) clear
+
+access_quiets : (port : ℕ) (access : Access) (old new : Device) → Undisturbed port old new → Does access old new → Quiets (old.port port) (new.port port)
+access_quiets port access old new u x = λ place low up clear. access_unset (IsDisturbance port) port place low (λ f e z. e) (λ at e z. e) access old new x (u.gained, u.tape, u.calm) clear
+
+-- N and X, where no link is due
+clear_of : (port : ℕ) (old new : Device) → Undisturbed port old new → ChangesByDisks port old new → Quiets (old.port port) (new.port port) → StaysClear (old.port port) (new.port port)
+clear_of port old new u c quiets =
+    let none = undisturbed_plugs port old new u in
+    record { serr_n = c.serr_n none; serr_x = c.serr_x (plugs_come port old new none); is = quiets }
+
+pub steps_clear : (port : ℕ) (old new : Device) → old.hr ≡ false → (old.port port).link_due ≡ false → Undisturbed port old new → Steps old new → StaysClear (old.port port) (new.port port)
+steps_clear port old new off undue u s = clear_of port old new u (steps_change port old new off undue s) (on_quiets port old new u s)
+
+pub access_clear : (port : Port) (access : Access) (old new : Device) → old.hr ≡ false → (old.port port.0).link_due ≡ false → Undisturbed port.0 old new → Does access old new → StaysClear (old.port port.0) (new.port port.0)
+access_clear port access old new off undue u x = clear_of port.0 old new u (access_change port access old new off undue x) (access_quiets port.0 access old new u x)
+
+-- ---- both
+
+pub well_of : (p : DevicePort) → IsStarted p → ShowsNoTrouble p → RunsWell p
+well_of p h quiet = record {
+  st = h.st;
+  cr = h.cr;
+  det = h.det;
+  present = h.present;
+  fresh = h.fresh;
+  linked = h.linked;
+  running = h.running;
+  whole = h.whole;
+  quiet = quiet;
+}
+
+pub started_well : (p : DevicePort) → RunsWell p → IsStarted p
+started_well p h = record { st = h.st; cr = h.cr; det = h.det; present = h.present; fresh = h.fresh; linked = h.linked; running = h.running; whole = h.whole }
+
+pub shows_still : (p new : DevicePort) → StaysClear p new → ShowsNoTrouble p → ShowsNoTrouble new
+shows_still p new c h = record { serr_n = c.serr_n h.serr_n; serr_x = c.serr_x h.serr_x; quiet = λ place low up. c.is place low up (h.quiet place low up) }
+
+pub law_healthy_stays : (port : ℕ) (old new : Device) → old.hr ≡ false → Steps old new → Undisturbed port old new → RunsWell (old.port port) → RunsWell (new.port port)
+law_healthy_stays port old new off s u h =
+    well_of (new.port port) (steps_started port old new off u s (started_well (old.port port) h))
+    (shows_still (old.port port) (new.port port) (steps_clear port old new off h.linked u s) h.quiet)
+
+healthy_access : (port : Port) (access : Access) (old new : Device) → old.hr ≡ false → ClearsNoStart port access → SparesRegister (Px port Sctl) access → Undisturbed port.0 old new → Does access old new →
+    RunsWell (old.port port.0) → RunsWell (new.port port.0)
+healthy_access port access old new off keeps spares u x h =
+    well_of (new.port port.0) (access_started port access old new off keeps spares u x (started_well (old.port port.0) h))
+    (shows_still (old.port port.0) (new.port port.0) (access_clear port access old new off h.linked u x) h.quiet)
+
+-- a reading writes nothing
+pub reading_clears : (port : Port) (r : Reg) (v : ℕ) → ClearsNoStart port (Reading r v)
+reading_clears port r v w e = absurd (let z : Reading r v ≡ Writing (Px port Cmd) w = e in cc)
+
+pub healthy_reads : (port : ℕ) (r : Reg) (v : ℕ) (old new : Device) → old.hr ≡ false → Reads r v old new → Undisturbed port old new → RunsWell (old.port port) → RunsWell (new.port port)
+healthy_reads port r v old new off call u h = healthy_access (port_at port) (Reading r v) old new off (reading_clears (port_at port) r v) tt u call h
+
+-- what a write writes
+register_of : Reg → Access → Reg
+register_of r (Writing q v) = q
+register_of r _ = r
+
+value_of : ℕ → Access → ℕ
+value_of n (Writing q v) = v
+value_of n _ = n
+
+pub healthy_writes : (port : Port) (r : Reg) (v : ℕ) (old new : Device) → old.hr ≡ false → (r ≡ Px port Cmd → bit v 0 ≡ true) → (r ≡ Px port Sctl → ⊥) → Writes r v old new →
+    Undisturbed port.0 old new → RunsWell (old.port port.0) → RunsWell (new.port port.0)
+unfolding register_of value_of
+healthy_writes port r v old new off on other call u h =
+    healthy_access port (Writing r v) old new off
+    (λ w e. subst (λ (n : ℕ). bit n 0 ≡ true) (ap (value_of v) e) (on (ap (register_of r) e))) other u call h

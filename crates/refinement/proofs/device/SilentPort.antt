@@ -1,0 +1,111 @@
+-- A port whose engine stands does nothing.
+use Rattle.std.proofs.Common.{ℕ, ◌≡◌, ◌++◌, false, true, List, [], ◌∷◌, length, refl, sym, ◌∙◌, subst, append-nil}
+use Rattle.std.proofs.lemmas.List.{append_cancel_left}
+use Rattle.std.proofs.lemmas.List.Elements.{All-nil, All-cons}
+use Rattle.std.proofs.lemmas.Bool.{both_ways}
+use Rattle.hba_regs.specs.declared.reg.PortReg.{PortReg}
+use Rattle.hba_regs.specs.declared.reg.PortReg.TheVariants.{Cmd}
+use Rattle.adapter.specs.Access.{Access, Does, port_written}
+use Rattle.adapter.specs.Device.{Disk, DevicePort, Device}
+use Rattle.adapter.specs.Kept.{Keeps}
+use Rattle.adapter.specs.Steps.{DeviceTransition, Can, device_after, StepLeads, Steps}
+use Rattle.adapter.specs.Steps.DeviceTransition.{Fetch, FetchFault, Move, Clear, Done, Fault, Fatal, Fall, FrFall, LinkUp, Unplug, Plug, ResetEnds, Scribble}
+use Rattle.adapter.specs.declared.tape.Entry.{Entry}
+use Rattle.adapter.proofs.KeptLemmas.{step_keeps, law_steps_keep}
+use Rattle.refinement.specs.Relation.{port_at}
+use Rattle.refinement.specs.Errors.{IsComing, NoneComes, IsWork}
+use Rattle.refinement.proofs.device.FactsOverAccesses.{access_steps, effect_keeps}
+use Rattle.refinement.proofs.device.ErrorBits.{comes_parts, comes_before, command_beside}
+use Rattle.refinement.proofs.device.TapeGains.{NoneOf, GainsNone, gains_nothing, gains_more, gained_none}
+use Rattle.refinement.proofs.device.HealthyPort.{at_port}
+
+-- ---- its work
+
+module _ (port : ℕ) (d : Device) (cr : (d.port port).cr ≡ false) where
+  stands : (p : ℕ) → (d.port p).cr ≡ true → p ≡ port → ⊥
+  stands p on e = absurd (both_ways _ cr (subst (λ (k : ℕ). (d.port k).cr ≡ true) e on))
+
+  -- the tape gains one entry, or none
+  one : (e : Entry) → (IsWork port e → ⊥) → NoneOf (IsWork port) (e ∷ [])
+  one e other = All-cons (λ e. IsWork port e → ⊥) e [] other (All-nil (λ e. IsWork port e → ⊥))
+
+  no_entry : d.tape ≡ d.tape ++ []
+  no_entry = sym (append-nil d.tape)
+
+  step_silent : (step : DeviceTransition) → Can step d → GainsNone (IsWork port) d (device_after step d)
+  step_silent (Fetch p slot c places) can = ([], no_entry, All-nil (λ e. IsWork port e → ⊥))
+  step_silent (FetchFault p slot queued kept_bits) can = (_, refl, one _ (stands p can.working.running))
+  step_silent (Move p slot t bytes) can = (_, refl, one _ (stands p can.works.working.running))
+  step_silent (Clear p slot t first count) can = (_, refl, one _ (stands p can.works.working.running))
+  step_silent (Done p slot flag t) can = (_, refl, one _ (stands p can.works.working.running))
+  step_silent (Fault p slot error kept_bits t) can = (_, refl, one _ (stands p can.running))
+  step_silent (Fatal p place) can = (_, refl, one _ (stands p can.0))
+  step_silent (Fall p) can = ([], no_entry, All-nil (λ e. IsWork port e → ⊥))
+  step_silent (FrFall p) can = ([], no_entry, All-nil (λ e. IsWork port e → ⊥))
+  step_silent (LinkUp p sig n) can = ([], no_entry, All-nil (λ e. IsWork port e → ⊥))
+  step_silent (Unplug p) can = (_, refl, one _ (λ x. x))
+  step_silent (Plug p disk) can = (_, refl, one _ (λ x. x))
+  step_silent ResetEnds can = ([], no_entry, All-nil (λ e. IsWork port e → ⊥))
+  step_silent (Scribble p slot at bytes) can = ([], no_entry, All-nil (λ e. IsWork port e → ⊥))
+
+leads_silent : (port : ℕ) (steps : List DeviceTransition) (old new : Device) → (old.port port).cr ≡ false → StepLeads steps old new → GainsNone (IsWork port) old new
+leads_silent port [] old new cr e = subst (GainsNone (IsWork port) old) (sym e) (gains_nothing (IsWork port) old)
+leads_silent port (step ∷ steps) old new cr (can, lead) =
+    let k : Keeps old (device_after step old) = step_keeps step old can in
+    gains_more (IsWork port) old (device_after step old) new (step_silent port old cr step can) (leads_silent port steps (device_after step old) new ((k.port port).cr cr) lead)
+
+pub steps_silent : (port : ℕ) (old new : Device) (gained : List Entry) → (old.port port).cr ≡ false → Steps old new → new.tape ≡ old.tape ++ gained → NoneOf (IsWork port) gained
+steps_silent port old new gained cr s is =
+    let g = leads_silent port s.steps old new cr s.lead in
+    subst (NoneOf (IsWork port)) (append_cancel_left old.tape g.0 gained (sym g.1 ∙ is)) g.2
+
+pub access_silent : (port : ℕ) (access : Access) (old new : Device) (gained : List Entry) → (old.port port).cr ≡ false → Does access old new → new.tape ≡ old.tape ++ gained → NoneOf (IsWork port) gained
+access_silent port access old new gained cr x is = let s = access_steps access old new x in steps_silent port old s.0 gained cr s.1 (sym s.2 ∙ is)
+
+-- ---- its disk
+
+module _ (disk : Disk) where
+  -- the engine stands, and the disk is this one
+  abbrev Rests : DevicePort → Type 0
+  Rests p = (p.cr ≡ false) × (p.disk ≡ disk)
+
+  step_rests : (port : ℕ) (d : Device) (gained : List Entry) → NoneOf (IsComing port) gained → (step : DeviceTransition) → Can step d → (device_after step d).tape ≡ d.tape ++ gained → Rests (d.port port) → Rests ((device_after step d).port port)
+  step_rests port d gained none (Fetch p slot c places) can is h = at_port Rests Rests d p port _ h (λ e x. x) (λ ne x. x)
+  step_rests port d gained none (FetchFault p slot queued kept_bits) can is h = at_port Rests Rests d p port _ h (λ e x. x) (λ ne x. x)
+  step_rests port d gained none (Move p slot t bytes) can is h = at_port Rests Rests d p port _ h (λ e x. absurd (both_ways _ x.0 can.works.working.running)) (λ ne x. x)
+  step_rests port d gained none (Clear p slot t first count) can is h = at_port Rests Rests d p port _ h (λ e x. absurd (both_ways _ x.0 can.works.working.running)) (λ ne x. x)
+  step_rests port d gained none (Done p slot flag t) can is h = at_port Rests Rests d p port _ h (λ e x. x) (λ ne x. x)
+  step_rests port d gained none (Fault p slot error kept_bits t) can is h = at_port Rests Rests d p port _ h (λ e x. x) (λ ne x. x)
+  step_rests port d gained none (Fatal p place) can is h = at_port Rests Rests d p port _ h (λ e x. x) (λ ne x. x)
+  step_rests port d gained none (Fall p) can is h = at_port Rests Rests d p port _ h (λ e x. (refl, x.1)) (λ ne x. x)
+  step_rests port d gained none (FrFall p) can is h = at_port Rests Rests d p port _ h (λ e x. x) (λ ne x. x)
+  step_rests port d gained none (LinkUp p sig n) can is h = at_port Rests Rests d p port _ h (λ e x. x) (λ ne x. x)
+  step_rests port d gained none (Unplug p) can is h = at_port Rests Rests d p port _ h (λ e x. x) (λ ne x. x)
+  step_rests port d gained none (Plug p disk) can is h = at_port Rests Rests d p port _ h (λ e x. absurd (gained_none (IsComing port) d.tape _ gained is none e)) (λ ne x. x)
+  step_rests port d gained none ResetEnds can is h = (refl, h.1)
+  step_rests port d gained none (Scribble p slot at bytes) can is h = h
+
+  leads_rest : (port : ℕ) (steps : List DeviceTransition) (old new : Device) → StepLeads steps old new → NoneComes port old new → Rests (old.port port) → Rests (new.port port)
+  leads_rest port [] old new e comes h = subst (λ (d : Device). Rests (d.port port)) (sym e) h
+  leads_rest port (step ∷ steps) old new (can, lead) comes h =
+      let k : Keeps old (device_after step old) = step_keeps step old can in
+      let l : Keeps (device_after step old) new = law_steps_keep (record { steps = steps; lead = lead }) in
+      let parts = comes_parts port old (device_after step old) new k.gained l.gained k.tape l.tape comes in
+      leads_rest port steps (device_after step old) new lead parts.1 (step_rests port old parts.0.gained parts.0.none step can parts.0.tape h)
+
+  abbrev Holds : DevicePort → Type 0
+  Holds p = p.disk ≡ disk
+
+  written_disk : (r : PortReg) (v tape : ℕ) (p : DevicePort) → Holds p → Holds (port_written r v tape p)
+  written_disk Cmd v tape p h = (command_beside v tape p).5 ∙ h
+  written_disk _ v tape p h = h
+
+pub steps_hold : (port : ℕ) (old new : Device) → (old.port port).cr ≡ false → Steps old new → NoneComes port old new → (new.port port).disk ≡ (old.port port).disk
+steps_hold port old new cr s comes = (leads_rest (old.port port).disk port s.steps old new s.lead comes (cr, refl)).1
+
+pub access_hold : (port : ℕ) (access : Access) (old new : Device) → (old.port port).cr ≡ false → Does access old new → NoneComes port old new → (new.port port).disk ≡ (old.port port).disk
+access_hold port access old new cr x comes =
+    let s = access_steps access old new x in
+    effect_keeps (Holds (old.port port).disk) (port_at port) (λ p r v h. h) (λ p h. h) access old new x
+    (λ r v mid is steps h. written_disk (old.port port).disk r v (length mid.tape) (mid.port port) h)
+    (steps_hold port old s.0 cr s.1 (comes_before port old s.0 new s.2 comes))

@@ -1,0 +1,125 @@
+-- What the machine follows, as steps that a call adds.
+use Rattle.std.proofs.Common.{ℕ, ◌++◌, List, [], ◌∷◌, length, refl, sym, ◌∙◌, ap, subst, append_assoc, append-nil}
+use Rattle.hba_regs.specs.declared.reg.Reg.{Reg}
+use Rattle.adapter.specs.Access.{Reads, Writes, Loads, Stores}
+use Rattle.adapter.specs.Device as device
+use Rattle.adapter.specs.Device.{Device}
+use Rattle.adapter.specs.Rules.{MayWrite, IsStable}
+use Rattle.adapter.specs.Steps.{Steps}
+use Rattle.adapter.specs.declared.tape.Entry.{Entry}
+use Rattle.block_machine.specs.State.{Machine}
+use Rattle.block_machine.specs.Steps.{Step}
+use Rattle.block_machine.specs.Left as left
+use Rattle.block_machine.specs.Left.{AllTold}
+use Rattle.block_machine.specs.Histories.{IsReachable, IsSimulatedBySteps}
+use Rattle.block_machine.proofs.EventLemmas.{after-append}
+use Rattle.refinement.specs.Slots.{SlotStates}
+use Rattle.refinement.specs.Relation.{StateRelation}
+use Rattle.refinement.specs.Driver.{MayStore, LeavesUses, DriverState, DriverRelation, IsBacked, ByDevice}
+use Rattle.refinement.specs.Follows.{SimulatesSteps}
+use Rattle.refinement.specs.Tape.{TellsEntry, TapeTells, TellsAmong, AllOwn}
+use Rattle.refinement.proofs.steps.AdapterCalls.{read_follows, load_follows, store_follows}
+use Rattle.refinement.proofs.steps.FollowedSteps.{steps_follow, told_append, puts_append}
+use Rattle.refinement.proofs.steps.WaitingRequests.{follows_have, tells_device, device_append}
+use Rattle.refinement.proofs.steps.RegisterWrites.{write_follows}
+
+-- what a tape tells, it tells with none of the driver's steps among them
+pub tells_among : (m : Machine) (entries : List Entry) (steps : List Step) → TapeTells m entries steps → TellsAmong m entries steps
+tells_among m [] steps t = subst AllOwn (sym t) tt
+tells_among m (entry ∷ entries) steps t = (
+  [],
+  t.0,
+  t.1,
+  tt,
+  t.2,
+  subst (λ (first : List Step). TellsAmong (left.after m first) entries t.1) (sym (append-nil t.0)) (tells_among (left.after m t.0) entries t.1 t.3),
+  t.4 ∙ ap (λ (first : List Step). t.1 ++ first) (sym (append-nil t.0)),
+)
+
+own_append : (late early : List Step) → AllOwn late → AllOwn early → AllOwn (late ++ early)
+own_append [] early a b = b
+own_append (step ∷ late) early a b = (own_append late early a.0 b, a.1)
+
+-- one part of a call, and then another
+among_append : (m : Machine) (first then : List Entry) (early late : List Step) → TellsAmong m first early → TellsAmong (left.after m early) then late → TellsAmong m (first ++ then) (late ++ early)
+among_append m [] [] early late a b = own_append late early b a
+among_append m [] (entry ∷ entries) early late a b = (
+  b.0 ++ early,
+  b.1,
+  b.2,
+  own_append b.0 early b.3 a,
+  subst (λ (n : Machine). TellsEntry n entry b.1) (sym (after-append m b.0 early)) b.4,
+  subst (λ (n : Machine). TellsAmong n entries b.2) (sym (after-append m (b.1 ++ b.0) early) ∙ ap (left.after m) (append_assoc b.1 b.0 early)) b.5,
+  ap (λ (steps : List Step). steps ++ early) b.6 ∙ append_assoc b.2 (b.1 ++ b.0) early ∙ ap (λ (steps : List Step). b.2 ++ steps) (append_assoc b.1 b.0 early),
+)
+among_append m (entry ∷ entries) then early late a b = (
+  a.0,
+  a.1,
+  late ++ a.2,
+  a.3,
+  a.4,
+  among_append (left.after m (a.1 ++ a.0)) entries then a.2 late a.5
+      (subst (λ (n : Machine). TellsAmong n then late) (ap (left.after m) a.6 ∙ after-append m a.2 (a.1 ++ a.0)) b),
+  ap (λ (steps : List Step). late ++ steps) a.6 ∙ sym (append_assoc late a.2 (a.1 ++ a.0)),
+)
+
+pub backed_then : (old mid new : Device) (m : Machine) (early late : List Step) → IsBacked old mid m early → IsBacked mid new (left.after m early) late → IsBacked old new m (late ++ early)
+backed_then old mid new m early late a b = record {
+  telling = b.telling ∙ a.telling;
+  gained = a.gained ++ b.gained;
+  tape = b.tape ∙ (ap (λ t. t ++ b.gained) a.tape ∙ append_assoc old.tape a.gained b.gained);
+  tells = among_append m a.gained b.gained early late a.tells b.tells;
+  told = λ t. told_append m late early (a.told t) (b.told (a.telling ∙ t));
+  plugged = λ q.
+      let x = a.plugged q in
+      let y = b.plugged q in
+      (x.0 ++ y.0, y.1 ∙ ap (λ (l : List device.Disk). l ++ y.0) x.1 ∙ append_assoc (old.port q).plugged x.0 y.0, puts_append q x.0 y.0 early late x.2 y.2);
+}
+
+pub backed : (uses : SlotStates) (m : Machine) (old new : Device) → (f : SimulatesSteps uses m old new) → IsBacked old new m f.steps
+backed uses m old new f = record { telling = f.telling; gained = f.gained; tape = f.tape; tells = tells_among m f.gained f.steps f.tells; told = f.told; plugged = f.plugged }
+
+pub told_then : (old mid new : Device) (m : Machine) (early late : List Step) → ByDevice old mid m early → ByDevice mid new (left.after m early) late → ByDevice old new m (late ++ early)
+told_then old mid new m early late a b = record { backed = backed_then old mid new m early late a.backed b.backed; only = device_append late early b.only a.only }
+
+pub nothing_backed : (d : Device) (m : Machine) → IsBacked d d m []
+nothing_backed d m = record {
+  telling = refl;
+  gained = [];
+  tape = sym (append-nil d.tape);
+  tells = tt;
+  told = λ _. tt;
+  plugged = λ q. ([], sym (append-nil (d.port q).plugged), refl);
+}
+
+-- what is followed is known
+pub knowing_goes_on : (k : DriverState) (m : Machine) (new : Device) → DriverRelation m k → (f : SimulatesSteps k.uses m k.device new) →
+    DriverRelation (left.after m f.steps) (record k { device = new }) × ByDevice k.device new m f.steps
+knowing_goes_on k m new x f = (
+  record { agrees = f.agrees; have = λ port. follows_have k.uses m k.device new f port (k.parked port) (x.have port) },
+  record { backed = backed k.uses m k.device new f; only = tells_device m f.gained f.steps f.tells },
+)
+
+-- what is followed, with the slots as they were used
+pub follows_adds : (k : DriverState) (new : Device) → ((m : Machine) → IsReachable m → StateRelation k.uses m k.device → SimulatesSteps k.uses m k.device new) →
+    IsSimulatedBySteps DriverRelation k (record k { device = new }) (ByDevice k.device new)
+follows_adds k new f = record {
+  adds = λ m r x.
+      let y = f m r x.agrees in
+      (y.steps, y.may, record { agrees = y.agrees; have = λ port. follows_have k.uses m k.device new y port (k.parked port) (x.have port) }, record { backed = backed k.uses m k.device new y; only = tells_device m y.gained y.steps y.tells });
+}
+
+pub device_adds : (k : DriverState) (new : Device) → Steps k.device new → IsSimulatedBySteps DriverRelation k (record k { device = new }) (ByDevice k.device new)
+device_adds k new s = follows_adds k new (λ m r a. steps_follow k.uses m k.device new r a s)
+
+pub read_adds : (k : DriverState) (r : Reg) (v : ℕ) (new : Device) → Reads r v k.device new → IsSimulatedBySteps DriverRelation k (record k { device = new }) (ByDevice k.device new)
+read_adds k r v new call = follows_adds k new (λ m reached a. read_follows k.uses m r v k.device new reached a call)
+
+pub load_adds : (k : DriverState) (at : ℕ) (bytes : List ℕ) (new : Device) → Loads at bytes k.device new → IsSimulatedBySteps DriverRelation k (record k { device = new }) (ByDevice k.device new)
+load_adds k at bytes new call = follows_adds k new (λ m reached a. load_follows k.uses m at bytes k.device new reached a call)
+
+pub store_adds : (k : DriverState) (at : ℕ) (bytes : List ℕ) (new : Device) → MayStore k.uses at (length bytes) → Stores at bytes k.device new → IsSimulatedBySteps DriverRelation k (record k { device = new }) (ByDevice k.device new)
+store_adds k at bytes new may call = follows_adds k new (λ m reached a. store_follows k.uses m at bytes k.device new reached a may call)
+
+pub write_adds : (k : DriverState) (r : Reg) (v : ℕ) (new : Device) → IsStable (MayWrite r v) k.device → LeavesUses k.uses r v k.device → Writes r v k.device new → IsSimulatedBySteps DriverRelation k (record k { device = new }) (ByDevice k.device new)
+write_adds k r v new may x call = follows_adds k new (λ m reached a. write_follows k.uses m r v k.device new reached a may x call)

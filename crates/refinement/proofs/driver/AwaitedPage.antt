@@ -1,0 +1,330 @@
+-- The page of a command of the driver's own is awaited over steps and accesses.
+use Rattle.std.proofs.Common.{ℕ, ◌≡◌, ◌⊎◌, ◌≤◌, ◌+◌, ◌++◌, Bool, true, false, List, [], ◌∷◌, length, Some, refl, sym, ◌∙◌, ap, subst, arith, inl, inr, ⊎_elim, append_assoc, le_refl, if◌then◌else◌}
+use Rattle.std.proofs.lemmas.Bool.{cases_eq, cond-true, cond-false, or_left, or_right, both_ways, false≢true, true≢false}
+use Rattle.std.proofs.lemmas.List.{length-append}
+use Rattle.std.proofs.lemmas.List.Elements.{All-head, All-tail}
+use Rattle.std.proofs.lemmas.Option.{none-some, same_Some}
+use Rattle.ata_types.specs.declared.Port.{Port}
+use Rattle.hba_regs.specs.Bits.{bit}
+use Rattle.hba_regs.specs.declared.reg.Reg.TheVariants.{Px}
+use Rattle.hba_regs.specs.declared.reg.PortReg.{PortReg}
+use Rattle.hba_regs.specs.declared.reg.PortReg.TheVariants.{Cmd, Ci}
+use Rattle.adapter.specs.Access.{Access, Does, Reads, Writes, Loads, port_written, with_st, with_fre}
+use Rattle.adapter.specs.Access.Access.{Writing}
+use Rattle.adapter.specs.Commands.{Meaning, is_queued}
+use Rattle.adapter.specs.Device.{FetchedCommand, DevicePort, Device}
+use Rattle.adapter.specs.Kept.{Keeps, KeepsOn}
+use Rattle.adapter.specs.Memory.{changed}
+use Rattle.adapter.specs.Decoding.{DecodesTo}
+use Rattle.adapter.specs.Steps.{DeviceTransition, Can, device_after, StepLeads, Steps, begun, move_of}
+use Rattle.adapter.specs.Steps.DeviceTransition.{Fetch, FetchFault, Move, Clear, Done, Fault, Fatal, Fall, FrFall, LinkUp, Unplug, Plug, ResetEnds, Scribble}
+use Rattle.adapter.specs.declared.command.Operation.{Operation}
+use Rattle.adapter.specs.declared.tape.Entry.{Entry}
+use Rattle.adapter.specs.declared.tape.Move as tape_move
+use Rattle.adapter.specs.declared.tape.Entry.TheVariants as entry
+use Rattle.adapter.proofs.Changed.{changed_same, changed_other}
+use Rattle.adapter.proofs.KeptLemmas.{step_keeps, law_steps_keep}
+use Rattle.adapter.proofs.SaysLemmas.{says_meaning}
+use Rattle.block_machine.specs.Histories.{IsReachable}
+use Rattle.block_machine.specs.Left as left
+use Rattle.block_machine.specs.State.{Machine}
+use Rattle.block_machine.proofs.HistoryLemmas.{reached_more}
+use Rattle.refinement.specs.Relation.{StateRelation}
+use Rattle.refinement.specs.Awaits.{IsUnbrought, HasCome, AwaitsPage}
+use Rattle.refinement.specs.Driver.{IsOwnPrepared}
+use Rattle.refinement.specs.Facts.{FindsOwnPage}
+use Rattle.refinement.specs.Follows.{SimulatesSteps}
+use Rattle.refinement.specs.Places.{scratch_of}
+use Rattle.refinement.specs.Slots.{SlotState, Own, SlotStates, put, IsMove, IsOver, Brought, OwnWaits, OwnTaken, OwnOver, ServesOwn, RelatesSlot, op_of}
+use Rattle.refinement.specs.Started.{ClearsNoStart}
+use Rattle.refinement.proofs.driver.IssueWrite.{own_prepared_stays}
+use Rattle.refinement.proofs.device.FactsOverAccesses.{access_steps, effect_keeps}
+use Rattle.refinement.proofs.driver.EndedRequests.{page_is_read, page_is_loaded}
+use Rattle.refinement.proofs.steps.FollowedSteps.{step_follows, steps_follow}
+use Rattle.refinement.proofs.device.TapeGains.{NoneOf}
+use Rattle.refinement.proofs.device.HealthyPort.{at_port}
+use Rattle.refinement.proofs.driver.PutSlot.{put_same, own_over, issued_port}
+use Rattle.refinement.proofs.steps.TakenCommand.{own_plain}
+
+-- ---- a page that has come
+
+come_more : (tape gained : List Entry) (port : ℕ) (o : Operation) (since : ℕ) → HasCome tape port o since → HasCome (tape ++ gained) port o since
+come_more tape gained port o since h = record {
+  before = h.before;
+  move = h.move;
+  later = h.later ++ gained;
+  here = ap (λ (l : List Entry). l ++ gained) h.here ∙ append_assoc h.before (h.move ∷ h.later) gained;
+  after = h.after;
+  is_move = h.is_move;
+}
+
+come_since : (tape : List Entry) (port : ℕ) (o : Operation) (since n : ℕ) → since ≤ n → HasCome tape port o n → HasCome tape port o since
+come_since tape port o since n le h = record {
+  before = h.before;
+  move = h.move;
+  later = h.later;
+  here = h.here;
+  after = (let a = h.after in omega (arith, le, a));
+  is_move = h.is_move;
+}
+
+-- none of these entries is of the kind, so none stands in their midst
+none_within : (IsKind : Entry → Type 0) (early : List Entry) (e : Entry) (late : List Entry) → NoneOf IsKind (early ++ e ∷ late) → IsKind e → ⊥
+none_within IsKind [] e late none = All-head (λ x. IsKind x → ⊥) e late none
+none_within IsKind (x ∷ early) e late none = none_within IsKind early e late (All-tail (λ x. IsKind x → ⊥) x (early ++ e ∷ late) none)
+
+tail_same : (x y : Entry) (xs ys : List Entry) → x ∷ xs ≡ y ∷ ys → xs ≡ ys
+tail_same x y xs ys e = cc
+
+-- an entry of a kind doesn't come after the last one
+not_later : (IsKind : Entry → Type 0) (before : List Entry) (last : Entry) (later : List Entry) (early : List Entry) (e : Entry) (late : List Entry) →
+    before ++ last ∷ later ≡ early ++ e ∷ late → NoneOf IsKind later → IsKind e → length early ≤ length before
+not_later IsKind before last later [] e late same none is = omega arith
+not_later IsKind [] last later (x ∷ early) e late same none is =
+    absurd (none_within IsKind early e late (subst (NoneOf IsKind) (tail_same last x later (early ++ e ∷ late) same) none) is)
+not_later IsKind (y ∷ before) last later (x ∷ early) e late same none is =
+    let less = not_later IsKind before last later early e late (tail_same y x (before ++ last ∷ later) (early ++ e ∷ late) same) none is in
+    omega (arith, less)
+
+-- so the page that stands in the scratch frame came since then
+brought_since : (memory : ℕ → ℕ) (tape : List Entry) (port : ℕ) (o : Operation) (since n : ℕ) → HasCome tape port o since → (b : Brought memory tape port o n) → (c : Brought memory tape port o since) × (c.move ≡ b.move)
+brought_since memory tape port o since n h b = (
+  record {
+    before = b.before;
+    after = (let a = h.after in let l = not_later (IsMove port o) b.before (entry.Move b.move) b.later h.before h.move h.later (sym b.here ∙ h.here) b.last h.is_move in omega (arith, a, l));
+    move = b.move;
+    later = b.later;
+    here = b.here;
+    is_move = b.is_move;
+    last = b.last;
+    bytes = b.bytes;
+  },
+  refl,
+)
+
+-- ---- a step
+
+abbrev Un : DevicePort → Type 0
+Un p = (p.ci 0 ≡ true) × ((t : FetchedCommand) → p.taken 0 ≡ Some t → t.moved ≡ 0)
+
+-- bits of CI beside a slot
+other_left : (b : Bool) (f : ℕ → Bool) (slot : ℕ) → (slot ≡ 0 → ⊥) → (if b then changed f slot false else f) 0 ≡ f 0
+other_left true f slot ne = changed_other f slot false 0 (λ z. ne (sym z))
+other_left false f slot ne = refl
+
+other_right : (b : Bool) (f : ℕ → Bool) (slot : ℕ) → (slot ≡ 0 → ⊥) → (if b then f else changed f slot false) 0 ≡ f 0
+other_right true f slot ne = refl
+other_right false f slot ne = changed_other f slot false 0 (λ z. ne (sym z))
+
+plain_left : (b : Bool) (f g : ℕ → Bool) → b ≡ false → (if b then g else f) 0 ≡ f 0
+plain_left false f g plain = refl
+plain_left true f g plain = absurd (true≢false plain)
+
+module _ (uses : SlotStates) (m : Machine) (d : Device) (a : StateRelation uses m d) (port : ℕ) (o : Operation) (u : uses port 0 ≡ Own o) (off : d.hr ≡ false) (st : (d.port port).st ≡ true) (h : Un (d.port port)) where
+  served : ServesOwn d.memory d.tape (d.port port) port 0 o
+  served = subst (λ (v : SlotState). RelatesSlot m d.memory d.tape (d.port port) port 0 v) u (a.slot port 0)
+
+  -- what slot 0 has taken is the driver's command
+  taken_of : (t : FetchedCommand) → (d.port port).taken 0 ≡ Some t → (t.meaning ≡ served.command) × (t.places ≡ scratch_of port ∷ [])
+  taken_of t is = of served.stage
+    where
+      of : OwnWaits (d.port port) 0 ⊎ (OwnTaken d.memory d.tape (d.port port) port 0 served.command ⊎ OwnOver d.memory d.tape (d.port port) port 0 served.command) → (t.meaning ≡ served.command) × (t.places ≡ scratch_of port ∷ [])
+      of (inl y) = absurd (none-some _ (sym y.free ∙ is))
+      of (inr (inl y)) =
+          let same : y.command ≡ t = same_Some _ _ (sym y.taken ∙ is) in
+          (ap (λ (z : FetchedCommand). z.meaning) (sym same) ∙ y.meaning, ap (λ (z : FetchedCommand). z.places) (sym same) ∙ y.places_are)
+      of (inr (inr y)) = absurd (none-some _ (sym y.over.free ∙ is))
+
+  plain : (c : Meaning) → c ≡ served.command → is_queued c.operation ≡ false
+  plain c same = own_plain c.operation (ap (λ (w : Meaning). op_of w.operation) same ∙ ap op_of served.operation_is ∙ served.own)
+
+  -- a step of this slot, or of another
+  which : (p slot : ℕ) → ((p ≡ port) × (slot ≡ 0)) ⊎ (p ≡ port → slot ≡ 0 → ⊥)
+  which p slot = ⊎_elim
+      (λ (e : p ≡ port). ⊎_elim (λ (f : slot ≡ 0). inl (e, f)) (λ (n : slot ≡ 0 → ⊥). inr (λ _ f. n f)) (cases_eq slot 0))
+      (λ (n : p ≡ port → ⊥). inr (λ e _. n e))
+      (cases_eq p port)
+
+  there : {A : Type 0} (f : DevicePort → A) (p : ℕ) → p ≡ port → f (d.port port) ≡ f (d.port p)
+  there f p e = ap (λ (q : ℕ). f (d.port q)) (sym e)
+
+  taken_here : (p slot : ℕ) (t : FetchedCommand) → (p ≡ port) × (slot ≡ 0) → (d.port p).taken slot ≡ Some t → (d.port port).taken 0 ≡ Some t
+  taken_here p slot t x is = there (λ (q : DevicePort). q.taken 0) p x.0 ∙ ap (λ (s : ℕ). (d.port p).taken s) (sym x.1) ∙ is
+
+  still : (p : ℕ) (new : DevicePort) → (p ≡ port → new.ci 0 ≡ (d.port p).ci 0) → (p ≡ port → new.taken 0 ≡ (d.port p).taken 0) → Un (changed d.port p new port)
+  still p new ci taken = at_port Un Un d p port new h (λ e x. (ci e ∙ x.0, λ t is. x.1 t (sym (taken e) ∙ is))) (λ ne x. x)
+
+  -- slot 0 has taken this one then, with nothing moved
+  now : (p slot : ℕ) (new : DevicePort) (t : FetchedCommand) → (p ≡ port) × (slot ≡ 0) → new.ci 0 ≡ (d.port p).ci 0 → new.taken ≡ changed (d.port p).taken slot (Some t) → t.moved ≡ 0 → Un (changed d.port p new port)
+  now p slot new t x ci taken none = at_port Un Un d p port new h
+      (λ e y. (ci ∙ y.0, λ z is. ap (λ (w : FetchedCommand). w.moved) (sym (same_Some _ _ (sym (ap (λ (f : ℕ → _). f 0) taken ∙ ap (λ (s : ℕ). changed (d.port p).taken s (Some t) 0) x.1 ∙ changed_same (d.port p).taken 0 (Some t)) ∙ is))) ∙ none))
+      (λ ne y. absurd (ne (sym x.0)))
+
+  taken_beside : (p slot : ℕ) (x : _) → (p ≡ port → slot ≡ 0 → ⊥) → p ≡ port → changed (d.port p).taken slot x 0 ≡ (d.port p).taken 0
+  taken_beside p slot x ne e = changed_other (d.port p).taken slot x 0 (λ z. ne e (sym z))
+
+  abbrev Out : Device → Type 0
+  Out new = Un (new.port port) ⊎ HasCome new.tape port o (length d.tape)
+
+  step_awaits : (step : DeviceTransition) → Can step d → Out (device_after step d)
+  step_awaits (Fetch p slot c places) can = ⊎_elim
+      (λ x. inl (now p slot _ (begun c places) x
+      (plain_left (is_queued c.operation) (d.port p).ci _
+      (plain c (says_meaning d.memory (d.port port).bases.clb 0 c served.command places (scratch_of port ∷ [])
+      (subst (λ (q : ℕ). DecodesTo d.memory (d.port q).bases.clb 0 c places) x.0 (subst (λ (s : ℕ). DecodesTo d.memory (d.port p).bases.clb s c places) x.1 can.says)) served.told.says)))
+      refl refl))
+      (λ ne. inl (still p _ (λ e. other_left (is_queued c.operation) (d.port p).ci slot (ne e)) (taken_beside p slot _ ne)))
+      (which p slot)
+  step_awaits (Move p slot t bytes) can = ⊎_elim
+      (λ x. inr (record {
+        before = d.tape;
+        move = entry.Move (move_of p slot t bytes);
+        later = [];
+        here = refl;
+        after = le_refl (length d.tape);
+        is_move = (x.0, ap (λ (c : Meaning). c.operation) (taken_of t (taken_here p slot t x can.works.taken)).0 ∙ served.operation_is);
+      }))
+      (λ ne. inl (still p _ (λ e. refl) (taken_beside p slot _ ne)))
+      (which p slot)
+  step_awaits (Clear p slot t first count) can = ⊎_elim
+      (λ x. inl (now p slot _ (record t { cleared = t.cleared + count }) x refl refl (h.1 t (taken_here p slot t x can.works.taken))))
+      (λ ne. inl (still p _ (λ e. refl) (taken_beside p slot _ ne)))
+      (which p slot)
+  step_awaits (Done p slot flag t) can = ⊎_elim
+      (λ x.
+      let is = taken_here p slot t x can.works.taken in
+      let none : t.moved ≡ 0 = h.1 t is in
+      let one : length t.places ≡ 1 = ap length (taken_of t is).1 in
+      let full : t.moved ≡ length t.places = can.finished.moved in
+      absurd (omega (arith, none, one, full)))
+      (λ ne. inl (still p _ (λ e. other_right (is_queued t.meaning.operation) (d.port p).ci slot (ne e)) (taken_beside p slot _ ne)))
+      (which p slot)
+  step_awaits (Fall p) can = inl (at_port Un Un d p port _ h (λ e x. absurd (both_ways _ can.0 (sym (there (λ (q : DevicePort). q.st) p e) ∙ st))) (λ ne x. x))
+  step_awaits ResetEnds can = absurd (both_ways _ off can)
+  step_awaits (FetchFault p slot queued kept_bits) can = inl (still p _ (λ e. refl) (λ e. refl))
+  step_awaits (Fault p slot error kept_bits t) can = inl (still p _ (λ e. refl) (λ e. refl))
+  step_awaits (Fatal p place) can = inl (still p _ (λ e. refl) (λ e. refl))
+  step_awaits (FrFall p) can = inl (still p _ (λ e. refl) (λ e. refl))
+  step_awaits (LinkUp p sig n) can = inl (still p _ (λ e. refl) (λ e. refl))
+  step_awaits (Unplug p) can = inl (still p _ (λ e. refl) (λ e. refl))
+  step_awaits (Plug p disk) can = inl (still p _ (λ e. refl) (λ e. refl))
+  step_awaits (Scribble p slot at bytes) can = inl h
+
+-- ---- steps
+
+longer : (tape gained new : List Entry) (n : ℕ) → new ≡ tape ++ gained → n ≤ length tape → n ≤ length new
+longer tape gained new n is le = let l = length-append tape gained in let same : length new ≡ length (tape ++ gained) = ap length is in omega (arith, l, same, le)
+
+step_waits : (uses : SlotStates) (m : Machine) (port : ℕ) (o : Operation) (since : ℕ) (step : DeviceTransition) (d : Device) → StateRelation uses m d → Can step d → AwaitsPage uses port o since d → AwaitsPage uses port o since (device_after step d)
+step_waits uses m port o since step d a can w =
+    let k : Keeps d (device_after step d) = step_keeps step d can in
+    let on : KeepsOn d (device_after step d) = k.on w.off in
+    record {
+      off = on.no_reset;
+      st = (on.controls port).st ∙ w.st;
+      own = w.own;
+      known = longer d.tape k.gained (device_after step d).tape since k.tape w.known;
+      page = ⊎_elim
+          (λ (x : IsUnbrought (d.port port)). ⊎_elim
+          (λ (y : Un ((device_after step d).port port)). inl (record { issued = y.0; unmoved = y.1 }))
+          (λ (y : HasCome (device_after step d).tape port o (length d.tape)). inr (come_since (device_after step d).tape port o since (length d.tape) w.known y))
+          (step_awaits uses m d a port o w.own w.off w.st (x.issued, x.unmoved) step can))
+          (λ (x : HasCome d.tape port o since). inr (subst (λ (t : List Entry). HasCome t port o since) (sym k.tape) (come_more d.tape k.gained port o since x)))
+          w.page;
+    }
+
+leads_wait : (uses : SlotStates) (m : Machine) (port : ℕ) (o : Operation) (since : ℕ) (steps : List DeviceTransition) (old new : Device) → IsReachable m → StateRelation uses m old → StepLeads steps old new → AwaitsPage uses port o since old → AwaitsPage uses port o since new
+leads_wait uses m port o since [] old new r a e w = subst (AwaitsPage uses port o since) (sym e) w
+leads_wait uses m port o since (step ∷ steps) old new r a (can, lead) w =
+    let f : SimulatesSteps uses m old (device_after step old) = step_follows uses m old step r a can in
+    leads_wait uses (left.after m f.steps) port o since steps (device_after step old) new (reached_more m f.steps r f.may) f.agrees lead (step_waits uses m port o since step old a can w)
+
+pub steps_wait : (uses : SlotStates) (m : Machine) (port : ℕ) (o : Operation) (since : ℕ) (old new : Device) → IsReachable m → StateRelation uses m old → Steps old new → AwaitsPage uses port o since old → AwaitsPage uses port o since new
+steps_wait uses m port o since old new r a s w = leads_wait uses m port o since s.steps old new r a s.lead w
+
+-- ---- accesses
+
+-- a write leaves ST one, and each bit of CI
+abbrev Runs : DevicePort → Type 0
+Runs p = p.st ≡ true
+
+command_same : (v tape : ℕ) (p : DevicePort) → ((port_written Cmd v tape p).taken ≡ p.taken) × (bit v 0 ≡ true → p.st ≡ true → (port_written Cmd v tape p).st ≡ true) × (bit v 0 ≡ true → (port_written Cmd v tape p).ci ≡ p.ci)
+command_same v tape p = by (bit v 0) p.st refl
+  where
+    by : (b s : Bool) → p.st ≡ s → ((with_fre (bit v 4) (with_st b tape p)).taken ≡ p.taken) × (b ≡ true → p.st ≡ true → (with_fre (bit v 4) (with_st b tape p)).st ≡ true) × (b ≡ true → (with_fre (bit v 4) (with_st b tape p)).ci ≡ p.ci)
+    by false s is = (refl, λ on _. absurd (false≢true on), λ on. absurd (false≢true on))
+    by true true is = subst (λ (x : DevicePort). (x.taken ≡ p.taken) × (true ≡ true → p.st ≡ true → x.st ≡ true) × (true ≡ true → x.ci ≡ p.ci)) (sym (cond-true p.st p _ is)) (refl, λ _ st. st, λ _. refl)
+    by true false is = subst (λ (x : DevicePort). (x.taken ≡ p.taken) × (true ≡ true → p.st ≡ true → x.st ≡ true) × (true ≡ true → x.ci ≡ p.ci)) (sym (cond-false p.st p _ is)) (refl, λ _ st. refl, λ _. refl)
+
+written_runs : (r : PortReg) (v tape : ℕ) (p : DevicePort) → (r ≡ Cmd → bit v 0 ≡ true) → Runs p → Runs (port_written r v tape p)
+written_runs Cmd v tape p on h = (command_same v tape p).1 (on refl) h
+written_runs _ v tape p on h = h
+
+written_un : (r : PortReg) (v tape : ℕ) (p : DevicePort) → (r ≡ Cmd → bit v 0 ≡ true) → Un p → Un (port_written r v tape p)
+written_un Cmd v tape p on h =
+    let same = command_same v tape p in
+    (ap (λ (f : ℕ → Bool). f 0) (same.2 (on refl)) ∙ h.0, λ t is. h.1 t (sym (ap (λ (f : ℕ → _). f 0) same.0) ∙ is))
+written_un Ci v tape p on h = (or_left (p.ci 0) (bit v 0) h.0, h.1)
+written_un _ v tape p on h = h
+
+pub access_waits : (uses : SlotStates) (m : Machine) (port : Port) (o : Operation) (since : ℕ) (access : Access) (old new : Device) → IsReachable m → StateRelation uses m old → ClearsNoStart port access → new.hr ≡ false → Does access old new →
+    AwaitsPage uses port.0 o since old → AwaitsPage uses port.0 o since new
+access_waits uses m port o since access old new r a keeps off x w =
+    let s = access_steps access old new x in
+    let y : AwaitsPage uses port.0 o since s.0 = steps_wait uses m port.0 o since old s.0 r a s.1 w in
+    record {
+      off = off;
+      st = effect_keeps Runs port (λ p q v h. h) (λ p h. h) access old new x
+          (λ q v mid is steps h. written_runs q v (length mid.tape) (mid.port port.0) (λ e. keeps v (is ∙ ap (λ (z : PortReg). Writing (Px port z) v) e)) h) y.st;
+      own = w.own;
+      known = subst (λ (t : List Entry). since ≤ length t) (sym s.2) y.known;
+      page = ⊎_elim
+          (λ (z : IsUnbrought (s.0.port port.0)).
+          let n : Un (new.port port.0) = effect_keeps Un port (λ p q v h. h) (λ p h. h) access old new x
+          (λ q v mid is steps h. written_un q v (length mid.tape) (mid.port port.0) (λ e. keeps v (is ∙ ap (λ (z : PortReg). Writing (Px port z) v) e)) h) (z.issued, z.unmoved) in
+          inl (record { issued = n.0; unmoved = n.1 }))
+          (λ (z : HasCome s.0.tape port.0 o since). inr (subst (λ (t : List Entry). HasCome t port.0 o since) (sym s.2) z))
+          y.page;
+    }
+
+-- ---- it is issued, found and loaded
+
+pub page_is_issued : (uses : SlotStates) (m : Machine) (port : Port) (o : Operation) (v : ℕ) (old new : Device) → IsReachable m → StateRelation uses m old → old.hr ≡ false → IsOwnPrepared uses old port.0 o v → Writes (Px port Ci) v old new →
+    AwaitsPage (put uses port.0 0 (Own o)) port.0 o (length new.tape) new
+page_is_issued uses m port o v old new r a off x call =
+    let f : SimulatesSteps uses m old call.mid = steps_follow uses m old call.mid r a call.steps in
+    let y : IsOwnPrepared uses call.mid port.0 o v = own_prepared_stays uses m old call.mid port.0 o v r a off call.steps x in
+    let over : IsOver (call.mid.port port.0) 0 = own_over uses (left.after m f.steps) call.mid f.agrees port.0 o v y in
+    let is : new.port port.0 ≡ issued_port (call.mid.port port.0) v = ap (λ (d : Device). d.port port.0) call.effect ∙ changed_same call.mid.port port.0 _ in
+    record {
+      off = ap (λ (d : Device). d.hr) call.effect ∙ ((law_steps_keep call.steps).on off).no_reset;
+      st = ap (λ (p : DevicePort). p.st) is ∙ y.started;
+      own = put_same uses port.0 0 (Own o);
+      known = le_refl (length new.tape);
+      page = inl (record {
+        issued = ap (λ (p : DevicePort). p.ci 0) is ∙ or_right ((call.mid.port port.0).ci 0) (bit v 0) y.here;
+        unmoved = λ t taken. absurd (none-some _ (sym over.free ∙ (sym (ap (λ (p : DevicePort). p.taken 0) is) ∙ taken)));
+      });
+    }
+
+-- the command isn't issued any more
+come_of : (uses : SlotStates) (port : ℕ) (o : Operation) (since : ℕ) (d : Device) → AwaitsPage uses port o since d → (d.port port).ci 0 ≡ false → HasCome d.tape port o since
+come_of uses port o since d w clear = ⊎_elim (λ (x : IsUnbrought (d.port port)). absurd (both_ways _ clear x.issued)) (λ (x : HasCome d.tape port o since). x) w.page
+
+pub law_page_is_awaited : (uses : SlotStates) (m : Machine) (port : Port) (o : Operation) (since v : ℕ) (old new : Device) → IsReachable m → StateRelation uses m old → AwaitsPage uses port.0 o since old → Reads (Px port Ci) v old new → bit v 0 ≡ false →
+    FindsOwnPage uses m port.0 o old new × Brought new.memory new.tape port.0 o since
+law_page_is_awaited uses m port o since v old new r a w call clear =
+    let page : FindsOwnPage uses m port.0 o old new = page_is_read uses m port o v old new r a w.off w.st w.own call clear in
+    let y : AwaitsPage uses port.0 o since call.mid = steps_wait uses m port.0 o since old call.mid r a call.steps w in
+    let come : HasCome call.mid.tape port.0 o since = come_of uses port.0 o since call.mid y (sym (call.shows 0 (omega arith)) ∙ clear) in
+    let there : HasCome new.tape port.0 o since = subst (λ (t : List Entry). HasCome t port.0 o since) (sym (ap (λ (d : Device). d.tape) call.effect)) come in
+    (page, (brought_since new.memory new.tape port.0 o since (new.port port.0).notes.st_set_at there page.brought).0)
+
+pub awaited_is_loaded : (uses : SlotStates) (m : Machine) (port : ℕ) (o : Operation) (since : ℕ) (bytes : List ℕ) (old new : Device) → IsReachable m → StateRelation uses m old → AwaitsPage uses port o since old → IsOver (old.port port) 0 →
+    Loads (scratch_of port) bytes old new → length bytes ≡ 512 → (b : Brought new.memory new.tape port o since) × (bytes ≡ b.move.bytes.value)
+awaited_is_loaded uses m port o since bytes old new r a w over call size =
+    let page = page_is_loaded uses m port o bytes old new r a w.off w.st w.own over call size in
+    let y : AwaitsPage uses port o since new = steps_wait uses m port o since old new r a call.steps w in
+    let come : HasCome new.tape port o since = come_of uses port o since new y (((law_steps_keep call.steps).port port).ci 0 over.issued) in
+    let b = brought_since new.memory new.tape port o since (new.port port).notes.st_set_at come page.0.brought in
+    (b.0, page.1 ∙ ap (λ (x : tape_move.Move). x.bytes.value) (sym b.1))

@@ -1,0 +1,119 @@
+-- Clients store into their frames, and load from them.
+use Rattle.std.proofs.Common.{ℕ, ◌≡◌, ◌<◌, ◌≤◌, ◌+◌, ◌*◌, List, [], ◌∷◌, length, slice_index, Option, refl, sym, ◌∙◌, ap, subst, inr, ⊎_elim, arith}
+use Rattle.std.proofs.lemmas.Bool.{cases_lt}
+use Rattle.ata_types.specs.declared.refusal.MemFault.TheVariants.{FrameForeign, OutsideFrame}
+use Rattle.ata_types.specs.declared.request.ClientId.{ClientId}
+use Rattle.ata_types.specs.declared.request.Frame.{Frame}
+use Rattle.ata_types.specs.declared.request.RequestId.{RequestId}
+use Rattle.ata_types.specs.declared.memory.TheConstants.{DRIVER_FRAMES}
+use Rattle.adapter.specs.Access.{Loads, Stores}
+use Rattle.adapter.specs.Device.{Device}
+use Rattle.adapter.specs.Memory.{patched}
+use Rattle.adapter.proofs.MemoryLemmas.{bytes_index}
+use Rattle.block_machine.specs.Histories.{IsReachable}
+use Rattle.block_machine.specs.Left as left
+use Rattle.block_machine.specs.Left.{IsStart}
+use Rattle.block_machine.specs.Refusals.{IsOpen}
+use Rattle.block_machine.specs.State.{Machine}
+use Rattle.block_machine.specs.Steps.{Store, Load, May, after_step}
+use Rattle.block_machine.proofs.Configured.{owners_stay}
+use Rattle.block_machine.proofs.Limits.{owned}
+use Rattle.block_machine.proofs.HistoryLemmas.{reached_more}
+use Rattle.refinement.specs.Relation.{StateRelation}
+use Rattle.refinement.specs.Driver.{DriverState, DriverRelation, IsBacked, EndsWith}
+use Rattle.refinement.specs.Follows.{SimulatesSteps}
+use Rattle.refinement.specs.Slots.{SlotStates}
+use Rattle.refinement.proofs.driver.AddedSteps.{backed, backed_then}
+use Rattle.refinement.proofs.relation.WrittenBytes.{fixed_stays}
+use Rattle.refinement.proofs.driver.IssueWrite.{own_backed}
+use Rattle.refinement.proofs.steps.FollowedSteps.{steps_follow}
+use Rattle.refinement.proofs.steps.WrittenSector.{memory_put}
+use Rattle.refinement.proofs.relation.SlotRelation.{SameSlot-refl, GainsNone-refl, NoPort, slot_on}
+use Rattle.refinement.proofs.steps.SparedBook.{follows_spare}
+use Rattle.refinement.proofs.steps.WaitingRequests.{tells_device, follows_have}
+
+-- ---- loans and owners stay while the device goes on
+
+pub open_stays : (uses : SlotStates) (m : Machine) (old new : Device) (f : SimulatesSteps uses m old new) (client : ClientId) (frame : Frame) (offset n : ℕ) → IsOpen m.owner m.lent client frame offset n →
+    IsOpen (left.after m f.steps).owner (left.after m f.steps).lent client frame offset n
+open_stays uses m old new f client frame offset n opens =
+    let s = follows_spare uses m old new f in
+    subst (λ (o : Frame → Option ClientId). IsOpen o (left.after m f.steps).lent client frame offset n) (sym s.owner)
+    (subst (λ (l : Frame → Option RequestId). IsOpen m.owner l client frame offset n) (sym s.lent) opens)
+
+-- the frame is a client's, and the bytes are in it
+pub open_in : (m : Machine) → IsReachable m → (client : ClientId) (frame : Frame) (offset n : ℕ) → IsOpen m.owner m.lent client frame offset n → (DRIVER_FRAMES ≤ frame.0) × (offset + n ≤ 4096)
+open_in m r client frame offset n opens = (
+  (r.starts.owned frame client (sym (owners_stay r.first r.past frame) ∙ ap (λ (x : Machine). x.owner frame) (sym r.is) ∙ owned (m.owner frame) client (opens FrameForeign))).2,
+  ⊎_elim (λ (l : 4096 < offset + n). absurd (opens OutsideFrame l)) (λ (g : offset + n ≤ 4096). g) (cases_lt 4096 (offset + n)),
+)
+
+-- ---- a store
+
+stored_on : (uses : SlotStates) (m : Machine) (d : Device) → IsReachable m → StateRelation uses m d → (client : ClientId) (frame : Frame) (offset : ℕ) (bytes : List ℕ) → IsOpen m.owner m.lent client frame offset (length bytes) →
+    StateRelation uses (after_step m (Store client frame offset bytes)) (record d { memory = patched d.memory (4096 * frame.0 + offset) bytes })
+stored_on uses m d reached a client frame offset bytes opens =
+    let x = open_in m reached client frame offset (length bytes) opens in
+    let at : ℕ = 4096 * frame.0 + offset in
+    let fixed = fixed_stays NoPort uses d.memory (4096 * frame.0 + offset) bytes d.tape d.tape (inr (inr (inr (omega (arith, x.0))))) (λ q o u out. GainsNone-refl d.tape q o) in
+    record {
+      slot = λ q k. slot_on NoPort uses m (after_step m (Store client frame offset bytes)) d a (patched d.memory (4096 * frame.0 + offset) bytes) d.tape fixed q k (d.port q) (SameSlot-refl (d.port q) k) (λ _ z. z) (λ id u e _ r. r);
+      apart = a.apart;
+      received = a.received;
+      disk = λ q. record { present = (a.disk q).present; id = (a.disk q).id; size = (a.disk q).size };
+      memory = λ f b from small. memory_put m d.memory (4096 * frame.0 + offset) frame offset bytes refl x.1 a.memory f b from small;
+      sectors = λ t q. let s = a.sectors t q in record { told = s.told; tells = s.tells; same = s.same };
+      lasting = a.lasting;
+    }
+
+pub client_stores : (k : DriverState) (m : Machine) (client : ClientId) (frame : Frame) (offset : ℕ) (bytes : List ℕ) (new : Device) → IsReachable m → DriverRelation m k → May m (Store client frame offset bytes) →
+    Stores (4096 * frame.0 + offset) bytes k.device new → EndsWith k m (Store client frame offset bytes) (record k { device = new })
+client_stores k m client frame offset bytes new r knows may call =
+    let f : SimulatesSteps k.uses m k.device call.mid = steps_follow k.uses m k.device call.mid r knows.agrees call.steps in
+    let later : IsReachable (left.after m f.steps) = reached_more m f.steps r f.may in
+    let opens = open_stays k.uses m k.device call.mid f client frame offset (length bytes) may in
+    let first : IsBacked k.device call.mid m f.steps = backed k.uses m k.device call.mid f in
+    let all : IsBacked k.device call.mid m (Store client frame offset bytes ∷ f.steps) = backed_then k.device call.mid call.mid m f.steps (Store client frame offset bytes ∷ []) first (own_backed call.mid (left.after m f.steps) (Store client frame offset bytes) (λ z. z)) in
+    record {
+      steps = f.steps;
+      only = tells_device m f.gained f.steps f.tells;
+      may = (f.may, opens);
+      backed = subst (λ (d : Device). IsBacked k.device d m (Store client frame offset bytes ∷ f.steps)) (sym call.effect)
+          (record { telling = all.telling; gained = all.gained; tape = all.tape; tells = all.tells; told = all.told; plugged = all.plugged });
+      knows = record {
+        agrees = subst (λ (d : Device). StateRelation k.uses (after_step (left.after m f.steps) (Store client frame offset bytes)) d) (sym call.effect)
+            (stored_on k.uses (left.after m f.steps) call.mid later f.agrees client frame offset bytes opens);
+        have = λ q. follows_have k.uses m k.device call.mid f q (k.parked q) (knows.have q);
+      };
+    }
+
+-- ---- a load
+
+pub client_loads : (k : DriverState) (m : Machine) (client : ClientId) (frame : Frame) (offset : ℕ) (bytes : List ℕ) (new : Device) → IsReachable m → DriverRelation m k → IsOpen m.owner m.lent client frame offset (length bytes) →
+    Loads (4096 * frame.0 + offset) bytes k.device new → EndsWith k m (Load client frame offset bytes) (record k { device = new })
+client_loads k m client frame offset bytes new r knows may call =
+    let f : SimulatesSteps k.uses m k.device new = steps_follow k.uses m k.device new r knows.agrees call.steps in
+    let later : IsReachable (left.after m f.steps) = reached_more m f.steps r f.may in
+    let opens = open_stays k.uses m k.device new f client frame offset (length bytes) may in
+    let x = open_in (left.after m f.steps) later client frame offset (length bytes) opens in
+    let first : IsBacked k.device new m f.steps = backed k.uses m k.device new f in
+    record {
+      steps = f.steps;
+      only = tells_device m f.gained f.steps f.tells;
+      may = (
+        f.may,
+        (
+          opens,
+          λ b lt.
+              ap (λ (l : List ℕ). slice_index l b) call.shows
+              ∙ bytes_index new.memory (4096 * frame.0 + offset) (length bytes) b lt
+              ∙ ap new.memory (let e : 4096 * frame.0 + offset + b ≡ 4096 * frame.0 + (offset + b) = omega arith in e)
+              ∙ f.agrees.memory frame (offset + b) x.0 (let y = x.1 in omega (arith, y, lt)),
+        ),
+      );
+      backed = backed_then k.device new new m f.steps (Load client frame offset bytes ∷ []) first (own_backed new (left.after m f.steps) (Load client frame offset bytes) (λ z. z));
+      knows = record {
+        agrees = let a = f.agrees in record { slot = a.slot; apart = a.apart; received = a.received; disk = a.disk; memory = a.memory; sectors = a.sectors; lasting = a.lasting };
+        have = λ q. follows_have k.uses m k.device new f q (k.parked q) (knows.have q);
+      };
+    }

@@ -1,0 +1,122 @@
+-- A command that is over stays so, and so does what the machine has of its request.
+use Rattle.std.proofs.Common.{ℕ, ◌≡◌, ◌<◌, ◌||◌, Bool, true, false, List, length, None, refl, sym, ◌∙◌, ap, subst, inl, inr, ⊎_elim}
+use Rattle.std.specs.List.{Contains}
+use Rattle.std.proofs.lemmas.Bool.{cond-true, cond-false, false≢true}
+use Rattle.ata_types.specs.declared.Port.{Port}
+use Rattle.ata_types.specs.declared.request.RequestId.{RequestId}
+use Rattle.hba_regs.specs.Bits.{bit}
+use Rattle.hba_regs.specs.declared.reg.Reg.TheVariants.{Px}
+use Rattle.hba_regs.specs.declared.reg.PortReg.{PortReg}
+use Rattle.hba_regs.specs.declared.reg.PortReg.TheVariants.{Clb, Clbu, Fb, Fbu, Is, Cmd, Sctl, Serr, Sact, Ci}
+use Rattle.adapter.specs.Access.{Access, Does, port_written, with_st, with_fre}
+use Rattle.adapter.specs.Access.Access.{Writing}
+use Rattle.adapter.specs.Device.{DevicePort, Device}
+use Rattle.adapter.specs.Kept.{KeepsPort}
+use Rattle.adapter.specs.Steps.{Steps}
+use Rattle.adapter.proofs.KeptLemmas.{law_steps_keep}
+use Rattle.block_machine.specs.Events.{AllDevices}
+use Rattle.block_machine.specs.Left.{after}
+use Rattle.block_machine.specs.State.{Accepted, Pending, Machine}
+use Rattle.block_machine.specs.Steps.{Step, MayStillMove, NoneKept}
+use Rattle.refinement.specs.Facts.{EndedIn, IsClear}
+use Rattle.refinement.specs.Slots.{IsOver}
+use Rattle.refinement.specs.Spares.{IsFurther, SparesBook}
+use Rattle.refinement.proofs.device.FactsOverAccesses.{access_steps, effect_keeps}
+use Rattle.refinement.proofs.steps.SparedBook.{steps_spare, found_later}
+use Rattle.refinement.proofs.device.ClearSactBits.{if_false}
+use Rattle.refinement.proofs.steps.RegisterWrites.{or_false}
+
+-- ---- a slot
+
+pub steps_over : (port slot : ℕ) (old new : Device) → Steps old new → IsOver (old.port port) slot → IsOver (new.port port) slot
+steps_over port slot old new s h =
+    let k : KeepsPort (old.port port) (new.port port) = (law_steps_keep s).port port in
+    record { issued = k.ci slot h.issued; free = k.free slot h.issued h.free }
+
+pub steps_clear : (port slot : ℕ) (old new : Device) → Steps old new → IsClear (old.port port) slot → IsClear (new.port port) slot
+steps_clear port slot old new s h = record { over = steps_over port slot old new s h.over; sact = ((law_steps_keep s).port port).sact slot h.sact }
+
+-- the slot's bits are clear
+abbrev IsUnset : Bool → DevicePort → ℕ → Type 0
+IsUnset armed p slot = (p.ci slot ≡ false) × (p.taken slot ≡ None) × (armed ≡ true → p.sact slot ≡ false)
+
+command_unset : (armed : Bool) (slot v tape : ℕ) (p : DevicePort) → IsUnset armed p slot → IsUnset armed (port_written Cmd v tape p) slot
+command_unset armed slot v tape p h = by (bit v 0) p.st refl
+  where
+    by : (b s : Bool) → p.st ≡ s → IsUnset armed (with_fre (bit v 4) (with_st b tape p)) slot
+    by false s is = (if_false p.st p.ci slot h.0, h.1, λ a. if_false p.st p.sact slot (h.2 a))
+    by true true is = subst (λ (x : DevicePort). IsUnset armed (with_fre (bit v 4) x) slot) (sym (cond-true p.st p _ is)) h
+    by true false is = subst (λ (x : DevicePort). IsUnset armed (with_fre (bit v 4) x) slot) (sym (cond-false p.st p _ is)) h
+
+set_unset : (f : ℕ → Bool) (v slot : ℕ) → bit v slot ≡ false → f slot ≡ false → (f slot || bit v slot) ≡ false
+set_unset f v slot clear h = ap (λ (b : Bool). f slot || b) clear ∙ or_false (f slot) ∙ h
+
+written_unset : (armed : Bool) (slot : ℕ) (r : PortReg) (v tape : ℕ) (p : DevicePort) → (r ≡ Ci → bit v slot ≡ false) → (armed ≡ true → r ≡ Sact → bit v slot ≡ false) → IsUnset armed p slot → IsUnset armed (port_written r v tape p) slot
+written_unset armed slot Ci v tape p ci sact h = (set_unset p.ci v slot (ci refl) h.0, h.1, h.2)
+written_unset armed slot Sact v tape p ci sact h = (h.0, h.1, λ a. set_unset p.sact v slot (sact a refl) (h.2 a))
+written_unset armed slot Cmd v tape p ci sact h = command_unset armed slot v tape p h
+written_unset armed slot Clb v tape p ci sact h = h
+written_unset armed slot Clbu v tape p ci sact h = h
+written_unset armed slot Fb v tape p ci sact h = h
+written_unset armed slot Fbu v tape p ci sact h = h
+written_unset armed slot Is v tape p ci sact h = h
+written_unset armed slot Sctl v tape p ci sact h = h
+written_unset armed slot Serr v tape p ci sact h = h
+written_unset armed slot _ v tape p ci sact h = h
+
+-- the access doesn't write the slot's bit of the register
+abbrev Spares : Port → PortReg → ℕ → Access → Type 0
+Spares port r slot access = (v : ℕ) → access ≡ Writing (Px port r) v → bit v slot ≡ false
+
+effect_unset : (armed : Bool) (port : Port) (slot : ℕ) (access : Access) (old new : Device) (x : Does access old new) → Spares port Ci slot access → (armed ≡ true → Spares port Sact slot access) →
+    IsUnset armed ((access_steps access old new x).0.port port.0) slot → IsUnset armed (new.port port.0) slot
+effect_unset armed port slot access old new x ci sact h =
+    effect_keeps (λ (p : DevicePort). IsUnset armed p slot) port (λ p r v y. y) (λ p y. y) access old new x
+    (λ r v mid is s y. written_unset armed slot r v (length mid.tape) (mid.port port.0)
+    (λ e. ci v (is ∙ ap (λ (q : PortReg). Writing (Px port q) v) e))
+    (λ a e. sact a v (is ∙ ap (λ (q : PortReg). Writing (Px port q) v) e)) y)
+    h
+
+pub access_over : (port : Port) (slot : ℕ) (access : Access) (old new : Device) → ((v : ℕ) → access ≡ Writing (Px port Ci) v → bit v slot ≡ false) → Does access old new → IsOver (old.port port.0) slot → IsOver (new.port port.0) slot
+access_over port slot access old new ci x h =
+    let s = access_steps access old new x in
+    let mid : IsOver (s.0.port port.0) slot = steps_over port.0 slot old s.0 s.1 h in
+    let e = effect_unset false port slot access old new x ci (λ a. absurd (false≢true a)) (mid.issued, mid.free, λ a. absurd (false≢true a)) in
+    record { issued = e.0; free = e.1 }
+
+pub access_clear : (port : Port) (slot : ℕ) (access : Access) (old new : Device) → ((v : ℕ) → access ≡ Writing (Px port Ci) v → bit v slot ≡ false) → ((v : ℕ) → access ≡ Writing (Px port Sact) v → bit v slot ≡ false) →
+    Does access old new → IsClear (old.port port.0) slot → IsClear (new.port port.0) slot
+access_clear port slot access old new ci sact x h =
+    let s = access_steps access old new x in
+    let mid : IsClear (s.0.port port.0) slot = steps_clear port.0 slot old s.0 s.1 h in
+    let e = effect_unset true port slot access old new x ci (λ a. sact) (mid.over.issued, mid.over.free, λ a. mid.sact) in
+    record { over = record { issued = e.0; free = e.1 }; sact = e.2 refl }
+
+-- ---- its request
+
+pub ended_stays : (m : Machine) (steps : List Step) (port : Port) (id : RequestId) → AllDevices steps → EndedIn m port id → EndedIn (after m steps) port id
+ended_stays m steps port id is h = ⊎_elim booked kept h.moves
+  where
+    spares : SparesBook m (after m steps)
+    spares = steps_spare m steps is
+
+    ended : (x : Pending) → IsFurther h.pending x → MayStillMove (after m steps) x → (NoneKept (after m steps) port → Contains (after m steps).book x) → EndedIn (after m steps) port id
+    ended x f moves booked = record {
+      pending = x;
+      moves = moves;
+      id_is = ap (λ (r : Accepted). r.id) f.request ∙ h.id_is;
+      port_is = ap (λ (r : Accepted). r.port) f.request ∙ h.port_is;
+      ended = f.ended h.ended;
+      touched = λ i lt. f.touched i (h.touched i (subst (λ (r : Accepted). i < r.asked.count) f.request lt));
+      booked = booked;
+    }
+
+    booked : Contains m.book h.pending × (h.pending.issued ≡ true) → EndedIn (after m steps) port id
+    booked z =
+        let q = found_later m.book (after m steps).book h.pending spares.book z.0 in
+        ended q.0 q.2 (inl (q.1, q.2.issued ∙ z.1)) (λ none. q.1)
+
+    kept : Contains m.kept h.pending → EndedIn (after m steps) port id
+    kept z =
+        let q = found_later m.kept (after m steps).kept h.pending spares.kept z in
+        ended q.0 q.2 (inr q.1) (λ none. absurd (none q.0 q.1 (ap (λ (r : Accepted). r.port) q.2.request ∙ h.port_is)))

@@ -1,0 +1,192 @@
+-- A slot that is made ready stays so, and its bit of PxCI may be written.
+use Rattle.std.proofs.Common.{ℕ, if◌then◌else◌, ◌≡◌, ◌≢◌, ◌<◌, ◌≤◌, ◌/◌, ◌%◌, Bool, true, false, not, List, length, None, refl, sym, ◌∙◌, ap, subst, ⊎_elim}
+use Rattle.std.proofs.lemmas.Bool.{cases_eq, cond-true, cond-false, both_ways}
+use Rattle.ata_types.specs.declared.Port.{Port}
+use Rattle.hba_regs.specs.Bits.{bit}
+use Rattle.hba_regs.specs.declared.reg.Reg.TheVariants.{Px}
+use Rattle.hba_regs.specs.declared.reg.PortReg.{PortReg}
+use Rattle.hba_regs.specs.declared.reg.PortReg.TheVariants.{Cmd, Clb, Sact, Ci}
+use Rattle.adapter.specs.Access.{Access, Does, Writes, port_written, with_st, with_fre}
+use Rattle.adapter.specs.Access.Access.{Reading, Writing, Loading, Storing}
+use Rattle.adapter.specs.Commands.{Meaning, is_queued}
+use Rattle.adapter.specs.Device.{Bases, DevicePort, Device}
+use Rattle.adapter.specs.Kept.{Keeps, KeepsOn}
+use Rattle.adapter.specs.Rules.{IsOn, HasPort, MayWrite, IsStable}
+use Rattle.adapter.specs.Decoding.{DecodesTo}
+use Rattle.adapter.specs.Steps.{Steps}
+use Rattle.adapter.proofs.KeptLemmas.{law_steps_keep}
+use Rattle.adapter.proofs.MemoryLemmas.{patched_apart}
+use Rattle.adapter.proofs.SaysLemmas.{says_meaning}
+use Rattle.block_machine.specs.Due.{is_plain}
+use Rattle.block_machine.specs.Histories.{IsReachable}
+use Rattle.block_machine.specs.Left as left
+use Rattle.block_machine.specs.State.{Pending, Machine}
+use Rattle.block_machine.specs.Steps.{Issue, May}
+use Rattle.block_machine.specs.declared.due.QueueMode.{QueueMode}
+use Rattle.refinement.specs.Relation.{StateRelation}
+use Rattle.refinement.specs.Driver.{IsPrepared, LeavesFree, MissesTable}
+use Rattle.refinement.specs.Follows.{SimulatesSteps}
+use Rattle.refinement.specs.Links.{SparesRegister}
+use Rattle.refinement.specs.Places.{IsTableByte}
+use Rattle.refinement.specs.Slots.{SlotState, Free, Armed, SlotStates, put, Means, HasTrimBlock, IsArmed, IsEmptySlot, IsOver, RelatesSlot}
+use Rattle.refinement.specs.Started.{ClearsNoStart}
+use Rattle.refinement.proofs.device.FactsOverAccesses.{access_steps, effect_keeps}
+use Rattle.refinement.proofs.steps.FollowedSteps.{steps_follow}
+use Rattle.refinement.proofs.steps.UnusedSlots.{steps_leave}
+use Rattle.refinement.proofs.driver.UnusedOverCalls.{noted_memory, written_memory}
+use Rattle.refinement.proofs.device.PortControls.{spared}
+use Rattle.refinement.proofs.driver.PutSlot.{put_same}
+use Rattle.refinement.proofs.relation.SlotRelation.{told_on, placed_on}
+use Rattle.refinement.specs.Readying.{IsStored, IsReadied}
+
+-- the same port, as far as the slot's bytes and ST go, and the same table
+stored_on : (old new : Device) (port slot : ℕ) (c : Meaning) (places : List ℕ) → (new.port port).st ≡ true → (new.port port).bases.clb ≡ (old.port port).bases.clb →
+    (port < 4 → slot < 32 → (at : ℕ) → IsTableByte port slot at → new.memory at ≡ old.memory at) → IsStored old port slot c places → IsStored new port slot c places
+stored_on old new port slot c places st list same x = record {
+  started = st;
+  placed = placed_on (old.port port) (new.port port) port slot list x.placed;
+  told = told_on old.memory new.memory (old.port port).bases.clb (new.port port).bases.clb port slot c places x.placed.list list (same x.placed.port_below x.placed.slot_below) x.told;
+}
+
+-- ---- the device's steps
+
+module _ (uses : SlotStates) (m : Machine) (port slot : ℕ) (c : Meaning) (places : List ℕ) (old new : Device) (reached : IsReachable m) (a : StateRelation uses m old) (off : old.hr ≡ false) (s : Steps old new) where
+  leaves : LeavesFree uses old new
+  leaves = steps_leave uses m old new reached a off s
+
+  pub steps_stored : IsStored old port slot c places → IsStored new port slot c places
+  steps_stored x =
+      let k : Keeps old new = law_steps_keep s in
+      stored_on old new port slot c places (((k.on off).controls port).st ∙ x.started) (ap (λ (b : Bases). b.clb) (k.port port).bases)
+      (λ low small at t. leaves.tables port slot at low small t) x
+
+-- ---- an access
+
+-- what an access leaves of a slot's table, where it stores nothing there
+module _ (uses : SlotStates) (m : Machine) (port slot : ℕ) (old new : Device) (reached : IsReachable m) (a : StateRelation uses m old) (off : old.hr ≡ false) (low : port < 4) (small : slot < 32) where
+  access_tables : (access : Access) → ((from : ℕ) (bytes : List ℕ) → access ≡ Storing from bytes → MissesTable port slot from (length bytes)) → Does access old new → (at : ℕ) → IsTableByte port slot at → new.memory at ≡ old.memory at
+  access_tables (Reading r v) misses x at t =
+      ap (λ (d : Device). d.memory at) x.effect ∙ (ap (λ (f : ℕ → ℕ). f at) (noted_memory r v x.mid) ∙ (steps_leave uses m old x.mid reached a off x.steps).tables port slot at low small t)
+  access_tables (Writing r v) misses x at t =
+      ap (λ (d : Device). d.memory at) x.effect ∙ (ap (λ (f : ℕ → ℕ). f at) (written_memory r v x.mid) ∙ (steps_leave uses m old x.mid reached a off x.steps).tables port slot at low small t)
+  access_tables (Loading from bytes) misses x at t = (steps_leave uses m old new reached a off x.steps).tables port slot at low small t
+  access_tables (Storing from bytes) misses x at t =
+      ap (λ (d : Device). d.memory at) x.effect
+      ∙ (patched_apart x.mid.memory from bytes at (λ below above. misses from bytes refl at t below above) ∙ (steps_leave uses m old x.mid reached a off x.steps).tables port slot at low small t)
+
+-- ST is 1, with the list where it is
+abbrev On : ℕ → DevicePort → Type 0
+On list p = (p.st ≡ true) × (p.bases.clb ≡ list)
+
+written_on_still : (list : ℕ) (r : PortReg) (v tape : ℕ) (p : DevicePort) → (r ≡ Cmd → bit v 0 ≡ true) → r ≢ Clb → On list p → On list (port_written r v tape p)
+written_on_still list Cmd v tape p on other h =
+    subst (λ (b : Bool). On list (with_fre (bit v 4) (with_st b tape p))) (sym (on refl))
+    (subst (λ (x : DevicePort). On list (with_fre (bit v 4) x)) (sym (cond-true p.st p _ h.0)) h)
+written_on_still list Clb v tape p on other h = absurd (other refl)
+written_on_still list _ v tape p on other h = h
+
+module _ (uses : SlotStates) (m : Machine) (port : Port) (slot : ℕ) (c : Meaning) (places : List ℕ) (access : Access) (old new : Device) (reached : IsReachable m) (a : StateRelation uses m old) (off : old.hr ≡ false)
+    (keeps : ClearsNoStart port access) (spares : SparesRegister (Px port Clb) access) where
+  started_by : (r : PortReg) (v : ℕ) → access ≡ Writing (Px port r) v → r ≡ Cmd → bit v 0 ≡ true
+  started_by r v is e = keeps v (is ∙ ap (λ (w : PortReg). Writing (Px port w) v) e)
+
+  pub access_stored : ((at : ℕ) (bytes : List ℕ) → access ≡ Storing at bytes → MissesTable port.0 slot at (length bytes)) → Does access old new → IsStored old port.0 slot c places → IsStored new port.0 slot c places
+  access_stored misses x h =
+      let s = access_steps access old new x in
+      let y : IsStored s.0 port.0 slot c places = steps_stored uses m port.0 slot c places old s.0 reached a off s.1 h in
+      let k : Keeps old s.0 = law_steps_keep s.1 in
+      let on : On (old.port port.0).bases.clb (new.port port.0) =
+      effect_keeps (On (old.port port.0).bases.clb) port (λ p q v z. z) (λ p z. z) access old new x
+      (λ q v mid is steps z. written_on_still (old.port port.0).bases.clb q v (length mid.tape) (mid.port port.0) (started_by q v is) (spared port q Clb access v spares is) z)
+      (y.started, ap (λ (b : Bases). b.clb) (k.port port.0).bases) in
+      stored_on old new port.0 slot c places on.0 on.1 (λ low small at t. access_tables uses m port.0 slot old new reached a off low small access misses x at t) h
+
+-- a write of PxSACT clears no ST
+sact_keeps : (port : Port) (v : ℕ) → ClearsNoStart port (Writing (Px port Sact) v)
+sact_keeps port v w e = absurd (let z : Writing (Px port Sact) v ≡ Writing (Px port Cmd) w = e in cc)
+
+pub arming_readies : (uses : SlotStates) (m : Machine) (port : Port) (slot : ℕ) (c : Meaning) (places : List ℕ) (v : ℕ) (old new : Device) → IsReachable m → StateRelation uses m old → old.hr ≡ false → is_queued c.operation ≡ true →
+    Writes (Px port Sact) v old new → IsStored old port.0 slot c places → IsReadied (put uses port.0 slot Armed) new port.0 slot c places
+arming_readies uses m port slot c places v old new reached a off queued call x = record {
+  used = put_same uses port.0 slot Armed ∙ sym (cond-true (is_queued c.operation) Armed Free queued);
+  stored = access_stored uses m port slot c places (Writing (Px port Sact) v) old new reached a off (sact_keeps port v)
+      (λ e. let z : Px port Sact ≡ Px port Clb = e in cc)
+      (λ at bytes e. absurd (let z : Writing (Px port Sact) v ≡ Storing at bytes = e in cc)) call x;
+}
+
+pub plain_readied : (uses : SlotStates) (d : Device) (port slot : ℕ) (c : Meaning) (places : List ℕ) → is_queued c.operation ≡ false → uses port slot ≡ Free → IsStored d port slot c places → IsReadied uses d port slot c places
+plain_readied uses d port slot c places plain free x = record { used = free ∙ sym (cond-false (is_queued c.operation) Armed Free plain); stored = x }
+
+-- ---- the write of PxCI
+
+-- the slot has no command, and its bit of PxSACT is as this one
+record ReadyTo (queued : Bool) (p : DevicePort) (slot : ℕ) : Type 0 where
+  over : IsOver p slot
+  armed : p.sact slot ≡ queued
+
+served_ready : (m : Machine) (d : Device) (port slot : ℕ) (queued : Bool) (u : SlotState) → u ≡ (if queued then Armed else Free) → (d.port port).st ≡ true →
+    RelatesSlot m d.memory d.tape (d.port port) port slot u → ReadyTo queued (d.port port) slot
+served_ready m d port slot true u e st served =
+    let h : IsArmed (d.port port) slot = subst (λ (w : SlotState). RelatesSlot m d.memory d.tape (d.port port) port slot w) e served in
+    record { over = record { issued = h.issued; free = h.free }; armed = h.armed ∙ st }
+served_ready m d port slot false u e st served =
+    let h : IsEmptySlot (d.port port) slot = subst (λ (w : SlotState). RelatesSlot m d.memory d.tape (d.port port) port slot w) e served in
+    record { over = record { issued = h.issued; free = h.free }; armed = h.unarmed }
+
+-- a queued command is one that isn't plain
+used_so : (plain queued : Bool) → queued ≡ not plain → (if queued then Armed else Free) ≡ (if plain then Free else Armed)
+used_so true queued e = cond-false queued Armed Free e
+used_so false queued e = cond-true queued Armed Free e
+
+pub readied_permitted : (uses : SlotStates) (m : Machine) (d : Device) (port : Port) (slot : ℕ) (c : Meaning) (places : List ℕ) (v : ℕ) → IsReachable m → StateRelation uses m d → IsOn d → HasPort d port.0 → slot ≤ d.cap / 256 % 32 →
+    IsReadied uses d port.0 slot c places → bit v slot ≡ true → ((k : ℕ) → k ≢ slot → bit v k ≡ false) → IsStable (MayWrite (Px port Ci) v) d
+readied_permitted uses m d port slot c places v reached a on there usable x here alone mid s =
+    let f : SimulatesSteps uses m d mid = steps_follow uses m d mid reached a s in
+    let y : IsStored mid port.0 slot c places = steps_stored uses m port.0 slot c places d mid reached a on.no_reset s x.stored in
+    let k : Keeps d mid = law_steps_keep s in
+    let w : KeepsOn d mid = k.on on.no_reset in
+    let h : ReadyTo (is_queued c.operation) (mid.port port.0) slot =
+    served_ready (left.after m f.steps) mid port.0 slot (is_queued c.operation) (uses port.0 slot) x.used y.started (f.agrees.slot port.0 slot) in (
+      record { ae = w.ae ∙ on.ae; no_reset = w.no_reset },
+      (there.0, ap (λ (n : ℕ). bit n port.0) k.pi ∙ there.1),
+      record {
+        running = y.started;
+        usable = λ j b. subst (λ (n : ℕ). n ≤ mid.cap / 256 % 32) (sym (one j b)) (subst (λ (n : ℕ). slot ≤ n / 256 % 32) (sym k.cap) usable);
+        free = λ j b. subst (λ (n : ℕ). ((mid.port port.0).ci n ≡ false) × ((mid.port port.0).taken n ≡ None)) (sym (one j b)) (h.over.issued, h.over.free);
+        says = λ j b. subst (λ (n : ℕ). (meaning : Meaning) × (list : List ℕ) × DecodesTo mid.memory (mid.port port.0).bases.clb n meaning list) (sym (one j b)) (c, places, y.told.says);
+        queued = λ j meaning list b says q.
+            let z : DecodesTo mid.memory (mid.port port.0).bases.clb slot meaning list = subst (λ (n : ℕ). DecodesTo mid.memory (mid.port port.0).bases.clb n meaning list) (one j b) says in
+            ap (λ (n : ℕ). (mid.port port.0).sact n) (one j b) ∙ h.armed
+            ∙ ap (λ (e : Meaning). is_queued e.operation) (sym (says_meaning mid.memory (mid.port port.0).bases.clb slot meaning c list places z y.told.says)) ∙ q;
+      },
+    )
+  where
+    one : (j : ℕ) → bit v j ≡ true → j ≡ slot
+    one j b = ⊎_elim (λ (e : j ≡ slot). e) (λ (ne : j ≡ slot → ⊥). absurd (both_ways _ (alone j ne) b)) (cases_eq j slot)
+
+pub readied_prepared : (uses : SlotStates) (m : Machine) (d : Device) (port slot : ℕ) (c : Meaning) (places : List ℕ) (mode : QueueMode) (e : Pending) (v : ℕ) → IsReadied uses d port slot c places → May m (Issue mode e) → e.request.port.0 ≡ port →
+    slot < mode.usable → (is_plain mode e.request.asked.op ≡ true → slot ≡ 0) → Means port slot e.request c places → is_queued c.operation ≡ not (is_plain mode e.request.asked.op) →
+    HasTrimBlock e.request.asked.op d.memory port e.request → bit v slot ≡ true → ((k : ℕ) → k ≢ slot → bit v k ≡ false) → IsPrepared uses m d port slot mode e v
+readied_prepared uses m d port slot c places mode e v x may at_port usable head means kind block here alone = record {
+  may = may;
+  port_is = at_port;
+  free = x.used ∙ used_so (is_plain mode e.request.asked.op) (is_queued c.operation) kind;
+  usable = usable;
+  head = head;
+  started = x.stored.started;
+  placed = x.stored.placed;
+  command = c;
+  places = places;
+  told = x.stored.told;
+  means = means;
+  kind = kind;
+  block = block;
+  here = here;
+  alone = alone;
+}
+
+pub prepared_readied : (uses : SlotStates) (m : Machine) (d : Device) (port slot : ℕ) (mode : QueueMode) (e : Pending) (v : ℕ) → (x : IsPrepared uses m d port slot mode e v) → IsReadied uses d port slot x.command x.places
+prepared_readied uses m d port slot mode e v x = record {
+  used = x.free ∙ sym (used_so (is_plain mode e.request.asked.op) (is_queued x.command.operation) x.kind);
+  stored = record { started = x.started; placed = x.placed; told = x.told };
+}

@@ -1,0 +1,241 @@
+-- A fault of the only command of a port shows while the command isn't over.
+use Rattle.std.proofs.Common.{ℕ, ◌≡◌, ◌≢◌, ◌⊎◌, ◌≤◌, Bool, true, false, not, List, [], ◌∷◌, length, Some, refl, sym, ◌∙◌, ap, subst, arith, inl, inr, ⊎_elim}
+use Rattle.std.proofs.lemmas.Bool.{cases_eq, cond-true, cond-false, or_left, and_left, both_ways, false≢true}
+use Rattle.std.proofs.lemmas.Option.{none-some}
+use Rattle.ata_types.specs.declared.Port.{Port}
+use Rattle.hba_regs.specs.Bits.{bit}
+use Rattle.hba_regs.specs.declared.reg.Reg.TheVariants.{Px}
+use Rattle.hba_regs.specs.declared.reg.PortReg.{PortReg}
+use Rattle.hba_regs.specs.declared.reg.PortReg.TheVariants.{Is, Cmd, Sctl, Sact, Ci}
+use Rattle.adapter.specs.Access.{Access, Does, Reads, Writes, port_written, with_st, with_fre}
+use Rattle.adapter.specs.Access.Access.{Writing}
+use Rattle.adapter.specs.Commands.{is_queued}
+use Rattle.adapter.specs.Device.{Halt, FetchedCommand, DevicePort, Device}
+use Rattle.adapter.specs.Device.Halt.{NotHalted, HaltedPlain, HaltedQueued, LogOnly}
+use Rattle.adapter.specs.Memory.{changed}
+use Rattle.adapter.specs.Steps.{DeviceTransition, Can, device_after, StepLeads, Steps, admits, halted}
+use Rattle.adapter.specs.Steps.DeviceTransition.{Fetch, FetchFault, Move, Clear, Done, Fault, Fatal, Fall, FrFall, LinkUp, Unplug, Plug, ResetEnds, Scribble}
+use Rattle.adapter.specs.declared.command.Operation.{Operation}
+use Rattle.adapter.proofs.Changed.{changed_same, changed_other}
+use Rattle.adapter.proofs.KeptLemmas.{step_keeps, law_steps_keep}
+use Rattle.block_machine.specs.Histories.{IsReachable}
+use Rattle.block_machine.specs.Left as left
+use Rattle.block_machine.specs.State.{Machine}
+use Rattle.block_machine.proofs.HistoryLemmas.{reached_more}
+use Rattle.refinement.specs.Relation.{StateRelation}
+use Rattle.refinement.specs.Facts.{RunsWell, IsFaulted, IsQuiet}
+use Rattle.refinement.specs.Follows.{SimulatesSteps}
+use Rattle.refinement.specs.Links.{SparesRegister}
+use Rattle.refinement.specs.Slots.{SlotState, Free, SlotStates, put, IsEmptySlot, IsOver, RelatesSlot}
+use Rattle.refinement.specs.Started.{ClearsNoStart}
+use Rattle.refinement.proofs.device.FactsOverAccesses.{access_steps, effect_keeps}
+use Rattle.refinement.proofs.steps.FollowedSteps.{step_follows}
+use Rattle.refinement.proofs.device.HealthyPort.{at_port}
+use Rattle.refinement.proofs.device.PortControls.{spared}
+use Rattle.refinement.proofs.driver.PutSlot.{put_other}
+use Rattle.refinement.proofs.device.RunningPort.{well_of}
+use Rattle.refinement.proofs.device.StartConditions.{steps_quiet}
+use Rattle.refinement.proofs.steps.TakenCommand.{never_refused}
+use Rattle.refinement.specs.Recovering.{RunsLinked, FailsOpenly}
+use Rattle.refinement.proofs.device.LinkOverFaults.{running_started}
+use Rattle.refinement.proofs.driver.EndedHalt.{taken_issued, fallen_zero}
+use Rattle.refinement.proofs.device.PlainPort.{fetched_plain}
+
+-- as facts of a port's fields
+abbrev Told : DevicePort → Type 0
+Told p = (p.is 30 ≡ false) ⊎ ((p.ci 0 ≡ true) × IsFaulted p.halt)
+
+abbrev Open : DevicePort → Type 0
+Open p = (p.st ≡ true) × (p.sact 0 ≡ false) × (p.link_due ≡ false) × Told p
+
+-- a fault halts
+faults : (h : Halt) (queued : Bool) → IsFaulted (halted h queued)
+faults HaltedQueued queued = inr refl
+faults LogOnly queued = inr refl
+faults NotHalted true = inr refl
+faults NotHalted false = inl refl
+faults HaltedPlain true = inr refl
+faults HaltedPlain false = inl refl
+
+-- and a port that a fault has halted works on nothing
+unworked : {A : Type 0} (h : Halt) (o : Operation) → IsFaulted h → admits h o ≡ true → A
+unworked {A} h o (inl e) can = absurd (false≢true (ap (λ (x : Halt). admits x o) (sym e) ∙ can))
+unworked {A} h o (inr e) can = absurd (false≢true (ap (λ (x : Halt). admits x o) (sym e) ∙ can))
+
+-- another bit of PxIS is set
+beside_set : (f : ℕ → Bool) (place : ℕ) → place ≢ 30 → f 30 ≡ false → changed f place true 30 ≡ false
+beside_set f place other h = changed_other f place true 30 (λ e. other (sym e)) ∙ h
+
+module _ (uses : SlotStates) (m : Machine) (d : Device) (a : StateRelation uses m d) (port : ℕ) (alone : (slot : ℕ) → slot ≢ 0 → uses port slot ≡ Free) (off : d.hr ≡ false) (h : Open (d.port port)) where
+  beside_over : (p slot : ℕ) → p ≡ port → slot ≢ 0 → IsOver (d.port p) slot
+  beside_over p slot e ne =
+      let h : IsEmptySlot (d.port p) slot = subst (λ (u : SlotState). RelatesSlot m d.memory d.tape (d.port p) p slot u) (ap (λ (q : ℕ). uses q slot) e ∙ alone slot ne) (a.slot p slot) in
+      record { issued = h.issued; free = h.free }
+
+  issued_first : (p slot : ℕ) → p ≡ port → (d.port p).ci slot ≡ true → slot ≡ 0
+  issued_first p slot e is = ⊎_elim (λ (z : slot ≡ 0). z) (λ (ne : slot ≡ 0 → ⊥). absurd (both_ways _ (beside_over p slot e ne).issued is)) (cases_eq slot 0)
+
+  taken_first : (p slot : ℕ) (t : FetchedCommand) → p ≡ port → (d.port p).taken slot ≡ Some t → slot ≡ 0
+  taken_first p slot t e is = ⊎_elim (λ (z : slot ≡ 0). z) (λ (ne : slot ≡ 0 → ⊥). absurd (none-some _ (sym (beside_over p slot e ne).free ∙ is))) (cases_eq slot 0)
+
+  at_zero : (p slot : ℕ) → slot ≡ 0 → (d.port p).sact 0 ≡ false → (d.port p).sact slot ≡ false
+  at_zero p slot z clear = subst (λ (n : ℕ). (d.port p).sact n ≡ false) (sym z) clear
+
+  step_opens : (step : DeviceTransition) → Can step d → Open ((device_after step d).port port)
+  step_opens (Fetch p slot c places) can = at_port Open Open d p port _ h
+      (λ e x.
+      let plain : is_queued c.operation ≡ false = fetched_plain uses m d a p slot c places can (at_zero p slot (issued_first p slot e can.fetchable.issued) x.1) in (
+        x.0,
+        x.1,
+        x.2,
+        ⊎_elim
+            (λ (n : (d.port p).is 30 ≡ false). inl n)
+            (λ (y : ((d.port p).ci 0 ≡ true) × IsFaulted (d.port p).halt). inr (ap (λ (f : ℕ → Bool). f 0) (cond-false (is_queued c.operation) _ _ plain) ∙ y.0, y.1))
+            x.3,
+      ))
+      (λ ne x. x)
+  step_opens (FetchFault p slot queued kept_bits) can = never_refused uses m d a p slot kept_bits can
+  step_opens (Move p slot t bytes) can = at_port Open Open d p port _ h (λ e x. x) (λ ne x. x)
+  step_opens (Clear p slot t first count) can = at_port Open Open d p port _ h (λ e x. x) (λ ne x. x)
+  step_opens (Done p slot flag t) can = at_port Open Open d p port _ h
+      (λ e x. (
+        x.0,
+        fallen_zero (is_queued t.meaning.operation) (d.port p).sact slot x.1,
+        x.2,
+        inl (beside_set (d.port p).is flag (small can.shown) (⊎_elim
+            (λ (n : (d.port p).is 30 ≡ false). n)
+            (λ (y : ((d.port p).ci 0 ≡ true) × IsFaulted (d.port p).halt). unworked (d.port p).halt t.meaning.operation y.1 can.works.working.admitted)
+            x.3)),
+      ))
+      (λ ne x. x)
+    where
+      small : (flag ≡ 0) ⊎ ((flag ≡ 1) ⊎ (flag ≡ 3)) → flag ≢ 30
+      small (inl z) e = omega (arith, z, e)
+      small (inr (inl z)) e = omega (arith, z, e)
+      small (inr (inr z)) e = omega (arith, z, e)
+  step_opens (Fault p slot error kept_bits t) can = at_port Open Open d p port _ h
+      (λ e x.
+      let z : slot ≡ 0 = taken_first p slot t e can.taken in
+      (x.0, x.1, x.2, inr (subst (λ (n : ℕ). (d.port p).ci n ≡ true) z (taken_issued uses m d p slot t a x.0 (at_zero p slot z x.1) can.taken), faults (d.port p).halt (is_queued t.meaning.operation))))
+      (λ ne x. x)
+  step_opens (Fatal p place) can = at_port Open Open d p port _ h
+      (λ e x. (
+        x.0,
+        x.1,
+        x.2,
+        ⊎_elim
+            (λ (n : (d.port p).is 30 ≡ false). inl (beside_set (d.port p).is place (small can.1) n))
+            (λ (y : ((d.port p).ci 0 ≡ true) × IsFaulted (d.port p).halt). inr y)
+            x.3,
+      ))
+      (λ ne x. x)
+    where
+      small : (place ≡ 27) ⊎ (place ≡ 29) → place ≢ 30
+      small (inl z) e = omega (arith, z, e)
+      small (inr z) e = omega (arith, z, e)
+  step_opens (Fall p) can = at_port Open Open d p port _ h (λ e x. absurd (both_ways _ can.0 x.0)) (λ ne x. x)
+  step_opens (FrFall p) can = at_port Open Open d p port _ h (λ e x. x) (λ ne x. x)
+  step_opens (LinkUp p sig n) can = at_port Open Open d p port _ h (λ e x. absurd (both_ways _ x.2 can.due)) (λ ne x. x)
+  step_opens (Unplug p) can = at_port Open Open d p port _ h (λ e x. x) (λ ne x. x)
+  step_opens (Plug p disk) can = at_port Open Open d p port _ h (λ e x. x) (λ ne x. x)
+  step_opens ResetEnds can = absurd (both_ways _ off can)
+  step_opens (Scribble p slot at bytes) can = h
+
+leads_open : (uses : SlotStates) (m : Machine) (port : ℕ) → ((slot : ℕ) → slot ≢ 0 → uses port slot ≡ Free) → (steps : List DeviceTransition) (old new : Device) → IsReachable m → StateRelation uses m old → old.hr ≡ false → StepLeads steps old new → Open (old.port port) →
+    (new.hr ≡ false) × Open (new.port port)
+leads_open uses m port alone [] old new r a off e h = subst (λ (d : Device). (d.hr ≡ false) × Open (d.port port)) (sym e) (off, h)
+leads_open uses m port alone (step ∷ steps) old new r a off (can, lead) h =
+    let f : SimulatesSteps uses m old (device_after step old) = step_follows uses m old step r a can in
+    leads_open uses (left.after m f.steps) port alone steps (device_after step old) new (reached_more m f.steps r f.may) f.agrees ((step_keeps step old can).on off).no_reset lead
+    (step_opens uses m old a port alone off h step can)
+
+pub steps_open : (uses : SlotStates) (m : Machine) (port : ℕ) (old new : Device) → IsReachable m → StateRelation uses m old → Steps old new → FailsOpenly uses port old → FailsOpenly uses port new
+steps_open uses m port old new r a s h =
+    let x = leads_open uses m port h.alone s.steps old new r a h.off s.lead (h.st, h.plain, h.undue, h.told) in
+    record { off = x.0; st = x.1.0; plain = x.1.1; undue = x.1.2; alone = h.alone; told = x.1.3 }
+
+-- ---- an access
+
+-- ST stays 1
+command_opens : (v tape : ℕ) (p : DevicePort) → bit v 0 ≡ true → Open p → Open (port_written Cmd v tape p)
+command_opens v tape p on h =
+    subst (λ (b : Bool). Open (with_fre (bit v 4) (with_st b tape p))) (sym on)
+    (subst (λ (x : DevicePort). Open (with_fre (bit v 4) x)) (sym (cond-true p.st p _ h.0)) h)
+
+written_opens : (r : PortReg) (v tape : ℕ) (p : DevicePort) → (r ≡ Cmd → bit v 0 ≡ true) → r ≢ Sact → r ≢ Sctl → Open p → Open (port_written r v tape p)
+written_opens Cmd v tape p on other control h = command_opens v tape p (on refl) h
+written_opens Sact v tape p on other control h = absurd (other refl)
+written_opens Sctl v tape p on other control h = absurd (control refl)
+written_opens Ci v tape p on other control h = (
+  h.0,
+  h.1,
+  h.2,
+  ⊎_elim (λ (n : p.is 30 ≡ false). inl n) (λ (y : (p.ci 0 ≡ true) × IsFaulted p.halt). inr (or_left (p.ci 0) (bit v 0) y.0, y.1)) h.3,
+)
+written_opens Is v tape p on other control h = (
+  h.0,
+  h.1,
+  h.2,
+  ⊎_elim (λ (n : p.is 30 ≡ false). inl (and_left (p.is 30) (not (bit v 30)) n)) (λ (y : (p.ci 0 ≡ true) × IsFaulted p.halt). inr y) h.3,
+)
+written_opens _ v tape p on other control h = h
+
+pub access_opens : (uses : SlotStates) (m : Machine) (port : Port) (access : Access) (old new : Device) → IsReachable m → StateRelation uses m old → ClearsNoStart port access → SparesRegister (Px port Sact) access → SparesRegister (Px port Sctl) access →
+    new.hr ≡ false → Does access old new → FailsOpenly uses port.0 old → FailsOpenly uses port.0 new
+access_opens uses m port access old new r a keeps spares controls off x h =
+    let s = access_steps access old new x in
+    let c = leads_open uses m port.0 h.alone s.1.steps old s.0 r a h.off s.1.lead (h.st, h.plain, h.undue, h.told) in
+    let e : Open (new.port port.0) =
+    effect_keeps Open port (λ p q v y. y) (λ p y. y) access old new x
+    (λ q v mid is steps y. written_opens q v (length mid.tape) (mid.port port.0)
+    (λ z. keeps v (is ∙ ap (λ (w : PortReg). Writing (Px port w) v) z)) (spared port q Sact access v spares is) (spared port q Sctl access v controls is) y) c.1 in
+    record { off = off; st = e.0; plain = e.1; undue = e.2; alone = h.alone; told = e.3 }
+
+-- ---- where it begins
+
+pub start_opens : (uses : SlotStates) (port : Port) (v : ℕ) (old new : Device) → old.hr ≡ false → bit v 0 ≡ true → ((slot : ℕ) → uses port.0 slot ≡ Free) → (old.port port.0).sact 0 ≡ false → IsQuiet (old.port port.0) →
+    (old.port port.0).st ≡ false → Writes (Px port Cmd) v old new → FailsOpenly uses port.0 new
+start_opens uses port v old new off on free clear quiet stopped call =
+    let k = law_steps_keep call.steps in
+    let q : IsQuiet (call.mid.port port.0) = steps_quiet port.0 old call.mid call.steps quiet in
+    let w : Open (with_fre (bit v 4) (with_st (bit v 0) (length call.mid.tape) (call.mid.port port.0))) =
+    subst (λ (b : Bool). Open (with_fre (bit v 4) (with_st b (length call.mid.tape) (call.mid.port port.0)))) (sym on)
+    (subst (λ (x : DevicePort). Open (with_fre (bit v 4) x)) (sym (cond-false (call.mid.port port.0).st (call.mid.port port.0) _ ((k.port port.0).st stopped)))
+    (refl, (k.port port.0).sact 0 clear, q.linked, inl q.unflagged.1)) in
+    let e : Open (new.port port.0) = subst Open (sym (ap (λ (d : Device). d.port port.0) call.effect ∙ changed_same call.mid.port port.0 _)) w in
+    record {
+      off = ap (λ (d : Device). d.hr) call.effect ∙ (k.on off).no_reset;
+      st = e.0;
+      plain = e.1;
+      undue = e.2;
+      alone = λ slot _. free slot;
+      told = e.3;
+    }
+
+pub used_opens : (uses : SlotStates) (port : ℕ) (u : SlotState) (d : Device) → FailsOpenly uses port d → FailsOpenly (put uses port 0 u) port d
+used_opens uses port u d h = record {
+  off = h.off;
+  st = h.st;
+  plain = h.plain;
+  undue = h.undue;
+  alone = λ slot ne. put_other uses port 0 u port slot (λ _ z. ne z) ∙ h.alone slot ne;
+  told = h.told;
+}
+
+-- ---- PxCI is read
+
+pub unfailed : (uses : SlotStates) (m : Machine) (port : Port) (v : ℕ) (old new : Device) → IsReachable m → StateRelation uses m old → FailsOpenly uses port.0 old → Reads (Px port Ci) v old new → bit v 0 ≡ false → (new.port port.0).is 30 ≡ false
+unfailed uses m port v old new r a h call clear =
+    let mid : FailsOpenly uses port.0 call.mid = steps_open uses m port.0 old call.mid r a call.steps h in
+    let shown : (call.mid.port port.0).ci 0 ≡ false = sym (call.shows 0 (omega arith)) ∙ clear in
+    ap (λ (d : Device). (d.port port.0).is 30) call.effect ∙ (ap (λ (p : DevicePort). p.is 30) (changed_same call.mid.port port.0 _) ∙ ⊎_elim
+    (λ (n : (call.mid.port port.0).is 30 ≡ false). n)
+    (λ (y : ((call.mid.port port.0).ci 0 ≡ true) × IsFaulted (call.mid.port port.0).halt). absurd (both_ways _ shown y.0))
+    mid.told)
+
+pub open_well : (p : DevicePort) → RunsLinked p → p.halt ≡ NotHalted → p.is 30 ≡ false → p.serr_n ≡ false → p.serr_x ≡ false → ((place : ℕ) → 27 ≤ place → place ≤ 29 → p.is place ≡ false) → RunsWell p
+open_well p h ends clear n x quiet = well_of p (running_started p h ends) (record {
+  serr_n = n;
+  serr_x = x;
+  quiet = λ place low up. ⊎_elim (λ (e : place ≡ 30). ap p.is e ∙ clear) (λ (ne : place ≡ 30 → ⊥). quiet place low (omega (arith, up, ne))) (cases_eq place 30);
+})

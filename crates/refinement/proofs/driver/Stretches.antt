@@ -1,0 +1,317 @@
+-- Stretches of accesses: one after another, and what they leave.
+use Rattle.std.proofs.Common.{ℕ, ◌≡◌, ◌≢◌, ◌++◌, true, false, List, [], ◌∷◌, None, Some, length, refl, sym, ◌∙◌, ap, subst, inl, append-nil}
+use Rattle.std.proofs.lemmas.List.Elements.{All-append, All-cons, All-nil, All-head, All-tail, All-weaker}
+use Rattle.std.specs.List.{All}
+use Rattle.ata_types.specs.declared.Port.{Port}
+use Rattle.ata_types.specs.declared.request.RequestId.{RequestId}
+use Rattle.hba_regs.specs.Bits.{bit}
+use Rattle.hba_regs.specs.declared.reg.Reg.{Reg}
+use Rattle.hba_regs.specs.declared.reg.Reg.TheVariants.{Ghc, Px}
+use Rattle.hba_regs.specs.declared.reg.PortReg.TheVariants.{Sact, Ci}
+use Rattle.adapter.specs.Access.{Access, Does, DoesAll, Reads, Writes, Loads, Stores}
+use Rattle.adapter.specs.Access.Access.{Reading, Writing, Loading, Storing}
+use Rattle.adapter.specs.Device.{Device}
+use Rattle.adapter.specs.Rules.{IsOn, MayWrite, IsStable}
+use Rattle.adapter.specs.declared.command.Operation.{Operation}
+use Rattle.adapter.proofs.Calls.{does_append}
+use Rattle.adapter.proofs.Changed.{changed_other}
+use Rattle.block_machine.proofs.Keeps.{same_port}
+use Rattle.block_machine.specs.Events.{AllDevices}
+use Rattle.block_machine.specs.Histories.{IsReachable, IsSimulatedBySteps}
+use Rattle.block_machine.specs.Left.{after}
+use Rattle.block_machine.specs.State.{Machine}
+use Rattle.refinement.specs.Acts.{Act, InSlots, IsDone, at_slots, accesses_of, act_steps}
+use Rattle.refinement.specs.Driver.{DriverRelation, ByDevice, LeavesUses, MayStore, IsOwnPrepared}
+use Rattle.refinement.specs.Driven.{known, AnyUse, IsDrivenBy, IsSimulated, IsSimulatedTo, IsSimulatedAlong, IsSimulatedAlongTo, NoneWrites, SendsNone}
+use Rattle.refinement.specs.Links.{SparesRegister}
+use Rattle.refinement.specs.Recovering.{WorksPlainly}
+use Rattle.refinement.specs.Slots.{SlotState, Own, SlotStates, put, op_of}
+use Rattle.refinement.proofs.driver.ActParts.{accesses_append, steps_append, all_acts, done_more, done_goes, done_plain, done_silent, done_uses}
+use Rattle.refinement.proofs.driver.AddedSteps.{read_adds, load_adds, store_adds, write_adds}
+use Rattle.refinement.proofs.driver.IssueWrite.{own_adds}
+use Rattle.refinement.proofs.driver.ComposedMoves.{goes_access, goes_still, going_reaches}
+use Rattle.refinement.proofs.device.AdapterOverAccesses.{access_on}
+use Rattle.refinement.proofs.steps.WaitingRequests.{device_append}
+
+-- ---- accesses of one kind
+
+pub by_none : (May : Access → Type 0) (d : Device) → IsDrivenBy May d d
+by_none May d = record { accesses = []; all = refl; only = All-nil May }
+
+pub by_one : (May : Access → Type 0) (access : Access) (old new : Device) → May access → Does access old new → IsDrivenBy May old new
+by_one May access old new may does = record { accesses = access ∷ []; all = (new, does, refl); only = All-cons May access [] may (All-nil May) }
+
+pub by_then : {May : Access → Type 0} {old mid new : Device} → IsDrivenBy May old mid → IsDrivenBy May mid new → IsDrivenBy May old new
+by_then {May} {old} {mid} {new} a b = record {
+  accesses = a.accesses ++ b.accesses;
+  all = does_append a.accesses b.accesses old mid new a.all b.all;
+  only = All-append May a.accesses b.accesses a.only b.only;
+}
+
+-- ---- what they leave
+
+-- over accesses of which each keeps so much
+pub along : (Keeps : Device → Device → Type 0) → ((d : Device) → Keeps d d) → ((a b c : Device) → Keeps a b → Keeps b c → Keeps a c) → (May : Access → Type 0)
+    → ((access : Access) (old new : Device) → May access → Does access old new → Keeps old new)
+    → (accesses : List Access) (old new : Device) → All May accesses → DoesAll accesses old new → Keeps old new
+along Keeps none more May each [] old new all is = subst (Keeps old) (sym is) (none old)
+along Keeps none more May each (access ∷ accesses) old new all (mid, does, rest) =
+    more old mid new (each access old mid (All-head May access accesses all) does) (along Keeps none more May each accesses mid new (All-tail May access accesses all) rest)
+
+pub written_ghc : (access : Access) → SparesRegister Ghc access → (v : ℕ) → access ≡ Writing Ghc v → (bit v 31 ≡ true) × (bit v 0 ≡ false)
+written_ghc access spares v is = absurd (subst (SparesRegister Ghc) is spares refl)
+
+-- over accesses of which each keeps so much of an adapter that is on; and it stays on
+pub over : (Keeps : Device → Device → Type 0) → ((d : Device) → Keeps d d) → ((a b c : Device) → Keeps a b → Keeps b c → Keeps a c) → (May : Access → Type 0)
+    → ((access : Access) → May access → SparesRegister Ghc access) → ((access : Access) (old new : Device) → IsOn old → May access → Does access old new → Keeps old new)
+    → (accesses : List Access) (old new : Device) → IsOn old → All May accesses → DoesAll accesses old new → Keeps old new × IsOn new
+over Keeps none more May spares each accesses old new on all does =
+    along (λ a b. IsOn a → Keeps a b × IsOn b) (λ d here. (none d, here))
+    (λ a b c x y here. let u = x here in let w = y u.1 in (more a b c u.0 w.0, w.1)) May
+    (λ access a b may x here. (each access a b here may x, access_on access a b here (written_ghc access (spares access may)) x)) accesses old new all does on
+
+-- ---- accesses of another kind
+
+pub driven_as : (May More : Access → Type 0) (old new : Device) → ((access : Access) → May access → More access) → IsDrivenBy May old new → IsDrivenBy More old new
+driven_as May More old new kind a = record { accesses = a.accesses; all = a.all; only = all_as a.accesses a.only }
+  where
+    all_as : (accesses : List Access) → All May accesses → All More accesses
+    all_as [] all = All-nil More
+    all_as (access ∷ rest) all = All-cons More access rest (kind access (All-head May access rest all)) (all_as rest (All-tail May access rest all))
+
+none_writes : (May More : Access → Type 0) (r : Reg) → ((access : Access) → May access → More access) → NoneWrites More r → NoneWrites May r
+none_writes May More r kind none access may = none access (kind access may)
+
+-- ---- one stretch that is followed after another
+
+-- what was put into the slots after a stretch
+abbrev then : (SlotStates → SlotStates) → InSlots → InSlots
+then next s = record s { uses = next s.uses }
+
+module _ (May : Access → Type 0) (Fits Less : SlotStates → Type 0) (first second : SlotStates → SlotStates) (on : (uses : SlotStates) → Fits uses → Less (first uses)) where
+  pub followed_both : (old mid new : Device) → IsSimulatedTo May Fits first old mid → IsSimulatedTo May Less second mid new → IsSimulatedTo May Fits (λ uses. second (first uses)) old new
+  unfolding by_then
+  followed_both old mid new a b = record {
+    driven = by_then a.driven b.driven;
+    comes = λ s m reached x fits.
+        let c = a.comes s m reached x fits in
+        let g = done_goes c.acts (at_slots s old) (at_slots (then first s) mid) m x c.done in
+        let e = b.comes (then first s) (after m (act_steps c.acts)) (going_reaches (at_slots s old) (at_slots (then first s) mid) m (act_steps c.acts) reached g) g.knows (on s.uses fits) in
+        record {
+          acts = c.acts ++ e.acts;
+          done = done_more c.acts e.acts (at_slots s old) (at_slots (then first s) mid) (at_slots (then second (then first s)) new) m c.done e.done;
+          accesses_are = accesses_append c.acts e.acts ∙ (ap (λ (early : List Access). early ++ accesses_of e.acts) c.accesses_are ∙ ap (λ (late : List Access). a.driven.accesses ++ late) e.accesses_are);
+          tells = record {
+            only = subst AllDevices (sym (steps_append c.acts e.acts)) (device_append (act_steps e.acts) (act_steps c.acts) e.tells.only c.tells.only);
+            kept = λ port issues arms.
+                let early = c.tells.kept port issues arms in
+                let mids : first s.uses port.0 ≡ s.uses port.0 = done_uses port.0 (s.uses port.0) c.acts (at_slots s old) (at_slots (then first s) mid) m refl early c.done in
+                All-append (λ (act : Act). act.later.uses port.0 ≡ s.uses port.0) c.acts e.acts early
+                (all_acts (λ act. act.later.uses port.0 ≡ first s.uses port.0) (λ act. act.later.uses port.0 ≡ s.uses port.0) e.acts (λ act y. y ∙ mids) (e.tells.kept port issues arms));
+          };
+        };
+  }
+
+module _ (May : Access → Type 0) (Fits : SlotStates → Type 0) where
+  pub followed_none : (d : Device) → IsSimulated May Fits d d
+  unfolding by_none
+  followed_none d = record {
+    driven = by_none May d;
+    comes = λ s m reached x fits. record {
+      acts = [];
+      done = refl;
+      accesses_are = refl;
+      tells = record { only = tt; kept = λ port issues arms. All-nil (λ (act : Act). act.later.uses port.0 ≡ s.uses port.0) };
+    };
+  }
+
+  pub told_none : (d : Device) → IsSimulatedAlong (λ made. made ≡ []) May Fits d d
+  unfolding followed_none
+  told_none d = record { followed = followed_none d; tells = refl }
+
+  pub followed_then : (old mid new : Device) → IsSimulated May Fits old mid → IsSimulated May Fits mid new → IsSimulated May Fits old new
+  followed_then old mid new a b = followed_both May Fits Fits (λ uses. uses) (λ uses. uses) (λ uses fits. fits) old mid new a b
+
+-- of another kind, and with uses that fit less
+module _ (May More : Access → Type 0) (Fits Less : SlotStates → Type 0) where
+  pub followed_to_as : (next : SlotStates → SlotStates) (old new : Device) → ((access : Access) → May access → More access) → ((uses : SlotStates) → Less uses → Fits uses) →
+      IsSimulatedTo May Fits next old new → IsSimulatedTo More Less next old new
+  unfolding driven_as
+  followed_to_as next old new kind fits a = record {
+    driven = driven_as May More old new kind a.driven;
+    comes = λ s m reached x less.
+        let c = a.comes s m reached x (fits s.uses less) in
+        record {
+          acts = c.acts;
+          done = c.done;
+          accesses_are = c.accesses_are;
+          tells = record { only = c.tells.only; kept = λ port issues arms. c.tells.kept port (none_writes May More (Px port Ci) kind issues) (none_writes May More (Px port Sact) kind arms) };
+        };
+  }
+
+  pub followed_as : (old new : Device) → ((access : Access) → May access → More access) → ((uses : SlotStates) → Less uses → Fits uses) →
+      IsSimulated May Fits old new → IsSimulated More Less old new
+  followed_as old new kind fits a = followed_to_as (λ uses. uses) old new kind fits a
+
+-- ---- what is told of a list of accesses
+
+-- of one stretch after another
+module _ (First Second Tells : List Access → Type 0) (join : (early late : List Access) → First early → Second late → Tells (early ++ late)) (May : Access → Type 0) where
+  pub told_both : (Fits Less : SlotStates → Type 0) (first second : SlotStates → SlotStates) → ((uses : SlotStates) → Fits uses → Less (first uses)) → (old mid new : Device) →
+      IsSimulatedAlongTo First May Fits first old mid → IsSimulatedAlongTo Second May Less second mid new → IsSimulatedAlongTo Tells May Fits (λ uses. second (first uses)) old new
+  unfolding followed_both by_then
+  told_both Fits Less first second on old mid new a b = record {
+    followed = followed_both May Fits Less first second on old mid new a.followed b.followed;
+    tells = join a.followed.driven.accesses b.followed.driven.accesses a.tells b.tells;
+  }
+
+-- of accesses that are of another kind, too, where the uses fit less
+module _ (Tells : List Access → Type 0) (May More : Access → Type 0) (Fits Less : SlotStates → Type 0) where
+  pub told_as : (next : SlotStates → SlotStates) (old new : Device) → ((access : Access) → May access → More access) → ((uses : SlotStates) → Less uses → Fits uses) →
+      IsSimulatedAlongTo Tells May Fits next old new → IsSimulatedAlongTo Tells More Less next old new
+  unfolding followed_to_as driven_as
+  told_as next old new kind fits a = record { followed = followed_to_as May More Fits Less next old new kind fits a.followed; tells = a.tells }
+
+-- which accesses they are: those of the one, and then those of the other
+module _ (May More : Access → Type 0) (Fits Less : SlotStates → Type 0) (first second : SlotStates → SlotStates) where
+  pub told_joined : ((access : Access) → More access → May access) → ((uses : SlotStates) → Fits uses → Less (first uses)) → (old mid new : Device) →
+      (a : IsSimulatedTo May Fits first old mid) → (b : IsSimulatedTo More Less second mid new) →
+      IsSimulatedAlongTo (λ made. made ≡ a.driven.accesses ++ b.driven.accesses) May Fits (λ uses. second (first uses)) old new
+  told_joined kind on old mid new a b =
+      told_both (λ made. made ≡ a.driven.accesses) (λ made. made ≡ b.driven.accesses) (λ made. made ≡ a.driven.accesses ++ b.driven.accesses)
+      (λ early late e f. ap (λ (x : List Access). x ++ late) e ∙ ap (λ (x : List Access). a.driven.accesses ++ x) f) May Fits Less first second on old mid new
+      (record { followed = a; tells = refl })
+      (told_as (λ made. made ≡ b.driven.accesses) More May Less Less second mid new kind (λ uses is. is) (record { followed = b; tells = refl }))
+
+-- the driver knows then of the same device that its slots are used so
+module _ (May : Access → Type 0) (Fits : SlotStates → Type 0) (next later : SlotStates → SlotStates) (old new : Device) where
+  pub followed_known : ((uses : SlotStates) (parked : ℕ → List RequestId) (m : Machine) → Fits uses → DriverRelation m (known (next uses) parked new) → DriverRelation m (known (later uses) parked new)) →
+      ((uses : SlotStates) (port : Port) → NoneWrites May (Px port Ci) → NoneWrites May (Px port Sact) → later uses port.0 ≡ uses port.0) → IsSimulatedTo May Fits next old new → IsSimulatedTo May Fits later old new
+  followed_known knows stays a = record {
+    driven = a.driven;
+    comes = λ s m reached x fits.
+        let c = a.comes s m reached x fits in
+        let mid : Machine = after m (act_steps c.acts) in
+        let goes = done_goes c.acts (at_slots s old) (at_slots (then next s) new) m x c.done in
+        let is : DriverRelation mid (at_slots (then later s) new) = knows s.uses s.parked mid fits goes.knows in
+        let act : Act = record { access = None; steps = []; later = at_slots (then later s) new } in
+        let last : IsDone (at_slots (then next s) new) mid act = record { leads = refl; one = inl refl; goes = goes_still (at_slots (then next s) new) (at_slots (then later s) new) mid refl is } in
+        record {
+          acts = c.acts ++ act ∷ [];
+          done = done_more c.acts (act ∷ []) (at_slots s old) (at_slots (then next s) new) (at_slots (then later s) new) m c.done (last, refl);
+          accesses_are = accesses_append c.acts (act ∷ []) ∙ (append-nil (accesses_of c.acts) ∙ c.accesses_are);
+          tells = record {
+            only = subst AllDevices (sym (steps_append c.acts (act ∷ []))) c.tells.only;
+            kept = λ port issues arms.
+                let Q = λ (x : Act). x.later.uses port.0 ≡ s.uses port.0 in
+                All-append Q c.acts (act ∷ []) (c.tells.kept port issues arms) (All-cons Q act [] (stays s.uses port issues arms) (All-nil Q));
+          };
+        };
+  }
+
+  -- and as much is told of the list
+  pub told_known : (Tells : List Access → Type 0) →
+      ((uses : SlotStates) (parked : ℕ → List RequestId) (m : Machine) → Fits uses → DriverRelation m (known (next uses) parked new) → DriverRelation m (known (later uses) parked new)) →
+      ((uses : SlotStates) (port : Port) → NoneWrites May (Px port Ci) → NoneWrites May (Px port Sact) → later uses port.0 ≡ uses port.0) → IsSimulatedAlongTo Tells May Fits next old new →
+      IsSimulatedAlongTo Tells May Fits later old new
+  unfolding followed_known
+  told_known Tells knows stays a = record { followed = followed_known knows stays a.followed; tells = a.tells }
+
+-- ---- what it gives
+
+-- steps of the machine, all of them the device's
+pub followed_adds : {May : Access → Type 0} {Fits : SlotStates → Type 0} {next : SlotStates → SlotStates} {old new : Device} → IsSimulatedTo May Fits next old new →
+    (uses : SlotStates) (parked : ℕ → List RequestId) → Fits uses → IsSimulatedBySteps DriverRelation (known uses parked old) (known (next uses) parked new) (ByDevice old new)
+followed_adds {May} {Fits} {next} {old} {new} a uses parked fits = record {
+  adds = λ m reached x.
+      let c = a.comes (record { uses = uses; parked = parked }) m reached x fits in
+      let g = done_goes c.acts (known uses parked old) (known (next uses) parked new) m x c.done in
+      (act_steps c.acts, g.may, g.knows, record { backed = g.backed; only = c.tells.only });
+}
+
+-- no page of a port that issues nothing and whose slot 0 has no such command
+pub followed_silent : {May : Access → Type 0} {Fits : SlotStates → Type 0} {next : SlotStates → SlotStates} {old new : Device} → IsSimulatedTo May Fits next old new →
+    (uses : SlotStates) (parked : ℕ → List RequestId) (m : Machine) → Fits uses → IsReachable m → DriverRelation m (known uses parked old) → (port : Port) (o : Operation) → op_of o ≡ None →
+    NoneWrites May (Px port Ci) → NoneWrites May (Px port Sact) → (uses port.0 0 ≡ Own o → ⊥) → SendsNone port.0 o old new
+followed_silent {May} {Fits} {next} {old} {new} a uses parked m fits reached x port o own issues arms none =
+    let c = a.comes (record { uses = uses; parked = parked }) m reached x fits in
+    done_silent port.0 o own c.acts (known uses parked old) (known (next uses) parked new) m reached x none
+    (all_acts (λ act. act.later.uses port.0 ≡ uses port.0) (λ act. act.later.uses port.0 0 ≡ Own o → ⊥) c.acts
+    (λ act e is. none (ap (λ (f : ℕ → SlotState). f 0) (sym e) ∙ is)) (c.tells.kept port issues arms)) c.done
+
+-- a port that works on plain commands alone, and whose PxSACT isn't written
+pub followed_plain : {May : Access → Type 0} {Fits : SlotStates → Type 0} {next : SlotStates → SlotStates} {old new : Device} → IsSimulatedTo May Fits next old new →
+    (uses : SlotStates) (parked : ℕ → List RequestId) (m : Machine) → Fits uses → IsReachable m → DriverRelation m (known uses parked old) → (port : Port) → NoneWrites May (Px port Sact) →
+    WorksPlainly (old.port port.0) → WorksPlainly (new.port port.0)
+followed_plain {May} {Fits} {next} {old} {new} a uses parked m fits reached x port arms =
+    let c = a.comes (record { uses = uses; parked = parked }) m reached x fits in
+    let spares = All-weaker May (SparesRegister (Px port Sact)) arms a.driven.accesses a.driven.only in
+    done_plain c.acts (known uses parked old) (known (next uses) parked new) m port reached x (subst (All (SparesRegister (Px port Sact))) (sym c.accesses_are) spares) c.done
+
+-- ---- one access
+
+module _ (May : Access → Type 0) (Fits : SlotStates → Type 0) (next : SlotStates → SlotStates) (access : Access) (old new : Device) (kind : May access) (does : Does access old new) where
+  pub followed_by : ((uses : SlotStates) (parked : ℕ → List RequestId) → Fits uses → IsSimulatedBySteps DriverRelation (known uses parked old) (known (next uses) parked new) (ByDevice old new)) →
+      ((uses : SlotStates) (port : Port) → NoneWrites May (Px port Ci) → NoneWrites May (Px port Sact) → next uses port.0 ≡ uses port.0) → IsSimulatedTo May Fits next old new
+  unfolding by_one
+  followed_by adds stays = record {
+    driven = by_one May access old new kind does;
+    comes = λ s m reached x fits.
+        let later = known (next s.uses) s.parked new in
+        let y = goes_access (at_slots s old) later m (adds s.uses s.parked fits) reached x in
+        let act : Act = record { access = Some access; steps = y.0; later = later } in
+        record {
+          acts = act ∷ [];
+          done = (record { leads = does; one = inl y.1; goes = y.2 }, refl);
+          accesses_are = refl;
+          tells = record {
+            only = y.1;
+            kept = λ port issues arms.
+                let Q = λ (a : Act). a.later.uses port.0 ≡ s.uses port.0 in All-cons Q act [] (stays s.uses port issues arms) (All-nil Q);
+          };
+        };
+  }
+
+pub followed_read : (May : Access → Type 0) (r : Reg) (v : ℕ) (old new : Device) → May (Reading r v) → Reads r v old new → IsSimulated May AnyUse old new
+followed_read May r v old new kind call =
+    followed_by May AnyUse (λ uses. uses) (Reading r v) old new kind call (λ uses parked is. read_adds (known uses parked old) r v new call) (λ uses q issues arms. refl)
+
+pub followed_load : (May : Access → Type 0) (at_slots : ℕ) (bytes : List ℕ) (old new : Device) → May (Loading at_slots bytes) → Loads at_slots bytes old new → IsSimulated May AnyUse old new
+followed_load May at_slots bytes old new kind call =
+    followed_by May AnyUse (λ uses. uses) (Loading at_slots bytes) old new kind call (λ uses parked is. load_adds (known uses parked old) at_slots bytes new call) (λ uses q issues arms. refl)
+
+pub followed_store : (May : Access → Type 0) (Fits : SlotStates → Type 0) (at_slots : ℕ) (bytes : List ℕ) (old new : Device) → May (Storing at_slots bytes) →
+    ((uses : SlotStates) → Fits uses → MayStore uses at_slots (length bytes)) → Stores at_slots bytes old new → IsSimulated May Fits old new
+followed_store May Fits at_slots bytes old new kind may call =
+    followed_by May Fits (λ uses. uses) (Storing at_slots bytes) old new kind call (λ uses parked is. store_adds (known uses parked old) at_slots bytes new (may uses is) call) (λ uses q issues arms. refl)
+
+pub followed_write : (May : Access → Type 0) (Fits : SlotStates → Type 0) (r : Reg) (v : ℕ) (old new : Device) → May (Writing r v) → IsStable (MayWrite r v) old →
+    ((uses : SlotStates) → Fits uses → LeavesUses uses r v old) → Writes r v old new → IsSimulated May Fits old new
+followed_write May Fits r v old new kind may leaves call =
+    followed_by May Fits (λ uses. uses) (Writing r v) old new kind call (λ uses parked is. write_adds (known uses parked old) r v new may (leaves uses is) call) (λ uses q issues arms. refl)
+
+-- the list of one reading, of one write, or of one load
+module _ (May : Access → Type 0) (at_slots : ℕ) (bytes : List ℕ) (old new : Device) where
+  pub told_load : May (Loading at_slots bytes) → Loads at_slots bytes old new → IsSimulatedAlong (λ accesses. accesses ≡ Loading at_slots bytes ∷ []) May AnyUse old new
+  unfolding followed_load followed_by by_one
+  told_load kind call = record { followed = followed_load May at_slots bytes old new kind call; tells = refl }
+
+module _ (May : Access → Type 0) (Fits : SlotStates → Type 0) (r : Reg) (v : ℕ) (old new : Device) where
+  pub told_read : May (Reading r v) → Reads r v old new → IsSimulatedAlong (λ accesses. accesses ≡ Reading r v ∷ []) May AnyUse old new
+  unfolding followed_read followed_by by_one
+  told_read kind call = record { followed = followed_read May r v old new kind call; tells = refl }
+
+  pub told_write : May (Writing r v) → IsStable (MayWrite r v) old → ((uses : SlotStates) → Fits uses → LeavesUses uses r v old) → Writes r v old new →
+      IsSimulatedAlong (λ accesses. accesses ≡ Writing r v ∷ []) May Fits old new
+  unfolding followed_write followed_by by_one
+  told_write kind may leaves call = record { followed = followed_write May Fits r v old new kind may leaves call; tells = refl }
+
+-- a command of the driver's own is issued
+pub followed_asking : (May : Access → Type 0) (Fits : SlotStates → Type 0) (port : Port) (o : Operation) (v : ℕ) (old new : Device) → May (Writing (Px port Ci) v) → old.hr ≡ false →
+    ((uses : SlotStates) → Fits uses → IsOwnPrepared uses old port.0 o v) → Writes (Px port Ci) v old new → IsSimulatedTo May Fits (λ uses. put uses port.0 0 (Own o)) old new
+followed_asking May Fits port o v old new kind off prepared call =
+    followed_by May Fits (λ uses. put uses port.0 0 (Own o)) (Writing (Px port Ci) v) old new kind call
+    (λ uses parked is. own_adds (known uses parked old) port o v new off (prepared uses is) call) (λ uses q issues arms. changed_other uses port.0 _ q.0 (elsewhere q issues))
+  where
+    elsewhere : (q : Port) → NoneWrites May (Px q Ci) → q.0 ≢ port.0
+    elsewhere q issues e = issues (Writing (Px port Ci) v) kind (ap (λ (at_slots : Port). Px at_slots Ci) (sym (same_port q port e)))

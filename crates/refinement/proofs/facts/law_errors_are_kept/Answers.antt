@@ -1,0 +1,11 @@
+use Rattle.refinement.proofs.device.ErrorBits.{steps_errors, access_causes, access_news}
+use Rattle.refinement.proofs.facts.law_errors_are_kept.Goals as goal
+
+pub returns-clause-steps : goal.returns-clause-steps
+returns-clause-steps c = steps_errors
+
+pub returns-clause-causes : goal.returns-clause-causes
+returns-clause-causes c = access_causes
+
+pub returns-clause-errors : goal.returns-clause-errors
+returns-clause-errors c = access_news

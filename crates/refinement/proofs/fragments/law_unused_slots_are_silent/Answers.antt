@@ -1,0 +1,18 @@
+use Rattle.hba_regs.specs.declared.reg.PortReg.TheVariants.{Ci}
+use Rattle.std.proofs.Common.{◌≢◌, refl}
+use Rattle.refinement.specs.Slots.{IsMove}
+use Rattle.refinement.proofs.device.TapeGains.{gains_more}
+use Rattle.refinement.proofs.driver.UnmovingPort.{steps_unmoving, access_unmoving, controls_unmoving}
+use Rattle.refinement.proofs.fragments.law_unused_slots_are_silent.Goals as goal
+
+pub returns-clause-steps : goal.returns-clause-steps
+returns-clause-steps c = steps_unmoving
+
+pub returns-clause-access : goal.returns-clause-access
+returns-clause-access c = access_unmoving
+
+pub returns-clause-controls : goal.returns-clause-controls
+returns-clause-controls c = controls_unmoving (λ r. r ≢ Ci) (λ same. same refl)
+
+pub returns-clause-more : goal.returns-clause-more
+returns-clause-more c = λ port o. gains_more (IsMove port o)

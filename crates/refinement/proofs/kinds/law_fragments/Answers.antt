@@ -1,0 +1,13 @@
+use Rattle.refinement.proofs.kinds.law_fragments.Goals as goal
+
+pub returns : goal.returns
+returns g c = record {
+  none = c.law_accesses_are_followed.ensures.none;
+  reads = c.law_accesses_are_followed.ensures.reads;
+  writes = c.law_accesses_are_followed.ensures.writes;
+  both = c.law_fragments_are_followed.ensures.both;
+  wider = c.law_fragments_are_followed.ensures.wider;
+  over = c.law_fragments_are_followed.ensures.over;
+  agreed = c.law_followed_fragments_give.ensures.agreed;
+  silent = c.law_followed_fragments_give.ensures.silent;
+}

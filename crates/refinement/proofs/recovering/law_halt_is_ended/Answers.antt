@@ -1,0 +1,17 @@
+use Rattle.refinement.proofs.driver.EndedHalt.{issued_ends, steps_end, access_ends, halt_ended, ended_well}
+use Rattle.refinement.proofs.recovering.law_halt_is_ended.Goals as goal
+
+pub returns-clause-issued : goal.returns-clause-issued
+returns-clause-issued c = issued_ends
+
+pub returns-clause-steps : goal.returns-clause-steps
+returns-clause-steps c = steps_end
+
+pub returns-clause-access : goal.returns-clause-access
+returns-clause-access c = access_ends
+
+pub returns-clause-read : goal.returns-clause-read
+returns-clause-read c = halt_ended
+
+pub returns-clause-found : goal.returns-clause-found
+returns-clause-found c = ended_well

@@ -1,0 +1,111 @@
+-- An idle device and a machine with nothing in it.
+use Rattle.std.proofs.Common.{ℕ, zero, suc, ◌≡◌, ◌<◌, ◌+◌, ◌*◌, ◌++◌, ◌∷◌, true, List, [], length, drop, get_or, Option, None, Some, slice_index, inl, inr, refl, sym, ◌∙◌, ap, subst, arith, ⊎_elim}
+use Rattle.std.specs.Prelude.{option_map}
+use Rattle.std.specs.List.{Contains}
+use Rattle.std.proofs.lemmas.List.Elements.{All-contains, All-nil, Contains-append_left, Contains-append_right}
+use Rattle.ata_types.specs.declared.grant.GrantRow.{GrantRow}
+use Rattle.ata_types.specs.declared.request.ClientId.{ClientId}
+use Rattle.ata_types.specs.declared.request.Frame.{Frame}
+use Rattle.adapter.specs.Device.{Device, Lasting}
+use Rattle.adapter.specs.Steps.{WereHeld, put_into}
+use Rattle.adapter.specs.declared.tape.Entry.{Entry}
+use Rattle.adapter.specs.Idle.{IsIdle, TellsDisks}
+use Rattle.block_machine.specs.State.{Block, DiskBytes, Machine}
+use Rattle.block_machine.specs.Left.{IsStart}
+use Rattle.refinement.specs.Slots.{Free, Serves}
+use Rattle.refinement.specs.Relation.{IsDiskOf, SameMemory, SameSectors, port_at}
+use Rattle.refinement.specs.Returning.{block_if, blocks_put, may_return}
+use Rattle.refinement.specs.Driven.{IsRelated}
+use Rattle.refinement.specs.Driver.{DriverRelation, idle}
+use Rattle.refinement.proofs.relation.OtherSlots.{true_false}
+
+-- the list has all that may come back
+in_block : (o : Option (List ℕ)) (bytes : List ℕ) → o ≡ Some bytes → Contains (block_if o) (slice_index bytes)
+in_block o bytes is = subst (λ (x : Option (List ℕ)). Contains (block_if x) (slice_index bytes)) (sym is) (0, omega arith, refl)
+
+in_blocks : (port k : ℕ) (entries : List Entry) (entry : Entry) (bytes : List ℕ) → Contains entries entry → put_into port k entry ≡ Some bytes → Contains (blocks_put port k entries) (slice_index bytes)
+in_blocks port k [] entry bytes here is = let lt = here.1 in absurd (omega (arith, lt))
+in_blocks port k (e ∷ es) entry bytes here is = by (λ (c : Contains es entry). in_blocks port k es entry bytes c is) here.0 here.1 here.2
+  where
+    by : (Contains es entry → Contains (blocks_put port k es) (slice_index bytes)) → (i : ℕ) → i < suc (length es) → get_or (e ∷ es) i entry ≡ entry → Contains (block_if (put_into port k e) ++ blocks_put port k es) (slice_index bytes)
+    by rest zero lt at = Contains-append_left (block_if (put_into port k e)) (blocks_put port k es) (slice_index bytes) (in_block (put_into port k e) bytes (ap (put_into port k) at ∙ is))
+    by rest (suc i) lt at = Contains-append_right (block_if (put_into port k e)) (blocks_put port k es) (slice_index bytes) (rest (i, omega (arith, lt), at))
+
+returns : (tape : List Entry) (lasting : Lasting) (port k : ℕ) (bytes : List ℕ) → WereHeld tape lasting port k bytes → Contains (may_return tape lasting port k) (slice_index bytes)
+returns tape lasting port k bytes (inl is) = Contains-append_left (block_if (option_map (λ (sectors : ℕ → List ℕ). sectors k) lasting.sectors)) (blocks_put port k (drop lasting.since tape)) (slice_index bytes)
+    (in_block (option_map (λ (sectors : ℕ → List ℕ). sectors k) lasting.sectors) bytes is)
+returns tape lasting port k bytes (inr (entry, here, is)) = Contains-append_right (block_if (option_map (λ (sectors : ℕ → List ℕ). sectors k) lasting.sectors)) (blocks_put port k (drop lasting.since tape)) (slice_index bytes)
+    (in_blocks port k (drop lasting.since tape) entry bytes here is)
+
+pub idle_knows : (m : Machine) (d : Device) → IsStart m → IsIdle d → ((port : ℕ) → IsDiskOf m (d.port port) port) → SameMemory m d.memory →
+    (d.telling ≡ true → (port : ℕ) → SameSectors m (d.port port).disk port) → (d.telling ≡ true → (port k : ℕ) → m.aside (port_at port) k ≡ may_return d.tape (d.port port).lasting port k) → DriverRelation m (idle d)
+idle_knows m d s i disk memory sectors aside = record {
+  agrees = record {
+    slot = λ q k. record { issued = (i.port q).ci k; free = (i.port q).taken k; unarmed = (i.port q).sact k };
+    apart = λ q k q' k' id u v. absurd (let z : Free ≡ Serves id = u in cc);
+    received = λ q f. true_false f (i.port q).fre;
+    disk = disk;
+    memory = memory;
+    sectors = sectors;
+    lasting = λ t port k inside bytes w. inr (slice_index bytes, subst (λ (l : List Block). Contains l (slice_index bytes)) (sym (aside t port k)) (returns d.tape (d.port port).lasting port k bytes w), λ b lb. refl);
+  };
+  have = λ q e may at_port. ⊎_elim
+      (λ z. absurd (All-contains (λ _. ⊥) [] e (All-nil (λ _. ⊥)) (subst (λ es. Contains es e) s.book z.0)))
+      (λ z. absurd (All-contains (λ _. ⊥) [] e (All-nil (λ _. ⊥)) (subst (λ es. Contains es e) s.kept z)))
+      may;
+}
+
+-- ---- the machine of an idle device
+
+-- what a disk holds, or zeros where it doesn't tell
+abbrev pub told_bytes : Option (ℕ → List ℕ) → DiskBytes
+told_bytes None k b = 0
+told_bytes (Some told) k b = slice_index (told k) b
+
+-- the device's disks and client frames, with these grants and owners
+abbrev pub machine_of : Device → List GrantRow → (Frame → Option ClientId) → Machine
+machine_of d rows owner = record {
+  present = λ port. (d.port port.0).present;
+  disk_ids = λ port. (d.port port.0).disk.name;
+  sizes = λ port. (d.port port.0).disk.size;
+  disks = λ port. told_bytes (d.port port.0).disk.sectors;
+  aside = λ port k. may_return d.tape (d.port port.0).lasting port.0 k;
+  book = [];
+  kept = [];
+  lent = λ frame. None;
+  memory = λ frame b. d.memory (4096 * frame.0 + b);
+  rows = rows;
+  owner = owner;
+  next = 1;
+}
+
+pub machine_knows : (d : Device) (rows : List GrantRow) (owner : Frame → Option ClientId) → IsStart (machine_of d rows owner) → IsIdle d
+    → TellsDisks d → DriverRelation (machine_of d rows owner) (idle d)
+machine_knows d rows owner start is told =
+    idle_knows (machine_of d rows owner) d start is (λ q. record { present = refl; id = refl; size = refl }) (λ f b low small. refl) sectors (λ _ port k. refl)
+  where
+    sectors : d.telling ≡ true → (port : ℕ) → SameSectors (machine_of d rows owner) (d.port port).disk port
+    sectors tells q =
+        let t = told tells q in
+        record { told = t.0; tells = t.1; same = λ k b inside small. sym (ap (λ (s : Option (ℕ → List ℕ)). told_bytes s k b) t.1) }
+
+-- with no grants, and frames that are nobody's
+pub unowned_starts : (d : Device) → IsStart (machine_of d [] (λ frame. None))
+unowned_starts d = record {
+  book = refl;
+  kept = refl;
+  lent = λ frame. refl;
+  next = refl;
+  few = omega arith;
+  rows = λ i j d lt small. absurd (omega (arith, small));
+  configured = λ row here. absurd (All-contains (λ _. ⊥) [] row (All-nil (λ _. ⊥)) here);
+  owned = λ frame client (e : None ≡ Some client). absurd (cc);
+}
+
+pub idle_agrees : (d : Device) → IsIdle d → TellsDisks d → IsRelated (λ port slot. Free) d
+idle_agrees d is told = record {
+  machine = machine_of d [] (λ frame. None);
+  parked = λ port. [];
+  reached = record { first = machine_of d [] (λ frame. None); past = []; starts = unowned_starts d; legal = tt; is = refl };
+  knows = machine_knows d [] (λ frame. None) (unowned_starts d) is told;
+}

@@ -1,0 +1,217 @@
+-- The first read, as device and as machine.
+use Rattle.std.proofs.Common.{ℕ, ◌≡◌, ◌<◌, ◌+◌, ◌*◌, ◌^◌, ◌==◌, ◌≢◌, Bool, true, false, cond, List, [], ◌∷◌, length, slice_index, Some, refl, sym, ◌∙◌, ap, subst, arith, inl, inr, ⊎_elim, ne_eqb}
+use Rattle.std.proofs.lemmas.Bool.{cond-false}
+use Rattle.std.proofs.lemmas.Nat.Bits.{bit_at-pow_other}
+use Rattle.std.proofs.lemmas.List.{get_or-replicate}
+use Rattle.std.proofs.lemmas.List.Elements.{All-contains, All-nil}
+use Rattle.std.proofs.lemmas.Option.{none-some, same_Some}
+use Rattle.hba_regs.specs.Bits.{bit}
+use Rattle.hba_regs.specs.declared.reg.Reg.TheVariants.{Px}
+use Rattle.hba_regs.specs.declared.reg.PortReg.TheVariants.{Ci}
+use Rattle.byteorder.specs.Endian.{little_from}
+use Rattle.adapter.specs.Access.{written}
+use Rattle.adapter.specs.Commands.{Meaning}
+use Rattle.adapter.specs.Device.{DevicePort, Device}
+use Rattle.adapter.specs.FirstRead.{first_memory, first_read, quiet_port, reading_port, first_read_sector}
+use Rattle.adapter.specs.Memory.{bytes_at, changed, patched}
+use Rattle.adapter.specs.ReadDone.{read_of}
+use Rattle.adapter.specs.Decoding.{DecodesTo, piece_addresses}
+use Rattle.adapter.specs.Steps.{Can, WereHeld}
+use Rattle.adapter.specs.Steps.DeviceTransition.{Fetch}
+use Rattle.adapter.proofs.Changed.{fun_ext, changed_same, changed_other}
+use Rattle.adapter.proofs.FirstRead.{first_says}
+use Rattle.adapter.proofs.Runs.{Steps-refl}
+use Rattle.adapter.proofs.SaysLemmas.{cut_length}
+use Rattle.block_machine.specs.declared.due.QueueMode.{QueueMode}
+use Rattle.block_machine.specs.Histories.{IsReachable}
+use Rattle.block_machine.specs.Left.{IsStart}
+use Rattle.block_machine.specs.State.{Accepted, Pending, Machine}
+use Rattle.block_machine.specs.Steps.{Accept, Issue, May, IsNew, MayStillMove, HasHeld, after_step, newly_accepted, newly_issued}
+use Rattle.block_machine.proofs.HistoryLemmas.{reached_more}
+use Rattle.block_machine.proofs.Setting.{empty, filled_starts}
+use Rattle.refinement.specs.Slots.{Free, Serves, SlotDecodesTo, IsEmptySlot}
+use Rattle.refinement.specs.Relation.{StateRelation, port_at, IsDiskOf, SameSectors, HasLasting, IsReceiving}
+use Rattle.refinement.specs.Driver.{DriverRelation, IsPrepared, idle}
+use Rattle.refinement.specs.Witness.{first_uses, first_known, ready_port, ready_with, prepared_read, PreparedIsKnown, FirstIsKnown}
+use Rattle.refinement.proofs.relation.OneSlot.{changed_at}
+use Rattle.refinement.proofs.witnesses.AcceptedRequests.{accepted_of, has_its_grant, read_into, read_is_new, read_no_trim, places_in}
+use Rattle.refinement.proofs.driver.PutSlot.{issued_port, issue_agrees, issue_have}
+use Rattle.refinement.proofs.driver.OwnSteps.{accept_knows}
+use Rattle.refinement.proofs.driver.PermittedAccesses.{issue_is_permitted}
+use Rattle.refinement.proofs.relation.OtherSlots.{true_false}
+
+-- ---- the machine
+
+-- it begins with the device's disks and its frames
+abbrev pub start_with : (ℕ → ℕ) → Machine
+start_with memory = record empty {
+  present = λ p. p.0 == 0;
+  disk_ids = λ p. 0;
+  sizes = λ p. cond (p.0 == 0) 256 0;
+  disks = λ p k b. k;
+  memory = λ f b. memory (4096 * f.0 + b);
+}
+
+pub starts_with : (memory : ℕ → ℕ) → IsStart (start_with memory)
+starts_with memory =
+    let s : IsStart (record empty { memory = λ f b. memory (4096 * f.0 + b) }) = filled_starts (λ f b. memory (4096 * f.0 + b)) in
+    record { book = s.book; kept = s.kept; lent = s.lent; next = s.next; few = s.few; rows = s.rows; configured = s.configured; owned = s.owned }
+
+abbrev start : Machine
+start = start_with first_memory
+
+abbrev accepted : Accepted
+accepted = accepted_of start (read_into 100 100)
+
+is_new : IsNew start accepted
+is_new = read_is_new start 100 100 refl refl refl (omega arith) (omega arith) (omega arith) (omega arith)
+
+abbrev pub plain : QueueMode
+plain = record { queued = false; usable = 1 }
+
+abbrev pub waits : Pending
+waits = newly_accepted accepted
+
+abbrev accepting : Machine
+accepting = after_step start (Accept accepted)
+
+accepting_reached : IsReachable accepting
+accepting_reached = record { first = start; past = Accept accepted ∷ []; starts = starts_with first_memory; legal = (tt, is_new); is = refl }
+
+may_issue : May accepting (Issue plain waits)
+may_issue = ((0, omega arith, refl), record { here = (0, omega arith, refl); clear = refl; slot = λ h. true_false refl h }, λ e h. absurd (All-contains (λ _. ⊥) [] e (All-nil (λ _. ⊥)) h), has_its_grant refl)
+
+abbrev pub issued : Machine
+issued = after_step accepting (Issue plain waits)
+
+pub reached : IsReachable issued
+reached = reached_more accepting (Issue plain waits ∷ []) accepting_reached (tt, may_issue)
+
+moves : MayStillMove issued (newly_issued waits)
+moves = inl ((0, omega arith, refl), refl)
+
+-- ---- the relation
+
+-- where the header says that the table is, and how many PRDs it has
+points : little_from 8 4 (bytes_at first_memory 0 32) ≡ 0x1000
+unfolding first_memory patched bytes_at
+points = refl
+
+entries : little_from 0 4 (bytes_at first_memory 0 32) ≡ 65541
+unfolding first_memory patched bytes_at
+entries = refl
+
+told : SlotDecodesTo first_memory 0 0 0 (read_of 100 8) (piece_addresses 0x64000 8)
+told = record {
+  says = first_says;
+  table_is = sym first_says.header.points ∙ points;
+  few = (let h : little_from 0 4 (bytes_at first_memory 0 32) ≡ 5 + 0 + 65536 * length first_says.prds = first_says.header.first in let n = entries in omega (arith, h, n));
+}
+
+pub tells : (k b : ℕ) → b < 512 → slice_index (first_read_sector k) b ≡ k
+unfolding first_read_sector
+tells k b bl = get_or-replicate 512 b k 0 bl
+
+-- nothing is on the tape: the disk may come back as it was first in
+lasts : (memory : ℕ → ℕ) (k : ℕ) (bytes : List ℕ) → WereHeld [] (record { sectors = Some first_read_sector; since = 0 }) 0 k bytes → HasHeld (start_with memory) (port_at 0) k (slice_index bytes)
+lasts memory k bytes (inl is) = inl (λ b bl. ap (λ (l : List ℕ). slice_index l b) (sym (same_Some (first_read_sector k) bytes is)) ∙ tells k b bl)
+lasts memory k bytes (inr (entry, here, is)) = let lt = here.1 in absurd (omega (arith, lt))
+
+-- a device with no command in a slot agrees with a machine to begin with
+pub ready_knows : (memory : ℕ → ℕ) → DriverRelation (start_with memory) (idle (ready_with memory))
+ready_knows memory = record {
+  agrees = record {
+    slot = λ q k. changed_at (λ _. quiet_port) 0 ready_port (λ n p. IsEmptySlot p k) (record { issued = refl; free = refl; unarmed = refl }) (λ n ne. record { issued = refl; free = refl; unarmed = refl }) q;
+    apart = λ q k q' k' id u v. absurd (let z : Free ≡ Serves id = u in cc);
+    received = changed_at (λ _. quiet_port) 0 ready_port (λ n p. p.fre ≡ true → IsReceiving p n) (λ _. record { below = omega arith; area = refl }) (λ n ne f. true_false f refl);
+    disk = changed_at (λ _. quiet_port) 0 ready_port (λ n p. IsDiskOf (start_with memory) p n) (record { present = refl; id = refl; size = refl })
+        (λ n ne. record { present = ne_eqb n 0 ne; id = refl; size = cond-false (n == 0) 256 0 (ne_eqb n 0 ne) });
+    memory = λ f b from small. refl;
+    sectors = λ _. changed_at (λ _. quiet_port) 0 ready_port (λ n p. SameSectors (start_with memory) p.disk n)
+        (record { told = first_read_sector; tells = refl; same = λ k b kl bl. tells k b bl })
+        (λ n ne. record { told = λ k. []; tells = refl; same = λ k b kl bl. absurd (omega (arith, kl)) });
+    lasting = λ _. changed_at (λ _. quiet_port) 0 ready_port (λ n p. HasLasting (start_with memory) [] p n) (λ k inside bytes w. lasts memory k bytes w) (λ n ne k inside bytes w. absurd (omega (arith, inside)));
+  };
+  have = λ q e may at_port. ⊎_elim (λ z. absurd (All-contains (λ _. ⊥) [] e (All-nil (λ _. ⊥)) z.0)) (λ z. absurd (All-contains (λ _. ⊥) [] e (All-nil (λ _. ⊥)) z)) may;
+}
+
+-- a command that is issued there may be taken
+pub can_take : (memory : ℕ → ℕ) (c : Meaning) (places : List ℕ) → DecodesTo memory 0 0 c places → Can (Fetch 0 0 c places) (written (Px (port_at 0) Ci) 1 (ready_with memory))
+unfolding changed
+can_take memory c places says = record {
+  fetchable = record { st = refl; issued = refl; free = refl };
+  working = record { running = refl; present = refl; fresh = refl; admitted = refl; whole = refl };
+  alone = λ slot t is. absurd (none-some _ is);
+  says = says;
+}
+
+accepting_knows : DriverRelation accepting (idle prepared_read)
+accepting_knows = accept_knows (idle prepared_read) start accepted (ready_knows first_memory)
+
+-- ---- the read is issued
+
+-- a power of two has one bit
+pub other_bit : (n k : ℕ) → k ≢ n → bit (2 ^ n) k ≡ false
+other_bit n k ne = ap (λ (b : ℕ). b == 1) (bit_at-pow_other n k ne)
+
+pub bit_one_other : (k : ℕ) → k ≢ 0 → bit 1 k ≡ false
+bit_one_other k ne = other_bit 0 k ne
+
+prepared : IsPrepared (idle prepared_read).uses accepting prepared_read 0 0 plain waits 1
+unfolding changed
+prepared = record {
+  may = may_issue;
+  port_is = refl;
+  free = refl;
+  usable = omega arith;
+  head = λ _. refl;
+  started = refl;
+  placed = record { port_below = omega arith; slot_below = omega arith; list = refl };
+  command = read_of 100 8;
+  places = piece_addresses 0x64000 8;
+  told = told;
+  means = record { op = refl; first = λ _. refl; places_are = (cut_length 0x64000 8, places_in 100); head = λ e. absurd (read_no_trim e) };
+  kind = refl;
+  block = tt;
+  here = refl;
+  alone = bit_one_other;
+}
+
+-- the write gives the first read
+issued_port_is : issued_port ready_port 1 ≡ reading_port
+issued_port_is = ap (λ (ci : ℕ → Bool). record reading_port { ci = ci })
+    (fun_ext (changed_at (λ _. false) 0 true (λ k b. bit 1 k ≡ b) refl bit_one_other))
+
+pub issued_ports : changed (changed (λ _. quiet_port) 0 ready_port) 0 (issued_port ready_port 1) ≡ changed (λ _. quiet_port) 0 reading_port
+issued_ports = fun_ext (λ q. changed_at (changed (λ _. quiet_port) 0 ready_port) 0 (issued_port ready_port 1) (λ n p. p ≡ changed (λ _. quiet_port) 0 reading_port n)
+    (issued_port_is ∙ sym (changed_same (λ _. quiet_port) 0 reading_port))
+    (λ n ne. changed_other (λ _. quiet_port) 0 ready_port n ne ∙ sym (changed_other (λ _. quiet_port) 0 reading_port n ne)) q)
+
+issues : first_read ≡ written (Px (port_at 0) Ci) 1 prepared_read
+issues =
+    ap (λ (ports : ℕ → DevicePort). record first_read { port = ports })
+    (sym issued_ports ∙ ap (λ (p : DevicePort). changed (changed (λ _. quiet_port) 0 ready_port) 0 (issued_port p 1)) (sym (changed_same (λ _. quiet_port) 0 ready_port)))
+
+pub prepared_is_known : PreparedIsKnown
+prepared_is_known = record {
+  machine = accepting;
+  reached = accepting_reached;
+  knows = accepting_knows;
+  mode = plain;
+  request = waits;
+  id_is = refl;
+  prepared = prepared;
+  permitted = issue_is_permitted (idle prepared_read).uses accepting prepared_read accepting_reached accepting_knows.agrees (port_at 0) 0 plain waits 1
+      (record { ae = refl; no_reset = refl }) (omega arith, refl) (omega arith) prepared;
+  writes = record { mid = prepared_read; steps = Steps-refl prepared_read; effect = issues };
+}
+
+pub first_knows : DriverRelation issued first_known
+first_knows = record {
+  agrees = subst (λ (d : Device). StateRelation first_uses issued d) (sym issues)
+      (issue_agrees (idle prepared_read).uses accepting prepared_read accepting_reached accepting_knows.agrees 0 0 plain waits 1 prepared);
+  have = λ q. issue_have (idle prepared_read).uses accepting prepared_read accepting_reached accepting_knows.agrees 0 0 plain waits 1 prepared q [] (accepting_knows.have q);
+}
+
+pub first_is_known : FirstIsKnown
+first_is_known = record { machine = issued; reached = reached; knows = first_knows; request = newly_issued waits; moves = moves; id_is = refl }

@@ -1,0 +1,147 @@
+-- IDENTIFY DEVICE in slot 0, byte by byte, and how its page comes.
+use Rattle.std.proofs.Common.{ℕ, ◌≡◌, ◌==◌, true, false, [], ◌∷◌, refl, sym, ◌∙◌, ap, arith, inl}
+use Rattle.std.proofs.lemmas.Nat.Bits.{bit_at-zero}
+use Rattle.hba_regs.specs.Bits.{bit}
+use Rattle.hba_regs.specs.declared.reg.Reg.TheVariants.{Px}
+use Rattle.hba_regs.specs.declared.reg.PortReg.TheVariants.{Ci}
+use Rattle.adapter.specs.Access.{Reads, noted}
+use Rattle.adapter.specs.Commands.{Meaning}
+use Rattle.adapter.specs.Device.{IsSector, FetchedCommand, Device}
+use Rattle.adapter.specs.FirstRead.{first_memory, first_read_sector}
+use Rattle.adapter.specs.Memory.{patched, bytes_at, changed}
+use Rattle.adapter.specs.Steps.{Can, Steps, device_after, begun}
+use Rattle.adapter.specs.Steps.DeviceTransition.{Fetch, Move, Done}
+use Rattle.adapter.specs.declared.command.Operation.TheVariants.{Identify, Trim}
+use Rattle.adapter.proofs.FirstRead.{first_sane}
+use Rattle.adapter.proofs.Runs.{Steps-refl}
+use Rattle.block_machine.specs.Histories.{IsReachable}
+use Rattle.block_machine.specs.State.{Machine}
+use Rattle.refinement.specs.Relation.{port_at}
+use Rattle.refinement.specs.Driver.{DriverRelation, IsOwnPrepared, idle}
+use Rattle.refinement.specs.Places.{scratch_of}
+use Rattle.refinement.specs.Slots.{Free, Own, Serves, SlotDecodesTo}
+use Rattle.refinement.specs.Witness.{identify_memory, prepared_identify, issued_identify, own_known, OwnIsKnown}
+use Rattle.refinement.proofs.relation.OneSlot.{changed_at}
+use Rattle.refinement.proofs.driver.EndedRequests.{page_is_read}
+use Rattle.refinement.proofs.driver.PermittedAccesses.{own_is_permitted}
+use Rattle.refinement.proofs.driver.PutSlot.{put_same, put_have, own_agrees}
+use Rattle.refinement.proofs.witnesses.SpeltSlot.{page_told, zeros_from}
+use Rattle.refinement.proofs.witnesses.FirstRead.{start_with, starts_with, ready_knows, can_take, bit_one_other}
+
+-- ---- what the bytes say
+
+abbrev identify : Meaning
+identify = record { operation = Identify; first = 0; count = 0 }
+
+told : SlotDecodesTo identify_memory 0 0 0 identify (scratch_of 0 ∷ [])
+unfolding identify_memory first_memory patched bytes_at zeros_from
+told = page_told identify_memory Identify refl refl (refl, refl, refl) (refl, refl, refl, refl, refl, refl, refl, refl) (refl, refl, refl)
+
+-- ---- it is issued
+
+abbrev machine : Machine
+machine = start_with identify_memory
+
+reached : IsReachable machine
+reached = record { first = machine; past = []; starts = starts_with identify_memory; legal = tt; is = refl }
+
+before : DriverRelation machine (idle prepared_identify)
+before = ready_knows identify_memory
+
+prepared : IsOwnPrepared (idle prepared_identify).uses prepared_identify 0 Identify 1
+unfolding changed
+prepared = record {
+  own = refl;
+  free = refl;
+  started = refl;
+  placed = record { port_below = omega arith; slot_below = omega arith; list = refl };
+  command = identify;
+  operation_is = refl;
+  told = told;
+  known = omega arith;
+  here = refl;
+  alone = bit_one_other;
+}
+
+knows : DriverRelation machine own_known
+knows = record {
+  agrees = own_agrees (idle prepared_identify).uses machine prepared_identify before.agrees 0 Identify 1 prepared;
+  have = λ q. put_have (idle prepared_identify).uses machine 0 0 (Own Identify) q [] (λ id u. absurd (let z : Free ≡ Serves id = u in cc)) (before.have q);
+}
+
+-- ---- and its page comes
+
+abbrev taken : FetchedCommand
+taken = begun identify (scratch_of 0 ∷ [])
+
+abbrev brought : FetchedCommand
+brought = record taken { moved = 1 }
+
+abbrev fetched : Device
+fetched = device_after (Fetch 0 0 identify (scratch_of 0 ∷ [])) issued_identify
+
+abbrev moved : Device
+moved = device_after (Move 0 0 taken (first_read_sector 0)) fetched
+
+abbrev ended : Device
+ended = device_after (Done 0 0 0 brought) moved
+
+page_is_sector : IsSector (first_read_sector 0)
+unfolding changed
+page_is_sector = first_sane.disk 0 first_read_sector refl 0 (omega arith)
+
+can_fetch : Can (Fetch 0 0 identify (scratch_of 0 ∷ [])) issued_identify
+can_fetch = can_take identify_memory identify (scratch_of 0 ∷ []) told.says
+
+can_move : Can (Move 0 0 taken (first_read_sector 0)) fetched
+unfolding changed
+can_move = record {
+  works = record { taken = refl; working = record { running = refl; present = refl; fresh = refl; admitted = refl; whole = refl } };
+  left = omega arith;
+  sector = page_is_sector;
+  brings = tt;
+}
+
+can_end : Can (Done 0 0 0 brought) moved
+unfolding changed
+can_end = record {
+  works = record { taken = refl; working = record { running = refl; present = refl; fresh = refl; admitted = refl; whole = refl } };
+  finished = record { moved = refl; cleared = λ (e : Identify ≡ Trim). absurd cc };
+  shown = inl refl;
+}
+
+comes : Steps issued_identify ended
+comes = record {
+  steps = Fetch 0 0 identify (scratch_of 0 ∷ []) ∷ Move 0 0 taken (first_read_sector 0) ∷ Done 0 0 0 brought ∷ [];
+  lead = (can_fetch, (can_move, (can_end, refl)));
+}
+
+-- no bit of PxCI is set then
+none_issued : (slot : ℕ) → (ended.port 0).ci slot ≡ bit 0 slot
+unfolding changed
+none_issued slot =
+    changed_at (λ k. bit 1 k) 0 false (λ k b. b ≡ bit 0 k) refl
+    (λ k ne. bit_one_other k ne ∙ sym (ap (λ (n : ℕ). n == 1) (bit_at-zero k))) slot
+
+reads : Reads (Px (port_at 0) Ci) 0 issued_identify (noted (Px (port_at 0) Ci) 0 ended)
+reads = record { mid = ended; steps = comes; shows = λ slot small. sym (none_issued slot); effect = refl }
+
+running : (issued_identify.port 0).st ≡ true
+unfolding changed
+running = refl
+
+pub own_is_known : OwnIsKnown
+own_is_known = record {
+  machine = machine;
+  reached = reached;
+  before = before;
+  prepared = prepared;
+  permitted = own_is_permitted (idle prepared_identify).uses machine prepared_identify reached before.agrees (port_at 0) Identify 1
+      (record { ae = refl; no_reset = refl }) (omega arith, refl) prepared;
+  writes = record { mid = prepared_identify; steps = Steps-refl prepared_identify; effect = refl };
+  knows = knows;
+  found = noted (Px (port_at 0) Ci) 0 ended;
+  reads = reads;
+  page = page_is_read own_known.uses machine (port_at 0) Identify 0 issued_identify (noted (Px (port_at 0) Ci) 0 ended) reached knows.agrees refl running
+      (put_same (λ _ _. Free) 0 0 (Own Identify)) reads refl;
+}

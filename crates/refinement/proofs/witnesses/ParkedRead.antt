@@ -1,0 +1,133 @@
+-- The first read's request when it was taken from its slot, and when it is kept.
+use Rattle.std.proofs.Common.{ℕ, ◌≡◌, ◌==◌, [], ◌∷◌, refl, sym, ◌∙◌, ap, arith, inl, ⊎_elim}
+use Rattle.std.specs.List.{Contains}
+use Rattle.std.proofs.lemmas.Nat.Bits.{bit_at-pow_other, bit_at-zero}
+use Rattle.ata_types.specs.declared.request.RequestId.{RequestId}
+use Rattle.ata_types.specs.declared.request.Outcome.TheVariants.{PortDead}
+use Rattle.hba_regs.specs.Bits.{bit}
+use Rattle.hba_regs.specs.declared.reg.Reg.TheVariants.{Px}
+use Rattle.hba_regs.specs.declared.reg.PortReg.TheVariants.{Cmd}
+use Rattle.adapter.specs.Device.{Notes}
+use Rattle.adapter.specs.FirstRead.{first_read}
+use Rattle.adapter.specs.Kept.{Keeps, KeepsOn}
+use Rattle.adapter.specs.Memory.{changed}
+use Rattle.adapter.specs.Rules.{MayWrite, IsStable}
+use Rattle.adapter.specs.Steps.{Can}
+use Rattle.adapter.specs.Steps.DeviceTransition.{Fall}
+use Rattle.adapter.proofs.KeptLemmas.{law_steps_keep}
+use Rattle.adapter.proofs.Runs.{Steps-refl, Steps-one}
+use Rattle.block_machine.specs.State.{Pending, Machine}
+use Rattle.block_machine.specs.Steps.{Answer, after_step, newly_issued}
+use Rattle.block_machine.proofs.HistoryLemmas.{reached_more}
+use Rattle.block_machine.proofs.Members.{contains_here, contains_cases, contains_none}
+use Rattle.refinement.specs.Relation.{StateRelation, port_at}
+use Rattle.refinement.specs.Driver.{DriverRelation, HasNoSlot, LeavesUses}
+use Rattle.refinement.specs.Facts.{IsHalted}
+use Rattle.refinement.specs.Slots.{Free, Serves, put}
+use Rattle.refinement.specs.Witness.{first_id, first_uses, first_known, KeptIsKnown, stopping_read, stopped_read, parked_known, ParkedIsKnown}
+use Rattle.refinement.proofs.driver.OwnSteps.{keeping_knows, park_knows}
+use Rattle.refinement.proofs.steps.FollowedSteps.{silent_agrees}
+use Rattle.refinement.proofs.driver.PutSlot.{put_same, put_cases}
+use Rattle.refinement.proofs.relation.OtherSlots.{true_false, fall_follows}
+use Rattle.refinement.proofs.witnesses.AcceptedRequests.{has_its_grant}
+use Rattle.refinement.proofs.witnesses.FirstRead.{waits, issued, reached, first_knows}
+use Rattle.refinement.proofs.steps.RegisterWrites.{written_agrees}
+
+-- the request is in the book
+booked : Contains issued.book (newly_issued waits)
+booked = contains_here (newly_issued waits) [] (newly_issued waits) refl
+
+-- ---- taken from its slot
+
+-- the write keeps FRE as it is, and the bits that it doesn't change were read 0
+permitted : IsStable (MayWrite (Px (port_at 0) Cmd) 0x10) first_read
+unfolding changed
+permitted mid s =
+    let k : Keeps first_read mid = law_steps_keep s in
+    let on : KeepsOn first_read mid = k.on refl in (
+      record { ae = on.ae; no_reset = on.no_reset },
+      (omega arith, ap (λ (v : ℕ). bit v 0) k.pi),
+      record {
+        start = λ b. true_false b refl;
+        receive = λ _. inl (on.controls 0).fre;
+        stop_receiving = λ b. true_false refl b;
+        others = λ place lt head receive.
+            ap (λ (n : ℕ). n == 1) (bit_at-pow_other 4 place receive) ∙ sym (ap (λ (n : ℕ). n == 1) (bit_at-zero place)) ∙ ap (λ (n : Notes). bit n.last_cmd place) (sym (k.notes 0));
+      },
+    )
+
+leaves : LeavesUses first_uses (Px (port_at 0) Cmd) 0x10 first_read
+unfolding changed
+leaves = record { start = λ b. true_false b refl; receive = λ _. (omega arith, refl) }
+
+stopping_agrees : StateRelation first_uses issued stopping_read
+stopping_agrees = written_agrees first_uses issued first_read first_knows.agrees (Px (port_at 0) Cmd) 0x10 (permitted first_read (Steps-refl first_read)) leaves
+
+can_fall : Can (Fall 0) stopping_read
+unfolding changed
+can_fall = (refl, refl)
+
+-- nothing is told of, so the machine makes no step
+stopped_agrees : StateRelation first_uses issued stopped_read
+stopped_agrees =
+    silent_agrees first_uses issued stopping_read stopped_read (fall_follows first_uses issued stopping_read stopping_agrees 0 can_fall.0) refl
+
+stopped_halted : IsHalted (stopped_read.port 0)
+unfolding changed
+stopped_halted = record { st = refl; cr = refl; ci = λ slot. refl; taken = λ slot. refl }
+
+-- whose slot it is
+served_at : (q k : ℕ) (id : RequestId) → first_uses q k ≡ Serves id → (q ≡ 0) × (k ≡ 0)
+served_at q k id u = ⊎_elim
+    (λ (x : (q ≡ 0) × (k ≡ 0)). x)
+    (λ x. let z : Free ≡ Serves id = sym x.1 ∙ u in absurd cc)
+    (put_cases (λ _ _. Free) 0 0 (Serves first_id) q k)
+
+unserved : HasNoSlot parked_known.uses first_id
+unserved q k u = ⊎_elim
+    (λ (h : (q ≡ 0) × (k ≡ 0)).
+    let z : Free ≡ Serves first_id =
+    sym (put_same first_uses 0 0 Free) ∙ ap (λ (n : ℕ). put first_uses 0 0 Free n 0) (sym h.0) ∙ ap (λ (n : ℕ). put first_uses 0 0 Free q n) (sym h.1) ∙ u in absurd cc)
+    (λ h. let w = served_at q k first_id (sym h.1 ∙ u) in h.0 w.0 w.1)
+    (put_cases first_uses 0 0 Free q k)
+
+parked_knows : DriverRelation issued parked_known
+parked_knows =
+    park_knows (record first_known { device = stopped_read }) issued (record { agrees = stopped_agrees; have = first_knows.have }) 0 0
+    (record { issued = stopped_halted.ci 0; free = stopped_halted.taken 0 }) first_id (put_same (λ _ _. Free) 0 0 (Serves first_id))
+
+pub parked_is_known : ParkedIsKnown
+parked_is_known = record {
+  permitted = permitted;
+  writes = record { mid = first_read; steps = Steps-refl first_read; effect = refl };
+  falls = Steps-one (Fall 0) stopping_read stopped_read can_fall refl;
+  halted = stopped_halted;
+  machine = issued;
+  reached = reached;
+  knows = parked_knows;
+  unserved = unserved;
+  request = newly_issued waits;
+  id_is = refl;
+  may = (booked, refl, omega arith, has_its_grant refl);
+}
+
+-- ---- kept
+
+abbrev keeping : Machine
+keeping = after_step issued (Answer (newly_issued waits) PortDead)
+
+-- it keeps request 1 alone
+kept_one : (e : Pending) → Contains keeping.kept e → e.request.id ≡ first_id
+kept_one e h = ⊎_elim (λ (is : e ≡ newly_issued waits). ap (λ (x : Pending). x.request.id) is) (λ i. absurd (contains_none e i)) (contains_cases (newly_issued waits) [] e h)
+
+pub kept_is_known : KeptIsKnown
+kept_is_known = record {
+  machine = keeping;
+  reached = reached_more issued (Answer (newly_issued waits) PortDead ∷ []) reached (tt, (booked, tt));
+  request = newly_issued waits;
+  kept = booked;
+  id_is = refl;
+  knows = keeping_knows first_known issued (newly_issued waits) PortDead reached first_knows booked refl;
+  taken = keeping_knows parked_known issued (newly_issued waits) PortDead reached parked_knows booked refl;
+  unserved = λ e h q k u. unserved q k (u ∙ ap Serves (kept_one e h));
+}

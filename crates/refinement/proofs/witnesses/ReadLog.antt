@@ -1,0 +1,231 @@
+-- READ LOG EXT in slot 0, byte by byte, and how it ends the halt.
+use Rattle.std.proofs.Common.{ℕ, ◌≡◌, ◌≢◌, ◌==◌, Bool, true, false, [], ◌∷◌, refl, sym, ◌∙◌, ap, subst, arith, inl, ⊎_elim, if◌then◌else◌}
+use Rattle.std.specs.Prelude.{nat_eq}
+use Rattle.std.proofs.lemmas.Bool.{cases_eq}
+use Rattle.std.proofs.lemmas.Nat.Bits.{bit_at-zero}
+use Rattle.std.proofs.lemmas.Option.{none-some}
+use Rattle.hba_regs.specs.Bits.{bit}
+use Rattle.hba_regs.specs.declared.reg.Reg.TheVariants.{Px}
+use Rattle.hba_regs.specs.declared.reg.PortReg.TheVariants.{Is, Ci}
+use Rattle.adapter.specs.Access.{Reads, Writes, noted, written, shown_interrupt}
+use Rattle.adapter.specs.Commands.{Meaning}
+use Rattle.adapter.specs.Device.{IsSector, FetchedCommand, DevicePort, Device}
+use Rattle.adapter.specs.Device.Halt.{LogOnly}
+use Rattle.adapter.specs.FirstRead.{first_memory, first_read_sector}
+use Rattle.adapter.specs.Memory.{patched, bytes_at, changed}
+use Rattle.adapter.specs.Steps.{Can, Steps, device_after, begun}
+use Rattle.adapter.specs.Steps.DeviceTransition.{Fetch, Move, Done}
+use Rattle.adapter.specs.declared.command.Operation.TheVariants.{ReadLog, Trim}
+use Rattle.adapter.proofs.Changed.{changed_other}
+use Rattle.adapter.proofs.FirstRead.{first_sane}
+use Rattle.adapter.proofs.Runs.{Steps-refl}
+use Rattle.block_machine.specs.Histories.{IsReachable}
+use Rattle.block_machine.specs.State.{Machine}
+use Rattle.refinement.specs.Relation.{StateRelation, port_at}
+use Rattle.refinement.specs.Driver.{DriverRelation, IsOwnPrepared, idle}
+use Rattle.refinement.specs.Facts.{TellsNoTrouble}
+use Rattle.refinement.specs.Places.{scratch_of}
+use Rattle.refinement.specs.Slots.{Free, Own, SlotDecodesTo}
+use Rattle.refinement.specs.Witness.{ready_with}
+use Rattle.refinement.proofs.relation.OneSlot.{changed_at}
+use Rattle.refinement.proofs.driver.PermittedAccesses.{own_is_permitted}
+use Rattle.refinement.proofs.driver.PutSlot.{put_other, own_agrees}
+use Rattle.refinement.proofs.relation.LastingSectors.{gains_none}
+use Rattle.refinement.proofs.relation.OtherSlots.{quiet_port}
+use Rattle.refinement.proofs.relation.SlotRelation.{SameFixed-refl}
+use Rattle.refinement.proofs.witnesses.SpeltSlot.{page_told, zeros_from}
+use Rattle.refinement.proofs.witnesses.FirstRead.{start_with, starts_with, ready_knows, bit_one_other}
+use Rattle.refinement.specs.Logged.{log_memory, log_port, logging, log_uses, LogIsEnded}
+use Rattle.refinement.specs.Recovering.{RunsLinked, EndsHalt, FailsOpenly}
+use Rattle.refinement.proofs.driver.EndedHalt.{issued_ends, ended_well}
+
+-- ---- what the bytes say
+
+abbrev read_log : Meaning
+read_log = record { operation = ReadLog; first = 0; count = 0 }
+
+told : SlotDecodesTo log_memory 0 0 0 read_log (scratch_of 0 ∷ [])
+unfolding log_memory first_memory patched bytes_at zeros_from
+told = page_told log_memory ReadLog refl refl (refl, refl, refl) (refl, refl, refl, refl, refl, refl, refl, refl) (refl, refl, refl)
+
+-- ---- a machine that agrees
+
+abbrev machine : Machine
+machine = start_with log_memory
+
+reached : IsReachable machine
+reached = record { first = machine; past = []; starts = starts_with log_memory; legal = tt; is = refl }
+
+ready : DriverRelation machine (idle (ready_with log_memory))
+ready = ready_knows log_memory
+
+-- a halt is no matter of the slots
+halt_agrees : StateRelation (idle logging).uses machine logging
+unfolding changed
+halt_agrees =
+    quiet_port (idle (ready_with log_memory)).uses machine (ready_with log_memory) ready.agrees 0 log_port [] (SameFixed-refl (idle (ready_with log_memory)).uses log_memory []) (gains_none [] machine)
+    (record { slots = λ k. record { issued = refl; sact = refl; taken = refl; st = refl; cr = refl; since = refl; list = refl }; fre = refl; received_at = refl; present = refl; disk = refl })
+
+knows : DriverRelation machine (idle logging)
+knows = record { agrees = halt_agrees; have = ready.have }
+
+runs : RunsLinked (logging.port 0)
+unfolding changed
+runs = record { st = refl; cr = refl; det = refl; present = refl; fresh = refl; linked = refl; whole = refl }
+
+prepared : IsOwnPrepared (idle logging).uses logging 0 ReadLog 1
+unfolding changed
+prepared = record {
+  own = refl;
+  free = refl;
+  started = refl;
+  placed = record { port_below = omega arith; slot_below = omega arith; list = refl };
+  command = read_log;
+  operation_is = refl;
+  told = told;
+  known = omega arith;
+  here = refl;
+  alone = bit_one_other;
+}
+
+-- ---- it is issued
+
+abbrev issued : Device
+issued = written (Px (port_at 0) Ci) 1 logging
+
+writes : Writes (Px (port_at 0) Ci) 1 logging issued
+writes = record { mid = logging; steps = Steps-refl logging; effect = refl }
+
+ends : EndsHalt log_uses 0 issued
+ends = issued_ends (idle logging).uses machine (port_at 0) ReadLog 1 logging issued reached halt_agrees refl (λ slot ne. refl) prepared writes
+
+opens : FailsOpenly log_uses 0 issued
+unfolding changed
+opens = record { off = refl; st = refl; plain = refl; undue = refl; alone = λ slot ne. put_other (λ _ _. Free) 0 0 (Own ReadLog) 0 slot (λ _ z. ne z); told = inl refl }
+
+issued_agrees : StateRelation log_uses machine issued
+issued_agrees = own_agrees (idle logging).uses machine logging halt_agrees 0 ReadLog 1 prepared
+
+issued_runs : RunsLinked (issued.port 0)
+unfolding changed
+issued_runs = record { st = refl; cr = refl; det = refl; present = refl; fresh = refl; linked = refl; whole = refl }
+
+-- ---- and its page comes
+
+abbrev taken : FetchedCommand
+taken = begun read_log (scratch_of 0 ∷ [])
+
+abbrev brought : FetchedCommand
+brought = record taken { moved = 1 }
+
+abbrev fetched : Device
+fetched = device_after (Fetch 0 0 read_log (scratch_of 0 ∷ [])) issued
+
+abbrev moved : Device
+moved = device_after (Move 0 0 taken (first_read_sector 0)) fetched
+
+abbrev ended : Device
+ended = device_after (Done 0 0 0 brought) moved
+
+page_is_sector : IsSector (first_read_sector 0)
+unfolding changed
+page_is_sector = first_sane.disk 0 first_read_sector refl 0 (omega arith)
+
+can_fetch : Can (Fetch 0 0 read_log (scratch_of 0 ∷ [])) issued
+unfolding changed
+can_fetch = record {
+  fetchable = record { st = refl; issued = refl; free = refl };
+  working = record { running = refl; present = refl; fresh = refl; admitted = refl; whole = refl };
+  alone = λ slot t is. absurd (none-some _ is);
+  says = told.says;
+}
+
+can_move : Can (Move 0 0 taken (first_read_sector 0)) fetched
+unfolding changed
+can_move = record {
+  works = record { taken = refl; working = record { running = refl; present = refl; fresh = refl; admitted = refl; whole = refl } };
+  left = omega arith;
+  sector = page_is_sector;
+  brings = tt;
+}
+
+can_end : Can (Done 0 0 0 brought) moved
+unfolding changed
+can_end = record {
+  works = record { taken = refl; working = record { running = refl; present = refl; fresh = refl; admitted = refl; whole = refl } };
+  finished = record { moved = refl; cleared = λ (e : ReadLog ≡ Trim). absurd cc };
+  shown = inl refl;
+}
+
+comes : Steps issued ended
+comes = record {
+  steps = Fetch 0 0 read_log (scratch_of 0 ∷ []) ∷ Move 0 0 taken (first_read_sector 0) ∷ Done 0 0 0 brought ∷ [];
+  lead = (can_fetch, (can_move, (can_end, refl)));
+}
+
+-- no bit of PxCI is set then
+none_issued : (slot : ℕ) → (ended.port 0).ci slot ≡ bit 0 slot
+unfolding changed
+none_issued slot =
+    changed_at (λ k. bit 1 k) 0 false (λ k b. b ≡ bit 0 k) refl
+    (λ k ne. bit_one_other k ne ∙ sym (ap (λ (n : ℕ). n == 1) (bit_at-zero k))) slot
+
+abbrev over : Device
+over = noted (Px (port_at 0) Ci) 0 ended
+
+reads : Reads (Px (port_at 0) Ci) 0 issued over
+reads = record { mid = ended; steps = comes; shows = λ slot small. sym (none_issued slot); effect = refl }
+
+-- where bit 0 alone is set PxIS may be read 1
+one_shown : (p : DevicePort) → p.serr_x ≡ false → p.serr_n ≡ false → p.is 0 ≡ true → ((place : ℕ) → place ≢ 0 → p.is place ≡ false) → (place : ℕ) → bit 1 place ≡ shown_interrupt p place
+one_shown p x n first is place = ⊎_elim
+    (λ (e : place ≡ 0). subst (λ (k : ℕ). bit 1 k ≡ shown_interrupt p k) (sym e) (sym first))
+    (λ (ne : place ≡ 0 → ⊥). bit_one_other place ne ∙ sym (by (nat_eq place 6) (nat_eq place 22) ne))
+    (cases_eq place 0)
+  where
+    by : (b c : Bool) → (place ≡ 0 → ⊥) → (if b then p.serr_x else (if c then p.serr_n else p.is place)) ≡ false
+    by true c ne = x
+    by false true ne = n
+    by false false ne = is place ne
+
+errors : ((over.port 0).serr_x ≡ false) × ((over.port 0).serr_n ≡ false) × ((over.port 0).is 0 ≡ true)
+unfolding changed
+errors = (refl, refl, refl)
+
+first_alone : (place : ℕ) → place ≢ 0 → (over.port 0).is place ≡ false
+unfolding changed
+first_alone place ne = changed_other (λ _. false) 0 true place ne
+
+tells : Reads (Px (port_at 0) Is) 1 over (noted (Px (port_at 0) Is) 1 over)
+tells = record { mid = over; steps = Steps-refl over; shows = λ place cause. one_shown (over.port 0) errors.0 errors.1 errors.2 first_alone place; effect = refl }
+
+no_trouble : TellsNoTrouble 1
+no_trouble = record {
+  change = bit_one_other 6 (λ e. omega (arith, e));
+  ready = bit_one_other 22 (λ e. omega (arith, e));
+  quiet = λ place low high. bit_one_other place (λ e. omega (arith, e, low));
+}
+
+halted : (logging.port 0).halt ≡ LogOnly
+unfolding changed
+halted = refl
+
+pub log_is_ended : LogIsEnded
+log_is_ended = record {
+  machine = machine;
+  reached = reached;
+  knows = knows;
+  halted = halted;
+  runs = runs;
+  prepared = prepared;
+  permitted = own_is_permitted (idle logging).uses machine logging reached halt_agrees (port_at 0) ReadLog 1 (record { ae = refl; no_reset = refl }) (omega arith, refl) prepared;
+  issued = issued;
+  writes = writes;
+  ends = ends;
+  opens = opens;
+  over = over;
+  reads = reads;
+  found = noted (Px (port_at 0) Is) 1 over;
+  tells = tells;
+  well = ended_well log_uses machine (port_at 0) 0 1 issued over (noted (Px (port_at 0) Is) 1 over) reached issued_agrees ends issued_runs reads refl tells no_trouble;
+}

@@ -1,0 +1,206 @@
+-- A trim, from its issue to its end.
+use Rattle.std.proofs.Common.{ℕ, ◌≡◌, ◌<◌, ◌&&◌, Bool, true, false, List, [], ◌∷◌, All, nat_lt, Some, refl, sym, ◌∙◌, ap, arith, inl, inr, ltb-true}
+use Rattle.std.specs.List.{Contains}
+use Rattle.std.proofs.lemmas.Bool.{and_parts, false≢true, true≢false}
+use Rattle.std.proofs.lemmas.List.Elements.{All-nil, All-cons}
+use Rattle.adapter.specs.Device.{FetchedCommand, Device}
+use Rattle.adapter.specs.FirstRead.{first_memory}
+use Rattle.adapter.specs.Memory.{patched, bytes_at, changed}
+use Rattle.adapter.specs.Steps.{Can, Steps, device_after, begun}
+use Rattle.adapter.specs.Steps.DeviceTransition.{Fetch, Move, Clear, Done}
+use Rattle.adapter.specs.Trim.{trim_sectors, consecutive}
+use Rattle.adapter.specs.declared.command.Operation.TheVariants.{Trim}
+use Rattle.adapter.proofs.MemoryLemmas.{patched_bytes}
+use Rattle.adapter.proofs.Runs.{Steps-one}
+use Rattle.block_machine.specs.Histories.{IsReachable}
+use Rattle.block_machine.specs.State.{Accepted, Pending, Machine, unanswered}
+use Rattle.block_machine.specs.Steps.{Accept, Issue, May, after_step, newly_accepted, newly_issued}
+use Rattle.block_machine.proofs.HistoryLemmas.{reached_more}
+use Rattle.block_machine.proofs.Members.{contains_here, contains_none, into_map}
+use Rattle.refinement.specs.Relation.{port_at}
+use Rattle.refinement.specs.Driver.{DriverRelation, IsPrepared, idle}
+use Rattle.refinement.specs.Places.{scratch_of}
+use Rattle.refinement.specs.Slots.{Free, Serves, SlotDecodesTo}
+use Rattle.refinement.specs.Trimmed.{trim, trim_block, trim_memory, prepared_trim, issued_trim, taken_trim, trim_known, TrimIsKnown}
+use Rattle.refinement.specs.Witness.{first_id, first_uses}
+use Rattle.refinement.proofs.witnesses.AcceptedRequests.{accepted_of, has_its_grant, trim_of, trim_is_new}
+use Rattle.refinement.proofs.driver.OwnSteps.{accept_knows}
+use Rattle.refinement.proofs.witnesses.EndedRead.{done_is_known}
+use Rattle.refinement.proofs.steps.FollowedSteps.{silent_agrees}
+use Rattle.refinement.proofs.driver.PermittedAccesses.{issue_is_permitted}
+use Rattle.refinement.proofs.driver.PutSlot.{put_same, issue_agrees, issue_have}
+use Rattle.refinement.proofs.witnesses.SpeltSlot.{page_told, zeros_from}
+use Rattle.refinement.proofs.steps.TakenCommand.{fetch_follows}
+use Rattle.refinement.proofs.witnesses.FirstRead.{start_with, starts_with, plain, ready_knows, can_take, bit_one_other}
+
+-- ---- what the bytes say
+
+told : SlotDecodesTo trim_memory 0 0 0 trim (scratch_of 0 ∷ [])
+unfolding trim_memory first_memory patched bytes_at zeros_from
+told = page_told trim_memory Trim refl refl (refl, refl, refl) (refl, refl, refl, refl, refl, refl, refl, refl) (refl, refl, refl)
+
+-- the block stands in the scratch frame, and names eight sectors
+block_is : bytes_at trim_memory (scratch_of 0) 512 ≡ trim_block
+unfolding trim_memory
+block_is = patched_bytes _ (scratch_of 0) trim_block
+
+block_means : trim_sectors trim_block ≡ consecutive 100 8
+block_means = refl
+
+-- ---- the machine
+
+abbrev start : Machine
+start = start_with trim_memory
+
+abbrev request : Accepted
+request = accepted_of start (trim_of 100)
+
+abbrev accepted : Machine
+accepted = after_step start (Accept request)
+
+accepted_reached : IsReachable accepted
+accepted_reached = record {
+  first = start;
+  past = Accept request ∷ [];
+  starts = starts_with trim_memory;
+  legal = (tt, trim_is_new start 100 refl (omega arith) (omega arith) (omega arith) (omega arith));
+  is = refl;
+}
+
+abbrev waits : Pending
+waits = newly_accepted request
+
+waits_in : Contains accepted.book waits
+waits_in = contains_here waits [] waits refl
+
+may_issue : May accepted (Issue plain waits)
+may_issue = (waits_in, record { here = into_map unanswered accepted.book waits waits_in; clear = refl; slot = λ h. absurd (true≢false h) }, λ e h. absurd (contains_none e h), has_its_grant refl)
+
+abbrev issued : Machine
+issued = after_step accepted (Issue plain waits)
+
+reached : IsReachable issued
+reached = reached_more accepted (Issue plain waits ∷ []) accepted_reached (tt, may_issue)
+
+-- ---- it is issued, and taken
+
+accepted_knows : DriverRelation accepted (idle prepared_trim)
+accepted_knows = accept_knows (idle prepared_trim) start request (ready_knows trim_memory)
+
+prepared : IsPrepared (idle prepared_trim).uses accepted prepared_trim 0 0 plain waits 1
+unfolding changed
+prepared = record {
+  may = may_issue;
+  port_is = refl;
+  free = refl;
+  usable = omega arith;
+  head = λ _. refl;
+  started = refl;
+  placed = record { port_below = omega arith; slot_below = omega arith; list = refl };
+  command = trim;
+  places = scratch_of 0 ∷ [];
+  told = told;
+  means = record { op = refl; first = λ h. absurd (false≢true h); places_are = refl; head = λ _. refl };
+  kind = refl;
+  block = ap trim_sectors block_is ∙ block_means;
+  here = refl;
+  alone = bit_one_other;
+}
+
+issued_knows : DriverRelation issued trim_known
+issued_knows = record {
+  agrees = issue_agrees (idle prepared_trim).uses accepted prepared_trim accepted_reached accepted_knows.agrees 0 0 plain waits 1 prepared;
+  have = λ q. issue_have (idle prepared_trim).uses accepted prepared_trim accepted_reached accepted_knows.agrees 0 0 plain waits 1 prepared q [] (accepted_knows.have q);
+}
+
+can_fetch : Can (Fetch 0 0 trim (scratch_of 0 ∷ [])) issued_trim
+can_fetch = can_take trim_memory trim (scratch_of 0 ∷ []) told.says
+
+-- ---- and done
+
+abbrev brought : FetchedCommand
+brought = record (begun trim (scratch_of 0 ∷ [])) { moved = 1; block = trim_block }
+
+abbrev cleared : FetchedCommand
+cleared = record brought { cleared = 8 }
+
+abbrev moved : Device
+moved = device_after (Move 0 0 (begun trim (scratch_of 0 ∷ [])) trim_block) taken_trim
+
+abbrev zeroed : Device
+zeroed = device_after (Clear 0 0 brought 100 8) moved
+
+abbrev ended : Device
+ended = device_after (Done 0 0 0 cleared) zeroed
+
+-- its bytes are bytes
+are_small : List ℕ → Bool
+are_small [] = true
+are_small (b ∷ bytes) = nat_lt b 256 && are_small bytes
+
+all_small : (bytes : List ℕ) → are_small bytes ≡ true → All (λ b. b < 256) bytes
+unfolding are_small
+all_small [] h = All-nil (λ b. b < 256)
+all_small (b ∷ bytes) h = let x = and_parts _ _ h in All-cons (λ b. b < 256) b bytes (ltb-true b 256 x.0) (all_small bytes x.1)
+
+small : All (λ b. b < 256) trim_block
+unfolding are_small
+small = all_small trim_block refl
+
+can_move : Can (Move 0 0 (begun trim (scratch_of 0 ∷ [])) trim_block) taken_trim
+unfolding changed
+can_move = record {
+  works = record { taken = refl; working = record { running = refl; present = refl; fresh = refl; admitted = refl; whole = refl } };
+  left = omega arith;
+  sector = (refl, small);
+  brings = sym block_is;
+}
+
+can_clear : Can (Clear 0 0 brought 100 8) moved
+unfolding changed
+can_clear = record {
+  works = record { taken = refl; working = record { running = refl; present = refl; fresh = refl; admitted = refl; whole = refl } };
+  trim = refl;
+  moved = refl;
+  next = refl;
+  sectors = refl;
+  inside = inr (omega arith);
+}
+
+can_end : Can (Done 0 0 0 cleared) zeroed
+unfolding changed
+can_end = record {
+  works = record { taken = refl; working = record { running = refl; present = refl; fresh = refl; admitted = refl; whole = refl } };
+  finished = record { moved = refl; cleared = λ _. refl };
+  shown = inl refl;
+}
+
+comes : Steps issued_trim ended
+comes = record {
+  steps = Fetch 0 0 trim (scratch_of 0 ∷ []) ∷ Move 0 0 (begun trim (scratch_of 0 ∷ [])) trim_block ∷ Clear 0 0 brought 100 8 ∷ Done 0 0 0 cleared ∷ [];
+  lead = (can_fetch, (can_move, (can_clear, (can_end, refl))));
+}
+
+bits : ((issued_trim.port 0).st ≡ true) × ((ended.port 0).ci 0 ≡ false) × ((ended.port 0).sact 0 ≡ false) × ((taken_trim.port 0).taken 0 ≡ Some (begun trim (scratch_of 0 ∷ [])))
+unfolding changed
+bits = (refl, refl, refl, refl)
+
+pub trim_is_known : TrimIsKnown
+trim_is_known = record {
+  machine = issued;
+  reached = reached;
+  request = newly_issued waits;
+  moves = inl (contains_here (newly_issued waits) [] (newly_issued waits) refl, refl);
+  id_is = refl;
+  op_is = refl;
+  permitted = issue_is_permitted (idle prepared_trim).uses accepted prepared_trim accepted_reached accepted_knows.agrees (port_at 0) 0 plain waits 1
+      (record { ae = refl; no_reset = refl }) (omega arith, refl) (omega arith) prepared;
+  issued = issued_knows;
+  takes = Steps-one (Fetch 0 0 trim (scratch_of 0 ∷ [])) issued_trim taken_trim can_fetch refl;
+  taken = bits.3;
+  knows = record {
+    agrees = silent_agrees first_uses issued issued_trim taken_trim (fetch_follows first_uses issued issued_trim issued_knows.agrees 0 0 trim (scratch_of 0 ∷ []) can_fetch) refl;
+    have = issued_knows.have;
+  };
+  done = done_is_known trim_known issued reached issued_knows first_id (put_same (λ _ _. Free) 0 0 (Serves first_id)) refl ended comes refl bits.0 bits.1 bits.2;
+}

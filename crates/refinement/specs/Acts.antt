@@ -1,0 +1,100 @@
+-- A part of a call, told act by act (this project's own).
+use Rattle.std.specs.Prelude.{ℕ, ◌≡◌, ◌⊎◌, ◌++◌, List, [], ◌∷◌, Option, None, Some}
+use Rattle.ata_types.specs.declared.request.RequestId.{RequestId}
+use Rattle.adapter.specs.Access.{Access, Does, DoesAll}
+use Rattle.adapter.specs.Device.{Device}
+use Rattle.block_machine.specs.Events.{AllDevices, IsByDevice}
+use Rattle.block_machine.specs.Histories.{IsReachable}
+use Rattle.block_machine.specs.Left.{after}
+use Rattle.block_machine.specs.State.{Machine}
+use Rattle.block_machine.specs.Steps.{Step}
+use Rattle.refinement.specs.Driver.{DriverState, DriverRelation, Goes}
+use Rattle.refinement.specs.Slots.{SlotStates}
+
+-- ---- acts
+
+-- One act of the driver: an access, over which the device makes steps; or none, where the driver decides on a request
+-- or a slot. With it, the machine's steps meanwhile, the last one first, and what the driver knows then.
+pub record Act : Type 0 where
+  pub access : Option Access
+  pub steps : List Step
+  pub later : DriverState
+
+-- the access leads from the old device to the new; without one, they are the same
+abbrev pub AccessLeads : Option Access → Device → Device → Type 0
+AccessLeads None old new = new ≡ old
+AccessLeads (Some access) old new = Does access old new
+
+-- Over an access these are the device's steps, and after them one of the driver's own at most; without one, that alone.
+abbrev pub IsOneAct : Option Access → List Step → Type 0
+IsOneAct None steps = (steps ≡ []) ⊎ ((step : Step) × (IsByDevice step → ⊥) × (steps ≡ step ∷ []))
+IsOneAct (Some access) steps = AllDevices steps ⊎ ((step : Step) × (before : List Step) × (steps ≡ step ∷ before)
+    × AllDevices before)
+
+-- The act is done, from a machine that agrees with what the driver knew: its steps lead to one that agrees with what it
+-- knows then.
+pub record IsDone (k : DriverState) (m : Machine) (act : Act) : Type 0 where
+  pub leads : AccessLeads act.access k.device act.later.device
+  pub one : IsOneAct act.access act.steps
+  pub goes : Goes k m act.steps act.later
+
+-- one act after another, from the one machine to the next
+abbrev pub AreDone : List Act → DriverState → Machine → DriverState → Type 0
+AreDone [] k m later = later ≡ k
+AreDone (act ∷ acts) k m later = IsDone k m act × AreDone acts act.later (after m act.steps) later
+
+-- the accesses that were made, in their order
+abbrev pub with_access : Option Access → List Access → List Access
+with_access None accesses = accesses
+with_access (Some access) accesses = access ∷ accesses
+
+abbrev pub accesses_of : List Act → List Access
+accesses_of [] = []
+accesses_of (act ∷ acts) = with_access act.access (accesses_of acts)
+
+-- all the machine's steps, the last one first
+abbrev pub act_steps : List Act → List Step
+act_steps [] = []
+act_steps (act ∷ acts) = act_steps acts ++ act.steps
+
+-- ---- the form
+
+-- What the driver has put into each slot, and, by port, the requests that it took from their slots and hasn't decided
+-- on.
+pub record InSlots : Type 0 where
+  pub uses : SlotStates
+  pub parked : ℕ → List RequestId
+
+-- with the device, all that the driver knows
+abbrev pub at_slots : InSlots → Device → DriverState
+at_slots s d = record { uses = s.uses; parked = s.parked; device = d }
+
+-- From this machine, acts with these accesses lead to what the driver knows then; and this is told of them.
+pub record Comes (accesses : List Access) (k : DriverState) (m : Machine) (later : DriverState) (Tells : List Act
+    → Type 0) : Type 0 where
+  pub acts : List Act
+  pub done : AreDone acts k m later
+  pub accesses_are : accesses_of acts ≡ accesses
+  pub tells : Tells acts
+
+-- So it is whatever is in the slots, from each machine that is reached and agrees with that, where the two fit; and the
+-- acts lead to what is in the slots next.
+abbrev pub ComesWith : List Access → (InSlots → Machine → Type 0) → (InSlots → InSlots)
+    → (InSlots → Machine → List Act → Type 0) → Device → Device → Type 0
+ComesWith accesses Fits next Tells old new = (s : InSlots) (m : Machine) → IsReachable m
+    → DriverRelation m (at_slots s old) → Fits s m
+    → Comes accesses (at_slots s old) m (at_slots (next s) new) (Tells s m)
+
+-- a part of a call, which made these accesses, from the old device to the new
+pub record Performs (accesses : List Access) (Fits : InSlots → Machine → Type 0) (next : InSlots → InSlots)
+    (Tells : InSlots → Machine → List Act → Type 0) (old new : Device) : Type 0 where
+  pub does : DoesAll accesses old new
+  pub comes : ComesWith accesses Fits next Tells old new
+
+-- whatever is in the slots
+abbrev pub AnySlots : InSlots → Machine → Type 0
+AnySlots s m = Unit {0}
+
+-- the device alone makes steps
+abbrev pub ByDeviceAlone : InSlots → Machine → List Act → Type 0
+ByDeviceAlone s m acts = AllDevices (act_steps acts)

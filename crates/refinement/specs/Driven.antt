@@ -1,0 +1,133 @@
+-- Fragments of a driver's accesses, and what they are to the block machine (this project's own).
+use Rattle.std.specs.Prelude.{ℕ, true, false, ◌≡◌, ◌≢◌, ◌++◌, List, All}
+use Rattle.ata_types.specs.declared.Port.{Port}
+use Rattle.ata_types.specs.declared.request.RequestId.{RequestId}
+use Rattle.hba_regs.specs.Bits.{bit}
+use Rattle.hba_regs.specs.declared.reg.PortReg.{PortReg}
+use Rattle.hba_regs.specs.declared.reg.PortReg.TheVariants.{Sact, Ci}
+use Rattle.hba_regs.specs.declared.reg.Reg.{Reg}
+use Rattle.hba_regs.specs.declared.reg.Reg.TheVariants.{Is, Px}
+use Rattle.adapter.specs.Access.{Access, DoesAll}
+use Rattle.adapter.specs.Access.Access.{Reading, Writing}
+use Rattle.adapter.specs.Device.{DevicePort, Device}
+use Rattle.adapter.specs.Kept.{KeepsPort, KeepsControls}
+use Rattle.adapter.specs.declared.command.Operation.{Operation}
+use Rattle.adapter.specs.declared.tape.Entry.{Entry}
+use Rattle.block_machine.specs.Events.{AllDevices}
+use Rattle.block_machine.specs.Histories.{IsReachable}
+use Rattle.block_machine.specs.State.{Machine}
+use Rattle.refinement.specs.Acts.{Act, ComesWith, act_steps}
+use Rattle.refinement.specs.Driver.{DriverState, DriverRelation}
+use Rattle.refinement.specs.Links.{SparesRegister}
+use Rattle.refinement.specs.Slots.{SlotStates, IsMove, IsOver}
+
+-- what the driver knows: the use of each slot, the requests that it took from their slots, and the device
+abbrev pub known : SlotStates → (ℕ → List RequestId) → Device → DriverState
+known uses parked d = record { uses = uses; parked = parked; device = d }
+
+-- Some machine that a history leads to agrees with a driver that uses the slots so.
+pub record IsRelated (uses : SlotStates) (d : Device) : Type 0 where
+  pub machine : Machine
+  pub parked : ℕ → List RequestId
+  pub reached : IsReachable machine
+  pub knows : DriverRelation machine (known uses parked d)
+
+-- so it is with some use of the slots that fits
+abbrev pub RelatesWith : (SlotStates → Type 0) → Device → Type 0
+RelatesWith Fits d = (uses : SlotStates) × Fits uses × IsRelated uses d
+
+-- the slots may be used in any way
+abbrev pub AnyUse : SlotStates → Type 0
+AnyUse uses = Unit {0}
+
+-- they are used in this way
+abbrev pub IsUse : SlotStates → SlotStates → Type 0
+IsUse uses other = other ≡ uses
+
+-- ---- accesses
+
+-- Accesses of this kind, by the driver, led from the old device to the new.
+pub record IsDrivenBy (May : Access → Type 0) (old new : Device) : Type 0 where
+  pub accesses : List Access
+  pub all : DoesAll accesses old new
+  pub only : All May accesses
+
+-- any access
+abbrev pub AnyAccess : Access → Type 0
+AnyAccess access = Unit {0}
+
+-- it reads a register of the port, or writes one of these of its registers
+abbrev pub IsControl : (PortReg → Type 0) → Port → Access → Type 0
+IsControl Written port (Reading (Px at r) v) = at ≡ port
+IsControl Written port (Writing (Px at r) v) = (at ≡ port) × Written r
+IsControl Written port access = ⊥
+
+-- the value has the port's bit alone
+pub record IsBitOf (port v : ℕ) : Type 0 where
+  pub here : bit v port ≡ true
+  pub alone : (k : ℕ) → k ≢ port → bit v k ≡ false
+
+-- It reads or writes a register of the port, writes IS with the port's bit alone, reads a register of the adapter's
+-- own, or loads or stores bytes: it touches no register of another port, nor another port's bit of IS.
+abbrev pub IsOf : Port → Access → Type 0
+IsOf port (Reading (Px at r) v) = at ≡ port
+IsOf port (Writing (Px at r) v) = at ≡ port
+IsOf port (Writing Is v) = IsBitOf port.0 v
+IsOf port (Writing r v) = ⊥
+IsOf port access = Unit {0}
+
+-- no access of this kind writes the register
+abbrev pub NoneWrites : (Access → Type 0) → Reg → Type 0
+NoneWrites May r = (access : Access) → May access → SparesRegister r access
+
+-- the tape has gained no move of the port's by a command of this operation
+abbrev pub SendsNone : ℕ → Operation → Device → Device → Type 0
+SendsNone port o old new = (gained : List Entry) × (new.tape ≡ old.tape ++ gained)
+    × All (λ e. IsMove port o e → ⊥) gained
+
+-- Acts in which the device alone makes steps. Where no access of the kind writes PxCI or PxSACT of a port, its slots
+-- are used after each act as before the first.
+pub record AreDevices (May : Access → Type 0) (uses : SlotStates) (acts : List Act) : Type 0 where
+  pub only : AllDevices (act_steps acts)
+  pub kept : (port : Port) → NoneWrites May (Px port Ci) → NoneWrites May (Px port Sact)
+      → All (λ act. act.later.uses port.0 ≡ uses port.0) acts
+
+-- Accesses of this kind led from the old device to the new. And where the uses of slots fit, acts with these accesses
+-- lead to such uses of the slots, with what is parked as it was; and the device alone makes steps meanwhile.
+pub record IsSimulatedTo (May : Access → Type 0) (Fits : SlotStates → Type 0) (next : SlotStates → SlotStates)
+    (old new : Device) : Type 0 where
+  pub driven : IsDrivenBy May old new
+  pub comes : ComesWith driven.accesses (λ s m. Fits s.uses) (λ s. record s { uses = next s.uses })
+      (λ s m. AreDevices May s.uses) old new
+
+-- the same, where each slot goes on as it is used
+abbrev pub IsSimulated : (Access → Type 0) → (SlotStates → Type 0) → Device → Device → Type 0
+IsSimulated May Fits old new = IsSimulatedTo May Fits (λ uses. uses) old new
+
+-- What was followed, and so much is told of the list of its accesses: that list to which the machine's steps belong.
+pub record IsSimulatedAlongTo (Tells : List Access → Type 0) (May : Access → Type 0) (Fits : SlotStates → Type 0)
+    (next : SlotStates → SlotStates)
+    (old new : Device) : Type 0 where
+  pub followed : IsSimulatedTo May Fits next old new
+  pub tells : Tells followed.driven.accesses
+
+-- the same, where each slot goes on as it is used
+abbrev pub IsSimulatedAlong : (List Access → Type 0) → (Access → Type 0) → (SlotStates → Type 0) → Device → Device
+    → Type 0
+IsSimulatedAlong Tells May Fits old new = IsSimulatedAlongTo Tells May Fits (λ uses. uses) old new
+
+-- ---- what they leave
+
+-- the tape has only gained
+abbrev pub Grows : Device → Device → Type 0
+Grows old new = (gained : List Entry) × (new.tape ≡ old.tape ++ gained)
+
+-- no slot of the port has a command, neither issued nor taken
+abbrev pub HasNoCommand : DevicePort → Type 0
+HasNoCommand p = (slot : ℕ) → IsOver p slot
+
+-- A port that the driver doesn't touch: what the device's steps leave of it, and all that readings noted of it.
+pub record LeavesPort (old new : DevicePort) : Type 0 where
+  pub keeps : KeepsPort old new
+  pub controls : KeepsControls old new
+  pub notes : new.notes ≡ old.notes

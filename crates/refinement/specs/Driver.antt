@@ -1,0 +1,205 @@
+-- What the driver may store and write, what it knows, and what its calls add (this project's own).
+use Rattle.std.specs.Prelude.{ℕ, if◌then◌else◌, Bool, true, false, not, ◌≡◌, ◌≢◌, ◌⊎◌, ◌+◌, ◌*◌, ◌<◌, ◌≤◌, ◌++◌, List, [], ◌∷◌, length, None, Contains}
+use Rattle.ata_types.specs.declared.memory.TheConstants.{FRAME_BYTES, HEADER_BYTES, TABLE_BYTES}
+use Rattle.ata_types.specs.declared.request.RequestId.{RequestId}
+use Rattle.hba_regs.specs.Bits.{bit}
+use Rattle.hba_regs.specs.declared.reg.Reg.{Reg}
+use Rattle.hba_regs.specs.declared.reg.Reg.TheVariants.{Px}
+use Rattle.hba_regs.specs.declared.reg.PortReg.TheVariants.{Clb, Cmd, Sact, Ci}
+use Rattle.adapter.specs.Commands.{Meaning, is_queued}
+use Rattle.adapter.specs.Memory.{changed}
+use Rattle.adapter.specs.Device as device
+use Rattle.adapter.specs.Device.{DevicePort, Device}
+use Rattle.adapter.specs.declared.command.Operation.{Operation}
+use Rattle.adapter.specs.declared.tape.Entry.{Entry}
+use Rattle.block_machine.specs.State.{Pending, Machine}
+use Rattle.block_machine.specs.declared.due.QueueMode.{QueueMode}
+use Rattle.block_machine.specs.Due.{is_plain}
+use Rattle.block_machine.specs.Steps.{Step, Issue, May}
+use Rattle.block_machine.specs.Left.{after, AllTold}
+use Rattle.block_machine.specs.Events.{AllMay, AllDevices}
+use Rattle.refinement.specs.Places.{list_of, received_of, table_of, scratch_of, IsTableByte, IsScratch}
+use Rattle.refinement.specs.Slots.{Free, Armed, Own, Serves, SlotStates, put, SlotDecodesTo, Means, HasTrimBlock, IsPlaced, op_of}
+use Rattle.refinement.specs.Relation.{StateRelation, HaveSlots}
+use Rattle.refinement.specs.Tape.{TellsAmong, PutsInDisks}
+
+-- ---- stores
+
+-- bytes of the header or of the table of a free slot
+pub record InFreeTable (uses : SlotStates) (at n : ℕ) : Type 0 where
+  pub port : ℕ
+  pub slot : ℕ
+  pub below : port < 4
+  pub slot_below : slot < 32
+  pub free : uses port slot ≡ Free
+  pub here : ((list_of port + HEADER_BYTES * slot ≤ at) × (at + n ≤ list_of port + HEADER_BYTES * slot + HEADER_BYTES))
+      ⊎ ((table_of port slot ≤ at) × (at + n ≤ table_of port slot + TABLE_BYTES))
+
+-- bytes of the scratch frame of a port whose slot 0 is free
+pub record InFreeScratch (uses : SlotStates) (at n : ℕ) : Type 0 where
+  pub port : ℕ
+  pub below : port < 4
+  pub free : uses port 0 ≡ Free
+  pub from : scratch_of port ≤ at
+  pub to : at + n ≤ scratch_of port + FRAME_BYTES
+
+-- what the driver may store for itself
+abbrev pub MayStore : SlotStates → ℕ → ℕ → Type 0
+MayStore uses at n = InFreeTable uses at n ⊎ InFreeScratch uses at n
+
+-- ---- writes that leave the slots to their uses
+
+-- no slot of the port is used
+abbrev pub AllFree : SlotStates → ℕ → Type 0
+AllFree uses port = (slot : ℕ) → uses port slot ≡ Free
+
+-- A write of PxCMD sets ST on a port that runs or has no slot in use, and FRE where the received FIS area is in its
+-- place.
+pub record IsCommand (uses : SlotStates) (port v : ℕ) (p : DevicePort) : Type 0 where
+  pub start : bit v 0 ≡ true → (p.st ≡ true) ⊎ AllFree uses port
+  pub receive : bit v 4 ≡ true → (port < 4) × (p.bases.fb ≡ received_of port)
+
+-- a value of PxCMD with these bits ST and FRE, and the others as they were read
+pub record IsWrittenBack (st fre : Bool) (was v : ℕ) : Type 0 where
+  pub start : bit v 0 ≡ st
+  pub receive : bit v 4 ≡ fre
+  pub others : (place : ℕ) → place < 32 → place ≢ 0 → place ≢ 4 → bit v place ≡ bit was place
+
+-- What is asked of a write so that each slot goes on as it was used: PxCLB has the list's place, or no slot is used;
+-- PxSACT and PxCI have no bit.
+abbrev pub LeavesUses : SlotStates → Reg → ℕ → Device → Type 0
+LeavesUses uses (Px port Clb) v d = (v ≡ list_of port.0) ⊎ AllFree uses port.0
+LeavesUses uses (Px port Cmd) v d = IsCommand uses port.0 v (d.port port.0)
+LeavesUses uses (Px port Sact) v d = (slot : ℕ) → bit v slot ≡ false
+LeavesUses uses (Px port Ci) v d = (slot : ℕ) → bit v slot ≡ false
+LeavesUses uses r v d = Unit {0}
+
+-- ---- what the driver knows, and what a call adds
+
+-- What the driver has put into the slots; by port, the requests that it took from their slots and hasn't decided on;
+-- and the device.
+pub record DriverState : Type 0 where
+  pub uses : SlotStates
+  pub parked : ℕ → List RequestId
+  pub device : Device
+
+-- the machine agrees with what the driver knows
+pub record DriverRelation (m : Machine) (k : DriverState) : Type 0 where
+  pub agrees : StateRelation k.uses m k.device
+  pub have : (port : ℕ) → HaveSlots k.uses m port (k.parked port)
+
+-- The tape's new entries tell of the device's steps among these; reads moved what their disks hold, where these tell
+-- it; and the disks that were put in are the device's.
+pub record IsBacked (old new : Device) (m : Machine) (steps : List Step) : Type 0 where
+  pub telling : new.telling ≡ old.telling
+  pub gained : List Entry
+  pub tape : new.tape ≡ old.tape ++ gained
+  pub tells : TellsAmong m gained steps
+  pub told : old.telling ≡ true → AllTold m steps
+  pub plugged : (port : ℕ) → (disks : List device.Disk) × ((new.port port).plugged ≡ (old.port port).plugged ++ disks)
+      × PutsInDisks port disks steps
+
+-- The device backs the steps, and all of them are its own: the driver made none.
+pub record ByDevice (old new : Device) (m : Machine) (steps : List Step) : Type 0 where
+  pub backed : IsBacked old new m steps
+  pub only : AllDevices steps
+
+-- The driver goes from what it knew to what it knows then: from this machine each of these steps may come, the device
+-- backs them, and the machine after them agrees with what the driver knows then.
+pub record Goes (k : DriverState) (m : Machine) (steps : List Step) (later : DriverState) : Type 0 where
+  pub may : AllMay m steps
+  pub backed : IsBacked k.device later.device m steps
+  pub knows : DriverRelation (after m steps) later
+
+-- What the device leaves of what is not in use: all headers, but for PRDBC, and all tables; and the scratch frame where
+-- slot 0 has no command of the driver's own.
+pub record LeavesFree (uses : SlotStates) (old new : Device) : Type 0 where
+  pub tables : (port slot at : ℕ) → port < 4 → slot < 32 → IsTableByte port slot at → new.memory at ≡ old.memory at
+  pub scratch : (port at : ℕ) → port < 4 → ((o : Operation) → uses port 0 ≡ Own o → ⊥) → IsScratch port at
+      → new.memory at ≡ old.memory at
+
+-- none of these n bytes is of the slot's header, but for PRDBC, or of its table
+abbrev pub MissesTable : ℕ → ℕ → ℕ → ℕ → Type 0
+MissesTable port slot at n = (place : ℕ) → IsTableByte port slot place → at ≤ place → place < at + n → ⊥
+
+-- nor is any of the port's scratch frame
+abbrev pub MissesScratch : ℕ → ℕ → ℕ → Type 0
+MissesScratch port at n = (place : ℕ) → IsScratch port place → at ≤ place → place < at + n → ⊥
+
+-- ---- issuing
+
+-- The request is due; its slot is armed if the request is queued, and else free; the slot is usable in this mode, and a
+-- plain request's is slot 0; the slot's bytes say its command, which is queued exactly if the request is; and the value
+-- has the slot's bit alone.
+pub record IsPrepared (uses : SlotStates) (m : Machine) (d : Device) (port slot : ℕ) (mode : QueueMode) (e : Pending)
+    (v : ℕ) : Type 0 where
+  pub may : May m (Issue mode e)
+  pub port_is : e.request.port.0 ≡ port
+  pub free : uses port slot ≡ (if is_plain mode e.request.asked.op then Free else Armed)
+  pub usable : slot < mode.usable
+  pub head : is_plain mode e.request.asked.op ≡ true → slot ≡ 0
+  pub started : (d.port port).st ≡ true
+  pub placed : IsPlaced (d.port port) port slot
+  pub command : Meaning
+  pub places : List ℕ
+  pub told : SlotDecodesTo d.memory (d.port port).bases.clb port slot command places
+  pub means : Means port slot e.request command places
+  pub kind : is_queued command.operation ≡ not (is_plain mode e.request.asked.op)
+  pub block : HasTrimBlock e.request.asked.op d.memory port e.request
+  pub here : bit v slot ≡ true
+  pub alone : (k : ℕ) → k ≢ slot → bit v k ≡ false
+
+-- The same for a command of the driver's own, in slot 0.
+pub record IsOwnPrepared (uses : SlotStates) (d : Device) (port : ℕ) (o : Operation) (v : ℕ) : Type 0 where
+  pub own : op_of o ≡ None
+  pub free : uses port 0 ≡ Free
+  pub started : (d.port port).st ≡ true
+  pub placed : IsPlaced (d.port port) port 0
+  pub command : Meaning
+  pub operation_is : command.operation ≡ o
+  pub told : SlotDecodesTo d.memory (d.port port).bases.clb port 0 command (scratch_of port ∷ [])
+  pub known : (d.port port).notes.st_set_at ≤ length d.tape
+  pub here : bit v 0 ≡ true
+  pub alone : (k : ℕ) → k ≢ 0 → bit v k ≡ false
+
+-- What an access adds that ends with a step of the driver's own: steps of the device first, and then this one, after
+-- which the machine agrees with what the driver knows then.
+pub record EndsWith (k : DriverState) (m : Machine) (step : Step) (later : DriverState) : Type 0 where
+  pub steps : List Step
+  pub only : AllDevices steps
+  pub may : AllMay m (step ∷ steps)
+  pub backed : IsBacked k.device later.device m (step ∷ steps)
+  pub knows : DriverRelation (after m (step ∷ steps)) later
+
+-- the driver knows that the slot serves the request
+abbrev pub serving : DriverState → ℕ → ℕ → RequestId → Device → DriverState
+serving k port slot id new = record k { uses = put k.uses port slot (Serves id); device = new }
+
+-- ---- deciding
+
+-- no slot serves the request
+abbrev pub HasNoSlot : SlotStates → RequestId → Type 0
+HasNoSlot uses id = (port slot : ℕ) → uses port slot ≡ Serves id → ⊥
+
+-- but for this request, what was parked is parked
+abbrev pub ForgetsRequest : RequestId → (ℕ → List RequestId) → (ℕ → List RequestId) → Type 0
+ForgetsRequest id parked later = (port : ℕ) (other : RequestId) → Contains (parked port) other → (other ≡ id → ⊥)
+    → Contains (later port) other
+
+-- but for the kept requests, what was parked is parked
+abbrev pub ForgetsKept : Machine → (ℕ → List RequestId) → (ℕ → List RequestId) → Type 0
+ForgetsKept m parked later = (port : ℕ) (other : RequestId) → Contains (parked port) other
+    → ((e : Pending) → Contains m.kept e → e.request.id ≢ other) → Contains (later port) other
+
+-- the slot was given up, and its request isn't decided yet
+abbrev pub parking : DriverState → ℕ → ℕ → RequestId → DriverState
+parking k port slot id =
+    record k { uses = put k.uses port slot Free; parked = changed k.parked port (id ∷ k.parked port) }
+
+-- the slot was given up
+abbrev pub freeing : DriverState → ℕ → ℕ → DriverState
+freeing k port slot = record k { uses = put k.uses port slot Free }
+
+-- what the driver knows of a device that it takes over: no slot is used
+abbrev pub idle : Device → DriverState
+idle d = record { uses = λ port slot. Free; parked = λ port. []; device = d }

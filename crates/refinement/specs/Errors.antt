@@ -1,0 +1,96 @@
+-- What tells of a port's errors, of its disks that come, of a reset, and of its engine's work (this project's own).
+use Rattle.std.specs.Prelude.{ℕ, true, false, ◌≡◌, ◌≤◌, ◌++◌, List, All}
+use Rattle.adapter.specs.Device.{DevicePort, Device}
+use Rattle.adapter.specs.declared.tape.Entry.{Entry}
+use Rattle.adapter.specs.declared.tape.Entry.TheVariants as entry
+use Rattle.refinement.specs.Facts.{IsAfterReset, IsFaultOf}
+use Rattle.refinement.specs.Links.{PlugsNone}
+
+-- each bit of PxIS that is set stays so, and so do N and X of PxSERR
+pub record KeepsErrors (old new : DevicePort) : Type 0 where
+  pub is : (place : ℕ) → old.is place ≡ true → new.is place ≡ true
+  pub serr_n : old.serr_n ≡ true → new.serr_n ≡ true
+  pub serr_x : old.serr_x ≡ true → new.serr_x ≡ true
+
+-- a disk of the port comes
+abbrev pub IsComing : ℕ → Entry → Type 0
+IsComing port (entry.Plug at name) = at.0 ≡ port
+IsComing port _ = ⊥
+
+-- the tape gained no entry of a disk of the port that comes
+pub record NoneComes (port : ℕ) (old new : Device) : Type 0 where
+  pub gained : List Entry
+  pub tape : new.tape ≡ old.tape ++ gained
+  pub none : All (λ e. IsComing port e → ⊥) gained
+
+-- N of PxSERR rises only for a disk that goes or comes, and X only for one that comes. Where no disk has come and
+-- PxSSTS.DET is 3, it was 3 before, and none has gone.
+pub record ChangesByDisks (port : ℕ) (old new : Device) : Type 0 where
+  pub serr_n : PlugsNone port old new → (old.port port).serr_n ≡ false → (new.port port).serr_n ≡ false
+  pub serr_x : NoneComes port old new → (old.port port).serr_x ≡ false → (new.port port).serr_x ≡ false
+  pub det : NoneComes port old new → (new.port port).ssts_det ≡ 3 → ((old.port port).ssts_det ≡ 3)
+      × PlugsNone port old new
+
+-- Each bit that tells of trouble is clear still if it was: N and X of PxSERR, and 27 to 30 of PxIS.
+pub record StaysClear (old new : DevicePort) : Type 0 where
+  pub serr_n : old.serr_n ≡ false → new.serr_n ≡ false
+  pub serr_x : old.serr_x ≡ false → new.serr_x ≡ false
+  pub is : (place : ℕ) → 27 ≤ place → place ≤ 30 → old.is place ≡ false → new.is place ≡ false
+
+-- a fatal error of the port
+abbrev pub IsFatalOf : ℕ → Entry → Type 0
+IsFatalOf port (entry.Fatal at) = at.0 ≡ port
+IsFatalOf port _ = ⊥
+
+-- The tape gained no fatal error of the port. It counts on the tape: so what holds of a fragment of accesses holds of
+-- each of its parts.
+pub record NoneFatal (port : ℕ) (old new : Device) : Type 0 where
+  pub gained : List Entry
+  pub tape : new.tape ≡ old.tape ++ gained
+  pub none : All (λ e. IsFatalOf port e → ⊥) gained
+
+-- the tape gained no fault of the port
+pub record NoneFails (port : ℕ) (old new : Device) : Type 0 where
+  pub gained : List Entry
+  pub tape : new.tape ≡ old.tape ++ gained
+  pub none : All (λ e. IsFaultOf port e → ⊥) gained
+
+-- Bits 27 to 29 of PxIS, IFS, HBDS and HBFS, rise only for a fatal error of the port; and bit 30, TFES, only for a
+-- fault of it (AHCI 1.3.1, 3.3.5).
+pub record ChangesByErrors (port : ℕ) (old new : Device) : Type 0 where
+  pub fatal : NoneFatal port old new → (place : ℕ) → 27 ≤ place → place ≤ 29 → (old.port port).is place ≡ false
+      → (new.port port).is place ≡ false
+  pub fault : NoneFails port old new → (old.port port).is 30 ≡ false → (new.port port).is 30 ≡ false
+
+-- ---- a reset
+
+-- A port as a reset of its adapter leaves it, before anything else comes (AHCI 1.3.1, 3.3 and 10.4.3).
+pub record IsLeftByReset (p : DevicePort) : Type 0 where
+  pub stopped : IsAfterReset p
+  pub is : (place : ℕ) → p.is place ≡ false
+  pub serr_n : p.serr_n ≡ false
+  pub serr_x : p.serr_x ≡ false
+  pub sctl_det : p.sctl_det ≡ 0
+  pub ssts_det : p.ssts_det ≡ 0
+  pub tfd : p.tfd ≡ 0x7f
+  pub sig : p.sig ≡ 0xffffffff
+  pub fresh : p.fresh ≡ false
+  pub broken : p.broken ≡ false
+
+-- What a port shows after it while its engine stands: no bit of PxIS, and PxSCTL.DET 0; and until X tells of a disk or
+-- a link that came, no device in PxSSTS, and task file and signature as the reset left them.
+pub record IsCleared (p : DevicePort) : Type 0 where
+  pub is : (place : ℕ) → p.is place ≡ false
+  pub sctl_det : p.sctl_det ≡ 0
+  pub calm : p.serr_x ≡ false → (p.ssts_det ≡ 0) × (p.tfd ≡ 0x7f) × (p.sig ≡ 0xffffffff)
+
+-- ---- the engine's work
+
+-- the entry is a move, a clearing, an end, a fault or a fatal error of the port's
+abbrev pub IsWork : ℕ → Entry → Type 0
+IsWork port (entry.Move move) = move.port.0 ≡ port
+IsWork port (entry.Clear clear) = clear.port.0 ≡ port
+IsWork port (entry.Done done) = done.port.0 ≡ port
+IsWork port (entry.Fault fault) = fault.port.0 ≡ port
+IsWork port (entry.Fatal at) = at.0 ≡ port
+IsWork port _ = ⊥

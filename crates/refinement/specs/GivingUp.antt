@@ -1,0 +1,58 @@
+-- All slots of a port are given up at once, and the slot of a fault (this project's own).
+use Rattle.std.specs.Prelude.{ℕ, zero, suc, true, false, ◌≡◌, ◌⊎◌, ◌<◌, ◌++◌, List, [], ◌∷◌}
+use Rattle.ata_types.specs.declared.request.RequestId.{RequestId}
+use Rattle.adapter.specs.Device.{DevicePort}
+use Rattle.adapter.specs.Memory.{changed}
+use Rattle.adapter.specs.declared.command.Operation.{Operation}
+use Rattle.block_machine.specs.State.{Pending, Machine}
+use Rattle.block_machine.specs.Steps.{MayStillMove}
+use Rattle.refinement.specs.Acts.{InSlots}
+use Rattle.refinement.specs.Driver.{DriverState}
+use Rattle.refinement.specs.Slots.{SlotState, Free, Armed, Own, Serves, SlotStates, IsOver}
+
+-- the request that a slot serves, if any, before these
+abbrev pub with_served : SlotState → List RequestId → List RequestId
+with_served Free ids = ids
+with_served Armed ids = ids
+with_served (Own o) ids = ids
+with_served (Serves id) ids = id ∷ ids
+
+-- the requests that slots of the port below n serve
+abbrev pub served_ids : SlotStates → ℕ → ℕ → List RequestId
+served_ids uses port zero = []
+served_ids uses port (suc n) = with_served (uses port n) (served_ids uses port n)
+
+-- Each slot of the port is over, and none is armed while ST is one.
+abbrev pub AreOver : SlotStates → DevicePort → ℕ → Type 0
+AreOver uses p port = (slot : ℕ) → IsOver p slot × (uses port slot ≡ Armed → p.st ≡ false)
+
+-- every slot of the port was given up, and the requests that they served aren't decided yet
+abbrev pub parking_all : DriverState → ℕ → DriverState
+parking_all k port = record k {
+  uses = changed k.uses port (λ slot. Free);
+  parked = changed k.parked port (served_ids k.uses port 32 ++ k.parked port);
+}
+
+-- what is in the slots then, and parked
+abbrev pub given_up : ℕ → InSlots → InSlots
+given_up port s = record {
+  uses = changed s.uses port (λ slot. Free);
+  parked = changed s.parked port
+      (served_ids s.uses port 32 ++ s.parked port);
+}
+
+-- a request of the port that the device may move, and hasn't ended
+pub record IsUnended (m : Machine) (port : ℕ) (id : RequestId) : Type 0 where
+  pub pending : Pending
+  pub moves : MayStillMove m pending
+  pub id_is : pending.request.id ≡ id
+  pub port_is : pending.request.port.0 ≡ port
+  pub unended : pending.ended ≡ false
+
+-- What a slot in use has: a command of the driver's own, in slot 0, or one of an unended request; and while ST is 1, a
+-- bit of the slot is set in PxCI or PxSACT.
+pub record IsOutstanding (uses : SlotStates) (m : Machine) (p : DevicePort) (port slot : ℕ) : Type 0 where
+  pub below : slot < 32
+  pub whose : ((o : Operation) × (uses port slot ≡ Own o) × (slot ≡ 0))
+      ⊎ ((id : RequestId) × (uses port slot ≡ Serves id) × IsUnended m port id)
+  pub shown : p.st ≡ true → (p.ci slot ≡ true) ⊎ (p.sact slot ≡ true)

@@ -1,0 +1,15 @@
+-- What a halt is of, while ST is one (this project's own; AHCI 1.3.1, 6.2.2).
+use Rattle.std.specs.Prelude.{ℕ, true, ◌≡◌, ◌≢◌, Some}
+use Rattle.adapter.specs.Commands.{is_queued}
+use Rattle.adapter.specs.Device.{FetchedCommand, DevicePort}
+use Rattle.adapter.specs.Device.Halt.{HaltedQueued, LogOnly}
+
+-- READ LOG EXT isn't awaited; and where a queued command has halted the port, a queued one is taken.
+pub record HaltsAsTaken (p : DevicePort) : Type 0 where
+  pub unlogged : p.halt ≢ LogOnly
+  pub queued : p.halt ≡ HaltedQueued → (slot : ℕ) × (t : FetchedCommand) × (p.taken slot ≡ Some t)
+      × (is_queued t.meaning.operation ≡ true)
+
+-- so it is while ST is one
+abbrev pub IsHaltedAsTaken : DevicePort → Type 0
+IsHaltedAsTaken p = p.st ≡ true → HaltsAsTaken p

@@ -1,0 +1,89 @@
+-- What laws say of fragments of accesses of a crate's kinds, and of the tape: for the proofs of the crates above.
+use Rattle.std.specs.Prelude.{ℕ, None, false, ◌≡◌, ◌++◌, [], ◌∷◌, List}
+use Rattle.ata_types.specs.declared.Port.{Port}
+use Rattle.hba_regs.specs.declared.reg.PortReg.TheVariants.{Ci, Sact, Sctl}
+use Rattle.hba_regs.specs.declared.reg.Reg.{Reg}
+use Rattle.hba_regs.specs.declared.reg.Reg.TheVariants.{Px}
+use Rattle.adapter.specs.Access.{Access, Does, Reads, Writes}
+use Rattle.adapter.specs.Access.Access.{Reading, Writing}
+use Rattle.adapter.specs.Device.{Device}
+use Rattle.adapter.specs.Rules.{MayWrite, IsStable}
+use Rattle.adapter.specs.declared.command.Operation.{Operation}
+use Rattle.adapter.specs.declared.tape.Entry.{Entry}
+use Rattle.refinement.specs.Driven.{Grows, IsRelated, IsSimulatedTo, IsSimulatedAlong, IsSimulatedAlongTo, NoneWrites, SendsNone}
+use Rattle.refinement.specs.Driver.{LeavesUses}
+use Rattle.refinement.specs.Errors.{ChangesByDisks, NoneComes, NoneFails, NoneFatal}
+use Rattle.refinement.specs.Facts.{Undisturbed}
+use Rattle.refinement.specs.Links.{PlugsNone}
+use Rattle.refinement.specs.Links.{SparesRegister}
+use Rattle.refinement.specs.Slots.{Free, IsOver, Own, SlotStates, op_of, put}
+
+-- Fragments of accesses of these kinds, which may be made with the uses of slots that fit them.
+pub record FragmentLaws (Kind : Type 0) (may : Kind → Access → Type 0)
+    (fits : Kind → SlotStates → Type 0) : Type 0 where
+  pub none : (kind : Kind) (d : Device) → IsSimulatedAlong (λ made. made ≡ []) (may kind) (fits kind) d d
+  pub reads : (kind : Kind) (r : Reg) (v : ℕ) (old new : Device) → may kind (Reading r v) → Reads r v old new
+      → IsSimulatedAlong (λ made. made ≡ Reading r v ∷ []) (may kind) (fits kind) old new
+  pub writes : (kind : Kind) (r : Reg) (v : ℕ) (old new : Device) → may kind (Writing r v) → IsStable (MayWrite r v) old
+      → ((uses : SlotStates) → fits kind uses → LeavesUses uses r v old) → Writes r v old new
+      → IsSimulatedAlong (λ made. made ≡ Writing r v ∷ []) (may kind) (fits kind) old new
+  pub both : (kind then : Kind) (first second : SlotStates → SlotStates)
+      → ((access : Access) → may then access → may kind access)
+      → ((uses : SlotStates) → fits kind uses → fits then (first uses)) → (old mid new : Device)
+      → (a : IsSimulatedTo (may kind) (fits kind) first old mid)
+      → (b : IsSimulatedTo (may then) (fits then) second mid new)
+      → IsSimulatedAlongTo (λ made. made ≡ a.driven.accesses ++ b.driven.accesses) (may kind) (fits kind)
+      (λ uses. second (first uses)) old new
+  pub wider : (kind more : Kind) (next : SlotStates → SlotStates)
+      → ((access : Access) → may kind access → may more access)
+      → ((uses : SlotStates) → fits more uses → fits kind uses) → (old new : Device)
+      → (a : IsSimulatedTo (may kind) (fits kind) next old new)
+      → IsSimulatedAlongTo (λ made. made ≡ a.driven.accesses) (may more) (fits more) next old new
+  pub over : (kind : Kind) (port : Port) (o : Operation) (v : ℕ) (old new : Device) → may kind (Writing (Px port Ci) v)
+      → ((uses : SlotStates) → fits kind uses → uses port.0 0 ≡ Free) → IsOver (new.port port.0) 0
+      → (a : IsSimulatedTo (may kind) (fits kind) (λ uses. put uses port.0 0 (Own o)) old new)
+      → IsSimulatedAlong (λ made. made ≡ a.driven.accesses) (may kind) (fits kind) old new
+  pub agreed : (kind : Kind) (next : SlotStates → SlotStates) (uses : SlotStates) (old new : Device) → fits kind uses
+      → IsSimulatedTo (may kind) (fits kind) next old new → IsRelated uses old → IsRelated (next uses) new
+  pub silent : (kind : Kind) (next : SlotStates → SlotStates) (uses : SlotStates) (port : Port) (o : Operation)
+      (old new : Device)
+      → fits kind uses → NoneWrites (may kind) (Px port Ci) → NoneWrites (may kind) (Px port Sact) → op_of o ≡ None
+      → (uses port.0 0 ≡ Own o → ⊥) → IsSimulatedTo (may kind) (fits kind) next old new → IsRelated uses old
+      → SendsNone port.0 o old new
+
+-- what the tape tells of a part of a call, and of the whole
+pub record TapeLaws : Type 0 where
+  -- it only gains
+  pub grows_none : (d : Device) → Grows d d
+  pub grows_more : (old mid new : Device) → Grows old mid → Grows mid new → Grows old new
+  pub access_grows : (access : Access) (old new : Device) → Does access old new → Grows old new
+  -- parts of it, and the whole: of disks that come, or that come and go, of fatal errors, of faults, and of all these
+  pub comes_parts : (port : ℕ) (old mid new : Device) (early late : List Entry) → mid.tape ≡ old.tape ++ early
+      → new.tape ≡ mid.tape ++ late → NoneComes port old new → NoneComes port old mid × NoneComes port mid new
+  pub plugs_come : (port : ℕ) (old new : Device) → PlugsNone port old new → NoneComes port old new
+  pub plugs_none : (port : ℕ) (d : Device) → PlugsNone port d d
+  pub plugs_more : (port : ℕ) (old mid new : Device) → PlugsNone port old mid → PlugsNone port mid new
+      → PlugsNone port old new
+  pub plugs_parts : (port : ℕ) (old mid new : Device) (early late : List Entry) → mid.tape ≡ old.tape ++ early
+      → new.tape ≡ mid.tape ++ late → PlugsNone port old new → PlugsNone port old mid × PlugsNone port mid new
+  pub fatal_none : (port : ℕ) (d : Device) → NoneFatal port d d
+  pub fatal_more : (port : ℕ) (old mid new : Device) → NoneFatal port old mid → NoneFatal port mid new
+      → NoneFatal port old new
+  pub fatal_parts : (port : ℕ) (old mid new : Device) (early late : List Entry) → mid.tape ≡ old.tape ++ early
+      → new.tape ≡ mid.tape ++ late → NoneFatal port old new → NoneFatal port old mid × NoneFatal port mid new
+  pub fails_none : (port : ℕ) (d : Device) → NoneFails port d d
+  pub fails_more : (port : ℕ) (old mid new : Device) → NoneFails port old mid → NoneFails port mid new
+      → NoneFails port old new
+  pub fails_parts : (port : ℕ) (old mid new : Device) (early late : List Entry) → mid.tape ≡ old.tape ++ early
+      → new.tape ≡ mid.tape ++ late → NoneFails port old new → NoneFails port old mid × NoneFails port mid new
+  pub calm_parts : (port : ℕ) (old mid new : Device) (early late : List Entry) → mid.tape ≡ old.tape ++ early
+      → new.tape ≡ mid.tape ++ late → Undisturbed port old new → Undisturbed port old mid × Undisturbed port mid new
+  -- bits of PxSERR that rise for disks alone
+  pub change_none : (port : ℕ) (d : Device) → ChangesByDisks port d d
+  pub change_more : (port : ℕ) (old mid new : Device) → Grows old mid → Grows mid new → ChangesByDisks port old mid
+      → ChangesByDisks port mid new → ChangesByDisks port old new
+  pub access_change : (port : Port) (access : Access) (old new : Device) → old.hr ≡ false
+      → (old.port port.0).link_due ≡ false → Does access old new → ChangesByDisks port.0 old new
+  pub access_undue : (port : Port) (access : Access) (old new : Device) → old.hr ≡ false
+      → (old.port port.0).link_due ≡ false → SparesRegister (Px port Sctl) access → Does access old new
+      → (new.port port.0).link_due ≡ false

@@ -1,0 +1,57 @@
+-- READ LOG EXT ends the halt of a queued fault (this project's own; ACS-3, 7.23).
+use Rattle.std.specs.Prelude.{ℕ, ◌≡◌, List, ◌∷◌, replicate}
+use Rattle.hba_regs.specs.declared.reg.Reg.TheVariants.{Px}
+use Rattle.hba_regs.specs.declared.reg.PortReg.TheVariants.{Is, Ci}
+use Rattle.adapter.specs.Access.{Reads, Writes}
+use Rattle.adapter.specs.Device.{DevicePort, Device}
+use Rattle.adapter.specs.Device.Halt.{LogOnly}
+use Rattle.adapter.specs.FirstRead.{first_memory}
+use Rattle.adapter.specs.Memory.{patched, changed}
+use Rattle.adapter.specs.Rules.{MayWrite, IsStable}
+use Rattle.adapter.specs.declared.command.Operation.TheVariants.{ReadLog}
+use Rattle.block_machine.specs.Histories.{IsReachable}
+use Rattle.block_machine.specs.State.{Machine}
+use Rattle.refinement.specs.Relation.{port_at}
+use Rattle.refinement.specs.Driver.{DriverRelation, IsOwnPrepared, idle}
+use Rattle.refinement.specs.Facts.{RunsWell}
+use Rattle.refinement.specs.Slots.{Free, Own, SlotStates, put}
+use Rattle.refinement.specs.Witness.{page_bytes, ready_port, ready_with}
+use Rattle.refinement.specs.Recovering.{RunsLinked, EndsHalt, FailsOpenly}
+
+-- the FIS of READ LOG EXT, log 10h, one page
+abbrev pub log_bytes : List ℕ
+log_bytes = 0x27 ∷ 0x80 ∷ 0x2f ∷ 0 ∷ 0x10 ∷ 0 ∷ 0 ∷ 0 ∷ 0 ∷ 0 ∷ 0 ∷ 0 ∷ 1 ∷ replicate 7 0
+
+-- it and the PRD of its page stand in the first read's table
+unfoldable pub log_memory : ℕ → ℕ
+log_memory = patched (patched first_memory 0x1000 log_bytes) 0x1080 page_bytes
+
+-- A port in the state of one that was started again after a queued fault: it takes READ LOG EXT alone.
+abbrev pub log_port : DevicePort
+log_port = record ready_port { halt = LogOnly }
+
+abbrev pub logging : Device
+logging = record (ready_with log_memory) { port = changed (ready_with log_memory).port 0 log_port }
+
+abbrev pub log_uses : SlotStates
+log_uses = put (λ port slot. Free) 0 0 (Own ReadLog)
+
+-- A machine agrees with its driver, for whom READ LOG EXT is prepared. The write of PxCI is permitted, and issues it.
+-- PxCI may be read 0 then, and PxIS with DHRS alone: the port runs well.
+pub record LogIsEnded : Type 0 where
+  pub machine : Machine
+  pub reached : IsReachable machine
+  pub knows : DriverRelation machine (idle logging)
+  pub halted : (logging.port 0).halt ≡ LogOnly
+  pub runs : RunsLinked (logging.port 0)
+  pub prepared : IsOwnPrepared (idle logging).uses logging 0 ReadLog 1
+  pub permitted : IsStable (MayWrite (Px (port_at 0) Ci) 1) logging
+  pub issued : Device
+  pub writes : Writes (Px (port_at 0) Ci) 1 logging issued
+  pub ends : EndsHalt log_uses 0 issued
+  pub opens : FailsOpenly log_uses 0 issued
+  pub over : Device
+  pub reads : Reads (Px (port_at 0) Ci) 0 issued over
+  pub found : Device
+  pub tells : Reads (Px (port_at 0) Is) 1 over found
+  pub well : RunsWell (found.port 0)

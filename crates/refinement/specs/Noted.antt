@@ -1,0 +1,29 @@
+-- What the driver's readings of a port noted, and what leaves it (this project's own).
+use Rattle.std.specs.Prelude.{◌≡◌, ◌≢◌}
+use Rattle.ata_types.specs.declared.Port.{Port}
+use Rattle.hba_regs.specs.declared.reg.Reg.{Reg}
+use Rattle.hba_regs.specs.declared.reg.Reg.TheVariants.{Px}
+use Rattle.hba_regs.specs.declared.reg.PortReg.TheVariants.{Cmd, Tfd, Sig, Ssts, Sctl, Sact, Ci}
+use Rattle.adapter.specs.Access.{Access}
+use Rattle.adapter.specs.Access.Access.{Reading}
+use Rattle.adapter.specs.Device.{Notes}
+use Rattle.refinement.specs.Links.{SparesRegister}
+
+-- the access doesn't read the register
+abbrev pub SparesReading : Reg → Access → Type 0
+SparesReading r (Reading other v) = other ≢ r
+SparesReading r access = Unit {0}
+
+-- Each value that was last read is as it was, but for a reading of its register, and so is its count; those of the
+-- link, of busy and of the command also but for a write of PxSCTL.
+pub record LeavesNotes (access : Access) (port : Port) (old new : Notes) : Type 0 where
+  pub command : SparesReading (Px port Cmd) access → (new.last_cmd ≡ old.last_cmd)
+      × (new.engine_count ≡ old.engine_count)
+  pub link : SparesReading (Px port Ssts) access
+      → (new.last_ssts ≡ old.last_ssts) × (SparesRegister (Px port Sctl) access → new.link_count ≡ old.link_count)
+  pub file : SparesReading (Px port Tfd) access
+      → (new.last_tfd ≡ old.last_tfd) × (SparesRegister (Px port Sctl) access → new.busy_count ≡ old.busy_count)
+  pub issued : SparesReading (Px port Ci) access
+      → (new.last_ci ≡ old.last_ci) × (SparesRegister (Px port Sctl) access → new.command_count ≡ old.command_count)
+  pub active : SparesReading (Px port Sact) access → new.last_sact ≡ old.last_sact
+  pub signature : SparesReading (Px port Sig) access → new.last_sig ≡ old.last_sig

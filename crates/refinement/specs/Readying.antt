@@ -1,0 +1,32 @@
+-- A slot that is made ready for the write of PxCI (this project's own).
+use Rattle.std.specs.Prelude.{ℕ, true, ◌≡◌, if◌then◌else◌, List, length}
+use Rattle.ata_types.specs.declared.Port.{Port}
+use Rattle.hba_regs.specs.declared.reg.PortReg.TheVariants.{Clb}
+use Rattle.hba_regs.specs.declared.reg.Reg.TheVariants.{Ghc, Px}
+use Rattle.adapter.specs.Access.{Access}
+use Rattle.adapter.specs.Access.Access.{Storing}
+use Rattle.adapter.specs.Commands.{Meaning, is_queued}
+use Rattle.adapter.specs.Device.{Device}
+use Rattle.refinement.specs.Driver.{MissesTable}
+use Rattle.refinement.specs.Links.{SparesRegister}
+use Rattle.refinement.specs.Slots.{Free, Armed, SlotStates, IsPlaced, SlotDecodesTo}
+use Rattle.refinement.specs.Started.{ClearsNoStart}
+
+-- The port runs, and the slot's bytes say this command.
+pub record IsStored (d : Device) (port slot : ℕ) (c : Meaning) (places : List ℕ) : Type 0 where
+  pub started : (d.port port).st ≡ true
+  pub placed : IsPlaced (d.port port) port slot
+  pub told : SlotDecodesTo d.memory (d.port port).bases.clb port slot c places
+
+-- So it is, and the slot is armed if the command is queued, and else free.
+pub record IsReadied (uses : SlotStates) (d : Device) (port slot : ℕ) (c : Meaning) (places : List ℕ) : Type 0 where
+  pub used : uses port slot ≡ (if is_queued c.operation then Armed else Free)
+  pub stored : IsStored d port slot c places
+
+-- The access leaves what is stored for the slot: it writes neither GHC nor PxCLB, doesn't clear ST, and stores nothing
+-- in header or table.
+pub record LeavesStored (port : Port) (slot : ℕ) (access : Access) : Type 0 where
+  pub host : SparesRegister Ghc access
+  pub start : ClearsNoStart port access
+  pub list : SparesRegister (Px port Clb) access
+  pub table : (at : ℕ) (bytes : List ℕ) → access ≡ Storing at bytes → MissesTable port.0 slot at (length bytes)

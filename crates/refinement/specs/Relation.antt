@@ -1,0 +1,69 @@
+-- An adapter's device, a block machine, and what the driver has put into the slots (this project's own).
+use Rattle.std.specs.Prelude.{ℕ, true, ◌≡◌, ◌⊎◌, ◌+◌, ◌*◌, ◌<◌, ◌≤◌, List, Some, Contains, slice_index}
+use Rattle.ata_types.specs.declared.Port.{Port}
+use Rattle.ata_types.specs.declared.memory.TheConstants.{DRIVER_FRAMES, FRAME_BYTES}
+use Rattle.ata_types.specs.declared.request.Frame.{Frame}
+use Rattle.ata_types.specs.declared.request.RequestId.{RequestId}
+use Rattle.adapter.specs.Device.{Disk, DevicePort, Device}
+use Rattle.adapter.specs.Steps.{WereHeld}
+use Rattle.adapter.specs.declared.tape.Entry.{Entry}
+use Rattle.block_machine.specs.State.{Pending, Machine}
+use Rattle.block_machine.specs.Steps.{MayStillMove, HasHeld}
+use Rattle.refinement.specs.Places.{received_of}
+use Rattle.refinement.specs.Slots.{Serves, SlotStates, RelatesSlot}
+
+-- the port of a number
+abbrev pub port_at : ℕ → Port
+port_at n = record { 0 = n }
+
+-- the received FIS area is where it belongs
+pub record IsReceiving (p : DevicePort) (port : ℕ) : Type 0 where
+  pub below : port < 4
+  pub area : p.bases.fb ≡ received_of port
+
+-- The machine's disk is the port's: whether it is in, which one it is, and how many sectors it has.
+pub record IsDiskOf (m : Machine) (p : DevicePort) (port : ℕ) : Type 0 where
+  pub present : m.present (port_at port) ≡ p.present
+  pub id : m.disk_ids (port_at port) ≡ p.disk.name
+  pub size : m.sizes (port_at port) ≡ p.disk.size
+
+-- the disk tells its sectors, and they hold what the machine's do
+pub record SameSectors (m : Machine) (disk : Disk) (port : ℕ) : Type 0 where
+  pub told : ℕ → List ℕ
+  pub tells : disk.sectors ≡ Some told
+  pub same : (k b : ℕ) → k < disk.size → b < 512 → slice_index (told k) b ≡ m.disks (port_at port) k b
+
+-- what a sector of the port's disk may come back with, the machine's disk holds there or has held
+abbrev pub HasLasting : Machine → List Entry → DevicePort → ℕ → Type 0
+HasLasting m tape p port = (k : ℕ) → k < p.disk.size → (bytes : List ℕ) → WereHeld tape p.lasting port k bytes
+    → HasHeld m (port_at port) k (slice_index bytes)
+
+-- each client frame holds what the machine's does
+abbrev pub SameMemory : Machine → (ℕ → ℕ) → Type 0
+SameMemory m memory = (frame : Frame) (b : ℕ) → DRIVER_FRAMES ≤ frame.0 → b < FRAME_BYTES
+    → memory (FRAME_BYTES * frame.0 + b) ≡ m.memory frame b
+
+-- no two slots serve one request
+abbrev pub ServeApart : SlotStates → Type 0
+ServeApart uses = (port slot other_port other_slot : ℕ) (id : RequestId) → uses port slot ≡ Serves id
+    → uses other_port other_slot ≡ Serves id → (port ≡ other_port) × (slot ≡ other_slot)
+
+-- Device and machine agree: each slot is as its use says, each received FIS area that is in use is where it belongs,
+-- disks are the same, and client frames hold the same bytes; so do the sectors of an adapter whose disks tell them, and
+-- what those may come back with, the machine knows.
+pub record StateRelation (uses : SlotStates) (m : Machine) (d : Device) : Type 0 where
+  pub slot : (port slot : ℕ) → RelatesSlot m d.memory d.tape (d.port port) port slot (uses port slot)
+  pub apart : ServeApart uses
+  pub received : (port : ℕ) → (d.port port).fre ≡ true → IsReceiving (d.port port) port
+  pub disk : (port : ℕ) → IsDiskOf m (d.port port) port
+  pub memory : SameMemory m d.memory
+  pub sectors : d.telling ≡ true → (port : ℕ) → SameSectors m (d.port port).disk port
+  pub lasting : d.telling ≡ true → (port : ℕ) → HasLasting m d.tape (d.port port) port
+
+-- ---- what stands beside it, by port
+
+-- Each request of the port that is issued or kept has a slot, but for those of these ids: their slots were given up
+-- before they were decided.
+abbrev pub HaveSlots : SlotStates → Machine → ℕ → List RequestId → Type 0
+HaveSlots uses m port parked = (e : Pending) → MayStillMove m e → e.request.port.0 ≡ port
+    → Contains parked e.request.id ⊎ ((slot : ℕ) × (uses port slot ≡ Serves e.request.id))

@@ -1,0 +1,251 @@
+-- What the driver has put into the slots, and what a slot has to do with the request that it serves (this project's
+-- own).
+use Rattle.std.specs.Prelude.{ℕ, zero, suc, Bool, true, false, not, if◌then◌else◌, ◌&&◌, ◌≡◌, ◌⊎◌, ◌<◌, ◌≤◌, List, [], ◌∷◌, ◌++◌, length, Option, Some, None, slice_index, nat_lt, All}
+use Rattle.ata_types.specs.declared.request.Op.{Op}
+use Rattle.ata_types.specs.declared.request.Op.TheVariants.{Read, Write, Trim, Flush}
+use Rattle.ata_types.specs.declared.request.RequestId.{RequestId}
+use Rattle.ata_types.specs.declared.limits.TheConstants.{MOST_REQUEST_FRAMES}
+use Rattle.adapter.specs.Commands.{Meaning, is_queued, is_ranged}
+use Rattle.adapter.specs.Device.{FetchedCommand, DevicePort}
+use Rattle.adapter.specs.Memory.{bytes_at, changed}
+use Rattle.adapter.specs.Decoding.{DecodesTo}
+use Rattle.adapter.specs.Trim.{trim_sectors, consecutive}
+use Rattle.adapter.specs.declared.command.Operation.{Operation}
+use Rattle.adapter.specs.declared.command.Operation.TheVariants as operation
+use Rattle.adapter.specs.declared.tape.Entry.{Entry}
+use Rattle.adapter.specs.declared.tape.Entry.TheVariants as entry
+use Rattle.adapter.specs.declared.tape.Move as tape_move
+use Rattle.block_machine.specs.State.{Accepted, Pending, Machine}
+use Rattle.block_machine.specs.Steps.{MayStillMove, AllTouched}
+use Rattle.refinement.specs.Places.{list_of, table_of, scratch_of, place_in}
+
+-- What the driver has put into a slot: nothing, its bit of PxSACT alone, a command of its own (IDENTIFY DEVICE or READ
+-- LOG EXT), or the request of this id.
+pub data SlotState : Type 0 where
+  Free : SlotState
+  Armed : SlotState
+  Own : Operation → SlotState
+  Serves : RequestId → SlotState
+
+-- by the numbers of port and slot
+abbrev pub SlotStates : Type 0
+SlotStates = ℕ → ℕ → SlotState
+
+-- one slot put to another use
+abbrev pub put : SlotStates → ℕ → ℕ → SlotState → SlotStates
+put uses port slot u = changed uses port (changed (uses port) slot u)
+
+-- the slot serves a request
+abbrev pub is_serving : SlotState → Bool
+is_serving Free = false
+is_serving Armed = false
+is_serving (Own o) = false
+is_serving (Serves id) = true
+
+-- how many of the port's slots below n serve a request
+abbrev pub serving_count : SlotStates → ℕ → ℕ → ℕ
+serving_count uses port zero = 0
+serving_count uses port (suc n) = if is_serving (uses port n) then suc (serving_count uses port n) else serving_count
+    uses port n
+
+-- the client's operation that a command does; the driver's own do none
+abbrev pub op_of : Operation → Option Op
+op_of operation.Read = Some Read
+op_of operation.ReadQueued = Some Read
+op_of operation.Write = Some Write
+op_of operation.WriteQueued = Some Write
+op_of operation.Trim = Some Trim
+op_of operation.Flush = Some Flush
+op_of operation.Identify = None
+op_of operation.ReadLog = None
+
+-- ---- the command of a slot
+
+-- Where a request's bytes lie: its sectors at their places in its frames, a trim's block in the scratch frame.
+abbrev pub ArePlaces : Op → ℕ → Accepted → List ℕ → Type 0
+ArePlaces Read port r places = (length places ≡ r.asked.count)
+    × ((i : ℕ) → i < r.asked.count → slice_index places i ≡ place_in r.asked.frames.items i)
+ArePlaces Write port r places = (length places ≡ r.asked.count)
+    × ((i : ℕ) → i < r.asked.count → slice_index places i ≡ place_in r.asked.frames.items i)
+ArePlaces Trim port r places = places ≡ scratch_of port ∷ []
+ArePlaces Flush port r places = places ≡ []
+
+-- The command is the request's. Only slot 0 has a block in the scratch frame.
+pub record Means (port slot : ℕ) (r : Accepted) (c : Meaning) (places : List ℕ) : Type 0 where
+  pub op : op_of c.operation ≡ Some r.asked.op
+  pub first : is_ranged c.operation ≡ true → c.first ≡ r.asked.first.0
+  pub places_are : ArePlaces r.asked.op port r places
+  pub head : r.asked.op ≡ Trim → slot ≡ 0
+
+-- Header and table of the slot say the command, and the table is the slot's. So they do at each stage, also once the
+-- command is taken, has ended or was given up: what a slot in use has is never stored to.
+pub record SlotDecodesTo (memory : ℕ → ℕ) (list port slot : ℕ) (c : Meaning) (places : List ℕ) : Type 0 where
+  pub says : DecodesTo memory list slot c places
+  pub table_is : says.table ≡ table_of port slot
+  pub few : length says.prds ≤ MOST_REQUEST_FRAMES
+
+-- the port's command list is where it belongs
+pub record IsPlaced (p : DevicePort) (port slot : ℕ) : Type 0 where
+  pub port_below : port < 4
+  pub slot_below : slot < 32
+  pub list : p.bases.clb ≡ list_of port
+
+-- ---- how far a request's command is
+
+-- the first n sectors were touched, and no others
+abbrev pub UpTo : (ℕ → Bool) → ℕ → Type 0
+UpTo touched n = (i : ℕ) → touched i ≡ nat_lt i n
+
+-- the block of a trim names the request's sectors
+abbrev pub MeansRange : List ℕ → Accepted → Type 0
+MeansRange block r = trim_sectors block ≡ consecutive r.asked.first.0 r.asked.count
+
+-- a trim's block stands in the scratch frame
+abbrev pub HasTrimBlock : Op → (ℕ → ℕ) → ℕ → Accepted → Type 0
+HasTrimBlock Trim memory port r = MeansRange (bytes_at memory (scratch_of port) 512) r
+HasTrimBlock _ memory port r = Unit {0}
+
+-- issued, and not taken yet: the request isn't ended
+pub record Waits (memory : ℕ → ℕ) (p : DevicePort) (port slot : ℕ) (e : Pending) (c : Meaning) : Type 0 where
+  pub started : p.st ≡ true
+  pub issued : p.ci slot ≡ true
+  pub free : p.taken slot ≡ None
+  pub sact : p.sact slot ≡ is_queued c.operation
+  pub block : HasTrimBlock e.request.asked.op memory port e.request
+  pub untouched : UpTo e.touched 0
+  pub unended : e.ended ≡ false
+
+-- what a taken command has moved, or cleared, was touched
+abbrev pub Progress : Op → (ℕ → ℕ) → ℕ → Pending → FetchedCommand → Type 0
+Progress Read memory port e t = UpTo e.touched t.moved
+Progress Write memory port e t = UpTo e.touched t.moved
+Progress Trim memory port e t =
+    UpTo e.touched t.cleared
+    × (((t.moved ≡ 0) × (t.cleared ≡ 0) × MeansRange (bytes_at memory (scratch_of port) 512) e.request)
+    ⊎ ((t.moved ≡ 1) × MeansRange t.block e.request))
+Progress Flush memory port e t = Unit {0}
+
+-- taken by the device: the request isn't ended, also where all its sectors were touched
+pub record IsTakenFor (memory : ℕ → ℕ) (p : DevicePort) (port slot : ℕ) (e : Pending) (c : Meaning)
+    (places : List ℕ) : Type 0 where
+  pub command : FetchedCommand
+  pub taken : p.taken slot ≡ Some command
+  pub meaning : command.meaning ≡ c
+  pub places_are : command.places ≡ places
+  pub running : p.cr ≡ true
+  pub issued : p.ci slot ≡ p.st && not (is_queued c.operation)
+  pub sact : p.sact slot ≡ p.st && is_queued c.operation
+  pub progress : Progress e.request.asked.op memory port e command
+  pub unended : e.ended ≡ false
+
+-- ended, its bits clear
+pub record IsEnded (p : DevicePort) (slot : ℕ) (e : Pending) : Type 0 where
+  pub issued : p.ci slot ≡ false
+  pub sact : p.sact slot ≡ false
+  pub free : p.taken slot ≡ None
+  pub ended : e.ended ≡ true
+  pub touched : AllTouched e
+
+-- given up by the device before it ended: ST was cleared before it was taken, CR fell, or a reset of the adapter ended
+pub record IsDropped (p : DevicePort) (slot : ℕ) (e : Pending) : Type 0 where
+  pub stopped : p.st ≡ false
+  pub issued : p.ci slot ≡ false
+  pub sact : p.sact slot ≡ false
+  pub free : p.taken slot ≡ None
+  pub unended : e.ended ≡ false
+
+-- a request's command waits, is taken, has ended, or was given up
+abbrev pub Stage : (ℕ → ℕ) → DevicePort → ℕ → ℕ → Pending → Meaning → List ℕ → Type 0
+Stage memory p port slot e c places =
+    Waits memory p port slot e c ⊎ (IsTakenFor memory p port slot e c places ⊎ (IsEnded p slot e ⊎ IsDropped p slot e))
+
+-- The slot serves the request of this id: its bytes say the request's command.
+pub record ServesRequest (m : Machine) (memory : ℕ → ℕ) (p : DevicePort) (port slot : ℕ) (id : RequestId) : Type 0 where
+  pub pending : Pending
+  pub moves : MayStillMove m pending
+  pub id_is : pending.request.id ≡ id
+  pub port_is : pending.request.port.0 ≡ port
+  pub placed : IsPlaced p port slot
+  pub command : Meaning
+  pub places : List ℕ
+  pub told : SlotDecodesTo memory p.bases.clb port slot command places
+  pub means : Means port slot pending.request command places
+  pub stage : Stage memory p port slot pending command places
+
+-- ---- the driver's own commands
+
+-- no command is issued or taken
+pub record IsOver (p : DevicePort) (slot : ℕ) : Type 0 where
+  pub issued : p.ci slot ≡ false
+  pub free : p.taken slot ≡ None
+
+-- the entry is a move of the port's, by a command of this operation
+abbrev pub IsMove : ℕ → Operation → Entry → Type 0
+IsMove port o (entry.Move move) = (move.port.0 ≡ port) × (move.operation ≡ o)
+IsMove port o _ = ⊥
+
+-- The page that the port's last command of this operation brought stands in the scratch frame, and it came when the
+-- tape was at least so long.
+pub record Brought (memory : ℕ → ℕ) (tape : List Entry) (port : ℕ) (o : Operation) (since : ℕ) : Type 0 where
+  pub before : List Entry
+  pub after : since ≤ length before
+  pub move : tape_move.Move
+  pub later : List Entry
+  pub here : tape ≡ before ++ entry.Move move ∷ later
+  pub is_move : IsMove port o (entry.Move move)
+  pub last : All (λ e. IsMove port o e → ⊥) later
+  pub bytes : bytes_at memory (scratch_of port) 512 ≡ move.bytes.value
+
+-- issued, and not taken yet
+pub record OwnWaits (p : DevicePort) (slot : ℕ) : Type 0 where
+  pub started : p.st ≡ true
+  pub issued : p.ci slot ≡ true
+  pub free : p.taken slot ≡ None
+
+-- taken by the device
+pub record OwnTaken (memory : ℕ → ℕ) (tape : List Entry) (p : DevicePort) (port slot : ℕ) (c : Meaning) : Type 0 where
+  pub command : FetchedCommand
+  pub taken : p.taken slot ≡ Some command
+  pub meaning : command.meaning ≡ c
+  pub places_are : command.places ≡ scratch_of port ∷ []
+  pub running : p.cr ≡ true
+  pub issued : p.ci slot ≡ p.st
+  pub brought : (command.moved ≡ 0) ⊎ ((command.moved ≡ 1) × Brought memory tape port c.operation p.notes.st_set_at)
+
+-- over: on a running port the device has brought its page since ST was set
+pub record OwnOver (memory : ℕ → ℕ) (tape : List Entry) (p : DevicePort) (port slot : ℕ) (c : Meaning) : Type 0 where
+  pub over : IsOver p slot
+  pub brought : (p.st ≡ false) ⊎ Brought memory tape port c.operation p.notes.st_set_at
+
+-- The slot has a command of the driver's own, which is plain and has its page in the scratch frame. Only slot 0 has
+-- one.
+pub record ServesOwn (memory : ℕ → ℕ) (tape : List Entry) (p : DevicePort) (port slot : ℕ)
+    (o : Operation) : Type 0 where
+  pub own : op_of o ≡ None
+  pub head : slot ≡ 0
+  pub placed : IsPlaced p port slot
+  pub command : Meaning
+  pub operation_is : command.operation ≡ o
+  pub told : SlotDecodesTo memory p.bases.clb port slot command (scratch_of port ∷ [])
+  pub unqueued : p.sact slot ≡ false
+  pub known : p.notes.st_set_at ≤ length tape
+  pub stage : OwnWaits p slot ⊎ (OwnTaken memory tape p port slot command ⊎ OwnOver memory tape p port slot command)
+
+-- no command is issued or taken, and no bit of SACT is set
+pub record IsEmptySlot (p : DevicePort) (slot : ℕ) : Type 0 where
+  pub issued : p.ci slot ≡ false
+  pub free : p.taken slot ≡ None
+  pub unarmed : p.sact slot ≡ false
+
+-- No command is issued or taken, and the bit of SACT is set for the next one; clearing ST clears it.
+pub record IsArmed (p : DevicePort) (slot : ℕ) : Type 0 where
+  pub issued : p.ci slot ≡ false
+  pub free : p.taken slot ≡ None
+  pub armed : p.sact slot ≡ p.st
+
+-- the relation of one slot
+abbrev pub RelatesSlot : Machine → (ℕ → ℕ) → List Entry → DevicePort → ℕ → ℕ → SlotState → Type 0
+RelatesSlot m memory tape p port slot Free = IsEmptySlot p slot
+RelatesSlot m memory tape p port slot Armed = IsArmed p slot
+RelatesSlot m memory tape p port slot (Own o) = ServesOwn memory tape p port slot o
+RelatesSlot m memory tape p port slot (Serves id) = ServesRequest m memory p port slot id

@@ -1,0 +1,141 @@
+-- What an entry of the tape is to the block machine (this project's own).
+use Rattle.std.specs.Prelude.{ℕ, zero, suc, ◌≡◌, ◌≢◌, ◌⊎◌, ◌+◌, ◌/◌, ◌<◌, ◌≤◌, List, [], ◌∷◌, ◌++◌, Option, Some, None, All, slice_index}
+use Rattle.ata_types.specs.declared.Port.{Port}
+use Rattle.ata_types.specs.declared.request.Op.{Op}
+use Rattle.ata_types.specs.declared.request.Op.TheVariants.{Read, Write, Trim, Flush}
+use Rattle.adapter.specs.Commands.{direction_of}
+use Rattle.adapter.specs.Device as device
+use Rattle.adapter.specs.declared.tape.Move as tape_move
+use Rattle.adapter.specs.declared.tape.Clear as tape_clear
+use Rattle.adapter.specs.declared.tape.Done as tape_done
+use Rattle.adapter.specs.declared.tape.Entry.{Entry}
+use Rattle.adapter.specs.declared.tape.Entry.TheVariants as entry
+use Rattle.block_machine.specs.State.{DiskBytes, Pending, Machine, frame_at, sector_of}
+use Rattle.block_machine.specs.Steps.{Step, Touch, End, Unplug, Replace, MayStillMove, touch}
+use Rattle.block_machine.specs.Left.{after}
+use Rattle.block_machine.specs.Events.{IsByDevice}
+use Rattle.refinement.specs.Places.{scratch_of, place_in}
+use Rattle.refinement.specs.Slots.{op_of}
+
+-- Sector number i of a request that may move went between its place on the disk and its place in memory, in the
+-- operation's direction, and the frame there is lent to the request.
+pub record MovesSector (m : Machine) (op : Op) (move : tape_move.Move) (steps : List Step) : Type 0 where
+  pub pending : Pending
+  pub moves : MayStillMove m pending
+  pub port_is : pending.request.port ≡ move.port
+  pub op_is : pending.request.asked.op ≡ op
+  pub number : ℕ
+  pub within : number < pending.request.asked.count
+  pub sector_is : move.sector ≡ sector_of pending.request number
+  pub place_is : move.address ≡ place_in pending.request.asked.frames.items number
+  pub direction_is : move.direction ≡ direction_of move.operation
+  pub lent : m.lent (frame_at pending.request.asked.frames.items (number / 8)) ≡ Some pending.request.id
+  pub step : steps ≡ Touch pending number (slice_index move.bytes.value) ∷ []
+
+-- a page or a block went between disk and scratch frame: no step of the machine
+pub record IsPageMove (move : tape_move.Move) (steps : List Step) : Type 0 where
+  pub place_is : move.address ≡ scratch_of move.port.0
+  pub none : steps ≡ []
+
+-- a move, by the client's operation that its command does
+abbrev pub TellsMove : Option Op → Machine → tape_move.Move → List Step → Type 0
+TellsMove None m move steps = IsPageMove move steps
+TellsMove (Some Read) m move steps = MovesSector m Read move steps
+TellsMove (Some Write) m move steps = MovesSector m Write move steps
+TellsMove (Some Trim) m move steps = IsPageMove move steps
+TellsMove (Some Flush) m move steps = ⊥
+
+-- n sectors touched in a row, from one on: the request then, and the steps, the newest first. No bytes are moved.
+abbrev pub touched_by : Pending → ℕ → ℕ → Pending
+touched_by e from zero = e
+touched_by e from (suc n) = touch (from + n) (touched_by e from n)
+
+abbrev pub touch_steps : Pending → ℕ → ℕ → List Step
+touch_steps e from zero = []
+touch_steps e from (suc n) = Touch (touched_by e from n) (from + n) (λ b. 0) ∷ touch_steps e from n
+
+-- sectors of a trim became zero
+pub record ClearsSectors (m : Machine) (clear : tape_clear.Clear) (steps : List Step) : Type 0 where
+  pub pending : Pending
+  pub moves : MayStillMove m pending
+  pub port_is : pending.request.port ≡ clear.port
+  pub op_is : pending.request.asked.op ≡ Trim
+  pub from : ℕ
+  pub within : from + clear.count ≤ pending.request.asked.count
+  pub first_is : clear.first ≡ sector_of pending.request from
+  pub step : steps ≡ touch_steps pending from clear.count
+
+-- A request's command ended. The tape ties it to no slot: which request ended follows from the slots, since none whose
+-- command waits, is taken or was given up has.
+pub record EndsPending (m : Machine) (op : Op) (done : tape_done.Done) (steps : List Step) : Type 0 where
+  pub pending : Pending
+  pub moves : MayStillMove m pending
+  pub port_is : pending.request.port ≡ done.port
+  pub op_is : pending.request.asked.op ≡ op
+  pub step : steps ≡ End pending ∷ []
+
+-- an end, by the client's operation that its command does
+abbrev pub TellsDone : Option Op → Machine → tape_done.Done → List Step → Type 0
+TellsDone None m done steps = steps ≡ []
+TellsDone (Some op) m done steps = EndsPending m op done steps
+
+-- another disk was put in: which one
+pub record IsReplace (port : Port) (name : ℕ) (steps : List Step) : Type 0 where
+  pub size : ℕ
+  pub content : DiskBytes
+  pub step : steps ≡ Replace port name size content ∷ []
+
+-- the machine's steps that an entry tells of
+abbrev pub TellsEntry : Machine → Entry → List Step → Type 0
+TellsEntry m (entry.Move move) steps = TellsMove (op_of move.operation) m move steps
+TellsEntry m (entry.Clear clear) steps = ClearsSectors m clear steps
+TellsEntry m (entry.Done done) steps = TellsDone (op_of done.operation) m done steps
+TellsEntry m (entry.Fault fault) steps = steps ≡ []
+TellsEntry m (entry.Fatal port) steps = steps ≡ []
+TellsEntry m (entry.Unplug port) steps = steps ≡ Unplug port ∷ []
+TellsEntry m (entry.Plug port name) steps = IsReplace port name steps
+
+-- the entries, the oldest first, tell of these steps, the newest first: nothing else, and in their order
+abbrev pub TapeTells : Machine → List Entry → List Step → Type 0
+TapeTells m [] steps = steps ≡ []
+TapeTells m (entry ∷ entries) steps =
+    (first : List Step) × (rest : List Step) × TellsEntry m entry first × TapeTells (after m first) entries rest
+    × (steps ≡ rest ++ first)
+
+-- at most one of the entries is of this kind
+abbrev pub OneAtMost : (Entry → Type 0) → List Entry → Type 0
+OneAtMost IsKind [] = Unit {0}
+OneAtMost IsKind (entry ∷ entries) = (IsKind entry → All (λ e. IsKind e → ⊥) entries) × OneAtMost IsKind entries
+
+-- ---- which disks were put in
+
+-- the machine has the disk's name, its size and, where the disk tells its sectors, their bytes
+pub record IsPutIn (disk : device.Disk) (name size : ℕ) (content : DiskBytes) : Type 0 where
+  pub name_is : name ≡ disk.name
+  pub size_is : size ≡ disk.size
+  pub holds : (told : ℕ → List ℕ) → disk.sectors ≡ Some told → (k b : ℕ) → k < disk.size → b < 512
+      → slice_index (told k) b ≡ content k b
+
+-- the disks that these steps, the newest first, put into the port, the oldest first
+abbrev pub PutsInDisks : ℕ → List device.Disk → List Step → Type 0
+PutsInDisks port disks [] = disks ≡ []
+PutsInDisks port disks (Replace q name size content ∷ steps) =
+    ((q.0 ≢ port) × PutsInDisks port disks steps)
+    ⊎ ((q.0 ≡ port) × ((earlier : List device.Disk) × (disk : device.Disk) × (disks ≡ earlier ++ disk ∷ [])
+    × IsPutIn disk name size content × PutsInDisks port earlier steps))
+PutsInDisks port disks (step ∷ steps) = PutsInDisks port disks steps
+
+-- ---- what a call adds: device steps, and the driver's own between them
+
+-- no step is the device's
+abbrev pub AllOwn : List Step → Type 0
+AllOwn [] = Unit {0}
+AllOwn (step ∷ before) = AllOwn before × (IsByDevice step → ⊥)
+
+-- The entries, the oldest first, tell of the device's steps among these, the newest first; the others are the driver's
+-- own.
+abbrev pub TellsAmong : Machine → List Entry → List Step → Type 0
+TellsAmong m [] steps = AllOwn steps
+TellsAmong m (entry ∷ entries) steps =
+    (own : List Step) × (first : List Step) × (rest : List Step) × AllOwn own × TellsEntry (after m own) entry first
+    × TellsAmong (after m (first ++ own)) entries rest × (steps ≡ rest ++ (first ++ own))

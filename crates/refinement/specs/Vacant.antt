@@ -1,0 +1,12 @@
+-- A port with no disk in, and one whose disk has shown itself (this project's own).
+use Rattle.std.specs.Prelude.{true, false, ◌≡◌, ◌≢◌}
+use Rattle.adapter.specs.Device.{DevicePort}
+
+-- no disk is in, and PxSSTS shows none
+pub record IsVacant (p : DevicePort) : Type 0 where
+  pub out : p.present ≡ false
+  pub det : p.ssts_det ≢ 3
+
+-- where PxSSTS.DET is 3, the first FIS of the disk has come
+abbrev pub IsFreshIfShown : DevicePort → Type 0
+IsFreshIfShown p = p.ssts_det ≡ 3 → p.fresh ≡ true

@@ -1,0 +1,166 @@
+-- What the driver of the first read knows, and one with a command of its own (this project's own).
+use Rattle.std.specs.Prelude.{ℕ, false, ◌≡◌, List, [], ◌∷◌, ◌++◌, replicate, Contains}
+use Rattle.std.specs.Int.{to_le_bytes, w32}
+use Rattle.ata_types.specs.declared.request.RequestId.{RequestId}
+use Rattle.hba_regs.specs.declared.reg.Reg.TheVariants.{Px}
+use Rattle.hba_regs.specs.declared.reg.PortReg.TheVariants.{Cmd, Ci}
+use Rattle.adapter.specs.Access.{Reads, Writes, written}
+use Rattle.adapter.specs.Device.{DevicePort, Device}
+use Rattle.adapter.specs.FirstRead.{first_memory, quiet_port, reading_port, first_read}
+use Rattle.adapter.specs.Memory.{patched, changed}
+use Rattle.adapter.specs.Rules.{MayWrite, IsStable}
+use Rattle.adapter.specs.Steps.{Steps, device_after}
+use Rattle.adapter.specs.Steps.DeviceTransition.{Fall}
+use Rattle.adapter.specs.declared.command.Operation.TheVariants.{Identify}
+use Rattle.block_machine.specs.declared.due.QueueMode.{QueueMode}
+use Rattle.block_machine.specs.Histories.{IsReachable}
+use Rattle.block_machine.specs.State.{Pending, Machine}
+use Rattle.block_machine.specs.Steps.{Again, May, MayStillMove}
+use Rattle.refinement.specs.Relation.{port_at}
+use Rattle.refinement.specs.Driver.{DriverState, DriverRelation, IsPrepared, IsOwnPrepared, HasNoSlot, idle, parking}
+use Rattle.refinement.specs.Facts.{IsHalted, FindsOwnPage}
+use Rattle.refinement.specs.Places.{scratch_of}
+use Rattle.refinement.specs.Slots.{Free, Own, Serves, SlotStates, put, IsEnded}
+
+-- request 1
+abbrev pub first_id : RequestId
+first_id = record { 0 = 1 }
+
+-- Port 0 runs with a disk, as in the first read, and no command is in a slot; an adapter with such a port, and these
+-- bytes in its memory.
+abbrev pub ready_port : DevicePort
+ready_port = record reading_port { ci = λ _. false }
+
+abbrev pub ready_with : (ℕ → ℕ) → Device
+ready_with memory = record first_read { memory = memory; port = changed (λ _. quiet_port) 0 ready_port }
+
+-- the device of the first read before its bit of PxCI was written
+abbrev pub prepared_read : Device
+prepared_read = ready_with first_memory
+
+-- A machine is reached that has accepted request 1, and agrees with a driver that has put it into no slot yet. All is
+-- there for the write of bit 0 of PxCI; the write is permitted, and gives the first read.
+pub record PreparedIsKnown : Type 0 where
+  pub machine : Machine
+  pub reached : IsReachable machine
+  pub knows : DriverRelation machine (idle prepared_read)
+  pub mode : QueueMode
+  pub request : Pending
+  pub id_is : request.request.id ≡ first_id
+  pub prepared : IsPrepared (idle prepared_read).uses machine prepared_read 0 0 mode request 1
+  pub permitted : IsStable (MayWrite (Px (port_at 0) Ci) 1) prepared_read
+  pub writes : Writes (Px (port_at 0) Ci) 1 prepared_read first_read
+
+-- slot 0 of port 0 serves request 1, and no other slot is used
+abbrev pub first_uses : SlotStates
+first_uses = put (λ port slot. Free) 0 0 (Serves first_id)
+
+abbrev pub first_known : DriverState
+first_known = record { uses = first_uses; parked = λ port. []; device = first_read }
+
+-- A machine is reached that has issued request 1, and agrees with the driver of the first read.
+pub record FirstIsKnown : Type 0 where
+  pub machine : Machine
+  pub reached : IsReachable machine
+  pub knows : DriverRelation machine first_known
+  pub request : Pending
+  pub moves : MayStillMove machine request
+  pub id_is : request.request.id ≡ first_id
+
+-- the first read's device when PxCMD was written with ST 0 and FRE 1, and when CR has fallen then
+abbrev pub stopping_read : Device
+stopping_read = written (Px (port_at 0) Cmd) 0x10 first_read
+
+abbrev pub stopped_read : Device
+stopped_read = device_after (Fall 0) stopping_read
+
+-- what the driver knows then, when it has given up the slot
+abbrev pub parked_known : DriverState
+parked_known = parking (record first_known { device = stopped_read }) 0 0 first_id
+
+-- PxCMD may be written so, CR may fall then, and the port has halted. A machine is reached that agrees with the driver,
+-- who has taken request 1 from its slot; and the request may wait again.
+pub record ParkedIsKnown : Type 0 where
+  pub permitted : IsStable (MayWrite (Px (port_at 0) Cmd) 0x10) first_read
+  pub writes : Writes (Px (port_at 0) Cmd) 0x10 first_read stopping_read
+  pub falls : Steps stopping_read stopped_read
+  pub halted : IsHalted (stopped_read.port 0)
+  pub machine : Machine
+  pub reached : IsReachable machine
+  pub knows : DriverRelation machine parked_known
+  pub unserved : HasNoSlot parked_known.uses first_id
+  pub request : Pending
+  pub id_is : request.request.id ≡ first_id
+  pub may : May machine (Again request)
+
+-- A machine is reached that answered request 1 PortDead: its frames are kept. It agrees with the driver of the first
+-- read, whose slot serves the request still, and with the one who has taken it from there; so no slot serves a kept
+-- request then.
+pub record KeptIsKnown : Type 0 where
+  pub machine : Machine
+  pub reached : IsReachable machine
+  pub request : Pending
+  pub kept : Contains machine.kept request
+  pub id_is : request.request.id ≡ first_id
+  pub knows : DriverRelation machine first_known
+  pub taken : DriverRelation machine parked_known
+  pub unserved : (e : Pending) → Contains machine.kept e → HasNoSlot parked_known.uses e.request.id
+
+-- ---- a request whose command is done
+
+-- The device may go on to where the command in slot 0 of port 0 has ended. A machine is reached that agrees with the
+-- driver then: the slot serves this request still, which has ended and is unanswered.
+pub record DoneIsKnown (k : DriverState) (id : RequestId) : Type 0 where
+  pub device : Device
+  pub steps : Steps k.device device
+  pub machine : Machine
+  pub reached : IsReachable machine
+  pub knows : DriverRelation machine (record k { device = device })
+  pub served : k.uses 0 0 ≡ Serves id
+  pub request : Pending
+  pub id_is : request.request.id ≡ id
+  pub ended : IsEnded (device.port 0) 0 request
+  pub booked : Contains machine.book request
+
+-- so it is of the first read
+abbrev pub EndedIsKnown : Type 0
+EndedIsKnown = DoneIsKnown first_known first_id
+
+-- ---- a command of the driver's own
+
+-- the FIS of IDENTIFY DEVICE
+abbrev pub identify_bytes : List ℕ
+identify_bytes = 0x27 ∷ 0x80 ∷ 0xec ∷ replicate 17 0
+
+-- the PRD of its page: 512 bytes from the beginning of port 0's scratch frame on
+abbrev pub page_bytes : List ℕ
+page_bytes = to_le_bytes w32 (scratch_of 0) ++ replicate 8 0 ++ 0xff ∷ 1 ∷ 0 ∷ 0 ∷ []
+
+-- they stand in the first read's table, and the header of slot 0 is the same
+unfoldable pub identify_memory : ℕ → ℕ
+identify_memory = patched (patched first_memory 0x1000 identify_bytes) 0x1080 page_bytes
+
+-- such a device before bit 0 of PxCI is written, and after
+abbrev pub prepared_identify : Device
+prepared_identify = ready_with identify_memory
+
+abbrev pub issued_identify : Device
+issued_identify = written (Px (port_at 0) Ci) 1 prepared_identify
+
+-- slot 0 of port 0 has the driver's own command
+abbrev pub own_known : DriverState
+own_known = record { uses = put (λ port slot. Free) 0 0 (Own Identify); parked = λ port. []; device = issued_identify }
+
+-- A machine is reached that agrees with the driver while IDENTIFY DEVICE is prepared, and once it is issued; and PxCI
+-- may be read 0 after that, with the page in the scratch frame.
+pub record OwnIsKnown : Type 0 where
+  pub machine : Machine
+  pub reached : IsReachable machine
+  pub before : DriverRelation machine (idle prepared_identify)
+  pub prepared : IsOwnPrepared (idle prepared_identify).uses prepared_identify 0 Identify 1
+  pub permitted : IsStable (MayWrite (Px (port_at 0) Ci) 1) prepared_identify
+  pub writes : Writes (Px (port_at 0) Ci) 1 prepared_identify issued_identify
+  pub knows : DriverRelation machine own_known
+  pub found : Device
+  pub reads : Reads (Px (port_at 0) Ci) 0 issued_identify found
+  pub page : FindsOwnPage own_known.uses machine 0 Identify issued_identify found

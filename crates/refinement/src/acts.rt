@@ -1,0 +1,63 @@
+// Laws of a part of a call, act by act: the clause is the theorem. Nothing that runs calls these functions.
+ghost use Rattle.std.specs.Prelude.{ℕ, All, None, Some, ◌≡◌, ◌++◌, List, [], ◌∷◌};
+ghost use Rattle.ata_types.specs.declared.Port.{Port};
+ghost use Rattle.hba_regs.specs.declared.reg.Reg.TheVariants.{Px};
+ghost use Rattle.hba_regs.specs.declared.reg.PortReg.TheVariants.{Sact};
+ghost use Rattle.adapter.specs.Access.{Access, Does, DoesAll};
+ghost use Rattle.adapter.specs.declared.command.Operation.{Operation};
+ghost use Rattle.block_machine.specs.Events.{AllDevices, IsByDevice};
+ghost use Rattle.block_machine.specs.Histories.{IsReachable, IsSimulatedBySteps};
+ghost use Rattle.block_machine.specs.Left.{after};
+ghost use Rattle.block_machine.specs.State.{Machine};
+ghost use Rattle.block_machine.specs.Steps.{Step, May, after_step};
+ghost use Rattle.refinement.specs.Acts.{Act, IsDone, AreDone, accesses_of, act_steps};
+ghost use Rattle.refinement.specs.Driven.{SendsNone};
+ghost use Rattle.refinement.specs.Driver.{DriverState, DriverRelation, ByDevice, Goes, EndsWith};
+ghost use Rattle.refinement.specs.Links.{SparesRegister};
+ghost use Rattle.refinement.specs.Recovering.{WorksPlainly};
+ghost use Rattle.refinement.specs.Slots.{Own, op_of};
+
+/// What is one act: an access that the machine follows by the device's steps, or whose last step is the driver's own;
+/// and, without an access, a step of the driver's own, or none where it knows of the same device something else.
+pub fn law_acts_are_done()
+    ensures access { (k later : DriverState) (m : Machine) (access : Access)
+        → IsSimulatedBySteps DriverRelation k later (ByDevice k.device later.device) → IsReachable m
+        → DriverRelation m k
+        → Does access k.device later.device → (steps : List Step) × AllDevices steps
+        × IsDone k m (record { access = Some access; steps = steps; later = later }) }
+    ensures ends { (k later : DriverState) (m : Machine) (access : Access) (step : Step) → (e : EndsWith k m step later)
+        → Does access k.device later.device
+        → IsDone k m (record { access = Some access; steps = step ∷ e.steps; later = later }) }
+    ensures own { (k later : DriverState) (m : Machine) (step : Step) → (IsByDevice step → ⊥) → May m step
+        → later.device ≡ k.device → DriverRelation (after_step m step) later
+        → IsDone k m (record { access = None; steps = step ∷ []; later = later }) }
+    ensures still { (k later : DriverState) (m : Machine) → later.device ≡ k.device → DriverRelation m later
+        → IsDone k m (record { access = None; steps = []; later = later }) }
+{}
+
+/// Parts of a call compose: no act is one, and so is one after another, with the accesses and the steps of both.
+pub fn law_acts_compose()
+    ensures none { (k : DriverState) (m : Machine) → AreDone [] k m k }
+    ensures more { (early late : List Act) (a b c : DriverState) (m : Machine) → AreDone early a m b
+        → AreDone late b (after m (act_steps early)) c → AreDone (early ++ late) a m c }
+    ensures accesses { (early late : List Act) → accesses_of (early ++ late) ≡ accesses_of early ++ accesses_of late }
+    ensures steps { (early late : List Act) → act_steps (early ++ late) ≡ act_steps late ++ act_steps early }
+{}
+
+/// What acts give: the driver goes by all their steps, and their accesses are made. A port for which slot 0 has no
+/// command of an operation, before any of them, is sent no page by it; and where none of them writes its PxSACT, one
+/// that works on plain commands alone goes on so.
+pub fn law_acts_give()
+    ensures goes { (acts : List Act) (k later : DriverState) (m : Machine) → DriverRelation m k → AreDone acts k m later
+        → Goes k m (act_steps acts) later }
+    ensures does { (acts : List Act) (k later : DriverState) (m : Machine) → AreDone acts k m later
+        → DoesAll (accesses_of acts) k.device later.device }
+    ensures silent { (acts : List Act) (k later : DriverState) (m : Machine) (port : ℕ) (o : Operation) → op_of o ≡ None
+        → IsReachable m → DriverRelation m k → (k.uses port 0 ≡ Own o → ⊥)
+        → All (λ act. act.later.uses port 0 ≡ Own o → ⊥) acts
+        → AreDone acts k m later → SendsNone port o k.device later.device }
+    ensures plain { (acts : List Act) (k later : DriverState) (m : Machine) (port : Port) → IsReachable m
+        → DriverRelation m k
+        → All (SparesRegister (Px port Sact)) (accesses_of acts) → AreDone acts k m later
+        → WorksPlainly (k.device.port port.0) → WorksPlainly (later.device.port port.0) }
+{}

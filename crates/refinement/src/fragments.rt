@@ -1,0 +1,117 @@
+// Laws of fragments of accesses, for the crates above: the clause is the theorem. Nothing that runs calls these
+// functions.
+ghost use Rattle.std.specs.Prelude.{ℕ, false, ◌≡◌, ◌≢◌, ◌++◌, List, Contains, length, None};
+ghost use Rattle.ata_types.specs.declared.Port.{Port};
+ghost use Rattle.hba_regs.specs.Bits.{bit};
+ghost use Rattle.hba_regs.specs.declared.reg.PortReg.{PortReg};
+ghost use Rattle.hba_regs.specs.declared.reg.PortReg.TheVariants.{Cmd, Is, Sctl, Sact, Ci};
+ghost use Rattle.hba_regs.specs.declared.reg.Reg.TheVariants.{Ghc, Px};
+ghost use Rattle.adapter.specs.Access.{Access, Does, Reads, Writes, Loads, Stores};
+ghost use Rattle.adapter.specs.Device.{DevicePort, Device};
+ghost use Rattle.adapter.specs.Idle.{IsIdle, TellsDisks};
+ghost use Rattle.adapter.specs.Rules.{IsOn, MayWrite, IsStable};
+ghost use Rattle.adapter.specs.Steps.{Steps};
+ghost use Rattle.adapter.specs.declared.command.Operation.{Operation};
+ghost use Rattle.adapter.specs.declared.tape.Entry.{Entry};
+ghost use Rattle.refinement.specs.Driven.{AnyAccess, Grows, AnyUse, IsUse, IsRelated, IsDrivenBy, IsControl, IsSimulated, IsSimulatedTo, IsOf, LeavesPort, HasNoCommand, SendsNone};
+ghost use Rattle.refinement.specs.Driver.{LeavesUses, MayStore};
+ghost use Rattle.refinement.specs.Facts.{IsRecorded};
+ghost use Rattle.refinement.specs.Laws.{TapeLaws};
+ghost use Rattle.refinement.specs.Links.{SameAdapter, SparesRegister};
+ghost use Rattle.refinement.specs.Slots.{SlotStates, Free, IsOver, Own, op_of, put};
+
+use super::facts::{
+    law_calm_composes, law_coming_composes, law_errors_rise_by_disks, law_fatal_errors_compose,
+    law_faults_compose, law_plugging_composes,
+};
+
+/// Accesses that touch no register of another port, nor another port's bit of IS (`IsOf`), leave every other port to
+/// the device, with what readings noted of it, and with the record of its faults; and where they are followed, its disk
+/// sends no page for which its slot 0 has no command. What is left so in two fragments is left in both. They write
+/// neither GHC nor a register of another port, and an adapter that is on stays on. Any accesses leave the adapter what
+/// it is, and the tape only gains.
+pub fn law_other_ports_are_left()
+    ensures left { (port : Port) (q : ℕ) (old new : Device) → q ≢ port.0 → IsOn old → IsDrivenBy (IsOf port) old new
+        → LeavesPort (old.port q) (new.port q) }
+    ensures recorded { (port : Port) (q : ℕ) (old new : Device) → q ≢ port.0 → IsDrivenBy (IsOf port) old new
+        → IsRecorded old.tape (old.port q) q → IsRecorded new.tape (new.port q) q }
+    ensures silent { (port q : Port) (uses : SlotStates) (next : SlotStates → SlotStates) (o : Operation)
+        (old new : Device)
+        → q.0 ≢ port.0 → IsSimulatedTo (IsOf port) (IsUse uses) next old new → IsRelated uses old → op_of o ≡ None
+        → (uses q.0 0 ≡ Own o → ⊥) → SendsNone q.0 o old new }
+    ensures none { (p : DevicePort) → LeavesPort p p }
+    ensures more { (old mid new : DevicePort) → LeavesPort old mid → LeavesPort mid new → LeavesPort old new }
+    ensures spares { (port q : Port) (r : PortReg) → q.0 ≢ port.0 → (access : Access) → IsOf port access
+        → SparesRegister (Px q r) access }
+    ensures spares_host { (port : Port) (access : Access) → IsOf port access → SparesRegister Ghc access }
+    ensures on { (port : Port) (old new : Device) → IsOn old → IsDrivenBy (IsOf port) old new → IsOn new }
+    ensures adapter { (old new : Device) → IsDrivenBy AnyAccess old new → SameAdapter old new }
+    ensures tape { (old new : Device) → IsDrivenBy AnyAccess old new → (gained : List Entry)
+        × (new.tape ≡ old.tape ++ gained) }
+{}
+
+/// Over accesses that are followed some machine goes on agreeing with the same uses. So it does once a command of the
+/// driver's own that is over has left its slot. And with an idle device, whose disks tell their sectors if the adapter
+/// is one that tells, some machine agrees where no slot is used.
+pub fn law_agreeing_goes_on()
+    ensures followed { (uses : SlotStates) (old new : Device)
+        → IsSimulated AnyAccess (IsUse uses) old new
+        → IsRelated uses old → IsRelated uses new }
+    ensures released { (uses : SlotStates) (port : ℕ) (o : Operation) (d : Device) → uses port 0 ≡ Free
+        → IsOver (d.port port) 0 → IsRelated (put uses port 0 (Own o)) d → IsRelated uses d }
+    ensures idle { (d : Device) → IsIdle d → TellsDisks d → IsRelated (λ port slot. Free) d }
+{}
+
+/// The tape only gains: over none, over each access, and over one fragment after another.
+pub fn law_tapes_grow()
+    ensures none { (d : Device) → Grows d d }
+    ensures access { (access : Access) (old new : Device) → Does access old new → Grows old new }
+    ensures more { (old mid new : Device) → Grows old mid → Grows mid new → Grows old new }
+{}
+
+/// What laws say of the tape, for the proofs of the crates above.
+pub fn law_tapes()
+    ensures { TapeLaws }
+{
+    law_tapes_grow();
+    law_coming_composes();
+    law_plugging_composes();
+    law_fatal_errors_compose();
+    law_faults_compose();
+    law_calm_composes();
+    law_errors_rise_by_disks();
+}
+
+/// A write of a register of the port but PxSCTL and PxIS leaves all that is noted of the port: but when ST was set,
+/// where PxCMD is written with ST one.
+pub fn law_written_notes_stay()
+    ensures others { (port : Port) (r : PortReg) (v : ℕ) (old new : Device) → r ≢ Sctl → r ≢ Is
+        → (r ≡ Cmd → bit v 0 ≡ false) → Writes (Px port r) v old new
+        → (new.port port.0).notes ≡ (old.port port.0).notes }
+    ensures start { (port : Port) (v : ℕ) (old new : Device) → Writes (Px port Cmd) v old new
+        → (new.port port.0).notes ≡ record (old.port port.0).notes { st_set_at = (new.port port.0).notes.st_set_at } }
+{}
+
+/// While a port's engine stands, each bit of PxIS that is clear stays so: whatever the device does, and over each
+/// access.
+pub fn law_causes_stay_clear()
+    ensures steps { (port place : ℕ) (old new : Device) → (old.port port).cr ≡ false → Steps old new
+        → (old.port port).is place ≡ false → (new.port port).is place ≡ false }
+    ensures access { (port : Port) (place : ℕ) (access : Access) (old new : Device) → (old.port port.0).cr ≡ false
+        → Does access old new → (old.port port.0).is place ≡ false → (new.port port.0).is place ≡ false }
+{}
+
+/// A port none of whose slots has a command moves nothing: whatever the device does, over each access, and over
+/// accesses of the port's registers that write no PxCI, after which none has one still. Where none of two parts brings
+/// a page, the whole brings none.
+pub fn law_unused_slots_are_silent()
+    ensures steps { (port : ℕ) (o : Operation) (old new : Device) → HasNoCommand (old.port port) → Steps old new
+        → SendsNone port o old new }
+    ensures access { (port : ℕ) (o : Operation) (access : Access) (old new : Device) → HasNoCommand (old.port port)
+        → Does access old new → SendsNone port o old new }
+    ensures controls { (port : Port) (o : Operation) (old new : Device)
+        → IsDrivenBy (IsControl (λ r. r ≢ Ci) port) old new → HasNoCommand (old.port port.0)
+        → SendsNone port.0 o old new × HasNoCommand (new.port port.0) }
+    ensures more { (port : ℕ) (o : Operation) (old mid new : Device) → SendsNone port o old mid
+        → SendsNone port o mid new → SendsNone port o old new }
+{}

@@ -1,0 +1,67 @@
+// Laws of slots that are given up together, and of the slot of a fault: the clause is the theorem. Nothing that runs
+// calls these functions.
+ghost use Rattle.std.specs.Prelude.{ℕ, true, false, ◌⊎◌, ◌≡◌, ◌≢◌, ◌<◌, List, Contains};
+ghost use Rattle.ata_types.specs.declared.request.RequestId.{RequestId};
+ghost use Rattle.adapter.specs.Device.{Device};
+ghost use Rattle.adapter.specs.Rules.{InUse};
+ghost use Rattle.adapter.specs.declared.tape.Entry.{Entry};
+ghost use Rattle.block_machine.specs.State.{Pending, Machine};
+ghost use Rattle.block_machine.specs.Steps.{MayStillMove};
+ghost use Rattle.refinement.specs.Relation.{StateRelation, ServeApart};
+ghost use Rattle.refinement.specs.Driver.{DriverState, DriverRelation, AllFree, HasNoSlot};
+ghost use Rattle.refinement.specs.Facts.{IsHalted, ShowsFault};
+ghost use Rattle.refinement.specs.Slots.{SlotStates, Free, Serves, IsOver};
+ghost use Rattle.refinement.specs.GivingUp.{AreOver, served_ids, parking_all, IsOutstanding};
+
+/// Where all slots of a port are over, and none is armed on a running one, as on a port that has halted, the driver
+/// gives them all up at once: what it knows stays known. None of them is used then, other ports' are as they were, and
+/// exactly the requests that they served are parked beside those that were. No slot serves one of these then, nor one
+/// that none served before.
+pub fn law_slots_are_given_up()
+    ensures over { (k : DriverState) (m : Machine) (port : ℕ) → DriverRelation m k
+        → AreOver k.uses (k.device.port port) port
+        → DriverRelation m (parking_all k port) }
+    ensures halted { (k : DriverState) (m : Machine) (port : ℕ) → DriverRelation m k → IsHalted (k.device.port port)
+        → DriverRelation m (parking_all k port) }
+    ensures free { (k : DriverState) (port : ℕ) → AllFree (parking_all k port).uses port }
+    ensures others { (k : DriverState) (port other : ℕ) → other ≢ port
+        → ((parking_all k port).uses other ≡ k.uses other) × ((parking_all k port).parked other ≡ k.parked other) }
+    ensures parks { (k : DriverState) (m : Machine) (port slot : ℕ) (id : RequestId) → StateRelation k.uses m k.device
+        → k.uses port slot ≡ Serves id → Contains ((parking_all k port).parked port) id }
+    ensures keeps { (k : DriverState) (port : ℕ) (id : RequestId) → Contains (k.parked port) id
+        → Contains ((parking_all k port).parked port) id }
+    ensures served { (uses : SlotStates) (port n : ℕ) (id : RequestId) → Contains (served_ids uses port n) id
+        → (slot : ℕ) × (slot < n) × (uses port slot ≡ Serves id) }
+    ensures frees { (k : DriverState) (port slot : ℕ) (id : RequestId) → ServeApart k.uses
+        → k.uses port slot ≡ Serves id
+        → HasNoSlot (parking_all k port).uses id }
+    ensures leaves { (k : DriverState) (port : ℕ) (id : RequestId) → HasNoSlot k.uses id
+        → HasNoSlot (parking_all k port).uses id }
+{}
+
+/// Where the machine agrees with the device, a slot in use is outstanding: so is the slot of a fault that the task file
+/// shows. Where every other slot is free, it is the one that isn't.
+pub fn law_fault_is_outstanding()
+    ensures used { (uses : SlotStates) (m : Machine) (d : Device) (port slot : ℕ) → StateRelation uses m d
+        → InUse (d.port port) slot
+        → IsOutstanding uses m (d.port port) port slot }
+    ensures shown { (uses : SlotStates) (m : Machine) (d : Device) (port : ℕ) (entries : List Entry)
+        → StateRelation uses m d
+        → (s : ShowsFault entries (d.port port) port) → IsOutstanding uses m (d.port port) port s.fault.slot.0 }
+    ensures sole { (uses : SlotStates) (m : Machine) (d : Device) (port slot : ℕ) (entries : List Entry)
+        → StateRelation uses m d
+        → (s : ShowsFault entries (d.port port) port) → ((other : ℕ) → other ≢ slot → uses port other ≡ Free)
+        → s.fault.slot.0 ≡ slot }
+{}
+
+/// Of a port with ST 0 each bit of PxCI and PxSACT is clear. And a slot that serves a request and
+/// is over has ended it; or ST is 0, and it was given up unended.
+pub fn law_stopped_slots_tell()
+    ensures clear { (uses : SlotStates) (m : Machine) (d : Device) (port slot : ℕ) → StateRelation uses m d
+        → (d.port port).st ≡ false → ((d.port port).ci slot ≡ false) × ((d.port port).sact slot ≡ false) }
+    ensures over { (uses : SlotStates) (m : Machine) (d : Device) (port slot : ℕ) (id : RequestId)
+        → StateRelation uses m d
+        → uses port slot ≡ Serves id → IsOver (d.port port) slot
+        → (e : Pending) × MayStillMove m e × (e.request.id ≡ id)
+        × ((e.ended ≡ true) ⊎ (((d.port port).st ≡ false) × (e.ended ≡ false))) }
+{}

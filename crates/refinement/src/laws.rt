@@ -1,0 +1,526 @@
+// Laws of the relation, for the crates above: the clause is the theorem. Nothing that runs calls these functions.
+ghost use Rattle.std.specs.List.{list_any};
+ghost use Rattle.std.specs.Prelude.{◌≡◌, ◌+◌, ◌*◌, ◌/◌, ◌%◌, ◌<◌, ◌≤◌, ◌∷◌, ◌++◌, ℕ, Bool, true, false, [], List, length, map, Contains, ◌≢◌, ◌⊎◌, None, Some, All};
+ghost use Rattle.ata_types.specs.declared.Port.{Port};
+ghost use Rattle.ata_types.specs.declared.memory.TheConstants.{FRAME_BYTES, LIST_BYTES, RECEIVED_BYTES};
+ghost use Rattle.ata_types.specs.declared.request.ClientId.{ClientId};
+ghost use Rattle.ata_types.specs.declared.request.Frame.{Frame};
+ghost use Rattle.ata_types.specs.declared.request.Outcome.{Outcome};
+ghost use Rattle.ata_types.specs.declared.request.RequestId.{RequestId};
+ghost use Rattle.hba_regs.specs.Bits.{bit};
+ghost use Rattle.hba_regs.specs.declared.reg.PortReg.TheVariants.{Clb, Clbu, Fb, Fbu, Is, Cmd, Ci, Sact};
+ghost use Rattle.hba_regs.specs.declared.reg.Reg.TheVariants.{Px};
+ghost use Rattle.hba_regs.specs.declared.reg.Reg.TheVariants as registers;
+ghost use Rattle.hba_regs.specs.declared.reg.Reg.{Reg};
+ghost use Rattle.adapter.specs.Access.{Reads, Writes, Loads, Stores, written, Access, Does};
+ghost use Rattle.adapter.specs.Commands.{Meaning};
+ghost use Rattle.adapter.specs.Device.{DevicePort, Device};
+ghost use Rattle.adapter.specs.FirstRead.{first_read};
+ghost use Rattle.adapter.specs.Idle.{IsIdle};
+ghost use Rattle.adapter.specs.Memory.{patched};
+ghost use Rattle.adapter.specs.Rules.{IsFree, IsOn, HasPort, MayStart, MayReceive, MayStopReceiving, MayWrite, IsStable};
+ghost use Rattle.adapter.specs.Steps.{Steps};
+ghost use Rattle.adapter.specs.declared.command.Operation.{Operation};
+ghost use Rattle.block_machine.specs.Due.{is_plain, issued_count};
+ghost use Rattle.adapter.specs.declared.tape.Entry.{Entry};
+ghost use Rattle.block_machine.specs.Events.{IsByDevice, AllDevices, AllMay, changes_disk};
+ghost use Rattle.block_machine.specs.Histories.{IsReachable, IsSimulatedBySteps};
+ghost use Rattle.block_machine.specs.Left.{IsStart, after, AllTold};
+ghost use Rattle.block_machine.specs.Refusals.{IsOpen};
+ghost use Rattle.block_machine.specs.State.{Accepted, Pending, Machine, unanswered};
+ghost use Rattle.block_machine.specs.Steps.{Step, Accept, Issue, Age, Again, Answer, Release, Store, Load, May, NoneKept, older, after_step, stays, MayStillMove, Revoke};
+ghost use Rattle.block_machine.specs.declared.due.QueueMode.{QueueMode};
+ghost use Rattle.refinement.specs.Relation.{StateRelation, IsDiskOf, SameMemory, SameSectors, HaveSlots, ServeApart, port_at};
+ghost use Rattle.refinement.specs.Returning.{may_return};
+ghost use Rattle.refinement.specs.Driver.{MayStore, LeavesUses, LeavesFree, DriverState, DriverRelation, IsBacked, ByDevice, Goes, IsPrepared, IsOwnPrepared, EndsWith, HasNoSlot, ForgetsRequest, ForgetsKept, serving, parking, freeing, idle, IsWrittenBack, MissesTable, MissesScratch};
+ghost use Rattle.refinement.specs.Follows.{SimulatesSteps};
+ghost use Rattle.refinement.specs.Links.{IsPlugging};
+ghost use Rattle.refinement.specs.Places.{list_of, scratch_of, received_of};
+ghost use Rattle.refinement.specs.Trimmed.{TrimIsKnown};
+ghost use Rattle.refinement.specs.Witness.{PreparedIsKnown, FirstIsKnown, KeptIsKnown, ParkedIsKnown, EndedIsKnown, OwnIsKnown};
+ghost use Rattle.refinement.specs.Served.{TwoAreKnown};
+ghost use Rattle.refinement.specs.Slots.{SlotState, Free, Armed, Own, Serves, SlotStates, put, serving_count, SlotDecodesTo, HasTrimBlock, IsOver, op_of, IsMove};
+ghost use Rattle.refinement.specs.Spares.{IsFurther, AllFurther, SparesBook, IsOfAnother};
+ghost use Rattle.refinement.specs.Tape.{OneAtMost, TellsAmong};
+
+/// Whatever the device does by itself, the machine follows: what the tape gains are steps of the machine that may come,
+/// and the two agree again. So it is while a reset of the adapter is pending, too, and after one that is stuck.
+pub fn law_device_is_followed()
+    ensures { (uses : SlotStates) (m : Machine) (old new : Device) → IsReachable m → StateRelation uses m old
+        → Steps old new
+        → SimulatesSteps uses m old new }
+{}
+
+/// Over any reading of a register the two go on agreeing: the machine makes the device's steps and no others.
+pub fn law_reading_is_followed()
+    ensures { (k : DriverState) (r : Reg) (v : ℕ) (new : Device) → Reads r v k.device new
+        → IsSimulatedBySteps DriverRelation k (record k { device = new }) (ByDevice k.device new) }
+{}
+
+/// The write of PxCI is the request's issue, whatever the device does before it: what was prepared stays so.
+pub fn law_issuing_is_followed()
+    ensures { (k : DriverState) (m : Machine) (port : Port) (slot : ℕ) (mode : QueueMode) (e : Pending) (v : ℕ)
+        (new : Device)
+        → IsReachable m → DriverRelation m k → k.device.hr ≡ false
+        → IsPrepared k.uses m k.device port.0 slot mode e v → Writes (Px port Ci) v k.device new
+        → EndsWith k m (Issue mode e) (serving k port.0 slot e.request.id new) }
+{}
+
+/// The write of PxSACT arms a free slot of a running port, which is no step of the machine. Once ST is cleared, the
+/// slot is free again. A free slot has no bit of PxSACT.
+pub fn law_arming_is_followed()
+    ensures armed { (k : DriverState) (port : Port) (slot v : ℕ) (new : Device) → k.device.hr ≡ false
+        → k.uses port.0 slot ≡ Free → (k.device.port port.0).st ≡ true → bit v slot ≡ true
+        → ((other : ℕ) → other ≢ slot → bit v other ≡ false) → Writes (Px port Sact) v k.device new
+        → IsSimulatedBySteps DriverRelation k (record k { uses = put k.uses port.0 slot Armed; device = new })
+        (ByDevice k.device new) }
+    ensures disarmed { (k : DriverState) (m : Machine) → DriverRelation m k → (port slot : ℕ)
+        → (k.device.port port).st ≡ false
+        → k.uses port slot ≡ Armed → DriverRelation m (freeing k port slot) }
+    ensures free { (uses : SlotStates) (m : Machine) (d : Device) → StateRelation uses m d → (port slot : ℕ)
+        → uses port slot ≡ Free
+        → (d.port port).sact slot ≡ false }
+{}
+
+/// A client's store into its frame is the machine's.
+pub fn law_client_store_is_followed()
+    ensures { (k : DriverState) (m : Machine) (client : ClientId) (frame : Frame) (offset : ℕ) (bytes : List ℕ)
+        (new : Device)
+        → IsReachable m → DriverRelation m k → May m (Store client frame offset bytes)
+        → Stores (FRAME_BYTES * frame.0 + offset) bytes k.device new
+        → EndsWith k m (Store client frame offset bytes) (record k { device = new }) }
+{}
+
+/// A client's load from its frame is the machine's: it is told the bytes that the machine's frame holds.
+pub fn law_client_load_is_followed()
+    ensures { (k : DriverState) (m : Machine) (client : ClientId) (frame : Frame) (offset : ℕ) (bytes : List ℕ)
+        (new : Device)
+        → IsReachable m → DriverRelation m k → IsOpen m.owner m.lent client frame offset (length bytes)
+        → Loads (FRAME_BYTES * frame.0 + offset) bytes k.device new
+        → EndsWith k m (Load client frame offset bytes) (record k { device = new }) }
+{}
+
+/// A step of the driver's own needs nothing of the device.
+pub fn law_own_steps_are_backed()
+    ensures { (d : Device) (m : Machine) (step : Step) → (IsByDevice step → ⊥) → IsBacked d d m (step ∷ []) }
+{}
+
+/// What backs two fragments backs both; nothing is backed by nothing; and so with what the device does alone.
+pub fn law_backing_composes()
+    ensures none { (d : Device) (m : Machine) → IsBacked d d m [] }
+    ensures device { (old mid new : Device) (m : Machine) (early late : List Step) → ByDevice old mid m early
+        → ByDevice mid new (after m early) late → ByDevice old new m (late ++ early) }
+    ensures parts { (old mid new : Device) (m : Machine) (early late : List Step) → IsBacked old mid m early
+        → IsBacked mid new (after m early) late → IsBacked old new m (late ++ early) }
+{}
+
+/// A driver's moves compose in one form. It goes by no step, where it knows the same device, and by one fragment after
+/// another. So it does by a step of its own; by what the device makes alone; by an access that ends with a step of its
+/// own; and by what any access or part of a call adds. And what goes so from each machine that agrees is a part of a
+/// call. The machine that is gone to is reached.
+pub fn law_going_composes()
+    ensures none { (k : DriverState) (m : Machine) → DriverRelation m k → Goes k m [] k }
+    ensures more { (a b c : DriverState) (m : Machine) (early late : List Step) → Goes a m early b
+        → Goes b (after m early) late c → Goes a m (late ++ early) c }
+    ensures still { (k later : DriverState) (m : Machine) → later.device ≡ k.device → DriverRelation m later
+        → Goes k m [] later }
+    ensures own { (k later : DriverState) (m : Machine) (step : Step) → (IsByDevice step → ⊥) → May m step
+        → later.device ≡ k.device → DriverRelation (after_step m step) later → Goes k m (step ∷ []) later }
+    ensures device { (k later : DriverState) (m : Machine) (steps : List Step) → AllMay m steps
+        → ByDevice k.device later.device m steps → DriverRelation (after m steps) later → Goes k m steps later }
+    ensures follows { (k : DriverState) (m : Machine) (new : Device) → DriverRelation m k
+        → (f : SimulatesSteps k.uses m k.device new)
+        → Goes k m f.steps (record k { device = new }) }
+    ensures ends { (k later : DriverState) (m : Machine) (step : Step) → (e : EndsWith k m step later)
+        → Goes k m (step ∷ e.steps) later }
+    ensures access { (k later : DriverState) (m : Machine)
+        → IsSimulatedBySteps DriverRelation k later (ByDevice k.device later.device)
+        → IsReachable m → DriverRelation m k → (steps : List Step) × AllDevices steps × Goes k m steps later }
+    ensures part { (k later : DriverState) (m : Machine)
+        → IsSimulatedBySteps DriverRelation k later (IsBacked k.device later.device)
+        → IsReachable m → DriverRelation m k → (steps : List Step) × Goes k m steps later }
+    ensures adds { (k later : DriverState) → ((m : Machine) → IsReachable m → DriverRelation m k → (steps : List Step)
+        × Goes k m steps later)
+        → IsSimulatedBySteps DriverRelation k later (IsBacked k.device later.device) }
+    ensures reached { (k later : DriverState) (m : Machine) (steps : List Step) → IsReachable m → Goes k m steps later
+        → IsReachable (after m steps) }
+{}
+
+/// A request that is accepted changes nothing of what the driver knows.
+pub fn law_accepting_agrees()
+    ensures { (k : DriverState) (m : Machine) (r : Accepted) → DriverRelation m k
+        → DriverRelation (after_step m (Accept r)) k }
+{}
+
+/// Nor does a tick.
+pub fn law_ticking_agrees()
+    ensures { (k : DriverState) (m : Machine) (ready : Port → Bool) → DriverRelation m k
+        → DriverRelation (after_step m (Age ready)) k }
+{}
+
+/// Nor does a client's grant that is revoked.
+pub fn law_revoking_agrees()
+    ensures { (k : DriverState) (m : Machine) (client : ClientId) (number : ℕ) → DriverRelation m k
+        → DriverRelation (after_step m (Revoke client number)) k }
+{}
+
+/// A slot whose command is over is given up, and its request is decided on later.
+pub fn law_parking_agrees()
+    ensures { (k : DriverState) (m : Machine) → DriverRelation m k → (port slot : ℕ) → IsOver (k.device.port port) slot
+        → (id : RequestId) → k.uses port slot ≡ Serves id → DriverRelation m (parking k port slot id) }
+{}
+
+/// A slot that is put to another use has it, and every other slot goes on as it was used. So a request that no slot
+/// serves has none then either, unless the slot is put to it.
+pub fn law_putting_is_of_one_slot()
+    ensures here { (uses : SlotStates) (port slot : ℕ) (u : SlotState) → put uses port slot u port slot ≡ u }
+    ensures others { (uses : SlotStates) (port slot : ℕ) (u : SlotState) (other_port other_slot : ℕ)
+        → (other_port ≡ port → other_slot ≡ slot → ⊥) → put uses port slot u other_port other_slot ≡ uses other_port
+        other_slot }
+    ensures unserved { (uses : SlotStates) (port slot : ℕ) (u : SlotState) (id : RequestId) → HasNoSlot uses id
+        → ((other : RequestId) → u ≡ Serves other → other ≢ id) → HasNoSlot (put uses port slot u) id }
+{}
+
+/// Once the slot of a request is parked, no slot serves it, and it is among the parked; nor does a slot then serve a
+/// request that none served before.
+pub fn law_parking_frees()
+    ensures frees { (k : DriverState) (port slot : ℕ) (id : RequestId) → ServeApart k.uses
+        → k.uses port slot ≡ Serves id
+        → HasNoSlot (parking k port slot id).uses id }
+    ensures leaves { (k : DriverState) (port slot : ℕ) (id other : RequestId) → HasNoSlot k.uses other
+        → HasNoSlot (parking k port slot id).uses other }
+    ensures parks { (k : DriverState) (port slot : ℕ) (id : RequestId)
+        → Contains ((parking k port slot id).parked port) id }
+{}
+
+/// A request that no slot serves may be answered: its frames are given back.
+pub fn law_answering_agrees()
+    ensures { (k : DriverState) (m : Machine) (e : Pending) (outcome : Outcome) (later : ℕ → List RequestId)
+        → IsReachable m
+        → DriverRelation m k → Contains m.book e → stays e outcome ≡ false → HasNoSlot k.uses e.request.id
+        → ForgetsRequest e.request.id k.parked later
+        → DriverRelation (after_step m (Answer e outcome)) (record k { parked = later }) }
+{}
+
+/// A request may be answered with its frames kept, in its slot or without one.
+pub fn law_keeping_agrees()
+    ensures { (k : DriverState) (m : Machine) (e : Pending) (outcome : Outcome) → IsReachable m → DriverRelation m k
+        → Contains m.book e
+        → stays e outcome ≡ true → DriverRelation (after_step m (Answer e outcome)) k }
+{}
+
+/// A request that no slot serves may wait again.
+pub fn law_going_again_agrees()
+    ensures { (k : DriverState) (m : Machine) (e : Pending) (later : ℕ → List RequestId) → IsReachable m
+        → DriverRelation m k
+        → Contains m.book e → HasNoSlot k.uses e.request.id → ForgetsRequest e.request.id k.parked later
+        → DriverRelation (after_step m (Again e)) (record k { parked = later }) }
+{}
+
+/// The frames of kept requests may be given back where no slot serves one of them. Those that were parked needn't be so
+/// any more.
+pub fn law_releasing_agrees()
+    ensures { (k : DriverState) (m : Machine) (later : ℕ → List RequestId) → IsReachable m → DriverRelation m k
+        → ((e : Pending) → Contains m.kept e → HasNoSlot k.uses e.request.id) → ForgetsKept m k.parked later
+        → DriverRelation (after_step m Release) (record k { parked = later }) }
+{}
+
+/// No slot serves a request that waits.
+pub fn law_waiting_has_no_slot()
+    ensures { (uses : SlotStates) (m : Machine) (d : Device) → IsReachable m → StateRelation uses m d → (e : Pending)
+        → Contains m.book e → e.issued ≡ false → HasNoSlot uses e.request.id }
+{}
+
+/// Where no kept request is on the port, each slot that serves a request serves one of those that are issued there, and
+/// no two the same. So no more serve than are issued; and just as many, where each that is issued has a slot, and these
+/// are below n.
+pub fn law_slots_are_counted()
+    ensures most { (uses : SlotStates) (m : Machine) (d : Device) → IsReachable m → StateRelation uses m d
+        → (port : Port)
+        → NoneKept m port → (n : ℕ) → serving_count uses port.0 n ≤ issued_count (map unanswered m.book) port }
+    ensures issued { (uses : SlotStates) (m : Machine) (d : Device) → StateRelation uses m d → (port : Port)
+        → NoneKept m port
+        → (slot : ℕ) (id : RequestId) → uses port.0 slot ≡ Serves id
+        → (e : Pending) × Contains m.book e × (e.issued ≡ true) × (e.request.id ≡ id) × (e.request.port ≡ port) }
+    ensures all { (uses : SlotStates) (m : Machine) (d : Device) → IsReachable m → StateRelation uses m d
+        → (port : Port)
+        → NoneKept m port → (n : ℕ) → HaveSlots uses m port.0 []
+        → ((slot : ℕ) (id : RequestId) → uses port.0 slot ≡ Serves id → slot < n)
+        → serving_count uses port.0 n ≡ issued_count (map unanswered m.book) port }
+{}
+
+/// So a request that is due finds a free slot, where slot 0 has no command of the driver's own: a plain one slot 0, and
+/// a queued one some slot that is usable.
+pub fn law_due_finds_free_slot()
+    ensures plain { (uses : SlotStates) (m : Machine) (d : Device) → IsReachable m → StateRelation uses m d
+        → (mode : QueueMode) (e : Pending) → May m (Issue mode e)
+        → ((o : Operation) → uses e.request.port.0 0 ≡ Own o → ⊥)
+        → ((slot : ℕ) → uses e.request.port.0 slot ≡ Armed → ⊥) → is_plain mode e.request.asked.op ≡ true
+        → uses e.request.port.0 0 ≡ Free }
+    ensures queued { (uses : SlotStates) (m : Machine) (d : Device) → IsReachable m → StateRelation uses m d
+        → (mode : QueueMode) (e : Pending) → May m (Issue mode e)
+        → ((o : Operation) → uses e.request.port.0 0 ≡ Own o → ⊥)
+        → ((slot : ℕ) → uses e.request.port.0 slot ≡ Armed → ⊥) → is_plain mode e.request.asked.op ≡ false
+        → (slot : ℕ) × (slot < mode.usable) × (uses e.request.port.0 slot ≡ Free) }
+{}
+
+/// While no reset is pending the device leaves alone what no slot uses; so it is over readings, writes and loads. A
+/// store leaves of it what it would at once, had the device done nothing first.
+pub fn law_free_slots_are_left()
+    ensures steps { (uses : SlotStates) (m : Machine) (old new : Device) → IsReachable m → StateRelation uses m old
+        → old.hr ≡ false
+        → Steps old new → LeavesFree uses old new }
+    ensures reads { (uses : SlotStates) (m : Machine) (old new : Device) → IsReachable m → StateRelation uses m old
+        → old.hr ≡ false
+        → (r : Reg) (v : ℕ) → Reads r v old new → LeavesFree uses old new }
+    ensures loads { (uses : SlotStates) (m : Machine) (old new : Device) → IsReachable m → StateRelation uses m old
+        → old.hr ≡ false
+        → (at : ℕ) (bytes : List ℕ) → Loads at bytes old new → LeavesFree uses old new }
+    ensures stores { (uses : SlotStates) (m : Machine) (old new : Device) → IsReachable m → StateRelation uses m old
+        → old.hr ≡ false
+        → (at : ℕ) (bytes : List ℕ) → Stores at bytes old new
+        → LeavesFree uses (record old { memory = patched old.memory at bytes }) new }
+    ensures writes { (uses : SlotStates) (m : Machine) (old new : Device) → IsReachable m → StateRelation uses m old
+        → old.hr ≡ false
+        → (r : Reg) (v : ℕ) → Writes r v old new → LeavesFree uses old new }
+{}
+
+/// A page comes only where slot 0 of its port has that command of the driver's own, which isn't over; and one at most
+/// comes for it, whatever the device does, also while a reset is pending. So it is over each access.
+pub fn law_pages_come_when_asked()
+    ensures steps { (uses : SlotStates) (m : Machine) (old new : Device) (port : ℕ) (o : Operation)
+        (gained : List Entry)
+        → IsReachable m → StateRelation uses m old → Steps old new → new.tape ≡ old.tape ++ gained → op_of o ≡ None
+        → (uses port 0 ≡ Own o → IsOver (old.port port) 0) → All (λ e. IsMove port o e → ⊥) gained }
+    ensures access { (uses : SlotStates) (m : Machine) (access : Access) (old new : Device) (port : ℕ) (o : Operation)
+        (gained : List Entry) → IsReachable m → StateRelation uses m old → Does access old new
+        → new.tape ≡ old.tape ++ gained
+        → op_of o ≡ None → (uses port 0 ≡ Own o → IsOver (old.port port) 0) → All (λ e. IsMove port o e → ⊥) gained }
+    ensures once { (uses : SlotStates) (m : Machine) (old new : Device) (port : ℕ) (o : Operation) (gained : List Entry)
+        → IsReachable m → StateRelation uses m old → Steps old new → new.tape ≡ old.tape ++ gained → op_of o ≡ None
+        → OneAtMost (IsMove port o) gained }
+    ensures access_once { (uses : SlotStates) (m : Machine) (access : Access) (old new : Device) (port : ℕ)
+        (o : Operation)
+        (gained : List Entry) → IsReachable m → StateRelation uses m old → Does access old new
+        → new.tape ≡ old.tape ++ gained
+        → op_of o ≡ None → OneAtMost (IsMove port o) gained }
+{}
+
+/// So the bytes of a slot that say a command go on saying it, and a trim's block stays where slot 0 has no command of
+/// the driver's own. A store beside them leaves them, too; and one for a free slot is beside what belongs to a slot in
+/// use.
+pub fn law_what_is_told_is_left()
+    ensures told { (uses : SlotStates) (old new : Device) → LeavesFree uses old new → (port slot : ℕ) (c : Meaning)
+        (places : List ℕ) → port < 4 → slot < 32 → SlotDecodesTo old.memory (list_of port) port slot c places
+        → SlotDecodesTo new.memory (list_of port) port slot c places }
+    ensures block { (uses : SlotStates) (old new : Device) → LeavesFree uses old new → (port : ℕ) (r : Accepted)
+        → port < 4
+        → ((o : Operation) → uses port 0 ≡ Own o → ⊥) → HasTrimBlock r.asked.op old.memory port r
+        → HasTrimBlock r.asked.op new.memory port r }
+    ensures beside { (uses : SlotStates) (at : ℕ) (bytes : List ℕ) (old new : Device)
+        → LeavesFree uses (record old { memory = patched old.memory at bytes }) new → (port slot : ℕ) (c : Meaning)
+        (places : List ℕ) → port < 4 → slot < 32 → MissesTable port slot at (length bytes)
+        → SlotDecodesTo old.memory (list_of port) port slot c places
+        → SlotDecodesTo new.memory (list_of port) port slot c places }
+    ensures misses { (uses : SlotStates) (port slot at n : ℕ) → uses port slot ≢ Free → port < 4 → slot < 32
+        → MayStore uses at n → MissesTable port slot at n }
+    ensures block_beside { (uses : SlotStates) (at : ℕ) (bytes : List ℕ) (old new : Device)
+        → LeavesFree uses (record old { memory = patched old.memory at bytes }) new → (port : ℕ) (r : Accepted)
+        → port < 4 → ((o : Operation) → uses port 0 ≡ Own o → ⊥) → MissesScratch port at (length bytes)
+        → HasTrimBlock r.asked.op old.memory port r → HasTrimBlock r.asked.op new.memory port r }
+    ensures misses_scratch { (uses : SlotStates) (port at n : ℕ) → uses port 0 ≢ Free → port < 4 → MayStore uses at n
+        → MissesScratch port at n }
+{}
+
+/// A request that is due stays due, whatever the device does.
+pub fn law_due_stays()
+    ensures { (m : Machine) (steps : List Step) → IsReachable m → AllDevices steps → AllMay m steps
+        → (mode : QueueMode) (e : Pending) → May m (Issue mode e) → May (after m steps) (Issue mode e) }
+{}
+
+/// The device's own steps leave the machine's grants and owners, its loans and its next id; and the same requests are
+/// unanswered and kept, in the same order, each as far as it was, or further. So what is due is the same. A frame that
+/// isn't lent to a request that the device may move keeps its bytes. And a port of which no request is kept has none
+/// kept after them.
+pub fn law_steps_spare_the_book()
+    ensures spares { (m : Machine) (steps : List Step) → AllDevices steps → SparesBook m (after m steps) }
+    ensures none { (m : Machine) → SparesBook m m }
+    ensures more { (a b c : Machine) → SparesBook a b → SparesBook b c → SparesBook a c }
+    ensures due { (old new : List Pending) → AllFurther old new → map unanswered new ≡ map unanswered old }
+    ensures later { (old new : List Pending) (e : Pending) → AllFurther old new → Contains old e
+        → (x : Pending) × Contains new x × IsFurther e x }
+    ensures before { (old new : List Pending) (e : Pending) → AllFurther old new → Contains new e
+        → (x : Pending) × Contains old x × IsFurther x e }
+    ensures frames { (m : Machine) (steps : List Step) (frame : Frame) → IsReachable m → AllDevices steps
+        → AllMay m steps
+        → ((e : Pending) → MayStillMove m e → m.lent frame ≡ Some e.request.id → ⊥)
+        → (b : ℕ) → (after m steps).memory frame b ≡ m.memory frame b }
+    ensures kept { (m : Machine) (steps : List Step) (port : Port) → AllDevices steps → NoneKept m port
+        → NoneKept (after m steps) port }
+{}
+
+/// Where entries of the tape tell of the device's steps among these, one of the entries is of a disk of the port that
+/// goes or comes exactly if one of the steps takes the port's disk out or puts one in.
+pub fn law_disks_are_told()
+    ensures steps { (port : Port) (m : Machine) (gained : List Entry) (steps : List Step) → TellsAmong m gained steps
+        → (e : Entry) → Contains gained e → IsPlugging port.0 e → list_any (changes_disk port) steps ≡ true }
+    ensures entry { (port : Port) (m : Machine) (gained : List Entry) (steps : List Step) → TellsAmong m gained steps
+        → list_any (changes_disk port) steps ≡ true → (e : Entry) × Contains gained e × IsPlugging port.0 e }
+    ensures none { (port : Port) (m : Machine) (gained : List Entry) (steps : List Step) → TellsAmong m gained steps
+        → list_any (changes_disk port) steps ≡ false → All (λ e. IsPlugging port.0 e → ⊥) gained }
+{}
+
+/// A history goes on by steps that may come, and so do fragments of them. Two fragments of the device's steps are one,
+/// too; and so are two whose reads moved what the disks hold.
+pub fn law_histories_go_on()
+    ensures reached { (m : Machine) (steps : List Step) → IsReachable m → AllMay m steps → IsReachable (after m steps) }
+    ensures may { (m : Machine) (late early : List Step) → AllMay m early → AllMay (after m early) late
+        → AllMay m (late ++ early) }
+    ensures after { (m : Machine) (late early : List Step) → after m (late ++ early) ≡ after (after m early) late }
+    ensures device { (late early : List Step) → AllDevices late → AllDevices early → AllDevices (late ++ early) }
+    ensures told { (m : Machine) (late early : List Step) → AllTold m early → AllTold (after m early) late
+        → AllTold m (late ++ early) }
+{}
+
+/// A bit of PxSACT that is clear stays so whatever the device does, over readings, and over writes but for one of
+/// PxSACT that sets it.
+pub fn law_clear_bits_stay()
+    ensures device { (port slot : ℕ) (old new : Device) → Steps old new → (old.port port).sact slot ≡ false
+        → (new.port port).sact slot ≡ false }
+    ensures reads { (port slot : ℕ) (r : Reg) (v : ℕ) (old new : Device) → Reads r v old new
+        → (old.port port).sact slot ≡ false → (new.port port).sact slot ≡ false }
+    ensures writes { (port : Port) (slot : ℕ) (r : Reg) (v : ℕ) (old new : Device)
+        → (r ≡ Px port Sact → bit v slot ≡ false) → Writes r v old new → (old.port port.0).sact slot ≡ false
+        → (new.port port.0).sact slot ≡ false }
+{}
+
+/// The page that a command of the driver's own brought may be loaded, whatever the device does first, once the command
+/// is over.
+pub fn law_pages_are_free()
+    ensures { (uses : SlotStates) (m : Machine) (d : Device) → IsReachable m → StateRelation uses m d → (port : ℕ)
+        → port < 4
+        → scratch_of port + 512 ≤ d.size → IsOver (d.port port) 0 → IsStable (IsFree (scratch_of port) 512) d }
+{}
+
+/// So may bytes of a client's frame that isn't lent, for its owner.
+pub fn law_client_bytes_are_free()
+    ensures { (uses : SlotStates) (m : Machine) (d : Device) → IsReachable m → StateRelation uses m d
+        → (client : ClientId)
+        (frame : Frame) (offset n : ℕ) → FRAME_BYTES * frame.0 + FRAME_BYTES ≤ d.size
+        → IsOpen m.owner m.lent client frame offset n → IsStable (IsFree (FRAME_BYTES * frame.0 + offset) n) d }
+{}
+
+/// A write that may be made now, of any register but PxCI, may be made whatever the device does first; and, while no
+/// reset is pending, one that leaves each slot to its use goes on to.
+pub fn law_writing_is_permitted()
+    ensures rules { (r : Reg) (v : ℕ) (d : Device) → ((port : Port) → r ≢ Px port Ci) → MayWrite r v d
+        → IsStable (MayWrite r v) d }
+    ensures uses { (uses : SlotStates) (r : Reg) (v : ℕ) (d : Device) → d.hr ≡ false → LeavesUses uses r v d
+        → IsStable (LeavesUses uses r v) d }
+{}
+
+/// Where a port's engine stands its command list may be put into its place; and where it receives no FISes, the
+/// received FIS area may.
+pub fn law_placing_is_permitted()
+    ensures list { (d : Device) (port : Port) → IsOn d → HasPort d port.0 → (d.port port.0).st ≡ false
+        → (d.port port.0).cr ≡ false → list_of port.0 + LIST_BYTES ≤ d.size
+        → IsStable (MayWrite (Px port Clb) (list_of port.0)) d }
+    ensures list_upper { (d : Device) (port : Port) → IsOn d → HasPort d port.0 → (d.port port.0).st ≡ false
+        → (d.port port.0).cr ≡ false → IsStable (MayWrite (Px port Clbu) 0) d }
+    ensures received { (d : Device) (port : Port) → IsOn d → HasPort d port.0 → (d.port port.0).fre ≡ false
+        → (d.port port.0).fr ≡ false → received_of port.0 + RECEIVED_BYTES ≤ d.size
+        → IsStable (MayWrite (Px port Fb) (received_of port.0)) d }
+    ensures received_upper { (d : Device) (port : Port) → IsOn d → HasPort d port.0 → (d.port port.0).fre ≡ false
+        → (d.port port.0).fr ≡ false → IsStable (MayWrite (Px port Fbu) 0) d }
+{}
+
+/// PxCMD may be written as it was last read, but for ST and FRE: with ST set where the port may start; with ST clear
+/// and FRE as it is; with FRE set and ST as it is where the port may receive; and with FRE and ST clear where its
+/// engine stands.
+pub fn law_commanding_is_permitted()
+    ensures start { (port : Port) (was v : ℕ) (d : Device) → IsOn d → HasPort d port.0 → (d.port port.0).notes.last_cmd
+        ≡ was
+        → MayStart (d.port port.0) → IsWrittenBack true true was v → IsStable (MayWrite (Px port Cmd) v) d }
+    ensures stop { (port : Port) (was v : ℕ) (d : Device) → IsOn d → HasPort d port.0 → (d.port port.0).notes.last_cmd
+        ≡ was
+        → IsWrittenBack false (d.port port.0).fre was v → IsStable (MayWrite (Px port Cmd) v) d }
+    ensures receive { (port : Port) (was v : ℕ) (d : Device) → IsOn d → HasPort d port.0
+        → (d.port port.0).notes.last_cmd ≡ was → MayReceive (d.port port.0)
+        → IsWrittenBack (d.port port.0).st true was v → IsStable (MayWrite (Px port Cmd) v) d }
+    ensures stop_receiving { (port : Port) (was v : ℕ) (d : Device) → IsOn d → HasPort d port.0
+        → (d.port port.0).notes.last_cmd ≡ was → MayStopReceiving (d.port port.0) → IsWrittenBack false false was v
+        → IsStable (MayWrite (Px port Cmd) v) d }
+{}
+
+/// PxIS is written, and then the port's bit of IS may be, with those of ports whose PxIS was written since it was last
+/// read, and since their own bits were.
+pub fn law_acknowledging_is_permitted()
+    ensures { (port : Port) (v : ℕ) (old new : Device) → IsOn old → Writes (Px port Is) v old new
+        → (ports : ℕ) → ((q : ℕ) → q < 32 → bit ports q ≡ true → (q ≡ port.0)
+        ⊎ ((old.port q).notes.acknowledged ≡ true))
+        → IsStable (MayWrite registers.Is ports) new }
+{}
+
+/// The bit of PxCI of a prepared command of the driver's own may be written, whatever the device does first.
+pub fn law_own_issuing_is_permitted()
+    ensures { (uses : SlotStates) (m : Machine) (d : Device) → IsReachable m → StateRelation uses m d
+        → (port : Port) (o : Operation)
+        (v : ℕ) → IsOn d → HasPort d port.0 → IsOwnPrepared uses d port.0 o v → IsStable (MayWrite (Px port Ci) v) d }
+{}
+
+/// A device that is taken over idle agrees with a machine that has nothing in it, where both have the same disks and
+/// client frames, and the machine has put aside what these disks may come back with.
+pub fn law_an_idle_device_agrees()
+    ensures { (m : Machine) (d : Device) → IsStart m → IsIdle d → ((port : ℕ) → IsDiskOf m (d.port port) port)
+        → SameMemory m d.memory
+        → (d.telling ≡ true → (port : ℕ) → SameSectors m (d.port port).disk port)
+        → (d.telling ≡ true → (port k : ℕ)
+        → m.aside (port_at port) k ≡ may_return d.tape (d.port port).lasting port k) → DriverRelation m (idle d) }
+{}
+
+/// There is an adapter whose first read is prepared, and a machine that is reached and agrees with it: the write of
+/// PxCI is permitted, and issues the read.
+pub fn law_a_prepared_read_agrees()
+    ensures { PreparedIsKnown }
+{}
+
+/// There is an adapter with its first read issued, and a machine that is reached and agrees with what its driver knows:
+/// so none of these laws is empty.
+pub fn law_a_first_read_agrees()
+    ensures { FirstIsKnown }
+{}
+
+/// There is one whose driver has stopped the port of that read, and has taken it from its slot once the engine stood:
+/// the read may wait again.
+pub fn law_a_parked_read_agrees()
+    ensures { ParkedIsKnown }
+{}
+
+/// There is one that keeps the read: it was answered PortDead, with its frames lent, while the slot serves it still;
+/// and once the driver has taken it from there, the frames may be given back.
+pub fn law_a_kept_read_agrees()
+    ensures { KeptIsKnown }
+{}
+
+/// There is one whose device has done the read: its command has ended, and the request is unanswered still.
+pub fn law_an_ended_read_agrees()
+    ensures { EndedIsKnown }
+{}
+
+/// There is an adapter with two queued reads, into frames that are apart: both are issued, each by a write that is
+/// permitted, and the device has taken the one while the other waits. A machine agrees with its driver.
+pub fn law_two_queued_reads_agree()
+    ensures { TwoAreKnown }
+{}
+
+/// There is an adapter with a trim, which is issued by a write that is permitted, taken, and done to its end; and a
+/// machine agrees with it all the way.
+pub fn law_a_trim_agrees()
+    ensures { TrimIsKnown }
+{}
+
+/// There is an adapter with a command of the driver's own, IDENTIFY DEVICE: prepared, issued by a write that is
+/// permitted, and over once its page has come; and a machine agrees with it all the way.
+pub fn law_an_own_command_agrees()
+    ensures { OwnIsKnown }
+{}

@@ -1,0 +1,146 @@
+// Laws of how a port runs well again without COMRESET: the clause is the theorem. Nothing that runs calls these
+// functions.
+ghost use Rattle.std.specs.Prelude.{ℕ, List, All, true, false, ◌≡◌, ◌≢◌, ◌≤◌};
+ghost use Rattle.ata_types.specs.declared.Port.{Port};
+ghost use Rattle.hba_regs.specs.Bits.{bit};
+ghost use Rattle.hba_regs.specs.declared.reg.Reg.TheVariants.{Px};
+ghost use Rattle.hba_regs.specs.declared.reg.PortReg.TheVariants.{Is, Cmd, Sctl, Sact, Ci};
+ghost use Rattle.adapter.specs.Access.{Reads, Writes, Access, Does};
+ghost use Rattle.adapter.specs.Device.{DevicePort, Device};
+ghost use Rattle.adapter.specs.Device.Halt.{NotHalted};
+ghost use Rattle.adapter.specs.Steps.{Steps};
+ghost use Rattle.adapter.specs.declared.command.Operation.{Operation};
+ghost use Rattle.block_machine.specs.Histories.{IsReachable};
+ghost use Rattle.block_machine.specs.State.{Machine};
+ghost use Rattle.refinement.specs.Relation.{StateRelation};
+ghost use Rattle.refinement.specs.Acts.{Act, AreDone, accesses_of};
+ghost use Rattle.refinement.specs.Driver.{IsOwnPrepared, DriverState, DriverRelation};
+ghost use Rattle.refinement.specs.Errors.{NoneFatal};
+ghost use Rattle.refinement.specs.Facts.{RunsWell, TellsNoTrouble, IsQuiet};
+ghost use Rattle.refinement.specs.Links.{SparesRegister, PlugsNone};
+ghost use Rattle.refinement.specs.Slots.{SlotState, SlotStates, Free, Own, put};
+ghost use Rattle.refinement.specs.Started.{IsUp, IsStarted, ClearsNoStart};
+ghost use Rattle.refinement.specs.Halting.{HaltsAsTaken, IsHaltedAsTaken};
+ghost use Rattle.refinement.specs.Recovering.{IsLinked, WorksPlainly, RunsLinked, EndsHalt, FailsOpenly};
+
+/// While no reset is pending, a link that is up stays so where the tape tells of no disk that goes or comes, whatever
+/// else the device does, faults and fatal errors among it, and over each access but a write of PxSCTL. So it is of a
+/// port that was started, and of one whose link came up.
+pub fn law_link_is_kept()
+    ensures steps { (port : ℕ) (old new : Device) → old.hr ≡ false → PlugsNone port old new → Steps old new
+        → IsLinked (old.port port) → IsLinked (new.port port) }
+    ensures access { (port : Port) (access : Access) (old new : Device) → old.hr ≡ false
+        → SparesRegister (Px port Sctl) access → PlugsNone port.0 old new → Does access old new
+        → IsLinked (old.port port.0) → IsLinked (new.port port.0) }
+    ensures started { (p : DevicePort) → IsStarted p → p.sctl_det ≢ 1 → IsLinked p }
+    ensures up { (p : DevicePort) → IsUp p → IsLinked p }
+{}
+
+/// Where the machine agrees with the device, a port that works on plain commands alone goes on so, whatever the device
+/// does, also over a reset that ends, and over each access but a write of PxSACT: faults halt it in a way that ends
+/// once ST is set. A port that runs without a halt does so exactly if no bit of PxSACT is set. And then the link is up
+/// for a start.
+pub fn law_faults_are_plain()
+    ensures steps { (uses : SlotStates) (m : Machine) (port : ℕ) (old new : Device) → IsReachable m
+        → StateRelation uses m old
+        → Steps old new → WorksPlainly (old.port port) → WorksPlainly (new.port port) }
+    ensures access { (uses : SlotStates) (m : Machine) (port : Port) (access : Access) (old new : Device)
+        → IsReachable m
+        → StateRelation uses m old → SparesRegister (Px port Sact) access → Does access old new
+        → WorksPlainly (old.port port.0) → WorksPlainly (new.port port.0) }
+    ensures runs { (uses : SlotStates) (m : Machine) (port : ℕ) (d : Device) → StateRelation uses m d
+        → (d.port port).st ≡ true
+        → (d.port port).halt ≡ NotHalted → ((slot : ℕ) → (d.port port).sact slot ≡ false) → WorksPlainly (d.port port) }
+    ensures up { (p : DevicePort) → IsLinked p → WorksPlainly p → IsUp p }
+    ensures found { (port : Port) (v causes : ℕ) (old mid new : Device) → old.hr ≡ false → (old.port port.0).st ≡ false
+        → (old.port port.0).cr ≡ false → bit v 0 ≡ true → IsLinked (old.port port.0) → WorksPlainly (old.port port.0)
+        → Writes (Px port Cmd) v old mid → Reads (Px port Is) causes mid new → TellsNoTrouble causes
+        → RunsWell (new.port port.0) }
+{}
+
+/// While ST is one, a queued command that has halted a port is taken still, and READ LOG EXT isn't awaited: so it stays
+/// where the machine agrees with the device, whatever the device does, over each access but a write of PxCMD, and over
+/// acts without one. So it is without a halt, and of a port that works on plain commands alone.
+pub fn law_halts_are_of_taken_commands()
+    ensures steps { (uses : SlotStates) (m : Machine) (port : ℕ) (old new : Device) → IsReachable m
+        → StateRelation uses m old
+        → Steps old new → IsHaltedAsTaken (old.port port) → IsHaltedAsTaken (new.port port) }
+    ensures access { (uses : SlotStates) (m : Machine) (port : Port) (access : Access) (old new : Device)
+        → IsReachable m
+        → StateRelation uses m old → SparesRegister (Px port Cmd) access → Does access old new
+        → IsHaltedAsTaken (old.port port.0) → IsHaltedAsTaken (new.port port.0) }
+    ensures acts { (port : Port) (acts : List Act) (k later : DriverState) (m : Machine) → IsReachable m
+        → DriverRelation m k
+        → AreDone acts k m later → All (SparesRegister (Px port Cmd)) (accesses_of acts)
+        → IsHaltedAsTaken (k.device.port port.0) → IsHaltedAsTaken (later.device.port port.0) }
+    ensures calm { (p : DevicePort) → p.halt ≡ NotHalted → HaltsAsTaken p }
+    ensures plain { (p : DevicePort) → WorksPlainly p → HaltsAsTaken p }
+{}
+
+/// ST is set while the engine stands and the link is up: the port runs, though a queued fault may halt it still. It
+/// runs on where the tape tells of no fatal error of the port and of no disk that goes or comes, whatever else the
+/// device does, and over each access that neither clears ST nor writes PxSCTL. It is started where no fault halts it.
+pub fn law_running_goes_on()
+    ensures starts { (port : Port) (v : ℕ) (old new : Device) → old.hr ≡ false → (old.port port.0).st ≡ false
+        → (old.port port.0).cr ≡ false → bit v 0 ≡ true → PlugsNone port.0 old new → Writes (Px port Cmd) v old new
+        → IsLinked (old.port port.0) → RunsLinked (new.port port.0) }
+    ensures steps { (port : ℕ) (old new : Device) → old.hr ≡ false → PlugsNone port old new → NoneFatal port old new
+        → Steps old new → RunsLinked (old.port port) → RunsLinked (new.port port) }
+    ensures access { (port : Port) (access : Access) (old new : Device) → old.hr ≡ false → ClearsNoStart port access
+        → SparesRegister (Px port Sctl) access → PlugsNone port.0 old new → NoneFatal port.0 old new
+        → Does access old new → RunsLinked (old.port port.0) → RunsLinked (new.port port.0) }
+    ensures started { (p : DevicePort) → RunsLinked p → p.halt ≡ NotHalted → IsStarted p }
+{}
+
+/// The write of PxCI issues a command of the driver's own on a port with no other: its end ends a halt. So it stays,
+/// whatever the device does, and over each access that doesn't clear ST, doesn't write PxSACT and leaves no reset
+/// pending. Once PxCI is read with bit 0 clear, no fault halts the port; and where PxIS is read then with no trouble,
+/// it runs well.
+pub fn law_halt_is_ended()
+    ensures issued { (uses : SlotStates) (m : Machine) (port : Port) (o : Operation) (v : ℕ) (old new : Device)
+        → IsReachable m
+        → StateRelation uses m old → old.hr ≡ false → ((slot : ℕ) → slot ≢ 0 → uses port.0 slot ≡ Free)
+        → IsOwnPrepared uses old port.0 o v → Writes (Px port Ci) v old new
+        → EndsHalt (put uses port.0 0 (Own o)) port.0 new }
+    ensures steps { (uses : SlotStates) (m : Machine) (port : ℕ) (old new : Device) → IsReachable m
+        → StateRelation uses m old
+        → Steps old new → EndsHalt uses port old → EndsHalt uses port new }
+    ensures access { (uses : SlotStates) (m : Machine) (port : Port) (access : Access) (old new : Device)
+        → IsReachable m
+        → StateRelation uses m old → ClearsNoStart port access → SparesRegister (Px port Sact) access → new.hr ≡ false
+        → Does access old new → EndsHalt uses port.0 old → EndsHalt uses port.0 new }
+    ensures read { (uses : SlotStates) (m : Machine) (port : Port) (v : ℕ) (old new : Device) → IsReachable m
+        → StateRelation uses m old → EndsHalt uses port.0 old → Reads (Px port Ci) v old new → bit v 0 ≡ false
+        → (new.port port.0).halt ≡ NotHalted }
+    ensures found { (uses : SlotStates) (m : Machine) (port : Port) (v causes : ℕ) (old mid new : Device)
+        → IsReachable m
+        → StateRelation uses m old → EndsHalt uses port.0 old → RunsLinked (old.port port.0)
+        → Reads (Px port Ci) v old mid
+        → bit v 0 ≡ false → Reads (Px port Is) causes mid new → TellsNoTrouble causes → RunsWell (new.port port.0) }
+{}
+
+/// ST is set on a quiet port with no slot in use and no bit of PxSACT: from then on, while slot 0 alone is used, by a
+/// plain command, a fault shows only while that isn't over. So it stays, whatever the device does, where slot 0 is put
+/// to use, and over each access that clears no ST, writes neither PxSACT nor PxSCTL and leaves no reset pending. So
+/// once PxCI is read with bit 0 clear, TFES is clear: a command that a fault has halted isn't over. And then the port
+/// runs well, where no other bit tells of trouble.
+pub fn law_faults_show_before_the_end()
+    ensures starts { (uses : SlotStates) (port : Port) (v : ℕ) (old new : Device) → old.hr ≡ false → bit v 0 ≡ true
+        → ((slot : ℕ) → uses port.0 slot ≡ Free) → (old.port port.0).sact 0 ≡ false → IsQuiet (old.port port.0)
+        → (old.port port.0).st ≡ false → Writes (Px port Cmd) v old new → FailsOpenly uses port.0 new }
+    ensures used { (uses : SlotStates) (port : ℕ) (u : SlotState) (d : Device) → FailsOpenly uses port d
+        → FailsOpenly (put uses port 0 u) port d }
+    ensures steps { (uses : SlotStates) (m : Machine) (port : ℕ) (old new : Device) → IsReachable m
+        → StateRelation uses m old
+        → Steps old new → FailsOpenly uses port old → FailsOpenly uses port new }
+    ensures access { (uses : SlotStates) (m : Machine) (port : Port) (access : Access) (old new : Device)
+        → IsReachable m
+        → StateRelation uses m old → ClearsNoStart port access → SparesRegister (Px port Sact) access
+        → SparesRegister (Px port Sctl) access → new.hr ≡ false → Does access old new → FailsOpenly uses port.0 old
+        → FailsOpenly uses port.0 new }
+    ensures read { (uses : SlotStates) (m : Machine) (port : Port) (v : ℕ) (old new : Device) → IsReachable m
+        → StateRelation uses m old → FailsOpenly uses port.0 old → Reads (Px port Ci) v old new → bit v 0 ≡ false
+        → (new.port port.0).is 30 ≡ false }
+    ensures well { (p : DevicePort) → RunsLinked p → p.halt ≡ NotHalted → p.is 30 ≡ false → p.serr_n ≡ false
+        → p.serr_x ≡ false → ((place : ℕ) → 27 ≤ place → place ≤ 29 → p.is place ≡ false) → RunsWell p }
+{}

@@ -1,0 +1,510 @@
+-- Requests meet their fates in the machine, one after another.
+use Rattle.std.proofs.Common.{ℕ, suc, ◌≡◌, ◌≢◌, ◌<◌, ◌==◌, Bool, true, false, not, cond, eq-eqb, if◌then◌else◌, List, [], ◌∷◌, ◌++◌, map, filter, inl, inr, append-nil, append_assoc, refl, sym, ap, ◌∙◌, subst, arith, ⊎_elim}
+use Rattle.std.specs.List.{All, AllPairs, Contains}
+use Rattle.std.specs.List.Sorted.{IsPermutation}
+use Rattle.std.proofs.lemmas.Bool.{cond-true, eqb-false, false≢true, ne_eqb}
+use Rattle.std.proofs.lemmas.List.Elements.{All-append, All-cons, All-contains, All-contains_itself, All-filter, All-nil, All-weaker, Contains-append_cases, Contains-append_left, Contains-append_right, filter_passes, Contains-get_or}
+use Rattle.std.proofs.lemmas.List.Kept.{AllPairs-cons}
+use Rattle.std.proofs.lemmas.List.Sorted.{Contains-permutation, IsPermutation-append, IsPermutation-append_comm, IsPermutation-refl, IsPermutation-trans}
+use Rattle.ata_types.specs.declared.Port.{Port}
+use Rattle.ata_types.specs.declared.request.Outcome.{Outcome}
+use Rattle.ata_types.specs.declared.request.Outcome.TheVariants as outcome
+use Rattle.ata_types.specs.declared.request.Reply.{Reply}
+use Rattle.ata_types.specs.declared.request.RequestId.{RequestId}
+use Rattle.adapter.specs.Memory.{changed}
+use Rattle.refinement.specs.Driver.{ForgetsRequest, HasNoSlot, DriverState, DriverRelation}
+use Rattle.block_machine.specs.Events.{IsByDevice, IsToldBefore, Tells, answers_of, reply_of}
+use Rattle.block_machine.specs.Histories.{IsReachable}
+use Rattle.block_machine.specs.Left.{after}
+use Rattle.block_machine.specs.State.{Machine, Pending}
+use Rattle.block_machine.specs.Steps.{Step, Again, Answer, May, after_step, stays, unlend}
+use Rattle.dma_frames.specs.Loan.{Lending}
+use Rattle.dma_frames.specs.Table.{Table, lent_to}
+use Rattle.request_queue.specs.Entries.{HasFewIssues, Held, IsAccepted, IsEarlier, BookIsInOrder, at_entry, requeued_entry, without_entry}
+use Rattle.request_queue.specs.Dispositions.{EndsLoan, Holdings, AreResolved, IsResolved, quarantines_loan, reply_to}
+use Rattle.request_queue.specs.Machine.{IsBook, IsEntry}
+use Rattle.request_queue.specs.declared.PendingRequest.{PendingRequest}
+use Rattle.request_queue.specs.declared.disposition.Disposition.{Disposition}
+use Rattle.request_queue.specs.declared.disposition.Disposition.TheVariants.{Complete, Requeue, Wait}
+use Rattle.server_history.specs.Below.{LawsBelow}
+use Rattle.server_history.specs.Dispositions.{DecidesOn, IsLetGo, MayMeet, MeetsInMachine, keeps_fate, loan_of, loans_of}
+use Rattle.server_history.specs.Server.{AreOfTwo, TellsGrant}
+use Rattle.server_history.proofs.dispositions.FittingFates.{AllFit, FitsEntry}
+use Rattle.server_history.proofs.healthy_turn.OneAnswer.{given_back}
+use Rattle.server_history.proofs.any_turn.JoinedParts.{all_pairs_append, answers_append, answers_there, first_or_later}
+use Rattle.adapter.proofs.Changed.{changed_each, changed_other, changed_same}
+use Rattle.server_history.proofs.state.PairedLists.{at_left}
+use Rattle.server_history.proofs.state.FirstMembers.{first_here, nowhere}
+use Rattle.server_history.proofs.state.ListMembers.{contains_there}
+use Rattle.server_history.proofs.state.RevokedMarks.{tellable, unmarked_has}
+
+-- ---- fates
+
+-- whether it is kept is told by both alike
+stays_is : (o : Outcome) (e : PendingRequest) (p : Pending) → p.issued ≡ e.issued → stays p o ≡ quarantines_loan o e
+stays_is outcome.Ok e p same = refl
+stays_is (outcome.DeviceError status error) e p same = refl
+stays_is outcome.Aborted e p same = refl
+stays_is outcome.Unplugged e p same = refl
+stays_is outcome.Revoked e p same = refl
+stays_is outcome.PortDead e p same = same
+
+-- ---- loans that are kept
+
+pub loans_append : (late early : List Pending) → loans_of (late ++ early) ≡ loans_of early ++ loans_of late
+loans_append [] early = sym (append-nil (loans_of early))
+loans_append (e ∷ late) early = ap (λ (loans : List Lending). loans ++ loan_of e ∷ []) (loans_append late early) ∙ append_assoc (loans_of early) (loans_of late) (loan_of e ∷ [])
+
+-- each is of one of them
+pub loans_in : (held : List Pending) (loan : Lending) → Contains (loans_of held) loan → (e : Pending) × Contains held e × (loan ≡ loan_of e)
+loans_in [] loan here = absurd (nowhere loan here)
+loans_in (x ∷ held) loan here = ⊎_elim
+    (λ early. let r = loans_in held loan early in (r.0, Contains-append_right (x ∷ []) held r.0 r.1, r.2))
+    (λ last. ⊎_elim
+    (λ (is : loan ≡ loan_of x). (x, Contains-get_or (x ∷ held) 0 x (omega arith), is))
+    (λ none. absurd (nowhere loan none))
+    (first_or_later (loan_of x) [] loan last))
+    (Contains-append_cases (loans_of held) (loan_of x ∷ []) loan here)
+
+pub in_loans : (held : List Pending) (e : Pending) → Contains held e → Contains (loans_of held) (loan_of e)
+in_loans [] e here = absurd (nowhere e here)
+in_loans (x ∷ held) e here = ⊎_elim
+    (λ (is : e ≡ x). Contains-append_right (loans_of held) (loan_of x ∷ []) (loan_of e) (0, omega arith, ap loan_of (sym is)))
+    (λ there. Contains-append_left (loans_of held) (loan_of x ∷ []) (loan_of e) (in_loans held e there))
+    (first_or_later x held e here)
+
+-- ---- what is parked
+
+-- a list with nobody in it
+pub nobody : {X : Type 0} (xs : List X) → ((x : X) → Contains xs x → ⊥) → xs ≡ []
+nobody [] none = refl
+nobody (x ∷ xs) none = absurd (none x (Contains-get_or (x ∷ xs) 0 x (omega arith)))
+
+-- but for this one
+abbrev but : RequestId → List RequestId → List RequestId
+but id xs = filter (λ (x : RequestId). not (x.0 == id.0)) xs
+
+but_in : (id : RequestId) (xs : List RequestId) (x : RequestId) → Contains (but id xs) x → Contains xs x × (x ≢ id)
+but_in id xs x here = (
+  All-contains (Contains xs) (but id xs) x (All-filter (λ (y : RequestId). not (y.0 == id.0)) (Contains xs) xs (All-contains_itself xs)) here,
+  λ same. false≢true (sym (ap not (eq-eqb x.0 id.0 (ap (λ (y : RequestId). y.0) same)))
+      ∙ All-contains (λ (y : RequestId). not (y.0 == id.0) ≡ true) (but id xs) x (filter_passes (λ (y : RequestId). not (y.0 == id.0)) xs) here),
+)
+
+in_but : (id : RequestId) (xs : List RequestId) (x : RequestId) → Contains xs x → (x ≡ id → ⊥) → Contains (but id xs) x
+in_but id [] x here ne = absurd (nowhere x here)
+in_but id (y ∷ xs) x here ne = ⊎_elim
+    (λ (same : x ≡ y). subst (λ (list : List RequestId). Contains list x) (sym (kept (passes same))) (Contains-append_left (y ∷ []) (but id xs) x (0, omega arith, sym same)))
+    (λ (later : Contains xs x). by (not (y.0 == id.0)) (in_but id xs x later ne))
+    (first_or_later y xs x here)
+  where
+    passes : x ≡ y → not (y.0 == id.0) ≡ true
+    passes same = ap not (ne_eqb y.0 id.0 (λ is. ne (same ∙ ap (λ (n : ℕ). record { 0 = n }) is)))
+
+    kept : not (y.0 == id.0) ≡ true → but id (y ∷ xs) ≡ y ∷ but id xs
+    kept is = cond-true (not (y.0 == id.0)) (y ∷ but id xs) (but id xs) is
+
+    by : (b : Bool) → Contains (but id xs) x → Contains (cond b (y ∷ but id xs) (but id xs)) x
+    by true there = Contains-append_right (y ∷ []) (but id xs) x there
+    by false there = there
+
+-- what is parked once this one of the port is decided
+abbrev decided : (ℕ → List RequestId) → ℕ → RequestId → ℕ → List RequestId
+decided parked port id = changed parked port (but id (parked port))
+
+forgets_it : (parked : ℕ → List RequestId) (port : ℕ) (id : RequestId) → ForgetsRequest id parked (decided parked port id)
+forgets_it parked port id =
+    changed_each parked port (but id (parked port)) (λ q ids. (other : RequestId) → Contains (parked q) other → (other ≡ id → ⊥) → Contains ids other)
+    (λ other here ne. in_but id (parked port) other here ne)
+    (λ q other here ne. here)
+
+-- ---- one request
+
+module _ (laws : LawsBelow) (port : Port) (disposition : PendingRequest → Disposition) where
+  module _ (request : Held) (rest : List Held) (now mid : Holdings) (k : DriverState) (m : Machine) (may : MayMeet port disposition (request ∷ rest) now k m) where
+    pub here : Contains now.book request
+    here = (may.here request (Contains-get_or (request ∷ rest) 0 request (omega arith))).0
+
+    its_port : request.entry.port ≡ port
+    its_port = (may.here request (Contains-get_or (request ∷ rest) 0 request (omega arith))).1
+
+    in_rest : (e : Held) → Contains rest e → Contains (request ∷ rest) e
+    in_rest e there = Contains-append_right (request ∷ []) rest e there
+
+    pub later_id : (e : Held) → Contains rest e → request.entry.id.0 < e.entry.id.0
+    later_id e there = All-contains (IsEarlier request) rest e (λ i d small. may.earlier 0 (suc i) d (omega arith) (omega (arith, small))) there
+
+    differs : (e : Held) → Contains rest e → e.entry.id ≢ request.entry.id
+    differs e there same = let lt = later_id e there in let id = ap (λ (i : RequestId). i.0) same in omega (arith, lt, id)
+
+    earlier : AllPairs IsEarlier rest
+    earlier i j d lt below = may.earlier (suc i) (suc j) d (omega (arith, lt)) (omega (arith, below))
+
+    abbrev pub entry : (p : Pending) × Contains m.book p × IsEntry request p
+    entry = at_left IsEntry now.book m.book may.book request here
+
+    abbrev pub p : Pending
+    p = entry.0
+
+    id_is : p.request.id ≡ request.entry.id
+    id_is = entry.2.id
+
+    its_mark : TellsGrant m.rows request.entry
+    its_mark = may.marked request (Contains-get_or (request ∷ rest) 0 request (omega arith))
+
+    unserved : keeps_fate (disposition request.entry) request.entry ≡ false → HasNoSlot k.uses p.request.id
+    unserved never = subst (HasNoSlot k.uses) (sym id_is) (may.unserved request (Contains-get_or (request ∷ rest) 0 request (omega arith)) never)
+
+    abbrev pub left_known : DriverState
+    left_known = record k { parked = decided k.parked port.0 request.entry.id }
+
+    forgets : ForgetsRequest p.request.id k.parked (decided k.parked port.0 request.entry.id)
+    forgets = subst (λ (id : RequestId). ForgetsRequest id k.parked (decided k.parked port.0 request.entry.id)) (sym id_is) (forgets_it k.parked port.0 request.entry.id)
+
+    -- what is parked then was before, and isn't this one
+    left_parked : (id : RequestId) → Contains (decided k.parked port.0 request.entry.id port.0) id → Contains (k.parked port.0) id × (request.entry.id ≢ id)
+    left_parked id there =
+        let b = but_in request.entry.id (k.parked port.0) id (subst (λ (list : List RequestId). Contains list id) (changed_same k.parked port.0 (but request.entry.id (k.parked port.0))) there) in
+        (b.0, λ same. b.1 (sym same))
+
+    -- ---- with those that come after it
+
+    -- this step decides it, by which these are kept
+    module _ (step : Step) (its later replies : List Reply) (new : Holdings) (split : replies ≡ its ++ later) (comes : May m step) (of_port : DecidesOn port step) (own : IsByDevice step → ⊥)
+        (parked : ℕ → List RequestId) (elsewhere : (q : ℕ) → q ≢ port.0 → parked q ≡ k.parked q)
+        (its_still : (id : RequestId) → Contains (parked port.0) id → Contains (k.parked port.0) id × (IsLetGo disposition request → request.entry.id ≢ id))
+        (gone : List Pending) (keeps : (after_step m step).kept ≡ gone ++ m.kept) (lends : mid.kept ≡ now.kept ++ loans_of gone) (alone : AllPairs AreOfTwo (loans_of gone))
+        (its_own : (e : Pending) → Contains gone e → IsEntry request e × (keeps_fate (disposition request.entry) request.entry ≡ true))
+        (told : (e : Pending) (o : Outcome) → Answer e o ≡ step → IsEntry request e × (disposition request.entry ≡ Complete o))
+        (waits : (e : Pending) → Again e ≡ step → IsEntry request e × (disposition request.entry ≡ Requeue))
+        (r : MeetsInMachine port disposition rest later mid new (record k { parked = parked }) (after_step m step)) where
+      whole_is : after m (r.steps ++ step ∷ []) ≡ after (after_step m step) r.steps
+      whole_is = laws.basic.joined m r.steps (step ∷ [])
+
+      answered_by : (e : Pending) (o : Outcome) → Contains (r.steps ++ step ∷ []) (Answer e o) → (y : Held) × Contains (request ∷ rest) y × IsEntry y e × (disposition y.entry ≡ Complete o)
+      answered_by e o there = ⊎_elim
+          (λ early. let w = r.answered e o early in (w.0, in_rest w.0 w.1, w.2, w.3))
+          (λ last. ⊎_elim
+          (λ (is : Answer e o ≡ step). let w = told e o is in (request, Contains-get_or (request ∷ rest) 0 request (omega arith), w.0, w.1))
+          (λ none. absurd (nowhere (Answer e o) none))
+          (first_or_later step [] (Answer e o) last))
+          (Contains-append_cases r.steps (step ∷ []) (Answer e o) there)
+
+      again_by : (e : Pending) → Contains (r.steps ++ step ∷ []) (Again e) → (y : Held) × Contains (request ∷ rest) y × IsEntry y e × (disposition y.entry ≡ Requeue)
+      again_by e there = ⊎_elim
+          (λ early. let w = r.again e early in (w.0, in_rest w.0 w.1, w.2, w.3))
+          (λ last. ⊎_elim
+          (λ (is : Again e ≡ step). let w = waits e is in (request, Contains-get_or (request ∷ rest) 0 request (omega arith), w.0, w.1))
+          (λ none. absurd (nowhere (Again e) none))
+          (first_or_later step [] (Again e) last))
+          (Contains-append_cases r.steps (step ∷ []) (Again e) there)
+
+      kept_by : (e : Pending) → Contains (r.held ++ gone) e → (y : Held) × Contains (request ∷ rest) y × IsEntry y e × (keeps_fate (disposition y.entry) y.entry ≡ true)
+      kept_by e there = ⊎_elim
+          (λ late. let w = r.whose e late in (w.0, in_rest w.0 w.1, w.2, w.3))
+          (λ first. let w = its_own e first in (request, Contains-get_or (request ∷ rest) 0 request (omega arith), w.0, w.1))
+          (Contains-append_cases r.held gone e there)
+
+      two : AllPairs AreOfTwo (loans_of (r.held ++ gone))
+      two = subst (AllPairs AreOfTwo) (sym (loans_append r.held gone)) (all_pairs_append AreOfTwo (loans_of gone) (loans_of r.held) alone r.two (λ a b first late same.
+          let x = loans_in gone a first in
+          let y = loans_in r.held b late in
+          let w = r.whose y.0 y.1 in
+          differs w.0 w.1 (sym w.2.id ∙ sym (ap (λ (l : Lending). l.request) y.2) ∙ sym same ∙ ap (λ (l : Lending). l.request) x.2 ∙ (its_own x.0 x.1).0.id)))
+
+      still_by : (id : RequestId) → Contains (r.parked port.0) id → Contains (k.parked port.0) id × ((e : Held) → Contains (request ∷ rest) e → IsLetGo disposition e → e.entry.id ≢ id)
+      still_by id there =
+          let late = r.still id there in
+          let first = its_still id late.0 in (
+            first.0,
+            λ e here goes. ⊎_elim
+                (λ (same : e ≡ request). subst (λ (y : Held). y.entry.id ≢ id) (sym same) (first.1 (subst (IsLetGo disposition) same goes)))
+                (λ (later_on : Contains rest e). late.1 e later_on goes)
+                (first_or_later request rest e here),
+          )
+
+      pub decides : Tells (r.steps ++ step ∷ []) replies → MeetsInMachine port disposition (request ∷ rest) replies now new k m
+      decides tells = record {
+        steps = r.steps ++ step ∷ [];
+        parked = r.parked;
+        may = laws.basic.may m r.steps (step ∷ []) (tt, comes) r.may;
+        own = All-append (DecidesOn port) r.steps (step ∷ []) r.own (All-cons (DecidesOn port) step [] of_port (All-nil (DecidesOn port)));
+        backed = λ d. laws.backed_parts d d d m (step ∷ []) r.steps (laws.backed_own d m step own) (r.backed d);
+        knows = subst (λ (n : Machine). DriverRelation n (record k { parked = r.parked })) (sym whole_is) r.knows;
+        others = λ q ne. r.others q ne ∙ elsewhere q ne;
+        still = still_by;
+        book = subst (λ (n : Machine). IsBook new.book n.book) (sym whole_is) r.book;
+        lent = λ frame. ap (λ (n : Machine). n.lent frame) whole_is ∙ r.lent frame;
+        held = r.held ++ gone;
+        kept = ap (λ (n : Machine). n.kept) whole_is ∙ r.kept ∙ ap (λ (kept : List Pending). r.held ++ kept) keeps ∙ sym (append_assoc r.held gone m.kept);
+        loans = r.loans ∙ ap (λ (loans : List Lending). loans ++ loans_of r.held) lends ∙ append_assoc now.kept (loans_of gone) (loans_of r.held) ∙ ap (λ (loans : List Lending). now.kept ++ loans) (sym (loans_append r.held gone));
+        two = two;
+        whose = kept_by;
+        answered = answered_by;
+        again = again_by;
+        tells = tells;
+      }
+
+  -- ---- one that ends
+
+  module _ (request : Held) (rest : List Held) (now mid new : Holdings) (its later replies : List Reply) (k : DriverState) (m : Machine) (may : MayMeet port disposition (request ∷ rest) now k m) (split : replies ≡ its ++ later)
+      (more : (k : DriverState) (m : Machine) → MayMeet port disposition rest mid k m → MeetsInMachine port disposition rest later mid new k m) (fit : FitsEntry (disposition request.entry) request.entry) (o : Outcome) (is : disposition request.entry ≡ Complete o) (meets : IsResolved request (Complete o) its now mid) where
+    abbrev x : Pending
+    x = p request rest now mid k m may
+
+    its_entry : IsEntry request x
+    its_entry = (entry request rest now mid k m may).2
+
+    comes : May m (Answer x o)
+    comes = (
+      (entry request rest now mid k m may).1,
+      tellable m request x o its_entry (its_mark request rest now mid k m may) (λ told. fit.revoked (is ∙ ap Complete told)) (λ told. fit.aborted (is ∙ ap Complete told)),
+    )
+
+    of_port : x.request.port ≡ port
+    of_port = its_entry.port ∙ its_port request rest now mid k m may
+
+    fate_is : keeps_fate (disposition request.entry) request.entry ≡ quarantines_loan o request.entry
+    fate_is = ap (λ (f : Disposition). keeps_fate f request.entry) is
+
+    stay : stays x o ≡ quarantines_loan o request.entry
+    stay = stays_is o request.entry x its_entry.issued
+
+    reply_is : reply_to request o ≡ reply_of (x, o)
+    reply_is = λ i. record { id = sym its_entry.id i; client = sym its_entry.client i; outcome = o }
+
+    reached : IsReachable (after_step m (Answer x o))
+    reached = laws.basic.reached m (Answer x o ∷ []) may.reached (tt, comes)
+
+    book : IsBook mid.book (after_step m (Answer x o)).book
+    book = subst (λ (book : List Held). IsBook book (after_step m (Answer x o)).book) (sym meets.1)
+        (subst (λ (id : RequestId). IsBook (without_entry id now.book) (after_step m (Answer x o)).book) (id_is request rest now mid k m may) (laws.answers now.book m x o may.book))
+
+    ordered : BookIsInOrder mid.book
+    ordered = subst BookIsInOrder (sym meets.1) (laws.fewer now.book request.entry.id may.ordered)
+
+    still : (e : Held) → Contains rest e → Contains mid.book e × (e.entry.port ≡ port)
+    still e there =
+        let w = may.here e (in_rest request rest now mid k m may e there) in
+        (subst (λ (book : List Held). Contains book e) (sym meets.1) ((laws.left now.book request.entry.id e).1 (w.0, differs request rest now mid k m may e there)), w.1)
+
+    -- what comes of it, once the rest met their fates
+    module _ (parked : ℕ → List RequestId) (elsewhere : (q : ℕ) → q ≢ port.0 → parked q ≡ k.parked q)
+        (its_still : (id : RequestId) → Contains (parked port.0) id → Contains (k.parked port.0) id × (IsLetGo disposition request → request.entry.id ≢ id)) (gone : List Pending) (keeps : (after_step m (Answer x o)).kept ≡ gone ++ m.kept)
+        (lends : mid.kept ≡ now.kept ++ loans_of gone) (alone : AllPairs AreOfTwo (loans_of gone)) (its_own : (e : Pending) → Contains gone e → IsEntry request e × (keeps_fate (disposition request.entry) request.entry ≡ true))
+        (goes : MayMeet port disposition rest mid (record k { parked = parked }) (after_step m (Answer x o))) where
+      r : MeetsInMachine port disposition rest later mid new (record k { parked = parked }) (after_step m (Answer x o))
+      r = more (record k { parked = parked }) (after_step m (Answer x o)) goes
+
+      -- it is told first
+      first : All (IsToldBefore (x, o)) r.tells.answers
+      first = All-weaker (Contains r.tells.answers) (IsToldBefore (x, o)) (λ a there.
+          let w = r.answered a.0 a.1 (answers_there r.steps a (Contains-permutation r.tells.answers (answers_of r.steps) a r.tells.same there)) in
+          let lt = later_id request rest now mid k m may w.0 w.1 in
+          let mine = ap (λ (i : RequestId). i.0) its_entry.id in
+          let other = ap (λ (i : RequestId). i.0) w.2.id in
+          inr (of_port ∙ sym (w.2.port ∙ (may.here w.0 (in_rest request rest now mid k m may w.0 w.1)).1), omega (arith, lt, mine, other))) r.tells.answers (All-contains_itself r.tells.answers)
+
+      answers : MeetsInMachine port disposition (request ∷ rest) replies now new k m
+      answers =
+          decides request rest now mid k m may (Answer x o) its later replies new split comes of_port (λ none. none) parked elsewhere its_still gone keeps lends alone its_own
+          (λ e other same.
+          let e_is : e ≡ x = (let z : Answer e other ≡ Answer x o = same in cc) in
+          let o_is : other ≡ o = (let z : Answer e other ≡ Answer x o = same in cc) in
+          (subst (IsEntry request) (sym e_is) its_entry, is ∙ ap Complete (sym o_is)))
+          (λ e same. let z : Again e ≡ Answer x o = same in absurd cc)
+          r
+          (record {
+            answers = (x, o) ∷ r.tells.answers;
+            same = subst (IsPermutation ((x, o) ∷ r.tells.answers)) (sym (answers_append r.steps (Answer x o ∷ [])))
+                (IsPermutation-trans _ _ _ (IsPermutation-append_comm ((x, o) ∷ []) r.tells.answers) (IsPermutation-append _ _ _ _ r.tells.same (IsPermutation-refl ((x, o) ∷ []))));
+            ordered = AllPairs-cons IsToldBefore (x, o) r.tells.answers first r.tells.ordered;
+            told = split ∙ ap (λ (y : List Reply). y ++ later) meets.0 ∙ (λ i. reply_is i ∷ r.tells.told i);
+          })
+
+    by : (b : Bool) → quarantines_loan o request.entry ≡ b → MeetsInMachine port disposition (request ∷ rest) replies now new k m
+    by false never =
+        answers (decided k.parked port.0 request.entry.id) (λ q ne. changed_other k.parked port.0 (but request.entry.id (k.parked port.0)) q ne)
+        (λ id there. let w = left_parked request rest now mid k m may id there in (w.0, λ goes. w.1)) []
+        (ap (λ (b : Bool). if b then x ∷ m.kept else m.kept) (stay ∙ never)) (loan.0 ∙ sym (append-nil now.kept)) (λ i j d lt below. absurd (omega (arith, lt, below))) (λ e there. absurd (nowhere e there))
+        (record {
+          reached = reached;
+          knows = laws.slots.answered_agrees k m x o (decided k.parked port.0 request.entry.id) may.reached may.knows comes.0 (stay ∙ never) (unserved request rest now mid k m may (fate_is ∙ never)) (forgets request rest now mid k m may);
+          book = book;
+          lent = λ frame. ap (λ (b : Bool). (if b then m.lent else unlend x.request.id m.lent) frame) (stay ∙ never)
+              ∙ given_back m request x now.table mid.table may.reached (inl comes.0) its_entry may.lent (All-contains (IsAccepted now.table) now.book request may.accepted (here request rest now mid k m may)).lent loan.1 frame;
+          ordered = ordered;
+          accepted = subst (All (IsAccepted mid.table)) (sym meets.1) (laws.still_answered now.table mid.table now.book request (here request rest now mid k m may) loan.1 may.accepted);
+          here = still;
+          marked = λ e there. may.marked e (in_rest request rest now mid k m may e there);
+          earlier = earlier request rest now mid k m may;
+          unserved = λ e there none. may.unserved e (in_rest request rest now mid k m may e there) none;
+        })
+      where
+        loan : EndsLoan false request now mid
+        loan = subst (λ (b : Bool). EndsLoan b request now mid) never meets.2
+    by true keeps =
+        answers k.parked (λ q ne. refl) (λ id there. (there, λ goes. absurd (false≢true (sym goes.1 ∙ fate_is ∙ keeps)))) (x ∷ [])
+        (ap (λ (b : Bool). if b then x ∷ m.kept else m.kept) (stay ∙ keeps)) (loan.0 ∙ ap (λ (l : Lending). now.kept ++ l ∷ []) loan_is) (λ i j d lt below. absurd (omega (arith, lt, below)))
+        (λ e there. ⊎_elim (λ (same : e ≡ x). (subst (IsEntry request) (sym same) its_entry, fate_is ∙ keeps)) (λ none. absurd (nowhere e none)) (first_or_later x [] e there))
+        (record {
+          reached = reached;
+          knows = laws.slots.kept_agrees k m x o may.reached may.knows comes.0 (stay ∙ keeps);
+          book = book;
+          lent = λ frame. ap (λ (b : Bool). (if b then m.lent else unlend x.request.id m.lent) frame) (stay ∙ keeps) ∙ may.lent frame ∙ ap (λ (t : Table). lent_to t frame) (sym loan.1);
+          ordered = ordered;
+          accepted = subst (All (IsAccepted mid.table)) (sym meets.1) (subst (λ (t : Table). All (IsAccepted t) (without_entry request.entry.id now.book)) (sym loan.1)
+              (All-weaker (Contains (without_entry request.entry.id now.book)) (IsAccepted now.table) (λ e there. All-contains (IsAccepted now.table) now.book e may.accepted ((laws.left now.book request.entry.id e).0 there).0)
+              (without_entry request.entry.id now.book) (All-contains_itself (without_entry request.entry.id now.book))));
+          here = still;
+          marked = λ e there. may.marked e (in_rest request rest now mid k m may e there);
+          earlier = earlier request rest now mid k m may;
+          unserved = λ e there none. may.unserved e (in_rest request rest now mid k m may e there) none;
+        })
+      where
+        loan : EndsLoan true request now mid
+        loan = subst (λ (b : Bool). EndsLoan b request now mid) keeps meets.2
+
+        loan_is : record { frames = request.frames; request = request.entry.id } ≡ loan_of x
+        loan_is = λ i. record { frames = sym its_entry.frames i; request = sym its_entry.id i }
+
+    pub meet_end : MeetsInMachine port disposition (request ∷ rest) replies now new k m
+    meet_end = by (quarantines_loan o request.entry) refl
+
+  -- ---- each fate
+
+  meet_one : (request : Held) (rest : List Held) (now mid new : Holdings) (its later replies : List Reply) (k : DriverState) (m : Machine) → MayMeet port disposition (request ∷ rest) now k m → replies ≡ its ++ later
+      → ((k : DriverState) (m : Machine) → MayMeet port disposition rest mid k m → MeetsInMachine port disposition rest later mid new k m) → FitsEntry (disposition request.entry) request.entry → (f : Disposition) → disposition request.entry ≡ f → IsResolved request f its now mid
+      → MeetsInMachine port disposition (request ∷ rest) replies now new k m
+  meet_one request rest now mid new its later replies k m may split more fit Wait is meets = record {
+    steps = r.steps;
+    parked = r.parked;
+    may = r.may;
+    own = r.own;
+    backed = r.backed;
+    knows = r.knows;
+    others = r.others;
+    still = λ id there. let w = r.still id there in (
+      w.0,
+      λ e here goes. ⊎_elim
+          (λ (same : e ≡ request). absurd (goes.0 (ap (λ (y : Held). disposition y.entry) same ∙ is)))
+          (λ (later_on : Contains rest e). w.1 e later_on goes)
+          (first_or_later request rest e here),
+    );
+    book = r.book;
+    lent = r.lent;
+    held = r.held;
+    kept = r.kept;
+    loans = r.loans ∙ ap (λ (h : Holdings). h.kept ++ loans_of r.held) meets.1;
+    two = r.two;
+    whose = λ e here. let w = r.whose e here in (w.0, in_rest request rest now mid k m may w.0 w.1, w.2, w.3);
+    answered = λ e o here. let w = r.answered e o here in (w.0, in_rest request rest now mid k m may w.0 w.1, w.2, w.3);
+    again = λ e here. let w = r.again e here in (w.0, in_rest request rest now mid k m may w.0 w.1, w.2, w.3);
+    tells = subst (Tells r.steps) (sym (split ∙ ap (λ (x : List Reply). x ++ later) meets.0)) r.tells;
+  }
+    where
+      goes : MayMeet port disposition rest now k m
+      goes = record {
+        reached = may.reached;
+        knows = may.knows;
+        book = may.book;
+        lent = may.lent;
+        ordered = may.ordered;
+        accepted = may.accepted;
+        here = λ e there. may.here e (in_rest request rest now mid k m may e there);
+        marked = λ e there. may.marked e (in_rest request rest now mid k m may e there);
+        earlier = earlier request rest now mid k m may;
+        unserved = λ e there never. may.unserved e (in_rest request rest now mid k m may e there) never;
+      }
+
+      r : MeetsInMachine port disposition rest later mid new k m
+      r = more k m (subst (λ (h : Holdings). MayMeet port disposition rest h k m) (sym meets.1) goes)
+  meet_one request rest now mid new its later replies k m may split more fit Requeue is meets =
+      decides request rest now mid k m may (Again x) its later replies new split comes of_port (λ none. none) (decided k.parked port.0 request.entry.id)
+      (λ q ne. changed_other k.parked port.0 (but request.entry.id (k.parked port.0)) q ne)
+      (λ id there. let w = left_parked request rest now mid k m may id there in (w.0, λ goes. w.1)) [] refl
+      (ap (λ (h : Holdings). h.kept) meets.1 ∙ sym (append-nil now.kept)) (λ i j d lt below. absurd (omega (arith, lt, below))) (λ e there. absurd (nowhere e there))
+      (λ e o same. let z : Answer e o ≡ Again x = same in absurd cc)
+      (λ e same. let e_is : e ≡ x = (let z : Again e ≡ Again x = same in cc) in (subst (IsEntry request) (sym e_is) (entry request rest now mid k m may).2, is))
+      r
+      (record {
+        answers = r.tells.answers;
+        same = subst (IsPermutation r.tells.answers) (sym (answers_append r.steps (Again x ∷ []) ∙ append-nil (answers_of r.steps))) r.tells.same;
+        ordered = r.tells.ordered;
+        told = split ∙ ap (λ (y : List Reply). y ++ later) meets.0 ∙ r.tells.told;
+      })
+    where
+      x : Pending
+      x = p request rest now mid k m may
+
+      its_issue : (request.entry.issued ≡ true) × ((request.entry.issues == 4) ≡ false) × (request.entry.revoked ≡ false)
+      its_issue = fit.again is
+
+      few : request.entry.issues < 4
+      few =
+          let most = (All-contains (λ (e : Held). HasFewIssues e.entry) now.book request may.ordered.issues (here request rest now mid k m may)).0 in
+          let other = eqb-false request.entry.issues 4 its_issue.1 in omega (arith, most, other)
+
+      comes : May m (Again x)
+      comes =
+          let e = entry request rest now mid k m may in
+          (e.1, e.2.issued ∙ its_issue.0, subst (λ (n : ℕ). n < 4) (sym e.2.issues) few, unmarked_has m request x e.2 (its_mark request rest now mid k m may) its_issue.2)
+
+      of_port : x.request.port ≡ port
+      of_port = (entry request rest now mid k m may).2.port ∙ its_port request rest now mid k m may
+
+      goes : MayMeet port disposition rest (record now { book = map (at_entry request.entry.id requeued_entry) now.book }) (left_known request rest now mid k m may) (after_step m (Again x))
+      goes = record {
+        reached = laws.basic.reached m (Again x ∷ []) may.reached (tt, comes);
+        knows = laws.slots.again_agrees k m x (decided k.parked port.0 request.entry.id) may.reached may.knows comes.0 (unserved request rest now mid k m may (ap (λ (f : Disposition). keeps_fate f request.entry) is)) (forgets request rest now mid k m may);
+        book = subst (λ (id : RequestId). IsBook (map (at_entry id requeued_entry) now.book) (after_step m (Again x)).book) (id_is request rest now mid k m may) (laws.again now.book m x may.book);
+        lent = may.lent;
+        ordered = laws.requeued now.book request.entry.id may.ordered (request, here request rest now mid k m may, refl, its_issue.0, few);
+        accepted = laws.still_requeued now.table now.book request.entry.id may.accepted;
+        here = λ e there.
+            let w = may.here e (in_rest request rest now mid k m may e there) in
+            (laws.others now.book request.entry.id requeued_entry e w.0 (differs request rest now mid k m may e there), w.1);
+        marked = λ e there. may.marked e (in_rest request rest now mid k m may e there);
+        earlier = earlier request rest now mid k m may;
+        unserved = λ e there never. may.unserved e (in_rest request rest now mid k m may e there) never;
+      }
+
+      r : MeetsInMachine port disposition rest later mid new (left_known request rest now mid k m may) (after_step m (Again x))
+      r = more (left_known request rest now mid k m may) (after_step m (Again x)) (subst (λ (h : Holdings). MayMeet port disposition rest h (left_known request rest now mid k m may) (after_step m (Again x))) (sym meets.1) goes)
+  meet_one request rest now mid new its later replies k m may split more fit (Complete o) is meets = meet_end request rest now mid new its later replies k m may split more fit o is meets
+
+pub meet : LawsBelow → (port : Port) (disposition : PendingRequest → Disposition) (requests : List Held) → AllFit disposition requests → (replies : List Reply) (old new : Holdings) (k : DriverState) (m : Machine)
+    → MayMeet port disposition requests old k m → AreResolved disposition requests replies old new → MeetsInMachine port disposition requests replies old new k m
+meet laws port disposition [] fit replies old new k m may (none, is) = record {
+  steps = [];
+  parked = k.parked;
+  may = tt;
+  own = All-nil (DecidesOn port);
+  backed = λ d. laws.backed_none d m;
+  knows = may.knows;
+  others = λ q ne. refl;
+  still = λ id here. (here, λ e none goes same. nowhere e none);
+  book = subst (λ (h : Holdings). IsBook h.book m.book) (sym is) may.book;
+  lent = λ frame. may.lent frame ∙ ap (λ (h : Holdings). lent_to h.table frame) (sym is);
+  held = [];
+  kept = refl;
+  loans = ap (λ (h : Holdings). h.kept) is ∙ sym (append-nil old.kept);
+  two = λ i j d lt below. absurd (omega (arith, lt, below));
+  whose = λ e here. absurd (nowhere e here);
+  answered = λ e o here. absurd (nowhere (Answer e o) here);
+  again = λ e here. absurd (nowhere (Again e) here);
+  tells = record { answers = []; same = IsPermutation-refl []; ordered = λ i j d lt below. absurd (omega (arith, lt, below)); told = none };
+}
+meet laws port disposition (request ∷ rest) fit replies old new k m may (mid, its, later, split, meets, more) =
+    meet_one laws port disposition request rest old mid new its later replies k m may split
+    (λ n machine next. meet laws port disposition rest (λ e there. fit e (contains_there request rest e there)) later mid new n machine next more)
+    (fit request (first_here request rest)) (disposition request.entry) refl meets
+
+-- Where no loan is kept, and who was parked of the port are issued ones among these, none of the port is.
+pub none_parked : (port : Port) (disposition : PendingRequest → Disposition) (requests : List Held) → AllFit disposition requests → (replies : List Reply) (old new : Holdings) (k : DriverState) (m : Machine)
+    (r : MeetsInMachine port disposition requests replies old new k m) → ((e : PendingRequest) → keeps_fate (disposition e) e ≡ false)
+    → ((id : RequestId) → Contains (k.parked port.0) id → (e : Held) × Contains requests e × (e.entry.id ≡ id) × (e.entry.issued ≡ true)) → r.parked port.0 ≡ []
+none_parked port disposition requests fit replies old new k m r quiet its = nobody (r.parked port.0) (λ id here.
+    let s = r.still id here in
+    let w = its id s.0 in
+    s.1 w.0 w.1 (λ waits. false≢true (sym ((fit w.0 w.1).waits waits) ∙ w.3), quiet w.0.entry) w.2)

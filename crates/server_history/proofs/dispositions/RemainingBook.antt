@@ -1,0 +1,293 @@
+-- What is left of a book once requests of a port met their fates.
+use Rattle.std.proofs.Common.{ℕ, ◌≤◌, ◌+◌, cond, length, le_refl, eq-eqb, eqb-true, suc, ◌≡◌, ◌≢◌, ◌<◌, ◌==◌, Bool, true, false, not, if◌then◌else◌, List, [], ◌∷◌, map, Option, None, Some, refl, sym, ap, ◌∙◌, subst, arith, ⊎_elim, ◌⊎◌, inl, inr}
+use Rattle.std.specs.List.{All, AllPairs, Contains}
+use Rattle.std.proofs.lemmas.Bool.{eqb-false}
+use Rattle.std.proofs.lemmas.List.{length-append}
+use Rattle.std.proofs.lemmas.List.Elements.{All-contains, All-contains_itself, All-filter, filter_passes}
+use Rattle.std.proofs.lemmas.List.Kept.{AllPairs-filter}
+use Rattle.std.specs.Prelude.{filter}
+use Rattle.ata_types.specs.declared.Port.{Port}
+use Rattle.ata_types.specs.declared.request.Outcome.{Outcome}
+use Rattle.ata_types.specs.declared.request.Outcome.TheVariants as outcome
+use Rattle.ata_types.specs.declared.request.Reply.{Reply}
+use Rattle.ata_types.specs.declared.request.RequestId.{RequestId}
+use Rattle.server_history.proofs.state.ListMembers.{contains_cases, contains_there, map_in}
+use Rattle.dma_frames.specs.Table.{Table}
+use Rattle.request_queue.specs.Entries.{HasFewIssues, Held, IsAccepted, IsEarlier, BookIsInOrder, at_entry, has_id, is_of, requeued_entry, without_entry}
+use Rattle.request_queue.specs.Dispositions.{EndsLoan, Holdings, AreResolved, IsResolved, disposition_of, disposition_on, quarantines_loan}
+use Rattle.request_queue.specs.declared.PendingRequest.{PendingRequest}
+use Rattle.request_queue.specs.declared.disposition.FailedRequest.{FailedRequest}
+use Rattle.request_queue.specs.declared.disposition.Disposition.{Disposition}
+use Rattle.request_queue.specs.declared.disposition.Disposition.TheVariants.{Complete, Requeue, Wait}
+use Rattle.request_queue.specs.declared.disposition.Revalidation.{Revalidation}
+use Rattle.request_queue.specs.declared.disposition.Revalidation.TheVariants.{Dead, DiskLost, SameDisk}
+use Rattle.server_history.specs.Below.{LawsBelow}
+use Rattle.server_history.specs.ErrorHandling.{holdings_of, requests_of}
+use Rattle.server_history.specs.Server.{HasTrueMark, ServerState}
+use Rattle.server_history.proofs.dispositions.FittingFates.{AllFit, FitsEntry}
+use Rattle.server_history.proofs.state.LoanCounts.{counts, fewer_issued, issued_of, kept_issued, one_fewer, requeued_issued}
+use Rattle.server_history.proofs.state.FirstMembers.{nowhere, first_here}
+use Rattle.ata_types.specs.declared.grant.GrantRow.{GrantRow}
+
+-- ---- fates
+
+-- where the disk isn't the same, each is answered
+ends_on : (revalidation : Revalidation) → revalidation ≢ SameDisk → (e : PendingRequest) → (o : Outcome) × (disposition_on revalidation e ≡ Complete o)
+ends_on SameDisk other e = absurd (other refl)
+ends_on DiskLost other e = (outcome.Unplugged, refl)
+ends_on Dead other e = (outcome.PortDead, refl)
+
+pub ends_of : (failed : Option FailedRequest) (revalidation : Revalidation) → revalidation ≢ SameDisk → (e : PendingRequest) → (o : Outcome) × (disposition_of failed revalidation e ≡ Complete o)
+ends_of None revalidation other e = ends_on revalidation other e
+ends_of (Some failed) revalidation other e = by (failed.id.0 == e.id.0) refl
+  where
+    by : (b : Bool) → (failed.id.0 == e.id.0) ≡ b → (o : Outcome) × (disposition_of (Some failed) revalidation e ≡ Complete o)
+    by true x = (outcome.DeviceError failed.status failed.error, (λ i. if x i then Complete (outcome.DeviceError failed.status failed.error) else disposition_on revalidation e))
+    by false x =
+        let is : disposition_of (Some failed) revalidation e ≡ disposition_on revalidation e = (λ i. if x i then Complete (outcome.DeviceError failed.status failed.error) else disposition_on revalidation e) in
+        let e = ends_on revalidation other e in (e.0, is ∙ e.1)
+
+-- ---- what is left
+
+-- the requests are of the port in a book as a server has it, in its order
+pub record MayDecide (port : Port) (requests : List Held) (now : Holdings) : Type 0 where
+  pub here : (e : Held) → Contains requests e → Contains now.book e × (e.entry.port ≡ port)
+  pub earlier : AllPairs IsEarlier requests
+  pub ordered : BookIsInOrder now.book
+  pub accepted : All (IsAccepted now.table) now.book
+
+-- so it is with all of the port's
+pub its_requests : (port : Port) (s : ServerState) → BookIsInOrder s.book → All (IsAccepted s.table) s.book → MayDecide port (requests_of port s.book) (holdings_of port s)
+its_requests port s ordered accepted = record { here = here; earlier = AllPairs-filter IsEarlier own s.book ordered.ordered; ordered = ordered; accepted = accepted }
+  where
+    own : Held → Bool
+    own e = is_of port e.entry
+
+    here : (e : Held) → Contains (requests_of port s.book) e → Contains s.book e × (e.entry.port ≡ port)
+    here e there = (
+      All-contains (Contains s.book) (filter own s.book) e (All-filter own (Contains s.book) s.book (All-contains_itself s.book)) there,
+      ap (λ (n : ℕ). record { 0 = n }) (eqb-true e.entry.port.0 port.0 (All-contains (λ (x : Held). own x ≡ true) (filter own s.book) e (filter_passes own s.book) there)),
+    )
+
+-- it was in the book before, as another that waited or not, but for a marked one, which doesn't wait again
+pub record WasIn (book : List Held) (e : Held) : Type 0 where
+  pub was : Held
+  pub there : Contains book was
+  pub id : e.entry.id ≡ was.entry.id
+  pub client : e.entry.client ≡ was.entry.client
+  pub grant : e.entry.grant ≡ was.entry.grant
+  pub port : e.entry.port ≡ was.entry.port
+  pub op : e.entry.op ≡ was.entry.op
+  pub revoked : e.entry.revoked ≡ was.entry.revoked
+  pub waiting : e.entry.issued ≡ false → (was.entry.issued ≡ false) ⊎ (e.entry.revoked ≡ false)
+
+-- The book is as a server has it still; it has no request that it hadn't, and none of these that was answered; each frame has its owner; and no more places are needed for loans
+-- of the port.
+pub record IsLeft (port : Port) (disposition : PendingRequest → Disposition) (requests : List Held) (old new : Holdings) : Type 0 where
+  pub ordered : BookIsInOrder new.book
+  pub accepted : All (IsAccepted new.table) new.book
+  pub owners : new.table.owners ≡ old.table.owners
+  pub from : (e : Held) → Contains new.book e → WasIn old.book e
+  pub gone : (e : Held) (o : Outcome) → Contains requests e → disposition e.entry ≡ Complete o → (x : Held) → Contains new.book x → x.entry.id ≢ e.entry.id
+  pub places : length new.kept + issued_of port new.book ≤ length old.kept + issued_of port old.book
+  pub fewer : (q : Port) → issued_of q new.book ≤ issued_of q old.book
+
+pub was_itself : (book : List Held) (e : Held) → Contains book e → WasIn book e
+was_itself book e here = record { was = e; there = here; id = refl; client = refl; grant = refl; port = refl; op = refl; revoked = refl; waiting = λ waits. inl waits }
+
+pub was_more : (old mid : List Held) (e : Held) → ((x : Held) → Contains mid x → WasIn old x) → WasIn mid e → WasIn old e
+was_more old mid e before w =
+    let v = before w.was w.there in
+    record {
+      was = v.was;
+      there = v.there;
+      id = w.id ∙ v.id;
+      client = w.client ∙ v.client;
+      grant = w.grant ∙ v.grant;
+      port = w.port ∙ v.port;
+      op = w.op ∙ v.op;
+      revoked = w.revoked ∙ v.revoked;
+      waiting = λ waits. ⊎_elim
+          (λ between. ⊎_elim (λ first. inl first) (λ plain. inr (w.revoked ∙ plain)) (v.waiting between))
+          (λ plain. inr plain)
+          (w.waiting waits);
+    }
+
+-- and so it is marked as it was
+pub marked_as : (rows : List GrantRow) (book : List Held) (e : Held) (w : WasIn book e) → HasTrueMark rows w.was → HasTrueMark rows e
+marked_as rows book e w m =
+    record {
+      tells = (
+        λ plain. let has = m.tells.0 (sym w.revoked ∙ plain) in (has.0, has.1, (has.2.0 ∙ sym w.client, has.2.1 ∙ sym w.grant)),
+        λ has. w.revoked ∙ m.tells.1 (has.0, has.1, (has.2.0 ∙ w.client, has.2.1 ∙ w.grant)),
+      );
+      waiting = λ waits. ⊎_elim (λ waited. w.revoked ∙ m.waiting waited) (λ plain. plain) (w.waiting waits);
+    }
+
+pub marked_from : (rows : List GrantRow) (book : List Held) → All (HasTrueMark rows) book → (e : Held) → WasIn book e → HasTrueMark rows e
+marked_from rows book all e w = marked_as rows book e w (All-contains (HasTrueMark rows) book w.was all w.there)
+
+module _ (laws : LawsBelow) (port : Port) (disposition : PendingRequest → Disposition) where
+  -- ---- one request
+
+  -- it met its fate, and the others may meet theirs
+  record HasMet (request : Held) (rest : List Held) (old mid : Holdings) : Type 0 where
+    may : MayDecide port rest mid
+    owners : mid.table.owners ≡ old.table.owners
+    from : (e : Held) → Contains mid.book e → WasIn old.book e
+    gone : (o : Outcome) → disposition request.entry ≡ Complete o → (x : Held) → Contains mid.book x → x.entry.id ≢ request.entry.id
+    places : length mid.kept + issued_of port mid.book ≤ length old.kept + issued_of port old.book
+    fewer : (q : Port) → issued_of q mid.book ≤ issued_of q old.book
+
+  module _ (request : Held) (rest : List Held) (old mid : Holdings) (may : MayDecide port (request ∷ rest) old) where
+    its : Contains old.book request
+    its = (may.here request (first_here request rest)).0
+
+    differs : (e : Held) → Contains rest e → e.entry.id ≢ request.entry.id
+    differs e there same =
+        let lt : request.entry.id.0 < e.entry.id.0 = All-contains (IsEarlier request) rest e (λ i d small. may.earlier 0 (suc i) d (omega arith) (omega (arith, small))) there in
+        let id = ap (λ (i : RequestId). i.0) same in omega (arith, lt, id)
+
+    earlier : AllPairs IsEarlier rest
+    earlier i j d lt below = may.earlier (suc i) (suc j) d (omega (arith, lt)) (omega (arith, below))
+
+    of_rest : (e : Held) → Contains rest e → Contains old.book e × (e.entry.port ≡ port)
+    of_rest e there = may.here e (contains_there request rest e there)
+
+    waited : mid ≡ old → ((o : Outcome) → disposition request.entry ≡ Complete o → ⊥) → HasMet request rest old mid
+    waited is never = subst (HasMet request rest old) (sym is) (record {
+      may = record { here = of_rest; earlier = earlier; ordered = may.ordered; accepted = may.accepted };
+      owners = refl;
+      from = was_itself old.book;
+      gone = λ o ends. absurd (never o ends);
+      places = le_refl (length old.kept + issued_of port old.book);
+      fewer = λ q. le_refl (issued_of q old.book);
+    })
+
+    -- it waits again
+    requeued_was : request.entry.revoked ≡ false → (e : Held) → Contains (map (at_entry request.entry.id requeued_entry) old.book) e → WasIn old.book e
+    requeued_was plain e there =
+        let w = map_in (at_entry request.entry.id requeued_entry) old.book e there in
+        subst (WasIn old.book) (sym w.2) (by w.0 w.1 (has_id request.entry.id w.0) refl)
+      where
+        is_it : (x : Held) → Contains old.book x → has_id request.entry.id x ≡ true → x ≡ request
+        is_it x here same = laws.one old.book x request may.ordered here its (ap (λ (n : ℕ). record { 0 = n }) (eqb-true x.entry.id.0 request.entry.id.0 same))
+
+        by : (x : Held) → Contains old.book x → (b : Bool) → has_id request.entry.id x ≡ b → WasIn old.book (if b then record x { entry = requeued_entry x.entry } else x)
+        by x here true same = record {
+          was = x;
+          there = here;
+          id = refl;
+          client = refl;
+          grant = refl;
+          port = refl;
+          op = refl;
+          revoked = refl;
+          waiting = λ waits. inr (ap (λ (y : Held). y.entry.revoked) (is_it x here same) ∙ plain);
+        }
+        by x here false same = was_itself old.book x here
+
+    goes_again : FitsEntry (disposition request.entry) request.entry → mid ≡ record old { book = map (at_entry request.entry.id requeued_entry) old.book } → disposition request.entry ≡ Requeue → HasMet request rest old mid
+    goes_again fit is again = subst (HasMet request rest old) (sym is) (record {
+      may = record {
+        here = λ e there. let w = of_rest e there in (laws.others old.book request.entry.id requeued_entry e w.0 (differs e there), w.1);
+        earlier = earlier;
+        ordered = laws.requeued old.book request.entry.id may.ordered (request, its, refl, issue.0, few);
+        accepted = laws.still_requeued old.table old.book request.entry.id may.accepted;
+      };
+      owners = refl;
+      from = requeued_was issue.2;
+      gone = λ o ends. let z : Requeue ≡ Complete o = sym again ∙ ends in absurd cc;
+      places = let less = requeued_issued port request.entry.id old.book in omega (arith, less);
+      fewer = λ q. requeued_issued q request.entry.id old.book;
+    })
+      where
+        issue : (request.entry.issued ≡ true) × ((request.entry.issues == 4) ≡ false) × (request.entry.revoked ≡ false)
+        issue = fit.again again
+
+        few : request.entry.issues < 4
+        few =
+            let most = (All-contains (λ (e : Held). HasFewIssues e.entry) old.book request may.ordered.issues its).0 in
+            let other = eqb-false request.entry.issues 4 issue.1 in omega (arith, most, other)
+
+    -- it is answered, and its loan is kept, or ends
+    loan_left : (kept : Bool) → EndsLoan kept request old mid → (mid.table.owners ≡ old.table.owners) × All (IsAccepted mid.table) (without_entry request.entry.id old.book)
+    loan_left true loan = (
+      ap (λ (table : Table). table.owners) loan.1,
+      subst (λ (table : Table). All (IsAccepted table) (without_entry request.entry.id old.book)) (sym loan.1)
+          (All-filter (λ (e : Held). not (has_id request.entry.id e)) (IsAccepted old.table) old.book may.accepted),
+    )
+    loan_left false loan = (loan.1.owners, laws.still_answered old.table mid.table old.book request its loan.1 may.accepted)
+
+    -- and then it is one loan more, and one issued request fewer
+    loan_placed : mid.book ≡ without_entry request.entry.id old.book → (kept : Bool) → (kept ≡ true → request.entry.issued ≡ true) → EndsLoan kept request old mid
+        → length mid.kept + issued_of port mid.book ≤ length old.kept + issued_of port old.book
+    loan_placed book true issued loan =
+        let longer : length mid.kept ≡ length old.kept + 1 = ap length loan.0 ∙ length-append old.kept (record { frames = request.frames; request = request.entry.id } ∷ []) in
+        let one : counts port request ≡ 1 =
+        ap (λ (own : Bool). cond own (cond request.entry.issued 1 0) 0) (eq-eqb request.entry.port.0 port.0 (ap (λ (p : Port). p.0) (may.here request (first_here request rest)).1))
+        ∙ ap (λ (b : Bool). cond b 1 0) (issued refl) in
+        let less = one_fewer port (λ (e : Held). not (has_id request.entry.id e)) old.book request its (ap not (eq-eqb request.entry.id.0 request.entry.id.0 refl)) in
+        let same = ap (issued_of port) book in
+        omega (arith, longer, one, less, same)
+    loan_placed book false issued loan =
+        let as_long = ap length loan.0 in
+        let less = fewer_issued port (λ (e : Held). not (has_id request.entry.id e)) old.book in
+        let same = ap (issued_of port) book in
+        omega (arith, as_long, less, same)
+
+    answered : mid.book ≡ without_entry request.entry.id old.book → (kept : Bool) → (kept ≡ true → request.entry.issued ≡ true) → EndsLoan kept request old mid → HasMet request rest old mid
+    answered book kept issued loan =
+        let l = loan_left kept loan in
+        record {
+          may = record {
+            here = λ e there.
+                let w = of_rest e there in
+                (subst (λ (list : List Held). Contains list e) (sym book) ((laws.left old.book request.entry.id e).1 (w.0, differs e there)), w.1);
+            earlier = earlier;
+            ordered = subst BookIsInOrder (sym book) (laws.fewer old.book request.entry.id may.ordered);
+            accepted = subst (All (IsAccepted mid.table)) (sym book) l.1;
+          };
+          owners = l.0;
+          from = λ e there. was_itself old.book e ((laws.left old.book request.entry.id e).0 (subst (λ (list : List Held). Contains list e) book there)).0;
+          gone = λ o ends x there. ((laws.left old.book request.entry.id x).0 (subst (λ (list : List Held). Contains list x) book there)).1;
+          places = loan_placed book kept issued loan;
+          fewer = λ q. subst (λ (list : List Held). issued_of q list ≤ issued_of q old.book) (sym book) (fewer_issued q (λ (e : Held). not (has_id request.entry.id e)) old.book);
+        }
+
+    meets_one : FitsEntry (disposition request.entry) request.entry → (f : Disposition) → disposition request.entry ≡ f → (told : List Reply) → IsResolved request f told old mid → HasMet request rest old mid
+    meets_one fit Wait is told meets = waited meets.1 (λ o ends. let z : Wait ≡ Complete o = sym is ∙ ends in absurd cc)
+    meets_one fit Requeue is told meets = goes_again fit meets.1 is
+    meets_one fit (Complete o) is told meets = answered meets.1 (quarantines_loan o request.entry) (kept_issued o request.entry) meets.2
+
+  -- ---- one after another
+
+  pub fated : (requests : List Held) → AllFit disposition requests → (replies : List Reply) (old new : Holdings) → MayDecide port requests old → AreResolved disposition requests replies old new
+      → IsLeft port disposition requests old new
+  fated [] fit replies old new may (none, is) = subst (IsLeft port disposition [] old) (sym is) (record {
+    ordered = may.ordered;
+    accepted = may.accepted;
+    owners = refl;
+    from = was_itself old.book;
+    gone = λ e o here. absurd (nowhere e here);
+    places = le_refl (length old.kept + issued_of port old.book);
+    fewer = λ q. le_refl (issued_of q old.book);
+  })
+  fated (request ∷ rest) fit replies old new may (mid, told, later, split, meets, more) =
+      let one : HasMet request rest old mid = meets_one request rest old mid may (fit request (first_here request rest)) (disposition request.entry) refl told meets in
+      let rests = fated rest (λ e there. fit e (contains_there request rest e there)) later mid new one.may more in
+      record {
+        ordered = rests.ordered;
+        accepted = rests.accepted;
+        owners = rests.owners ∙ one.owners;
+        from = λ e there. was_more old.book mid.book e one.from (rests.from e there);
+        gone = λ e o here ends x there. ⊎_elim
+            (λ (is : e ≡ request).
+            let w = rests.from x there in
+            let E : Held → Type 0 = λ y. disposition y.entry ≡ Complete o in
+            subst (λ (y : Held). x.entry.id ≢ y.entry.id) (sym is) (λ same. one.gone o (subst E is ends) w.was w.there (sym w.id ∙ same)))
+            (λ (later_on : Contains rest e). rests.gone e o later_on ends x there)
+            (contains_cases request rest e here);
+        places = let first = one.places in let more_places = rests.places in omega (arith, first, more_places);
+        fewer = λ q. let first = one.fewer q in let then_fewer = rests.fewer q in omega (arith, first, then_fewer);
+      }

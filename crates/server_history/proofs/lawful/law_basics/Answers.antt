@@ -1,0 +1,17 @@
+use Rattle.server_history.proofs.lawful.law_basics.Goals as goal
+
+pub returns : goal.returns
+returns c = record {
+  keeps = c.law_steps_keep.ensures;
+  was_on = c.law_steps_switch_nothing_on.ensures;
+  joined = c.law_steps_go_on.ensures.joined;
+  may = c.law_steps_go_on.ensures.may;
+  reached = c.law_steps_go_on.ensures.reached;
+  history_reached = c.law_histories_reach_their_machines.ensures;
+  one = λ m reached a b. c.law_one_id_is_in_the_book_once.ensures m a b reached;
+  ended_issued = c.law_ended_is_issued.ensures;
+  spares = c.law_steps_spare_the_book.ensures.spares;
+  found_later = c.law_steps_spare_the_book.ensures.later;
+  found_before = c.law_steps_spare_the_book.ensures.before;
+  does_append = c.law_accesses_compose.ensures.all;
+}

@@ -1,0 +1,11 @@
+use Rattle.server_history.proofs.lawful.law_living.Goals as goal
+
+pub returns : goal.returns
+returns c = record {
+  limits = c.law_limits_hold.ensures;
+  lived = c.law_living_was_accepted.ensures;
+  granted = c.law_accepted_is_granted.ensures;
+  shrunk = c.law_rows_shrink_and_owners_stay.ensures;
+  one = c.law_one_id_is_one_request.ensures;
+  answered = c.law_what_is_kept_was_answered.ensures;
+}

@@ -1,0 +1,5 @@
+use Rattle.server_history.proofs.start.NewServer.{new_well}
+use Rattle.server_history.proofs.laws.law_new_ready_ports_run_well.Goals as goal
+
+pub returns : goal.returns
+returns c = new_well (record { well = c.law_what_was_taken_over_may_be_served.ensures.well; recorded = c.law_what_was_taken_over_may_be_served.ensures.recorded; own = c.law_what_was_taken_over_may_be_served.ensures.own; shown = c.law_what_was_taken_over_may_be_served.ensures.shown })

@@ -1,5 +1,0 @@
-use Rattle.server_history.proofs.failed_reset.StalledCalls.{none_acceptable}
-use Rattle.server_history.proofs.stalled.stalled_servers_admit_none.Goals as goal
-
-pub returns : goal.returns
-returns c s r t fine = none_acceptable c.the_laws_below_hold.ensures s t r fine

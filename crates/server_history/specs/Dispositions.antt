@@ -1,0 +1,93 @@
+-- The unanswered requests of a port that was stopped are resolved in the machine, too (this project's own).
+use Rattle.std.specs.Prelude.{ℕ, Bool, ◌≡◌, ◌≢◌, ◌++◌, true, false, List, [], ◌∷◌, All, AllPairs, Contains}
+use Rattle.ata_types.specs.declared.Port.{Port}
+use Rattle.ata_types.specs.declared.request.Frame.{Frame}
+use Rattle.ata_types.specs.declared.request.Outcome.{Outcome}
+use Rattle.ata_types.specs.declared.request.Reply.{Reply}
+use Rattle.ata_types.specs.declared.request.RequestId.{RequestId}
+use Rattle.adapter.specs.Device.{Device}
+use Rattle.refinement.specs.Driver.{HasNoSlot, IsBacked, DriverState, DriverRelation}
+use Rattle.block_machine.specs.Events.{AllMay, Tells}
+use Rattle.block_machine.specs.Histories.{IsReachable}
+use Rattle.block_machine.specs.Left.{after}
+use Rattle.block_machine.specs.State.{Machine, Pending}
+use Rattle.block_machine.specs.Steps.{Step, Again, Answer}
+use Rattle.dma_frames.specs.Loan.{Lending}
+use Rattle.dma_frames.specs.Table.{lent_to}
+use Rattle.request_queue.specs.Entries.{Held, IsAccepted, IsEarlier, BookIsInOrder}
+use Rattle.request_queue.specs.Dispositions.{Holdings, quarantines_loan}
+use Rattle.request_queue.specs.Machine.{IsBook, IsEntry}
+use Rattle.request_queue.specs.declared.PendingRequest.{PendingRequest}
+use Rattle.request_queue.specs.declared.disposition.Disposition.{Disposition}
+use Rattle.request_queue.specs.declared.disposition.Disposition.TheVariants.{Complete, Requeue, Wait}
+use Rattle.server_history.specs.Server.{AreOfTwo, TellsGrant}
+
+-- the step is the server's: a request of the port waits again, or is answered
+abbrev pub DecidesOn : Port → Step → Type 0
+DecidesOn port (Again e) = e.request.port ≡ port
+DecidesOn port (Answer e outcome) = e.request.port ≡ port
+DecidesOn port step = ⊥
+
+-- it ends with its frames lent still
+abbrev pub keeps_fate : Disposition → PendingRequest → Bool
+keeps_fate (Complete outcome) e = quarantines_loan outcome e
+keeps_fate _ e = false
+
+-- the loan of a request that the machine keeps
+abbrev pub loan_of : Pending → Lending
+loan_of e = record { frames = e.request.asked.frames.items; request = e.request.id }
+
+-- the loans of these, the last first
+abbrev pub loans_of : List Pending → List Lending
+loans_of [] = []
+loans_of (e ∷ rest) = loans_of rest ++ loan_of e ∷ []
+
+-- The machine has the book and the loans. These are requests of the port in the book, each with a mark that tells
+-- whether the machine has its grant; and no slot serves one of them whose loan isn't kept.
+pub record MayMeet (port : Port) (disposition : PendingRequest → Disposition) (requests : List Held) (now : Holdings)
+    (k : DriverState)
+    (m : Machine) : Type 0 where
+  pub reached : IsReachable m
+  pub knows : DriverRelation m k
+  pub book : IsBook now.book m.book
+  pub lent : (frame : Frame) → m.lent frame ≡ lent_to now.table frame
+  pub ordered : BookIsInOrder now.book
+  pub accepted : All (IsAccepted now.table) now.book
+  pub here : (e : Held) → Contains requests e → Contains now.book e × (e.entry.port ≡ port)
+  pub marked : (e : Held) → Contains requests e → TellsGrant m.rows e.entry
+  pub earlier : AllPairs IsEarlier requests
+  pub unserved : (e : Held) → Contains requests e → keeps_fate (disposition e.entry) e.entry ≡ false
+      → HasNoSlot k.uses e.entry.id
+
+-- the request is decided on, and its loan isn't kept
+abbrev pub IsLetGo : (PendingRequest → Disposition) → Held → Type 0
+IsLetGo disposition e = (disposition e.entry ≢ Wait) × (keeps_fate (disposition e.entry) e.entry ≡ false)
+
+-- They are resolved by steps that decide on requests of the port, after which the machine has the book and the
+-- loans that are left. Those whose loans are kept are kept in the machine beside those that were, and each has one more
+-- loan. What is parked of the port was before, and is none of those that were let go.
+pub record MeetsInMachine (port : Port) (disposition : PendingRequest → Disposition) (requests : List Held)
+    (replies : List Reply)
+    (old new : Holdings) (k : DriverState) (m : Machine) : Type 0 where
+  pub steps : List Step
+  pub parked : ℕ → List RequestId
+  pub may : AllMay m steps
+  pub own : All (DecidesOn port) steps
+  pub backed : (d : Device) → IsBacked d d m steps
+  pub knows : DriverRelation (after m steps) (record k { parked = parked })
+  pub others : (q : ℕ) → q ≢ port.0 → parked q ≡ k.parked q
+  pub still : (id : RequestId) → Contains (parked port.0) id → Contains (k.parked port.0) id
+      × ((e : Held) → Contains requests e → IsLetGo disposition e → e.entry.id ≢ id)
+  pub book : IsBook new.book (after m steps).book
+  pub lent : (frame : Frame) → (after m steps).lent frame ≡ lent_to new.table frame
+  pub held : List Pending
+  pub kept : (after m steps).kept ≡ held ++ m.kept
+  pub loans : new.kept ≡ old.kept ++ loans_of held
+  pub two : AllPairs AreOfTwo (loans_of held)
+  pub whose : (e : Pending) → Contains held e → (request : Held) × Contains requests request × IsEntry request e
+      × (keeps_fate (disposition request.entry) request.entry ≡ true)
+  pub answered : (e : Pending) (outcome : Outcome) → Contains steps (Answer e outcome) → (request : Held)
+      × Contains requests request × IsEntry request e × (disposition request.entry ≡ Complete outcome)
+  pub again : (e : Pending) → Contains steps (Again e) → (request : Held) × Contains requests request
+      × IsEntry request e × (disposition request.entry ≡ Requeue)
+  pub tells : Tells steps replies

@@ -1,0 +1,187 @@
+-- How the error of a port is handled: a command failed, its link or host bus did, its disk was lost, or its request
+-- is hung; and what becomes of its requests (this project's own).
+use Rattle.std.specs.Prelude.{ℕ, Bool, true, ◌≡◌, ◌≢◌, ◌⊎◌, ◌<◌, ◌≤◌, ◌++◌, List, Option, Some, None, AllPairs, IsPermutation, filter, length, map, slice_set}
+use Rattle.ata_types.specs.declared.Port.{Port}
+use Rattle.ata_types.specs.declared.PortState.TheVariants.{Dead as DeadState}
+use Rattle.ata_types.specs.declared.request.Reply.{Reply}
+use Rattle.hba_regs.specs.Bits.{bit}
+use Rattle.adapter.specs.Access.{Access}
+use Rattle.adapter.specs.Device.{Device}
+use Rattle.block_machine.specs.declared.due.QueueMode.{QueueMode}
+use Rattle.error_log.specs.declared.FailedSlot.{FailedSlot}
+use Rattle.error_recovery.specs.Recovery.{RecoversOrStops, TellsRecovery}
+use Rattle.error_recovery.specs.declared.Next.{Next}
+use Rattle.error_recovery.specs.declared.Next.TheVariants as next
+use Rattle.error_recovery.specs.declared.Recovered.{Recovered}
+use Rattle.host_boot.specs.Again.{BootsAgain, BootsIfThere}
+use Rattle.host_boot.specs.Taken.{probe_result_of, wanted_of}
+use Rattle.host_boot.specs.declared.Booted.{Booted}
+use Rattle.host_boot.specs.declared.ProbeResult.{ProbeResult}
+use Rattle.host_boot.specs.declared.ProbeResult.TheVariants.{Ready, Unready}
+use Rattle.identify.specs.declared.DiskInfo.{DiskInfo}
+use Rattle.identify.specs.declared.wanted.Wanted.{Wanted}
+use Rattle.ncq.specs.Masks.{ReadsDone}
+use Rattle.port_control.specs.declared.Running as running_token
+use Rattle.port_events.specs.Looks.{LooksAt}
+use Rattle.port_events.specs.declared.PortEvent.TheVariants as look
+use Rattle.request_queue.specs.Entries.{Held, IsEarlier, is_of}
+use Rattle.request_queue.specs.Dispositions.{Holdings, AreResolved, disposition_of}
+use Rattle.request_queue.specs.declared.disposition.FailedRequest as disposition
+use Rattle.request_queue.specs.declared.disposition.Revalidation.{Revalidation}
+use Rattle.request_queue.specs.declared.disposition.Revalidation.TheVariants.{SameDisk, DiskLost, Dead}
+use Rattle.slots.specs.Uses.{PortSlots, use_at}
+use Rattle.slots.specs.declared.SlotUse.{SlotUse}
+use Rattle.server_history.specs.Served.{AnswersEach, IsMaskOf, IssuesAll, done_reply}
+use Rattle.port_events.specs.declared.PortError.{PortError}
+use Rattle.port_events.specs.declared.PortError.TheVariants.{BusError, TaskFileError, TimedOut, LinkChanged}
+use Rattle.server_history.specs.Server.{ServerState, kept_at, mode_found, slots_at, used_for}
+
+-- ---- a port's error is handled
+
+-- How the trouble is found out: a look at the port tells that a command had failed, or the link or the host's bus, or
+-- that the disk was lost. That a request is hung its age tells, and the port isn't looked at.
+abbrev pub IsFoundOut : Port → PortError → Device → Device → Type 0
+IsFoundOut port TaskFileError old seen = LooksAt port look.TaskFileError old seen
+IsFoundOut port BusError old seen = LooksAt port look.BusError old seen
+IsFoundOut port LinkChanged old seen = LooksAt port look.LinkChanged old seen
+IsFoundOut port TimedOut old seen = seen ≡ old
+
+-- nobody is named, and the port doesn't run
+abbrev pub EndsStopped : Recovered → Type 0
+EndsStopped result = (result.failed ≡ None) × ((token : running_token.Running) → result.next ≢ next.Running token)
+
+-- What is told then. Where a command had failed, the port was recovered. Where its link or the host's bus had, its disk
+-- was lost, or a request is hung, the port was stopped.
+abbrev pub TellsErrorHandling : PortError → Port → ℕ → Bool → Recovered → List Access → Device → Device → Type 0
+TellsErrorHandling TaskFileError port outstanding queued result accesses old new =
+    TellsRecovery port outstanding queued result
+    accesses old new
+TellsErrorHandling port_error port outstanding queued result accesses old new = EndsStopped result
+
+-- each used slot has a queued command, or each has a plain one
+abbrev pub AreQueued : Bool → PortSlots → Type 0
+AreQueued queued slots = (slot : ℕ) (used : SlotUse) → use_at slots slot ≡ Some used → used.queued ≡ queued
+
+-- Trouble was found out. The masks were read; what was done was answered, in order of acceptance, and no slot of it is
+-- in use any more; and the port's error was handled, with the commands of the other used slots outstanding. So it came
+-- to this server, and then to this device.
+pub record IsErrorHandled (port : Port) (old mid : ServerState) (new : Device) : Type 0 where
+  pub port_error : PortError
+  pub seen : Device
+  pub finds : IsFoundOut port port_error old.device seen
+  pub mask : ℕ
+  pub its : IsMaskOf (slots_at old.slots port.0) mask
+  pub done : ℕ
+  pub found : Device
+  pub reads : ReadsDone port mask done seen found
+  pub requests : List Held
+  pub ordered : AllPairs IsEarlier requests
+  pub each : AnswersEach port done requests (record old { device = found }) mid
+  pub free : (slot : ℕ) → slot < 32 → bit done slot ≡ true → used_for mid.slots port.0 slot ≡ None
+  pub outstanding : ℕ
+  pub left : IsMaskOf (slots_at mid.slots port.0) outstanding
+  pub queued : Bool
+  pub alike : AreQueued queued (slots_at mid.slots port.0)
+  pub result : Recovered
+  pub handling : RecoversOrStops port outstanding queued result mid.device new
+  pub tells : TellsErrorHandling port_error port outstanding queued result handling.accesses mid.device new
+
+-- ---- what it is then
+
+-- It is booted; one whose disk was lost only if a device shows.
+abbrev pub BootsAfter : PortError → Wanted → Port → Booted → Device → Device → Type 0
+BootsAfter LinkChanged wanted port booted old new = BootsIfThere wanted port booted old new
+BootsAfter port_error wanted port booted old new = BootsAgain wanted port booted old new
+
+-- It is found to be this: what it was, where it runs; what its boot has found, where it has to be booted; or dead.
+abbrev pub IsRevalidated : Wanted → Port → PortError → DiskInfo → Next → Device → Device → ProbeResult → Type 0
+IsRevalidated wanted port port_error was (next.Running token) old new found = (found ≡ Ready was) × (new ≡ old)
+IsRevalidated wanted port port_error was (next.Restart token) old new found = (booted : Booted) × (booted.found ≡ found)
+    × BootsAfter port_error wanted port booted old new
+IsRevalidated wanted port port_error was next.Dead old new found = (found ≡ Unready DeadState) × (new ≡ old)
+
+-- the disk has the serial number and the size of the one that was there
+abbrev pub IsSameDisk : DiskInfo → DiskInfo → Type 0
+IsSameDisk was info = (info.serial ≡ was.serial) × (info.sectors ≡ was.sectors)
+
+-- What its requests may expect. Where its disk was lost, it doesn't count that the same one is there again.
+abbrev pub IsRevalidation : PortError → DiskInfo → ProbeResult → Revalidation → Type 0
+IsRevalidation port_error was found SameDisk = (port_error ≢ LinkChanged)
+    × ((info : DiskInfo) × (found ≡ Ready info) × IsSameDisk was info)
+IsRevalidation port_error was found DiskLost = (found ≢ Unready DeadState)
+    × ((port_error ≡ LinkChanged) ⊎ ((info : DiskInfo) → found ≡ Ready info → IsSameDisk was info → ⊥))
+IsRevalidation port_error was found Dead = found ≡ Unready DeadState
+
+-- ---- what becomes of its requests
+
+-- the request whose command failed is that of the slot that recovery names, with status and error
+abbrev pub IsFailed : PortSlots → Option FailedSlot → Option disposition.FailedRequest → Type 0
+IsFailed slots None failed = failed ≡ None
+IsFailed slots (Some its) failed =
+    (used : SlotUse) × (use_at slots its.slot.0 ≡ Some used)
+    × (failed ≡ Some (record { id = used.id; status = its.status; error = its.error }))
+
+-- the port's requests, in order of acceptance
+abbrev pub requests_of : Port → List Held → List Held
+requests_of port book = filter (λ (e : Held). is_of port e.entry) book
+
+-- what the server holds of all ports' requests, and keeps of the port's loans
+abbrev pub holdings_of : Port → ServerState → Holdings
+holdings_of port s = record { book = s.book; table = s.table; kept = kept_at s.kept port.0 }
+
+-- no slot of the port is used, and as many are usable as its mode has
+pub record AreUnused (mode : QueueMode) (slots : PortSlots) : Type 0 where
+  pub usable : slots.usable ≡ mode.usable
+  pub places : length slots.places ≡ 32
+  pub free : (slot : ℕ) → use_at slots slot ≡ None
+
+-- The server, with the port found so and its last disk remembered, these slots, and these holdings.
+abbrev pub with_port_found : Port → Device → ProbeResult → DiskInfo → QueueMode → PortSlots → Holdings → ServerState
+    → ServerState
+with_port_found port device found was mode slots now s = record s {
+  device = device;
+  table = now.table;
+  ports = slice_set s.ports port.0 found;
+  remembered = slice_set s.remembered port.0 (Some was);
+  modes = slice_set s.modes port.0 mode;
+  slots = slice_set s.slots port.0 slots;
+  kept = slice_set s.kept port.0 now.kept;
+  book = now.book;
+}
+
+-- The port's error was handled, and it was booted where it had to be; and its requests were resolved: the one that
+-- failed is told so, and the others what their port is then. So it came to this server, by these replies after those
+-- that tell what was done.
+pub record HasResolved (port : Port) (later : List Reply) (old new : ServerState) : Type 0 where
+  pub was : DiskInfo
+  pub ready : probe_result_of old.ports port.0 ≡ Ready was
+  pub mid : ServerState
+  pub device : Device
+  pub error_handled : IsErrorHandled port old mid device
+  pub found : ProbeResult
+  pub is : IsRevalidated
+      (wanted_of old.wanted port.0) port error_handled.port_error was error_handled.result.next device new.device found
+  pub mode : QueueMode
+  pub mode_is : mode ≡ mode_found new.device.cap found
+  pub slots : PortSlots
+  pub unused : AreUnused mode slots
+  pub failed : Option disposition.FailedRequest
+  pub names : IsFailed (slots_at mid.slots port.0) error_handled.result.failed failed
+  pub revalidation : Revalidation
+  pub expects : IsRevalidation error_handled.port_error was found revalidation
+  pub now : Holdings
+  pub meets : AreResolved (disposition_of failed revalidation) (requests_of port mid.book) later
+      (holdings_of port mid) now
+  pub server : new ≡ with_port_found port new.device found was mode slots now mid
+
+-- ---- the whole
+
+-- A port's turn in which trouble was found out: it was handled, its requests were resolved, and then what is due on it
+-- was issued. The replies stand in order of acceptance.
+pub record HandlesPortError (port : Port) (replies : List Reply) (old new : ServerState) : Type 0 where
+  pub later : List Reply
+  pub mid : ServerState
+  pub settled : HasResolved port later old mid
+  pub issued : IssuesAll port mid new
+  pub told : IsPermutation replies (map done_reply settled.error_handled.requests ++ later)
+  pub ordered : AllPairs (λ (a b : Reply). a.id.0 ≤ b.id.0) replies

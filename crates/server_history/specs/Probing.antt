@@ -1,0 +1,71 @@
+-- How a port that isn't ready is looked at, and booted again where its disk may have come, or may be another by now
+-- (this project's own).
+use Rattle.std.specs.Prelude.{Bool, true, false, ◌≡◌, slice_set}
+use Rattle.ata_types.specs.declared.Port.{Port}
+use Rattle.ata_types.specs.declared.PortState.{PortState}
+use Rattle.ata_types.specs.declared.PortState.TheVariants.{Absent, Dead, Foreign, Unfit}
+use Rattle.adapter.specs.Device.{Device}
+use Rattle.block_machine.specs.declared.due.QueueMode.{QueueMode}
+use Rattle.error_recovery.specs.Recovery.{StopsForReset}
+use Rattle.error_recovery.specs.declared.Next.{Next}
+use Rattle.error_recovery.specs.declared.Next.TheVariants as next
+use Rattle.error_recovery.specs.declared.Recovered.{Recovered}
+use Rattle.host_boot.specs.Again.{BootsAgain}
+use Rattle.host_boot.specs.Taken.{probe_result_of, wanted_of}
+use Rattle.host_boot.specs.declared.Booted.{Booted}
+use Rattle.host_boot.specs.declared.ProbeResult.{ProbeResult}
+use Rattle.host_boot.specs.declared.ProbeResult.TheVariants.{Unready}
+use Rattle.identify.specs.declared.wanted.Wanted.{Wanted}
+use Rattle.port_events.specs.Glances.{FindsChange, FindsDevice}
+use Rattle.slots.specs.Uses.{PortSlots}
+use Rattle.server_history.specs.ErrorHandling.{AreUnused}
+use Rattle.server_history.specs.Server.{ServerState, mode_found}
+
+-- What a port in such a state is looked at for, and whether that was found: an absent one for a device that shows; one
+-- whose disk isn't served, for a change of its link, or a device that doesn't show. A dead port isn't looked at.
+abbrev pub IsLookedAt : PortState → Port → Bool → Device → Device → Type 0
+IsLookedAt Absent port result old new = FindsDevice port result old new
+IsLookedAt Foreign port result old new = FindsChange port result old new
+IsLookedAt (Unfit cause) port result old new = FindsChange port result old new
+IsLookedAt state port result old new = (result ≡ false) × (new ≡ old)
+
+-- What a port that was stopped is found to be: what its boot has found; or dead.
+abbrev pub IsProbedAnew : Wanted → Port → Next → Device → Device → ProbeResult → Type 0
+IsProbedAnew wanted port (next.Running token) old new found = ⊥
+IsProbedAnew wanted port (next.Restart token) old new found = (booted : Booted) × (booted.found ≡ found)
+    × BootsAgain wanted port booted old new
+IsProbedAnew wanted port next.Dead old new found = (found ≡ Unready Dead) × (new ≡ old)
+
+-- The port was stopped, with no command outstanding, and booted. It is found to be this then, and takes commands so.
+pub record ProbesAnew (wanted : Wanted) (port : Port) (found : ProbeResult) (mode : QueueMode)
+    (old new : Device) : Type 0 where
+  pub result : Recovered
+  pub stopped : Device
+  pub gives_up : StopsForReset port 0 true result old stopped
+  pub is : IsProbedAnew wanted port result.next stopped new found
+  pub mode_is : mode ≡ mode_found new.cap found
+
+-- So it was, and uses no slot. (The disk that it was last ready with is remembered, if there was one.)
+pub record BootsOnce (port : Port) (old new : ServerState) : Type 0 where
+  pub found : ProbeResult
+  pub mode : QueueMode
+  pub anew : ProbesAnew (wanted_of old.wanted port.0) port found mode old.device new.device
+  pub slots : PortSlots
+  pub unused : AreUnused mode slots
+  pub server : new ≡ record old {
+    device = new.device;
+    ports = slice_set old.ports port.0 found;
+    modes = slice_set old.modes port.0 mode;
+    slots = slice_set old.slots port.0 slots;
+  }
+
+-- The turn of a port that isn't ready, in a service: it is looked at, and booted where that was found which it was
+-- looked at for.
+pub record ProbesPort (port : Port) (old new : ServerState) : Type 0 where
+  pub state : PortState
+  pub is : probe_result_of old.ports port.0 ≡ Unready state
+  pub result : Bool
+  pub seen : Device
+  pub looks : IsLookedAt state port result old.device seen
+  pub left : result ≡ false → new ≡ record old { device = seen }
+  pub boots : result ≡ true → BootsOnce port (record old { device = seen }) new
