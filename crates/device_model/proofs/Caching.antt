@@ -7,7 +7,7 @@ use Rattle.std.proofs.lemmas.Option.{same_Some}
 use Rattle.sector_store.specs.Stores.{FailsOn, replaced}
 use Rattle.sector_store.specs.declared.store.Failures.{Failures}
 use Rattle.device_model.proofs.Absurd.{fun_ext, some-none}
-use Rattle.device_model.specs.Cached.{HasOldRoom, TurnsBack, WritesFail, lasting_in, sector_told}
+use Rattle.device_model.specs.Cached.{HasOldRoom, TurnsBack, WritesFail, sector_told}
 use Rattle.device_model.specs.declared.cache.Cache.{Cache}
 use Rattle.device_model.specs.OldSectors.{AreRising, KeepsOnly, old_number_at, old_of, with_old}
 use Rattle.device_model.specs.declared.old_sectors.OldSector.{OldSector}

@@ -283,7 +283,8 @@ impl<S: SectorStore> Bay<S> {
     }
 
     /// Finds memory for the old bytes of so many sectors more, if the disks have a cache; `false` says that there was
-    /// none.
+    /// none. It is asked for each sector that is moved, so it stands in its callers' code.
+    #[inline(always)]
     pub fn reserve(&mut self, changes: u32) -> bool
         ensures same { KeepsTheSame self.old.cache self.new.cache }
         ensures kept { (n : ℕ) → HasOldRoom self.old.cache n → HasOldRoom self.new.cache n }

@@ -33,6 +33,8 @@ impl Cache {
     }
 
     /// Finds memory for the old bytes of so many sectors more, if it keeps any; `false` says that there was none.
+    /// It stands in its callers' code, as `Bay::reserve`.
+    #[inline(always)]
     pub fn reserve(&mut self, more: usize) -> bool
         ensures same { KeepsTheSame self.old self.new }
         ensures kept { (n : ℕ) → HasOldRoom self.old n → HasOldRoom self.new n }

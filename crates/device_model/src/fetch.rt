@@ -334,7 +334,9 @@ pub struct PiecePlace {
     pub behind: u32,
 }
 
-/// The place of a piece, if PRDs have so many.
+/// The place of a piece, if PRDs have so many. It stands for itself, since it goes over PRDs: callers that look for a
+/// place once for many sectors would have that in their code else.
+#[inline(never)]
 pub fn place_at(prds: &[Prd], number: u32) -> Option<PiecePlace>
     requires { length prds.now ≤ MOST_REQUEST_FRAMES }
     ensures found { IfSome result (λ place. (number < length (pieces prds.now))

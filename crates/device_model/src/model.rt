@@ -385,21 +385,21 @@ impl<S: SectorStore> Model<S> {
             → IfSome known.new (λ n. (t : TakenCommand) × IsNext self.new.hardware port.0 slot.0 n t) }
     {
         let place = usize::from(port.0);
-        if place >= PORTS || !has_disks(self.bays.as_slice(), place) {
-            return StepOutcome::Left;
-        }
-        // A sector that was written can't be taken back, so the memory of its entry is found first.
-        let room = self.hardware.reserve(1);
-        let Some(next) = self.hardware.next_move(port.0, slot.0, *known) else {
-            return StepOutcome::Left;
-        };
-        if !room {
-            self.hardware.starved = true;
+        if place >= PORTS || place >= self.bays.len() {
             return StepOutcome::Left;
         }
         let Some(bay) = &mut self.bays[place] else {
             return StepOutcome::Left;
         };
+        let Some(next) = self.hardware.next_move(port.0, slot.0, *known) else {
+            return StepOutcome::Left;
+        };
+        // A sector that was written can't be taken back, so the memory of its entry is found first.
+        let room = self.hardware.reserve(1);
+        if !room {
+            self.hardware.starved = true;
+            return StepOutcome::Left;
+        }
         if !next.is_on(bay.sectors()) {
             let _failed = self.fail(port, slot, PAST_THE_DISK, false);
             return StepOutcome::Failed;

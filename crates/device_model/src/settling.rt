@@ -25,7 +25,7 @@ impl PortModel {
         ensures fallen { self.new.fre ≡ false → self.new.cr ≡ false → self.new.fr ≡ true → false ≡ true }
         ensures engine { (self.new.st ≡ self.old.st) × (self.new.cr ≡ self.old.cr) }
     {
-        if !self.fre && !self.cr && self.fr {
+        if self.fr && !self.fre && !self.cr {
             self.fr = false;
         }
     }
@@ -35,7 +35,7 @@ impl PortModel {
         ensures { IsTrue result ↔ ((self.now.present ≡ true) × (self.now.sctl_det % 16 ≡ 0)
             × (self.now.link_due ≡ true)) }
     {
-        self.present && self.sctl_det % 16 == 0 && self.link_due
+        self.link_due && self.present && self.sctl_det % 16 == 0
     }
 
     /// The link comes up.

@@ -78,7 +78,8 @@ impl NextMove {
     pub fn is_on(self, sectors: u64) -> bool
         ensures { IsTrue result ↔ (is_ranged (transfer_operation self.transfer) ≡ true → self.sector < sectors) }
     {
-        !self.transfer.is_ranged() || self.sector < sectors
+        // A sector that is named is on the disk, but for faults, and 0 is where none is named: so one look is enough.
+        self.sector < sectors || !self.transfer.is_ranged()
     }
 
     /// The move of the piece behind it, if that needs no look.
@@ -90,14 +91,16 @@ impl NextMove {
           behind = self.behind - 1;
         })) }
     {
-        let behind = self.behind.checked_sub(1)?;
+        if self.behind == 0 {
+            return None;
+        }
         let sector = self.sector.checked_add(1)?;
         let address = self.address.checked_add(512)?;
         Some(NextMove {
             transfer: self.transfer,
             sector,
             address,
-            behind,
+            behind: self.behind - 1,
         })
     }
 }
@@ -405,8 +408,9 @@ impl Hardware {
         }
     }
 
-    /// Looks for the next move of a slot's command. It is entered once for each region.
-    #[inline(never)]
+    /// Looks for the next move of a slot's command. It stands in its callers' code, so that a move that is known stays
+    /// in registers there: `place_at` alone is called, once for each region.
+    #[inline(always)]
     fn find_move(&self, port: u8, slot: u8) -> Option<NextMove>
         requires port { port < 4 }
         requires slot { slot < 32 }
@@ -456,7 +460,7 @@ impl Hardware {
             direction: next.transfer.direction(),
             bytes: Snapshot::of(piece_in(&self.memory, next)),
         });
-        let _recorded = record(&mut self.tape, &mut self.starved, entry);
+        self.tape.push_reserved(entry);
         let model = &mut self.ports[usize::from(port)];
         model.advance(slot, next.transfer, piece_in(&self.memory, next));
         next.after()

@@ -1,6 +1,5 @@
-use Rattle.std.proofs.Common.{rules, ℕ, ◌+◌, List, [], ◌∷◌, ◌++◌, ◌∙◌, ◌≡◌, ◌<◌, Some, sym, ap, subst, length, arith}
+use Rattle.std.proofs.Common.{rules, ℕ, ◌+◌, List, [], ◌∷◌, ◌++◌, ◌∙◌, ◌≡◌, ◌<◌, Some, sym, ap, subst, length}
 use Rattle.std.specs.Prelude.{slice_index_or, slice_set}
-use Rattle.std.specs.Vec.{vec_len, vec_capacity}
 use Rattle.std.proofs.lemmas.Option.{IfSome_then}
 use Rattle.adapter.specs.Commands.{is_ranged}
 use Rattle.adapter.specs.Memory.{bytes_at}
@@ -33,17 +32,16 @@ returns-clause-moved c = λ old o t is next.
     subst (λ (x : Hardware). held_in (slice_index_or x.ports c.args.port blank_port).taken c.args.slot ≡ Some t)
     (sym is.rest) next.holds.held in
     let here = rw (← c.from.ensures) at held in
-    let room : vec_len h.tape < vec_capacity h.tape = omega (arith, c.requires.room) in
-    let noted : c.record-recorded.new.tape.items
+    let noted : c.push_reserved.new.self.items
     ≡ h.tape.items ++ entry.Move (moved_by c.args.port c.args.slot c.operation.result c.args.next.sector
     c.args.next.address c.direction.result bytes) ∷ [] =
-    c.record-recorded.ensures.added (c.record-recorded.ensures.room room)
+    c.push_reserved.ensures.items
     ∙ ap (λ (l : List ℕ). h.tape.items ++ entry.Move (moved_by c.args.port c.args.slot c.operation.result
     c.args.next.sector c.args.next.address c.direction.result l) ∷ [])
     (c.of.ensures ∙ first) in
     let moved = (rw (at_port h.ports c.from.result c.index-self-from.result small) at
     (c.advance.ensures.moved (o.media c.from.result) t)) here in
-    port_moves_over old h o c.from.result c.args.port c.args.slot c.args.next _ t c.record-recorded.new.tape
+    port_moves_over old h o c.from.result c.args.port c.args.slot c.args.next _ t c.push_reserved.new.self
     c.operation.result c.direction.result is
     c.from.ensures small next (rw again at moved) c.operation.ensures c.direction.ensures noted
 
@@ -55,8 +53,8 @@ returns-clause-after c =
     let u : TakenCommand = record t { moved = t.moved + 1 } in
     let last : Hardware = record h {
       ports = slice_set h.ports c.from.result c.advance.new.self;
-      tape = c.record-recorded.new.tape;
-      starved = c.record-recorded.new.starved;
+      tape = c.push_reserved.new.self;
+      starved = h.starved;
     } in
     let small : c.from.result < length h.ports = search rules in
     let here = rw (← c.from.ensures) at is.holds.held in
@@ -65,7 +63,7 @@ returns-clause-after c =
     let ranged = is.behind.ranged one.0 in
     let no_trim : c.args.next.transfer ≡ Trim → ⊥ = λ (e : c.args.next.transfer ≡ Trim).
     true-false ranged (ap (λ (k : Transfer). is_ranged (transfer_operation k)) (sym is.transfer_is ∙ e)) in
-    let next = next_after h c.from.result c.args.port c.args.slot c.args.next t _ c.record-recorded.new.tape c.record-recorded.new.starved is one.0 c.from.ensures small
+    let next = next_after h c.from.result c.args.port c.args.slot c.args.next t _ c.push_reserved.new.self h.starved is one.0 c.from.ensures small
     (rw (at_port h.ports c.from.result c.index-self-from.result small) at c.advance.ensures.rest)
     ((rw (at_port h.ports c.from.result c.index-self-from.result small) at (c.advance.ensures.held t)) here no_trim) in
     (u, subst (λ (x : NextMove). IsNext last c.args.port c.args.slot x u) (sym one.1) next))

@@ -1,5 +1,4 @@
 use Rattle.std.proofs.lemmas.Bool.{cases_lt}
-use Rattle.std.proofs.lemmas.Option.{IfSome_then}
 use Rattle.std.specs.Prelude.{IfSome, option_map, slice_set}
 use Rattle.std.specs.Vec.{with_item}
 use Rattle.std.proofs.Common.{Bool, Some, Option, refl, ◌++◌, ℕ, true, false, ◌≡◌, ◌<◌, ◌≤◌, ◌∙◌, ◌+◌, ◌^◌, ◌∷◌, [], length, sym, ap, subst, arith, inl, inr}
@@ -25,9 +24,11 @@ use Rattle.device_model.specs.View.{Media, transfer_operation, taken_of}
 use Rattle.device_model.specs.declared.port.Transfer.{Transfer}
 use Rattle.device_model.specs.Whole.{Outside, device_of, outside_after}
 use Rattle.device_model.specs.declared.bay.Bay.{Bay}
+use Rattle.device_model.specs.declared.hardware.Hardware.{Hardware}
 use Rattle.device_model.specs.declared.model.Model.{Model}
+use Rattle.device_model.specs.declared.steps.NextMove.{NextMove}
 use Rattle.device_model.specs.declared.port.TakenCommand.{TakenCommand}
-use Rattle.device_model.proofs.TwoDisks.{found_bay, has_disks, outside_kept, outside_moved, seat_is, seated_here, seated_others, seated_same, store_fine, store_keeps, store_says, store_whichs}
+use Rattle.device_model.proofs.TwoDisks.{has_disks, outside_kept, outside_moved, seat_is, seated_here, seated_others, seated_same, store_fine, store_keeps, store_says, store_whichs}
 use Rattle.device_model.proofs.Doing.{IsFailed, is_failed}
 use Rattle.device_model.proofs.Exchanging.{next_grown, next_over, room_over, starved_over}
 use Rattle.device_model.proofs.Faults.{did_fail, fails_to_move}
@@ -41,74 +42,69 @@ use Rattle.device_model.proofs.Telling.{gains_moved, gains_none}
 use Rattle.device_model.proofs.model.Model.move_piece.Given.{Over}
 use Rattle.device_model.proofs.model.Model.move_piece.Goals as goal
 
+-- the next move is one still, where the tape has grown
+grow : {old h : Hardware} {next : NextMove} → (port slot : ℕ) → h ≡ record old { tape = h.tape } →
+    (t : TakenCommand) × IsNext old port slot next t → (t : TakenCommand) × IsNext h port slot next t
+grow port slot is found = (found.0, next_grown port slot is found.1)
+
 -- there is no move that is possible
-pub returns-in_default-clause-answers : goal.returns-in_default-clause-answers
-returns-in_default-clause-answers g c =
+pub returns-in_default-next_move-clause-answers : goal.returns-in_default-next_move-clause-answers
+returns-in_default-next_move-clause-answers g c =
     let m = c.args.self.now in
+    let a = c.in-Some.bay in
     let o : Outside = outside_at g.S.SectorStore.size g.S.SectorStore.told m in
-    let starved = c.reserve-room.ensures.starved in
-    record {
-      device = c.reserve-room.ensures.same o;
-      held = refl;
-      says = refl;
-      which = refl;
-      others = λ _ _. refl;
-      keeps = record { identities = λ _ _. refl; out = λ _ _ _. refl; caches = λ _. refl; queue = refl; accesses = refl };
-      disks = λ _. refl;
-      why = λ served may.
-          absurd (
-          let few : length m.hardware.memory.items ≤ 2 ^ 32 = served in
-          let size : length c.reserve-room.new.self.memory.items ≡ length m.hardware.memory.items = ap (λ (d : Device). d.size) (c.reserve-room.ensures.same o) in
-          let found = move_fits c.reserve-room.new.self o _ c.args.port.0 c.args.slot.0 may.1 (c.reserve-room.ensures.same o) may.2 in
-          c.next_move.ensures.none c.in_default.is found.r found.holds found.left (let there = found.inside in omega (arith, size, few, there)) found.inside);
-      starved_on = λ yes. starved ∙ yes;
-      starved_since = λ yes. inl (sym starved ∙ yes);
-    }
+    let was = seat_is m c.from-place.result c.args.port.0 c.index_mut.result.now a c.from-place.ensures
+    (omega (arith, c.if-place-len.false, c.len.ensures)) c.index_mut.ensures.value c.in-Some.is in
+    grown_left g.S.SectorStore.size g.S.SectorStore.told g.S.SectorStore.failures m _ c.args.port.0 a a.cache was
+    (ap (λ k. slice_set m.bays.items k (Some a)) c.from-place.ensures)
+    (record { is_on = refl; items = refl }) (asked.Move c.args.port c.args.slot) refl refl refl refl refl
+    (λ served may.
+    absurd (
+    let few : length m.hardware.memory.items ≤ 2 ^ 32 = served in
+    let found = move_fits m.hardware o _ c.args.port.0 c.args.slot.0 may.1 refl may.2 in
+    c.next_move.ensures.none c.in_default-next_move.is found.r found.holds found.left
+    (let there = found.inside in omega (arith, few, there)) found.inside))
+    (λ yes. yes) (λ yes. inl yes)
 
 -- the tape had no memory for it, and that is told
 pub returns-then-not-room-clause-answers : goal.returns-then-not-room-clause-answers
 returns-then-not-room-clause-answers g c =
     let m = c.args.self.now in
+    let a = c.in-Some.bay in
     let o : Outside = outside_at g.S.SectorStore.size g.S.SectorStore.told m in
-    let bay = found_bay m c.from-place.result c.args.port.0 _ c.from-place.ensures c.as_slice.ensures.value (sym c.has_disks.ensures.disks ∙ c.if-not-has_disks.false) in
-    let fits = next_has_move c.reserve-room.new.self o _ c.args.port.0 c.args.slot.0 c.in-Some.next c.in-Some.ensures.found.0
-    (has_disks g.S.SectorStore.size g.S.SectorStore.told m c.args.port.0 bay.0 bay.1) (c.reserve-room.ensures.same o) c.in-Some.ensures.found.1 in
+    let found = c.in-Some-next_move.ensures.found in
+    let was = seat_is m c.from-place.result c.args.port.0 c.index_mut.result.now a c.from-place.ensures
+    (omega (arith, c.if-place-len.false, c.len.ensures)) c.index_mut.ensures.value c.in-Some.is in
+    let fits = next_has_move m.hardware o _ c.args.port.0 c.args.slot.0 c.in-Some-next_move.next found.0
+    (has_disks g.S.SectorStore.size g.S.SectorStore.told m c.args.port.0 a was) refl found.1 in
     let lacks : LacksMemory (asked.Move c.args.port c.args.slot) (device_at g.S.SectorStore.size g.S.SectorStore.told m) m.hardware m.bays.items =
-    (taken_of c.in-Some.ensures.found.0, fits, λ room _. true-false (c.reserve-room.ensures.enough room) c.if-not-room.true) in
-    record {
-      device = c.reserve-room.ensures.same o;
-      held = refl;
-      says = refl;
-      which = refl;
-      others = λ _ _. refl;
-      keeps = record { identities = λ _ _. refl; out = λ _ _ _. refl; caches = λ _. refl; queue = refl; accesses = refl };
-      disks = λ _. refl;
-      why = λ _ _. (lacks, refl);
-      starved_on = λ _. refl;
-      starved_since = λ _. inr ((c.requires.small, taken_of c.in-Some.ensures.found.0, fits), lacks);
-    }
+    (taken_of found.0, fits, λ room _. true-false (c.reserve-room.ensures.enough room) c.if-not-room.true) in
+    grown_left g.S.SectorStore.size g.S.SectorStore.told g.S.SectorStore.failures m _ c.args.port.0 a a.cache was
+    (ap (λ k. slice_set m.bays.items k (Some a)) c.from-place.ensures)
+    (record { is_on = refl; items = refl }) (asked.Move c.args.port c.args.slot) refl (c.reserve-room.ensures.same o) refl refl refl
+    (λ _ _. (lacks, refl)) (λ _. refl) (λ _. inr ((c.requires.small, taken_of found.0, fits), lacks))
 
 -- ---- the bay of the port, as the piece is moved
 
-was : (g : Over) (c : goal.After-note_move g) → bay_of c.args.self.now c.args.port.0 ≡ Some c.in-Some-index_mut.bay
+was : (g : Over) (c : goal.After-note_move g) → bay_of c.args.self.now c.args.port.0 ≡ Some c.in-Some.bay
 was g c =
-    seat_is c.args.self.now c.from-place.result c.args.port.0 c.index_mut.result.now c.in-Some-index_mut.bay c.from-place.ensures
-    (let there = c.has_disks.ensures.there c.if-not-has_disks.false in let long = ap length c.as_slice.ensures.value in omega (arith, there, long))
-    c.index_mut.ensures.value c.in-Some-index_mut.is
+    seat_is c.args.self.now c.from-place.result c.args.port.0 c.index_mut.result.now c.in-Some.bay c.from-place.ensures
+    (omega (arith, c.if-place-len.false, c.len.ensures))
+    c.index_mut.ensures.value c.in-Some.is
 
 -- it was exchanged with the bay as it was, but that its cache has grown
 exchanged : (g : Over) (c : goal.After-note_move g) →
-    Exchanges g.S.SectorStore.size g.S.SectorStore.told g.S.SectorStore.failures (record c.in-Some-index_mut.bay { cache = c.reserve.new.self.cache }) c.transfer_piece.new.self c.in-Some.next
-    (piece_of c.reserve-room.new.self c.in-Some.next) (piece_of c.transfer_piece.new.hardware c.in-Some.next) c.transfer_piece.result
+    Exchanges g.S.SectorStore.size g.S.SectorStore.told g.S.SectorStore.failures (record c.in-Some.bay { cache = c.reserve.new.self.cache }) c.transfer_piece.new.self c.in-Some-next_move.next
+    (piece_of c.reserve-room.new.self c.in-Some-next_move.next) (piece_of c.transfer_piece.new.hardware c.in-Some-next_move.next) c.transfer_piece.result
 exchanged g c =
-    let P : Bay g.row.S.Denot → Type 0 = λ x. Exchanges g.S.SectorStore.size g.S.SectorStore.told g.S.SectorStore.failures x c.transfer_piece.new.self c.in-Some.next
-    (piece_of c.reserve-room.new.self c.in-Some.next) (piece_of c.transfer_piece.new.hardware c.in-Some.next) c.transfer_piece.result in
+    let P : Bay g.row.S.Denot → Type 0 = λ x. Exchanges g.S.SectorStore.size g.S.SectorStore.told g.S.SectorStore.failures x c.transfer_piece.new.self c.in-Some-next_move.next
+    (piece_of c.reserve-room.new.self c.in-Some-next_move.next) (piece_of c.transfer_piece.new.hardware c.in-Some-next_move.next) c.transfer_piece.result in
     subst P c.reserve.ensures.rest c.transfer_piece.ensures.exchanges
 
-lasts : (g : Over) (c : goal.After-note_move g) → lasting_of g.S.SectorStore.told c.transfer_piece.new.self ≡ lasting_of g.S.SectorStore.told c.in-Some-index_mut.bay
-lasts g c = (exchanged g c).lasting ∙ grown_lasts g.S.SectorStore.told c.in-Some-index_mut.bay c.reserve.new.self.cache c.reserve.ensures.same
+lasts : (g : Over) (c : goal.After-note_move g) → lasting_of g.S.SectorStore.told c.transfer_piece.new.self ≡ lasting_of g.S.SectorStore.told c.in-Some.bay
+lasts g c = (exchanged g c).lasting ∙ grown_lasts g.S.SectorStore.told c.in-Some.bay c.reserve.new.self.cache c.reserve.ensures.same
 
-cached : (g : Over) (c : goal.After-note_move g) → c.transfer_piece.new.self.cache.is_on ≡ c.in-Some-index_mut.bay.cache.is_on
+cached : (g : Over) (c : goal.After-note_move g) → c.transfer_piece.new.self.cache.is_on ≡ c.in-Some.bay.cache.is_on
 cached g c = (exchanged g c).cached ∙ c.reserve.ensures.same.is_on
 
 -- the model afterwards
@@ -119,41 +115,41 @@ items : (g : Over) (c : goal.After-note_move g) → (moved_model g c).bays.items
 items g c = ap (λ k. slice_set c.args.self.now.bays.items k (Some c.transfer_piece.new.self)) c.from-place.ensures
 
 fits : (g : Over) (c : goal.After-note_move g) →
-    HasMove (device_at g.S.SectorStore.size g.S.SectorStore.told c.args.self.now) c.args.port.0 c.args.slot.0 (taken_of c.in-Some.ensures.found.0)
+    HasMove (device_at g.S.SectorStore.size g.S.SectorStore.told c.args.self.now) c.args.port.0 c.args.slot.0 (taken_of (grow c.args.port.0 c.args.slot.0 c.reserve-room.ensures.rest c.in-Some-next_move.ensures.found).0)
 fits g c =
     let m = c.args.self.now in
     let o : Outside = outside_at g.S.SectorStore.size g.S.SectorStore.told m in
-    next_has_move c.reserve-room.new.self o _ c.args.port.0 c.args.slot.0 c.in-Some.next c.in-Some.ensures.found.0
-    (has_disks g.S.SectorStore.size g.S.SectorStore.told m c.args.port.0 c.in-Some-index_mut.bay (was g c)) (c.reserve-room.ensures.same o) c.in-Some.ensures.found.1
+    next_has_move c.reserve-room.new.self o _ c.args.port.0 c.args.slot.0 c.in-Some-next_move.next (grow c.args.port.0 c.args.slot.0 c.reserve-room.ensures.rest c.in-Some-next_move.ensures.found).0
+    (has_disks g.S.SectorStore.size g.S.SectorStore.told m c.args.port.0 c.in-Some.bay (was g c)) (c.reserve-room.ensures.same o) (grow c.args.port.0 c.args.slot.0 c.reserve-room.ensures.rest c.in-Some-next_move.ensures.found).1
 
 moved : (g : Over) (c : goal.After-note_move g) →
     DoesMove c.args.port.0 c.args.slot.0 (device_at g.S.SectorStore.size g.S.SectorStore.told c.args.self.now)
     (device_at g.S.SectorStore.size g.S.SectorStore.told (moved_model g c))
 moved g c =
     let m = c.args.self.now in
-    let a = c.in-Some-index_mut.bay in
+    let a = c.in-Some.bay in
     let o : Outside = outside_at g.S.SectorStore.size g.S.SectorStore.told m in
     let h = c.reserve-room.new.self in
-    let bytes = piece_of c.transfer_piece.new.hardware c.in-Some.next in
+    let bytes = piece_of c.transfer_piece.new.hardware c.in-Some-next_move.next in
     let did = c.if-not-transfer_piece.false in
-    let r : TakenCommand = c.in-Some.ensures.found.0 in
-    let is : IsNext h c.args.port.0 c.args.slot.0 c.in-Some.next r = c.in-Some.ensures.found.1 in
+    let r : TakenCommand = (grow c.args.port.0 c.args.slot.0 c.reserve-room.ensures.rest c.in-Some-next_move.ensures.found).0 in
+    let is : IsNext h c.args.port.0 c.args.slot.0 c.in-Some-next_move.next r = (grow c.args.port.0 c.args.slot.0 c.reserve-room.ensures.rest c.in-Some-next_move.ensures.found).1 in
     let here : Media = media_of g.S.SectorStore.size g.S.SectorStore.told (Some a) in
     let at : here ≡ o.media c.args.port.0 = sym (ap (media_of g.S.SectorStore.size g.S.SectorStore.told) (was g c)) in
     let behind : outside_at g.S.SectorStore.size g.S.SectorStore.told (moved_model g c) ≡ outside_after o c.args.port.0 (taken_of r) bytes =
     outside_moved m (moved_model g c) c.args.port.0 a c.transfer_piece.new.self (was g c) (items g c)
     (exchanged g c).rest g.S.SectorStore.size g.S.SectorStore.told
-    c.in-Some.next r bytes (lasts g c) is.transfer_is is.sector_is ((exchanged g c).disk did) in
+    c.in-Some-next_move.next r bytes (lasts g c) is.transfer_is is.sector_is ((exchanged g c).disk did) in
     let R : Device → Type 0 = λ d. Can (Move c.args.port.0 c.args.slot.0 (taken_of r) bytes) d in
     record {
       t = taken_of r;
       bytes = bytes;
       can = subst R (c.reserve-room.ensures.same o)
-          (may_move h o c.args.port.0 c.args.slot.0 c.in-Some.next r bytes is (exchanged g c).sector
-          (subst (λ (x : Media). is_ranged (transfer_operation c.in-Some.next.transfer) ≡ true →
-          c.in-Some.next.sector < x.disk.size) at ((exchanged g c).inside did))
-          (subst (λ (x : Media). is_ranged (transfer_operation c.in-Some.next.transfer) ≡ true → reads_memory (transfer_operation c.in-Some.next.transfer) ≡ false →
-          IfSome x.disk.sectors (λ f. bytes ≡ f c.in-Some.next.sector)) at ((exchanged g c).gives did))
+          (may_move h o c.args.port.0 c.args.slot.0 c.in-Some-next_move.next r bytes is (exchanged g c).sector
+          (subst (λ (x : Media). is_ranged (transfer_operation c.in-Some-next_move.next.transfer) ≡ true →
+          c.in-Some-next_move.next.sector < x.disk.size) at ((exchanged g c).inside did))
+          (subst (λ (x : Media). is_ranged (transfer_operation c.in-Some-next_move.next.transfer) ≡ true → reads_memory (transfer_operation c.in-Some-next_move.next.transfer) ≡ false →
+          IfSome x.disk.sectors (λ f. bytes ≡ f c.in-Some-next_move.next.sector)) at ((exchanged g c).gives did))
           (exchanged g c).takes);
       effect = ap (λ (x : Outside). device_of c.note_move.new.self x) behind
           ∙ (c.note_move.ensures.moved h o r c.transfer_piece.ensures.memory is
@@ -165,7 +161,7 @@ whole : (g : Over) (c : goal.After-note_move g) →
     Completes g.S.SectorStore.size g.S.SectorStore.told g.S.SectorStore.failures (asked.Move c.args.port c.args.slot) c.args.self.now (moved_model g c)
 whole g c =
     let m = c.args.self.now in
-    let a = c.in-Some-index_mut.bay in
+    let a = c.in-Some.bay in
     record {
       asked = moved g c;
       fine = λ _. store_fine m (moved_model g c) c.args.port.0 a c.transfer_piece.new.self (was g c) (items g c)
@@ -183,15 +179,15 @@ returns-clause-whole g c = λ _. whole g c
 pub returns-clause-answers : goal.returns-clause-answers
 returns-clause-answers g c =
     let m = c.args.self.now in
-    let a = c.in-Some-index_mut.bay in
+    let a = c.in-Some.bay in
     let b = c.transfer_piece.new.self in
     let o : Outside = outside_at g.S.SectorStore.size g.S.SectorStore.told m in
-    let found = c.in-Some.ensures.found in
-    let bytes = piece_of c.transfer_piece.new.hardware c.in-Some.next in
+    let found = (grow c.args.port.0 c.args.slot.0 c.reserve-room.ensures.rest c.in-Some-next_move.ensures.found) in
+    let bytes = piece_of c.transfer_piece.new.hardware c.in-Some-next_move.next in
     let noted = c.note_move.ensures.moved c.reserve-room.new.self o found.0 c.transfer_piece.ensures.memory found.1 in
     let entry : Entry = entry.Move (move_of c.args.port.0 c.args.slot.0 (taken_of found.0) bytes) in
     let disks = has_disks g.S.SectorStore.size g.S.SectorStore.told m c.args.port.0 a (was g c) in (
-      (c.requires.small, taken_of c.in-Some.ensures.found.0, fits g c),
+      (c.requires.small, taken_of (grow c.args.port.0 c.args.slot.0 c.reserve-room.ensures.rest c.in-Some-next_move.ensures.found).0, fits g c),
       record {
         came = inl (whole g c);
         held = refl;
@@ -208,8 +204,8 @@ returns-clause-answers g c =
             seated_same m (moved_model g c) c.args.port.0 a b (was g c) (items g c) (option_map (λ (x : Bay g.row.S.Denot). disk_in_bay x w))
             (ap (λ (x : Bay g.row.S.Denot). Some (disk_in_bay x w))
             ((exchanged g c).same
-            (next_unranged c.reserve-room.new.self o _ c.args.port c.args.slot c.in-Some.next c.in-Some.ensures.found.0 disks c.requires.small
-            (c.reserve-room.ensures.same o) c.in-Some.ensures.found.1 none))) c.args.port.0;
+            (next_unranged c.reserve-room.new.self o _ c.args.port c.args.slot c.in-Some-next_move.next (grow c.args.port.0 c.args.slot.0 c.reserve-room.ensures.rest c.in-Some-next_move.ensures.found).0 disks c.requires.small
+            (c.reserve-room.ensures.same o) (grow c.args.port.0 c.args.slot.0 c.reserve-room.ensures.rest c.in-Some-next_move.ensures.found).1 none))) c.args.port.0;
         keeps = store_keeps m (moved_model g c) c.args.port.0 a b (was g c) (items g c)
             (exchanged g c).rest g.S.SectorStore.size (exchanged g c).sized (cached g c) refl refl;
         starved = c.note_move.ensures.starved ∙ (starved_over c.transfer_piece.ensures.memory
@@ -219,42 +215,42 @@ returns-clause-answers g c =
 
 -- ---- the sector is past the disk
 
-was_past : (g : Over) (c : goal.After-fail-failed g) → bay_of c.args.self.now c.args.port.0 ≡ Some c.in-Some-index_mut.bay
+was_past : (g : Over) (c : goal.After-fail-failed g) → bay_of c.args.self.now c.args.port.0 ≡ Some c.in-Some.bay
 was_past g c =
-    seat_is c.args.self.now c.from-place.result c.args.port.0 c.index_mut.result.now c.in-Some-index_mut.bay c.from-place.ensures
-    (let there = c.has_disks.ensures.there c.if-not-has_disks.false in let long = ap length c.as_slice.ensures.value in omega (arith, there, long))
-    c.index_mut.ensures.value c.in-Some-index_mut.is
+    seat_is c.args.self.now c.from-place.result c.args.port.0 c.index_mut.result.now c.in-Some.bay c.from-place.ensures
+    (omega (arith, c.if-place-len.false, c.len.ensures))
+    c.index_mut.ensures.value c.in-Some.is
 
 -- the bay is as it was
 abbrev past_model : (g : Over) (c : goal.After-fail-failed g) → Model g.row.S.Denot
-past_model g c = record c.args.self.now { hardware = c.reserve-room.new.self; bays = with_item c.args.self.now.bays c.from-place.result (Some c.in-Some-index_mut.bay) }
+past_model g c = record c.args.self.now { hardware = c.reserve-room.new.self; bays = with_item c.args.self.now.bays c.from-place.result (Some c.in-Some.bay) }
 
-past_items : (g : Over) (c : goal.After-fail-failed g) → (past_model g c).bays.items ≡ slice_set c.args.self.now.bays.items c.args.port.0 (Some c.in-Some-index_mut.bay)
-past_items g c = ap (λ k. slice_set c.args.self.now.bays.items k (Some c.in-Some-index_mut.bay)) c.from-place.ensures
+past_items : (g : Over) (c : goal.After-fail-failed g) → (past_model g c).bays.items ≡ slice_set c.args.self.now.bays.items c.args.port.0 (Some c.in-Some.bay)
+past_items g c = ap (λ k. slice_set c.args.self.now.bays.items k (Some c.in-Some.bay)) c.from-place.ensures
 
 past_same : (g : Over) (c : goal.After-fail-failed g) →
     device_at g.S.SectorStore.size g.S.SectorStore.told (past_model g c) ≡ device_at g.S.SectorStore.size g.S.SectorStore.told c.args.self.now
 past_same g c =
     let m = c.args.self.now in
-    let a = c.in-Some-index_mut.bay in
+    let a = c.in-Some.bay in
     ap (λ (x : Outside). device_of c.reserve-room.new.self x)
     (outside_kept m (past_model g c) c.args.port.0 a a (was_past g c) (past_items g c) refl g.S.SectorStore.size g.S.SectorStore.told refl refl refl)
     ∙ c.reserve-room.ensures.same (outside_at g.S.SectorStore.size g.S.SectorStore.told m)
 
 past_fits : (g : Over) (c : goal.After-fail-failed g) →
-    HasMove (device_at g.S.SectorStore.size g.S.SectorStore.told c.args.self.now) c.args.port.0 c.args.slot.0 (taken_of c.in-Some.ensures.found.0)
+    HasMove (device_at g.S.SectorStore.size g.S.SectorStore.told c.args.self.now) c.args.port.0 c.args.slot.0 (taken_of (grow c.args.port.0 c.args.slot.0 c.reserve-room.ensures.rest c.in-Some-next_move.ensures.found).0)
 past_fits g c =
     let m = c.args.self.now in
-    next_has_move c.reserve-room.new.self (outside_at g.S.SectorStore.size g.S.SectorStore.told m) _ c.args.port.0 c.args.slot.0 c.in-Some.next c.in-Some.ensures.found.0
-    (has_disks g.S.SectorStore.size g.S.SectorStore.told m c.args.port.0 c.in-Some-index_mut.bay (was_past g c))
-    (c.reserve-room.ensures.same (outside_at g.S.SectorStore.size g.S.SectorStore.told m)) c.in-Some.ensures.found.1
+    next_has_move c.reserve-room.new.self (outside_at g.S.SectorStore.size g.S.SectorStore.told m) _ c.args.port.0 c.args.slot.0 c.in-Some-next_move.next (grow c.args.port.0 c.args.slot.0 c.reserve-room.ensures.rest c.in-Some-next_move.ensures.found).0
+    (has_disks g.S.SectorStore.size g.S.SectorStore.told m c.args.port.0 c.in-Some.bay (was_past g c))
+    (c.reserve-room.ensures.same (outside_at g.S.SectorStore.size g.S.SectorStore.told m)) (grow c.args.port.0 c.args.slot.0 c.reserve-room.ensures.rest c.in-Some-next_move.ensures.found).1
 
 past : (g : Over) (c : goal.After-fail-failed g) →
-    IsFailed g.S.SectorStore.size g.S.SectorStore.told g.S.SectorStore.failures c.args.port c.args.slot 0x10 (taken_of c.in-Some.ensures.found.0)
+    IsFailed g.S.SectorStore.size g.S.SectorStore.told g.S.SectorStore.failures c.args.port c.args.slot 0x10 (taken_of (grow c.args.port.0 c.args.slot.0 c.reserve-room.ensures.rest c.in-Some-next_move.ensures.found).0)
     (past_model g c) c.fail-failed.new.self
 past g c =
     let o : Outside = outside_at g.S.SectorStore.size g.S.SectorStore.told (past_model g c) in
-    let found = c.in-Some.ensures.found in
+    let found = (grow c.args.port.0 c.args.slot.0 c.reserve-room.ensures.rest c.in-Some-next_move.ensures.found) in
     let works = found.1.holds.works (o.media c.args.port.0) in
     let small = c.if-place-ge-PORTS.false in
     let at = c.from-place.ensures in
@@ -263,22 +259,22 @@ past g c =
     (record { taken = works.taken; running = works.working.running; is_byte = omega arith; kept = refl }) (c.reserve-room.ensures.room c.if-not-room.false)
 
 -- it names one
-past_ranged : (g : Over) (c : goal.After-fail-failed g) → (next_sector (taken_of c.in-Some.ensures.found.0) ≡ c.in-Some.next.sector)
-    × (is_ranged (transfer_operation c.in-Some.ensures.found.0.transfer) ≡ true) × (g.S.SectorStore.size c.in-Some-index_mut.bay.disk.store ≤ c.in-Some.next.sector)
-past_ranged g c = by (is_ranged (transfer_operation c.in-Some.next.transfer)) refl
+past_ranged : (g : Over) (c : goal.After-fail-failed g) → (next_sector (taken_of (grow c.args.port.0 c.args.slot.0 c.reserve-room.ensures.rest c.in-Some-next_move.ensures.found).0) ≡ c.in-Some-next_move.next.sector)
+    × (is_ranged (transfer_operation (grow c.args.port.0 c.args.slot.0 c.reserve-room.ensures.rest c.in-Some-next_move.ensures.found).0.transfer) ≡ true) × (g.S.SectorStore.size c.in-Some.bay.disk.store ≤ c.in-Some-next_move.next.sector)
+past_ranged g c = by (is_ranged (transfer_operation c.in-Some-next_move.next.transfer)) refl
   where
-    found : (t : TakenCommand) × IsNext c.reserve-room.new.self c.args.port.0 c.args.slot.0 c.in-Some.next t
-    found = c.in-Some.ensures.found
+    found : (t : TakenCommand) × IsNext c.reserve-room.new.self c.args.port.0 c.args.slot.0 c.in-Some-next_move.next t
+    found = (grow c.args.port.0 c.args.slot.0 c.reserve-room.ensures.rest c.in-Some-next_move.ensures.found)
 
-    never : (is_ranged (transfer_operation c.in-Some.next.transfer) ≡ true → c.in-Some.next.sector < c.sectors.result) → ⊥
+    never : (is_ranged (transfer_operation c.in-Some-next_move.next.transfer) ≡ true → c.in-Some-next_move.next.sector < c.sectors.result) → ⊥
     never on = true-false (c.is_on.ensures.1 on) c.if-not-is_on.true
 
-    by : (b : Bool) → is_ranged (transfer_operation c.in-Some.next.transfer) ≡ b → (next_sector (taken_of found.0) ≡ c.in-Some.next.sector)
-        × (is_ranged (transfer_operation found.0.transfer) ≡ true) × (g.S.SectorStore.size c.in-Some-index_mut.bay.disk.store ≤ c.in-Some.next.sector)
+    by : (b : Bool) → is_ranged (transfer_operation c.in-Some-next_move.next.transfer) ≡ b → (next_sector (taken_of found.0) ≡ c.in-Some-next_move.next.sector)
+        × (is_ranged (transfer_operation found.0.transfer) ≡ true) × (g.S.SectorStore.size c.in-Some.bay.disk.store ≤ c.in-Some-next_move.next.sector)
     by true e = (
       sym found.1.sector_is,
       ap (λ (k : Transfer). is_ranged (transfer_operation k)) (sym found.1.transfer_is) ∙ e,
-      elim (cases_lt c.in-Some.next.sector c.sectors.result) [
+      elim (cases_lt c.in-Some-next_move.next.sector c.sectors.result) [
         | inl below ↦ absurd (never (λ _. below))
         | inr past ↦ let size = c.sectors.ensures in omega (arith, past, size)
       ],
@@ -289,8 +285,8 @@ past_failed : (g : Over) (c : goal.After-fail-failed g) →
     CommandFails g.S.SectorStore.size g.S.SectorStore.told g.S.SectorStore.failures (asked.Move c.args.port c.args.slot) c.args.self.now c.fail-failed.new.self
 past_failed g c =
     let m = c.args.self.now in
-    let a = c.in-Some-index_mut.bay in
-    let found = c.in-Some.ensures.found in
+    let a = c.in-Some.bay in
+    let found = (grow c.args.port.0 c.args.slot.0 c.reserve-room.ensures.rest c.in-Some-next_move.ensures.found) in
     let is = past_ranged g c in
     let size : ((device_at g.S.SectorStore.size g.S.SectorStore.told m).port c.args.port.0).disk.size ≡ g.S.SectorStore.size a.disk.store =
     ap (λ x. (media_of g.S.SectorStore.size g.S.SectorStore.told x).disk.size) (was_past g c) in
@@ -309,8 +305,8 @@ returns-then-not-is_on-clause-failed g c = λ _. past_failed g c
 pub returns-then-not-is_on-clause-answers : goal.returns-then-not-is_on-clause-answers
 returns-then-not-is_on-clause-answers g c =
     let m = c.args.self.now in
-    let a = c.in-Some-index_mut.bay in
-    let found = c.in-Some.ensures.found in (
+    let a = c.in-Some.bay in
+    let found = (grow c.args.port.0 c.args.slot.0 c.reserve-room.ensures.rest c.in-Some-next_move.ensures.found) in (
       (c.requires.small, taken_of found.0, past_fits g c),
       did_fail g.S.SectorStore.size g.S.SectorStore.told g.S.SectorStore.failures c.args.port c.args.slot 0x10 (taken_of found.0) m
           (past_model g c) c.fail-failed.new.self (past g c) (asked.Move c.args.port c.args.slot) refl (past_failed g c) refl refl refl
@@ -324,24 +320,24 @@ returns-then-not-is_on-clause-answers g c =
 
 -- ---- the store failed
 
-was_store : (g : Over) (c : goal.After-fail-failed-then-not-transfer_piece g) → bay_of c.args.self.now c.args.port.0 ≡ Some c.in-Some-index_mut.bay
+was_store : (g : Over) (c : goal.After-fail-failed-then-not-transfer_piece g) → bay_of c.args.self.now c.args.port.0 ≡ Some c.in-Some.bay
 was_store g c =
-    seat_is c.args.self.now c.from-place.result c.args.port.0 c.index_mut.result.now c.in-Some-index_mut.bay c.from-place.ensures
-    (let there = c.has_disks.ensures.there c.if-not-has_disks.false in let long = ap length c.as_slice.ensures.value in omega (arith, there, long))
-    c.index_mut.ensures.value c.in-Some-index_mut.is
+    seat_is c.args.self.now c.from-place.result c.args.port.0 c.index_mut.result.now c.in-Some.bay c.from-place.ensures
+    (omega (arith, c.if-place-len.false, c.len.ensures))
+    c.index_mut.ensures.value c.in-Some.is
 
 exchanged_so : (g : Over) (c : goal.After-fail-failed-then-not-transfer_piece g) →
-    Exchanges g.S.SectorStore.size g.S.SectorStore.told g.S.SectorStore.failures (record c.in-Some-index_mut.bay { cache = c.reserve.new.self.cache }) c.transfer_piece.new.self c.in-Some.next
-    (piece_of c.reserve-room.new.self c.in-Some.next) (piece_of c.transfer_piece.new.hardware c.in-Some.next) c.transfer_piece.result
+    Exchanges g.S.SectorStore.size g.S.SectorStore.told g.S.SectorStore.failures (record c.in-Some.bay { cache = c.reserve.new.self.cache }) c.transfer_piece.new.self c.in-Some-next_move.next
+    (piece_of c.reserve-room.new.self c.in-Some-next_move.next) (piece_of c.transfer_piece.new.hardware c.in-Some-next_move.next) c.transfer_piece.result
 exchanged_so g c =
-    let P : Bay g.row.S.Denot → Type 0 = λ x. Exchanges g.S.SectorStore.size g.S.SectorStore.told g.S.SectorStore.failures x c.transfer_piece.new.self c.in-Some.next
-    (piece_of c.reserve-room.new.self c.in-Some.next) (piece_of c.transfer_piece.new.hardware c.in-Some.next) c.transfer_piece.result in
+    let P : Bay g.row.S.Denot → Type 0 = λ x. Exchanges g.S.SectorStore.size g.S.SectorStore.told g.S.SectorStore.failures x c.transfer_piece.new.self c.in-Some-next_move.next
+    (piece_of c.reserve-room.new.self c.in-Some-next_move.next) (piece_of c.transfer_piece.new.hardware c.in-Some-next_move.next) c.transfer_piece.result in
     subst P c.reserve.ensures.rest c.transfer_piece.ensures.exchanges
 
-lasts_so : (g : Over) (c : goal.After-fail-failed-then-not-transfer_piece g) → lasting_of g.S.SectorStore.told c.transfer_piece.new.self ≡ lasting_of g.S.SectorStore.told c.in-Some-index_mut.bay
-lasts_so g c = (exchanged_so g c).lasting ∙ grown_lasts g.S.SectorStore.told c.in-Some-index_mut.bay c.reserve.new.self.cache c.reserve.ensures.same
+lasts_so : (g : Over) (c : goal.After-fail-failed-then-not-transfer_piece g) → lasting_of g.S.SectorStore.told c.transfer_piece.new.self ≡ lasting_of g.S.SectorStore.told c.in-Some.bay
+lasts_so g c = (exchanged_so g c).lasting ∙ grown_lasts g.S.SectorStore.told c.in-Some.bay c.reserve.new.self.cache c.reserve.ensures.same
 
-cached_so : (g : Over) (c : goal.After-fail-failed-then-not-transfer_piece g) → c.transfer_piece.new.self.cache.is_on ≡ c.in-Some-index_mut.bay.cache.is_on
+cached_so : (g : Over) (c : goal.After-fail-failed-then-not-transfer_piece g) → c.transfer_piece.new.self.cache.is_on ≡ c.in-Some.bay.cache.is_on
 cached_so g c = (exchanged_so g c).cached ∙ c.reserve.ensures.same.is_on
 
 abbrev store_model : (g : Over) (c : goal.After-fail-failed-then-not-transfer_piece g) → Model g.row.S.Denot
@@ -356,20 +352,20 @@ store_items : (g : Over) (c : goal.After-fail-failed-then-not-transfer_piece g) 
 store_items g c = ap (λ k. slice_set c.args.self.now.bays.items k (Some c.transfer_piece.new.self)) c.from-place.ensures
 
 store_fits : (g : Over) (c : goal.After-fail-failed-then-not-transfer_piece g) →
-    HasMove (device_at g.S.SectorStore.size g.S.SectorStore.told c.args.self.now) c.args.port.0 c.args.slot.0 (taken_of c.in-Some.ensures.found.0)
+    HasMove (device_at g.S.SectorStore.size g.S.SectorStore.told c.args.self.now) c.args.port.0 c.args.slot.0 (taken_of (grow c.args.port.0 c.args.slot.0 c.reserve-room.ensures.rest c.in-Some-next_move.ensures.found).0)
 store_fits g c =
     let m = c.args.self.now in
-    next_has_move c.reserve-room.new.self (outside_at g.S.SectorStore.size g.S.SectorStore.told m) _ c.args.port.0 c.args.slot.0 c.in-Some.next c.in-Some.ensures.found.0
-    (has_disks g.S.SectorStore.size g.S.SectorStore.told m c.args.port.0 c.in-Some-index_mut.bay (was_store g c))
-    (c.reserve-room.ensures.same (outside_at g.S.SectorStore.size g.S.SectorStore.told m)) c.in-Some.ensures.found.1
+    next_has_move c.reserve-room.new.self (outside_at g.S.SectorStore.size g.S.SectorStore.told m) _ c.args.port.0 c.args.slot.0 c.in-Some-next_move.next (grow c.args.port.0 c.args.slot.0 c.reserve-room.ensures.rest c.in-Some-next_move.ensures.found).0
+    (has_disks g.S.SectorStore.size g.S.SectorStore.told m c.args.port.0 c.in-Some.bay (was_store g c))
+    (c.reserve-room.ensures.same (outside_at g.S.SectorStore.size g.S.SectorStore.told m)) (grow c.args.port.0 c.args.slot.0 c.reserve-room.ensures.rest c.in-Some-next_move.ensures.found).1
 
 store : (g : Over) (c : goal.After-fail-failed-then-not-transfer_piece g) →
-    IsFailed g.S.SectorStore.size g.S.SectorStore.told g.S.SectorStore.failures c.args.port c.args.slot 0x40 (taken_of c.in-Some.ensures.found.0)
+    IsFailed g.S.SectorStore.size g.S.SectorStore.told g.S.SectorStore.failures c.args.port c.args.slot 0x40 (taken_of (grow c.args.port.0 c.args.slot.0 c.reserve-room.ensures.rest c.in-Some-next_move.ensures.found).0)
     (store_model g c) c.fail-failed-then-not-transfer_piece.new.self
 store g c =
     let mid = store_model g c in
     let o : Outside = outside_at g.S.SectorStore.size g.S.SectorStore.told mid in
-    let found = c.in-Some.ensures.found in
+    let found = (grow c.args.port.0 c.args.slot.0 c.reserve-room.ensures.rest c.in-Some-next_move.ensures.found) in
     let works = (next_over c.args.port.0 c.args.slot.0 c.transfer_piece.ensures.memory found.1).holds.works
     (o.media c.args.port.0) in
     let small = c.if-place-ge-PORTS.false in
@@ -385,7 +381,7 @@ store_same : (g : Over) (c : goal.After-fail-failed-then-not-transfer_piece g) �
 store_same g c =
     let m = c.args.self.now in
     ap (λ (x : Outside). device_of c.transfer_piece.new.hardware x)
-    (outside_kept m (store_model g c) c.args.port.0 c.in-Some-index_mut.bay c.transfer_piece.new.self (was_store g c)
+    (outside_kept m (store_model g c) c.args.port.0 c.in-Some.bay c.transfer_piece.new.self (was_store g c)
     (store_items g c) (exchanged_so g c).rest
     g.S.SectorStore.size g.S.SectorStore.told (exchanged_so g c).sized
     ((exchanged_so g c).kept c.if-not-transfer_piece.true) (lasts_so g c))
@@ -396,25 +392,25 @@ store_failed : (g : Over) (c : goal.After-fail-failed-then-not-transfer_piece g)
     CommandFails g.S.SectorStore.size g.S.SectorStore.told g.S.SectorStore.failures (asked.Move c.args.port c.args.slot) c.args.self.now c.fail-failed-then-not-transfer_piece.new.self
 store_failed g c =
     let m = c.args.self.now in
-    let a = c.in-Some-index_mut.bay in
+    let a = c.in-Some.bay in
     let b = c.transfer_piece.new.self in
-    let next = c.in-Some.ensures.found in
+    let next = (grow c.args.port.0 c.args.slot.0 c.reserve-room.ensures.rest c.in-Some-next_move.ensures.found) in
     let ranged = (exchanged_so g c).ranged c.if-not-transfer_piece.true in
     let here = c.is_on.ensures.0 c.if-not-is_on.false ranged in
     let listed = c.sectors.ensures in
     let on : c.reserve.new.self.cache.is_on ≡ caches m c.args.port.0 = c.reserve.ensures.same.is_on ∙ sym (ap has_cache (was_store g c)) in
     let Q : Bool → ℕ → Type 0 = λ writes sector. CallFails (caches m c.args.port.0) writes sector (g.S.SectorStore.failures a.disk.store) (g.S.SectorStore.failures b.disk.store) in
-    let O : Bool → Type 0 = λ x. CallFails x (reads_memory (transfer_operation c.in-Some.next.transfer)) c.in-Some.next.sector (g.S.SectorStore.failures a.disk.store) (g.S.SectorStore.failures b.disk.store) in
+    let O : Bool → Type 0 = λ x. CallFails x (reads_memory (transfer_operation c.in-Some-next_move.next.transfer)) c.in-Some-next_move.next.sector (g.S.SectorStore.failures a.disk.store) (g.S.SectorStore.failures b.disk.store) in
     let failed = subst O on ((exchanged_so g c).fails c.if-not-transfer_piece.true (omega (arith, here, listed))) in
     let writes = ap (λ (k : Transfer). reads_memory (transfer_operation k)) next.1.transfer_is in
     let size : ((device_at g.S.SectorStore.size g.S.SectorStore.told m).port c.args.port.0).disk.size ≡ g.S.SectorStore.size a.disk.store =
     ap (λ x. (media_of g.S.SectorStore.size g.S.SectorStore.told x).disk.size) (was_store g c) in
-    let sector : c.in-Some.next.sector ≡ next_sector (taken_of next.0) = next.1.sector_is in
+    let sector : c.in-Some-next_move.next.sector ≡ next_sector (taken_of next.0) = next.1.sector_is in
     let before : disk_failures g.S.SectorStore.failures m c.args.port.0 ≡ g.S.SectorStore.failures a.disk.store = ap (failing g.S.SectorStore.failures) (was_store g c) in
     let now : disk_failures g.S.SectorStore.failures (store_model g c) c.args.port.0 ≡ g.S.SectorStore.failures b.disk.store =
     ap (failing g.S.SectorStore.failures) (seated_here m (store_model g c) c.args.port.0 a b (was_store g c) (store_items g c)) in
     let R : Option Failures → Option Failures → Type 0 = λ x y. CallFails (caches m c.args.port.0) (reads_memory (transfer_operation next.0.transfer)) (next_sector (taken_of next.0)) x y in
-    let called = subst (λ w. Q w (next_sector (taken_of next.0))) writes (subst (Q (reads_memory (transfer_operation c.in-Some.next.transfer))) next.1.sector_is failed) in
+    let called = subst (λ w. Q w (next_sector (taken_of next.0))) writes (subst (Q (reads_memory (transfer_operation c.in-Some-next_move.next.transfer))) next.1.sector_is failed) in
     fails_to_move g.S.SectorStore.size g.S.SectorStore.told g.S.SectorStore.failures c.args.port c.args.slot 0x40 (taken_of next.0) m
     (store_model g c) c.fail-failed-then-not-transfer_piece.new.self (store g c) (store_same g c)
     (store_says m (store_model g c) c.args.port.0 a b (was_store g c) (store_items g c)
@@ -432,9 +428,9 @@ returns-then-not-transfer_piece-clause-failed g c = λ _. store_failed g c
 pub returns-then-not-transfer_piece-clause-answers : goal.returns-then-not-transfer_piece-clause-answers
 returns-then-not-transfer_piece-clause-answers g c =
     let m = c.args.self.now in
-    let a = c.in-Some-index_mut.bay in
+    let a = c.in-Some.bay in
     let b = c.transfer_piece.new.self in
-    let next = c.in-Some.ensures.found in
+    let next = (grow c.args.port.0 c.args.slot.0 c.reserve-room.ensures.rest c.in-Some-next_move.ensures.found) in
     let ranged = ap (λ (k : Transfer). is_ranged (transfer_operation k)) (sym next.1.transfer_is)
     ∙ (exchanged_so g c).ranged c.if-not-transfer_piece.true in (
       (c.requires.small, taken_of next.0, store_fits g c),
@@ -460,28 +456,28 @@ returns-clause-left g c = λ _ n room. c.note_move.ensures.left n
 
 -- ---- a page, for which no store is asked
 
-pub returns-in_default-clause-page : goal.returns-in_default-clause-page
-returns-in_default-clause-page g c = λ t taken sends _ move low _.
+pub returns-in_default-next_move-clause-page : goal.returns-in_default-next_move-clause-page
+returns-in_default-next_move-clause-page g c = λ t taken sends _ move low _.
     let m = c.args.self.now in
     let o : Outside = outside_at g.S.SectorStore.size g.S.SectorStore.told m in
-    let found = move_fits c.reserve-room.new.self o _ c.args.port.0 c.args.slot.0 t (c.reserve-room.ensures.same o) move in
-    let one : t ≡ taken_of found.r = some_one (sym move.works.taken ∙ (ap (λ (d : Device). (d.port c.args.port.0).taken c.args.slot.0) (sym (c.reserve-room.ensures.same o)) ∙ (found.holds.works (o.media c.args.port.0)).taken)) in
+    let found = move_fits m.hardware o _ c.args.port.0 c.args.slot.0 t refl move in
+    let one : t ≡ taken_of found.r = some_one (sym move.works.taken ∙ (found.holds.works (o.media c.args.port.0)).taken) in
     let place : next_place t ≡ next_place (taken_of found.r) = ap next_place one in
-    c.next_move.ensures.none c.in_default.is found.r found.holds found.left (omega (arith, place, low)) found.inside
+    c.next_move.ensures.none c.in_default-next_move.is found.r found.holds found.left (omega (arith, place, low)) found.inside
 
 pub returns-clause-old_room : goal.returns-clause-old_room
 returns-clause-old_room g c = λ _ t taken n room.
     let m = c.args.self.now in
-    let a = c.in-Some-index_mut.bay in
-    let found = c.in-Some.ensures.found in
+    let a = c.in-Some.bay in
+    let found = (grow c.args.port.0 c.args.slot.0 c.reserve-room.ensures.rest c.in-Some-next_move.ensures.found) in
     let o : Outside = outside_at g.S.SectorStore.size g.S.SectorStore.told m in
     let one : t ≡ taken_of found.0 = some_one (sym taken ∙ (fits g c).works.taken) in
-    let kind : written_ahead t.meaning.operation 1 ≡ written_ahead (transfer_operation c.in-Some.next.transfer) 1 =
+    let kind : written_ahead t.meaning.operation 1 ≡ written_ahead (transfer_operation c.in-Some-next_move.next.transfer) 1 =
     ap (λ (x : FetchedCommand). written_ahead x.meaning.operation 1) one ∙ ap (λ (k : Transfer). written_ahead (transfer_operation k) 1) (sym found.1.transfer_is) in
     let P : ℕ → Type 0 = λ k. HasOldRoom a.cache (k + n) in
     room_there (moved_model g c) c.args.port.0 n c.transfer_piece.new.self (seated_here m (moved_model g c) c.args.port.0 a c.transfer_piece.new.self (was g c) (items g c))
     ((exchanged g c).old_room n
-    (c.reserve.ensures.kept (written_ahead (transfer_operation c.in-Some.next.transfer) 1 + n)
+    (c.reserve.ensures.kept (written_ahead (transfer_operation c.in-Some-next_move.next.transfer) 1 + n)
     (subst P kind (room_here m c.args.port.0 (written_ahead t.meaning.operation 1 + n) a (was g c) room))))
 
 -- ---- the cache had no memory for what the sector holds, and that is told
@@ -492,15 +488,15 @@ transfer_piece-requires-clause-room g c = subst (HasOldRoom c.reserve.new.self.c
 pub returns-then-not-reserve-clause-answers : goal.returns-then-not-reserve-clause-answers
 returns-then-not-reserve-clause-answers g c =
     let m = c.args.self.now in
-    let a = c.in-Some-index_mut.bay in
+    let a = c.in-Some.bay in
     let o : Outside = outside_at g.S.SectorStore.size g.S.SectorStore.told m in
-    let found = c.in-Some.ensures.found in
+    let found = (grow c.args.port.0 c.args.slot.0 c.reserve-room.ensures.rest c.in-Some-next_move.ensures.found) in
     let r = found.0 in
     let was = seat_is m c.from-place.result c.args.port.0 c.index_mut.result.now a c.from-place.ensures
-    (let there = c.has_disks.ensures.there c.if-not-has_disks.false in let long = ap length c.as_slice.ensures.value in omega (arith, there, long))
-    c.index_mut.ensures.value c.in-Some-index_mut.is in
+    (omega (arith, c.if-place-len.false, c.len.ensures))
+    c.index_mut.ensures.value c.in-Some.is in
     let fits : HasMove (device_at g.S.SectorStore.size g.S.SectorStore.told m) c.args.port.0 c.args.slot.0 (taken_of r) =
-    next_has_move c.reserve-room.new.self o _ c.args.port.0 c.args.slot.0 c.in-Some.next r (has_disks g.S.SectorStore.size g.S.SectorStore.told m c.args.port.0 a was)
+    next_has_move c.reserve-room.new.self o _ c.args.port.0 c.args.slot.0 c.in-Some-next_move.next r (has_disks g.S.SectorStore.size g.S.SectorStore.told m c.args.port.0 a was)
     (c.reserve-room.ensures.same o) found.1 in
     let changes : written_ahead (transfer_operation r.transfer) 1 ≡ c.written.result = ap (λ (k : Transfer). written_ahead (transfer_operation k) 1) (sym found.1.transfer_is) ∙ sym c.written.ensures in
     let lacks : LacksMemory (asked.Move c.args.port c.args.slot) (device_at g.S.SectorStore.size g.S.SectorStore.told m) m.hardware m.bays.items = (
@@ -518,9 +514,9 @@ returns-then-not-reserve-clause-answers g c =
 pub returns-then-not-reserve-clause-page : goal.returns-then-not-reserve-clause-page
 returns-then-not-reserve-clause-page g c = λ t taken sends _ _ _ _.
     let m = c.args.self.now in
-    let a = c.in-Some-index_mut.bay in
+    let a = c.in-Some.bay in
     let o : Outside = outside_at g.S.SectorStore.size g.S.SectorStore.told m in
-    let found = c.in-Some.ensures.found in
+    let found = (grow c.args.port.0 c.args.slot.0 c.reserve-room.ensures.rest c.in-Some-next_move.ensures.found) in
     let P : Device → Type 0 = λ d. (d.port c.args.port.0).taken c.args.slot.0 ≡ Some (taken_of found.0) in
     let here = subst P (c.reserve-room.ensures.same o) (found.1.holds.works (o.media c.args.port.0)).taken in
     let one : t ≡ taken_of found.0 = some_one (sym taken ∙ here) in
@@ -528,10 +524,3 @@ returns-then-not-reserve-clause-page g c = λ t taken sends _ _ _ _.
     ap (λ (x : FetchedCommand). written_ahead x.meaning.operation 1) (sym one) ∙ page_unwritten t.meaning.operation 1 sends in
     let changes : written_ahead (transfer_operation found.0.transfer) 1 ≡ c.written.result = ap (λ (k : Transfer). written_ahead (transfer_operation k) 1) (sym found.1.transfer_is) ∙ sym c.written.ensures in
     c.reserve.ensures.lacked c.if-not-reserve.true (subst (HasOldRoom a.cache) (sym none ∙ changes) (no_room a.cache))
-
--- ---- the move that was known
-
-pub next_move-requires-clause-known : goal.next_move-requires-clause-known
-next_move-requires-clause-known g c =
-    IfSome_then c.args.known.now c.requires.known
-    (λ n is. (is.0, next_grown c.args.port.0 c.args.slot.0 c.reserve-room.ensures.rest is.1))
