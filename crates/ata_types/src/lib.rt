@@ -1,11 +1,13 @@
 //! The words that all layers share, and the numbers of the memory map.
 //!
-//! Sectors and ranges, clients, ports, slots, frames, requests, grants, refusals, outcomes and
-//! replies. A type means what its comment says. `memory` names each place of the driver's frames,
-//! `limits` how much there may be of a thing, and `command_codes` the ATA commands: code, contracts,
-//! definitions and proofs go by the names, and no contract says that a number is the right one.
+//! Sectors and ranges, clients, ports, slots, frames, requests, grants, refusals, outcomes,
+//! replies, and the calls of a server. A type means what its comment says. `memory` names each
+//! place of the driver's frames, `limits` how much there may be of a thing, and `command_codes` the
+//! ATA commands: code, contracts, definitions and proofs go by the names, and no contract says that
+//! a number is the right one.
 #![tactic(auto)]
 
+mod call;
 mod command_codes;
 mod grant;
 mod limits;
@@ -14,6 +16,7 @@ mod range;
 mod refusal;
 mod request;
 
+pub use call::{AdapterStuck, Call, CallResult, NoSuchGrant};
 pub use command_codes::{
     DATA_SET_MANAGEMENT, FLUSH_CACHE_EXT, IDENTIFY_DEVICE, READ_DMA_EXT, READ_FPDMA_QUEUED,
     READ_LOG_EXT, WRITE_DMA_EXT, WRITE_FPDMA_QUEUED,

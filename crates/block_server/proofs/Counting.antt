@@ -1,22 +1,23 @@
 -- What calls cost: of a list, one after another; and of trouble, whichever it is.
 use Rattle.std.proofs.Common.{ℕ, ◌≡◌, ◌+◌, ◌≤◌, ◌++◌, ◌∷◌, [], List, suc, zero, take, arith}
 use Rattle.block_server.specs.Costs.{booting_accesses, handling_accesses, most_of, most_of_all}
-use Rattle.block_server.specs.declared.types.Event.{Event}
+use Rattle.ata_types.specs.declared.call.Call.{Call}
+use Rattle.adapter.specs.declared.access.DeviceStep.{DeviceStep}
 use Rattle.host_boot.specs.Costs.{BOOT_AGAIN_ACCESSES}
 use Rattle.port_control.specs.Costs.{STOP_ACCESSES}
 use Rattle.port_events.specs.declared.PortError.{PortError}
 use Rattle.port_events.specs.declared.PortError.TheVariants.{BusError, TaskFileError, TimedOut, LinkChanged}
 
 -- one more call
-pub most_more : (events : List Event) (event : Event) → most_of_all (events ++ event ∷ []) ≡ most_of_all events + most_of event
-most_more [] event = omega arith
-most_more (first ∷ events) event = let rest = most_more events event in omega (arith, rest)
+pub most_more : (calls : List (Call DeviceStep)) (call : Call DeviceStep) → most_of_all (calls ++ call ∷ []) ≡ most_of_all calls + most_of call
+most_more [] call = omega arith
+most_more (first ∷ calls) call = let rest = most_more calls call in omega (arith, rest)
 
 -- the first of them cost no more than all
-pub most_taken : (n : ℕ) (events : List Event) → most_of_all (take n events) ≤ most_of_all events
-most_taken zero events = omega arith
+pub most_taken : (n : ℕ) (calls : List (Call DeviceStep)) → most_of_all (take n calls) ≤ most_of_all calls
+most_taken zero calls = omega arith
 most_taken (suc n) [] = omega arith
-most_taken (suc n) (event ∷ events) = let rest = most_taken n events in omega (arith, rest)
+most_taken (suc n) (call ∷ calls) = let rest = most_taken n calls in omega (arith, rest)
 
 -- to mend any trouble a port may be stopped
 pub mending_stops : (port_error : PortError) → STOP_ACCESSES ≤ handling_accesses port_error

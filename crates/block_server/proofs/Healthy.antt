@@ -44,8 +44,10 @@ use Rattle.block_server.specs.Made.{IsInitialServer}
 use Rattle.block_server.specs.Promise.{IsServedWell, IsToldWell, Simulates, ServesPorts}
 use Rattle.block_server.specs.Running.{ask_of, said_of}
 use Rattle.block_server.specs.View.{ServerView, server_of, visible_of}
-use Rattle.block_server.specs.declared.types.Event.{Event}
-use Rattle.block_server.specs.declared.types.Said.{Said}
+use Rattle.arrayvec.specs.ArrayVec.{ArrayVec}
+use Rattle.ata_types.specs.declared.call.Call.{Call}
+use Rattle.ata_types.specs.declared.call.CallResult as call
+use Rattle.ata_types.specs.declared.request.Reply.{Reply}
 
 -- What the laws of histories say, each of every history.
 pub record HistoryLaws : Type 0 where
@@ -95,7 +97,7 @@ mapped : {X : Type 0} (f : Happening Device DeviceStep → X) (one two : Calls) 
 mapped f one two a b p q =
     ap (map f) (reverse-append two one) ∙ map-append f (reverse one) (reverse two) ∙ ap (λ l. l ++ map f (reverse two)) p ∙ ap (λ l. a ++ l) q
 
-calls_joined : (one two : Calls) (events further : List Event) (said more : List Said) → AreCalls one (map ask_of events) (map said_of said)
+calls_joined : (one two : Calls) (events further : List (Call DeviceStep)) (said more : List (call.CallResult (ArrayVec Reply))) → AreCalls one (map ask_of events) (map said_of said)
     → AreCalls two (map ask_of further) (map said_of more) → AreCalls (two ++ one) (map ask_of (events ++ further)) (map said_of (said ++ more))
 calls_joined one two events further said more a b = record {
   asks = mapped (λ h. h.event.ask) one two _ _ a.asks b.asks ∙ sym (map-append ask_of events further);
@@ -259,7 +261,7 @@ module _ (laws : HistoryLaws) where
             subst (λ (d : Device). RunsWell (d.port port.0)) here.stands.device_is served.0.well,
           )
 
-    pub one_call : (old new : ServerView A) (event : Event) (one : Said) → ExtendsHistory (server_of device old) (server_of device new) (ask_of event) (said_of one)
+    pub one_call : (old new : ServerView A) (event : Call DeviceStep) (one : call.CallResult (ArrayVec Reply)) → ExtendsHistory (server_of device old) (server_of device new) (ask_of event) (said_of one)
         → new.wanted ≡ old.wanted → Simulates device old new (event ∷ []) (one ∷ [])
     one_call old new event one adds wanted first past leads =
         let x = adds first past leads in
@@ -294,7 +296,7 @@ module _ (laws : HistoryLaws) where
           };
         }
 
-    pub more_calls : (old mid new : ServerView A) (events further : List Event) (said more : List Said) → Simulates device old mid events said
+    pub more_calls : (old mid new : ServerView A) (events further : List (Call DeviceStep)) (said more : List (call.CallResult (ArrayVec Reply))) → Simulates device old mid events said
         → Simulates device mid new further more → Simulates device old new (events ++ further) (said ++ more)
     more_calls old mid new events further said more keeps goes_on first past leads =
         let a = keeps first past leads in

@@ -12,7 +12,7 @@ use Rattle.adapter.specs.Device.{Device}
 use Rattle.refinement.specs.Relation.{port_at}
 use Rattle.host_boot.specs.declared.ProbeResult.{ProbeResult}
 use Rattle.host_boot.specs.declared.ProbeResult.TheVariants.{Unserved, Ready, Unready}
-use Rattle.host_boot.specs.declared.resetting.AdapterStuck.{AdapterStuck}
+use Rattle.ata_types.specs.declared.call.AdapterStuck.{AdapterStuck}
 use Rattle.request_queue.specs.Entries.{Held}
 use Rattle.server_history.specs.Resets.{IssuePorts, SettlePorts}
 use Rattle.server_history.specs.Served.{IssuesEach}
@@ -22,7 +22,7 @@ use Rattle.block_server.specs.Calls.{ServicesBy, Services, Submits, TicksBy, Tic
 use Rattle.block_server.specs.Resetting.{DoesReset}
 use Rattle.block_server.specs.Revoking.{Revokes, RevokesAndIssues}
 use Rattle.block_server.specs.View.{ServerView, server_of}
-use Rattle.block_server.specs.declared.types.NoSuchGrant.{NoSuchGrant}
+use Rattle.ata_types.specs.declared.call.NoSuchGrant.{NoSuchGrant}
 
 -- both want the same disks
 abbrev SameWanted : ServerState → ServerState → Type 0

@@ -1,8 +1,9 @@
 -- How many accesses of its adapter each call of a server makes, at most, whatever the device does.
+use Rattle.ata_types.specs.declared.call.Call.{Call}
+use Rattle.ata_types.specs.declared.call.Call.TheVariants.{Submit, ClientStore, ClientLoad, Service, Tick, Reset, Revoke, State, Device as Step}
 use Rattle.ata_types.specs.declared.limits.TheConstants.{PORTS, SLOTS}
 use Rattle.std.specs.Prelude.{ℕ, ◌+◌, ◌*◌, List, [], ◌∷◌}
-use Rattle.block_server.specs.declared.types.Event.{Event}
-use Rattle.block_server.specs.declared.types.Event.TheVariants.{Submit, ClientStore, ClientLoad, Service, Tick, Reset, Revoke, State, Device as Step}
+use Rattle.adapter.specs.declared.access.DeviceStep.{DeviceStep}
 use Rattle.error_recovery.specs.Costs.{RECOVER_ACCESSES}
 use Rattle.host_boot.specs.Costs.{BOOT_AGAIN_ACCESSES, BOOT_IF_THERE_ACCESSES, RESET_ACCESSES, TAKE_OVER_ACCESSES}
 use Rattle.ncq.specs.Costs.{DONE_ACCESSES, ISSUE_ACCESSES}
@@ -63,7 +64,7 @@ abbrev pub MOST_OF_REVOKE : ℕ
 MOST_OF_REVOKE = ISSUES_ACCESSES
 
 -- a call of a list: a client's bytes are stored or loaded by one access, and a step of the device is none
-abbrev pub most_of : Event → ℕ
+abbrev pub most_of : Call DeviceStep → ℕ
 most_of (Submit request) = MOST_OF_SUBMIT
 most_of (ClientStore client frame offset bytes) = 1
 most_of (ClientLoad client frame offset length) = 1
@@ -75,6 +76,6 @@ most_of (State port) = 0
 most_of (Step step) = 0
 
 -- all calls of a list
-abbrev pub most_of_all : List Event → ℕ
+abbrev pub most_of_all : List (Call DeviceStep) → ℕ
 most_of_all [] = 0
-most_of_all (event ∷ events) = most_of event + most_of_all events
+most_of_all (call ∷ calls) = most_of call + most_of_all calls

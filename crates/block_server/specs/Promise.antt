@@ -2,8 +2,12 @@
 use Rattle.std.specs.Prelude.{ℕ, true, false, ◌≡◌, ◌≢◌, List, ◌++◌, Contains, length, map}
 use Rattle.ata_types.specs.declared.Port.{Port}
 use Rattle.ata_types.specs.declared.PortState.TheVariants.{Ready}
+use Rattle.arrayvec.specs.ArrayVec.{ArrayVec}
+use Rattle.ata_types.specs.declared.call.Call.{Call}
+use Rattle.ata_types.specs.declared.call.CallResult.{CallResult}
 use Rattle.ata_types.specs.declared.request.Outcome.{Outcome}
 use Rattle.ata_types.specs.declared.request.Outcome.TheVariants as outcome
+use Rattle.ata_types.specs.declared.request.Reply.{Reply}
 use Rattle.ata_types.specs.declared.request.RequestId.{RequestId}
 use Rattle.adapter.specs.Device.{Device}
 use Rattle.adapter.specs.declared.access.DeviceStep.{DeviceStep}
@@ -23,8 +27,6 @@ use Rattle.server_history.specs.Server.{state_of}
 use Rattle.block_server.specs.Clients.{EachAfter, OutlivesUnplugs, ServesClients}
 use Rattle.block_server.specs.Running.{ask_of, said_of}
 use Rattle.block_server.specs.View.{ServerView, server_of, visible_of}
-use Rattle.block_server.specs.declared.types.Event.{Event}
-use Rattle.block_server.specs.declared.types.Said.{Said}
 
 -- What is told where nothing goes wrong. A call that revokes a grant tells Revoked, of requests that aren't issued
 -- (which ones: `AnswersRevoke`). Each other one tells Ok, of a request that was issued when the call began, of which
@@ -69,8 +71,7 @@ pub record ServesPorts (first : JointState Device) (past : List (Happening Devic
 -- is ready and runs well after it, unless one of them is a reset, which boots each port, or a tick that brings a
 -- request of the port to its age of three: that restarts the port, since nothing else tells that a request hangs.
 pub record DrivesDevice {A : Type 0} (device : A → Device) (first : JointState Device)
-    (past added : List (Happening Device DeviceStep))
-    (old new : ServerView A) : Type 0 where
+    (past added : List (Happening Device DeviceStep)) (old new : ServerView A) : Type 0 where
   pub leads : LeadsToServer first (added ++ past) (server_of device new)
   pub serves : EachAfter (ServesPorts first) past added
   pub healthy : (port : Port) → state_of (probe_result_of old.ports port.0) ≡ Ready
@@ -85,23 +86,24 @@ pub record DrivesDevice {A : Type 0} (device : A → Device) (first : JointState
 -- promised to clients, of the calls and of disks that come back, and of the device.
 pub record KeepsPromise {A : Type 0} (device : A → Device) (first : JointState Device)
     (past : List (Happening Device DeviceStep))
-    (old new : ServerView A) (events : List Event) (said : List Said) : Type 0 where
+    (old new : ServerView A) (calls : List (Call DeviceStep)) (said : List (CallResult (ArrayVec Reply))) : Type 0 where
   pub added : List (Happening Device DeviceStep)
-  pub clients : ServesClients first past added (visible_of device old) (visible_of device new) (map ask_of events)
+  pub clients : ServesClients first past added (visible_of device old) (visible_of device new) (map ask_of calls)
       (map said_of said)
   pub disks : OutlivesUnplugs first (added ++ past)
   pub driver : DrivesDevice device first past added old new
 
 -- So it is after each such history. (There is one since the server was made: `begun` of `IsInitialServer`; and with the
 -- calls it leads to the server after them.)
-abbrev pub Simulates : {A : Type 0} → (A → Device) → ServerView A → ServerView A → List Event → List Said → Type 0
-Simulates device old new events said = (first : JointState Device) (past : List (Happening Device DeviceStep))
-    → LeadsToServer first past (server_of device old) → KeepsPromise device first past old new events said
+abbrev pub Simulates : {A : Type 0} → (A → Device) → ServerView A → ServerView A → List (Call DeviceStep)
+    → List (CallResult (ArrayVec Reply)) → Type 0
+Simulates device old new calls said = (first : JointState Device) (past : List (Happening Device DeviceStep))
+    → LeadsToServer first past (server_of device old) → KeepsPromise device first past old new calls said
 
 -- What the calls of a list said, one thing each, stands at the end of what had been said; and they keep the promise.
-pub record RunsAsPromised {A : Type 0} (device : A → Device) (old new : ServerView A) (events : List Event)
-    (before after : List Said) : Type 0 where
-  pub said : List Said
+pub record RunsAsPromised {A : Type 0} (device : A → Device) (old new : ServerView A) (calls : List (Call DeviceStep))
+    (before after : List (CallResult (ArrayVec Reply))) : Type 0 where
+  pub said : List (CallResult (ArrayVec Reply))
   pub told : after ≡ before ++ said
-  pub each : length said ≡ length events
-  pub keeps : Simulates device old new events said
+  pub each : length said ≡ length calls
+  pub keeps : Simulates device old new calls said

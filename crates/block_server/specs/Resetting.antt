@@ -8,7 +8,7 @@ use Rattle.block_machine.specs.declared.due.QueueMode.{QueueMode}
 use Rattle.dma_frames.specs.Loan.{Lending}
 use Rattle.dma_frames.specs.Table.{Table}
 use Rattle.host_boot.specs.declared.ProbeResult.{ProbeResult}
-use Rattle.host_boot.specs.declared.resetting.AdapterStuck.{AdapterStuck}
+use Rattle.ata_types.specs.declared.call.AdapterStuck.{AdapterStuck}
 use Rattle.identify.specs.declared.DiskInfo.{DiskInfo}
 use Rattle.request_queue.specs.Entries.{Held}
 use Rattle.server_history.specs.Resets.{MaySettle, ResetsServer}

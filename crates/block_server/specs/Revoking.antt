@@ -12,7 +12,7 @@ use Rattle.server_history.specs.Revoked.{RevokesGrant}
 use Rattle.server_history.specs.Served.{IssuesAll}
 use Rattle.server_history.specs.Server.{ServerState, mode_in}
 use Rattle.block_server.specs.View.{ServerView, server_of}
-use Rattle.block_server.specs.declared.types.NoSuchGrant.{NoSuchGrant}
+use Rattle.ata_types.specs.declared.call.NoSuchGrant.{NoSuchGrant}
 
 -- what a revocation says, by its replies
 abbrev pub revoke_said : Result (Unit {0}) NoSuchGrant → List Reply → CallResult

@@ -1,16 +1,18 @@
 -- The calls of a list, as the machine's (this project's own).
 use Rattle.std.specs.Prelude.{min, Some, None, Ok, Err}
+use Rattle.arrayvec.specs.ArrayVec.{ArrayVec}
+use Rattle.ata_types.specs.declared.call.Call.{Call}
+use Rattle.ata_types.specs.declared.call.Call.TheVariants.{Submit, ClientStore, ClientLoad, Service, Tick, Reset, Revoke, State, Device as Step}
+use Rattle.ata_types.specs.declared.call.CallResult.{CallResult}
+use Rattle.ata_types.specs.declared.call.CallResult.TheVariants as said
+use Rattle.ata_types.specs.declared.request.Reply.{Reply}
 use Rattle.adapter.specs.declared.access.DeviceStep.{DeviceStep}
 use Rattle.block_machine.specs.Events.{Ask, Submit as AskSubmit, StoreAt, LoadAt, Service as AskService, Tick as AskTick, Reset as AskReset, RevokeOf, State as AskState, Device as AskDevice, Submitted, Loaded, Served, WasReset, WasRevoked, Shown, Stepped}
 use Rattle.block_machine.specs.Events as machine
 use Rattle.server_history.specs.Histories.{store_said}
-use Rattle.block_server.specs.declared.types.Event.{Event}
-use Rattle.block_server.specs.declared.types.Event.TheVariants.{Submit, ClientStore, ClientLoad, Service, Tick, Reset, Revoke, State, Device as Step}
-use Rattle.block_server.specs.declared.types.Said.{Said}
-use Rattle.block_server.specs.declared.types.Said.TheVariants as said
 
 -- the call of a list, as the machine is asked; a load is of at most 64 bytes
-abbrev pub ask_of : Event → Ask DeviceStep
+abbrev pub ask_of : Call DeviceStep → Ask DeviceStep
 ask_of (Submit r) = AskSubmit r
 ask_of (ClientStore client frame offset bytes) = StoreAt client frame offset bytes.items
 ask_of (ClientLoad client frame offset count) = LoadAt client frame offset (min count 64)
@@ -22,7 +24,7 @@ ask_of (State port) = AskState port
 ask_of (Step step) = AskDevice step
 
 -- what it said
-abbrev pub said_of : Said → machine.CallResult
+abbrev pub said_of : CallResult (ArrayVec Reply) → machine.CallResult
 said_of (said.Submitted result) = Submitted result
 said_of (said.Stored result) = store_said result
 said_of (said.Loaded (Ok bytes)) = Loaded (Ok bytes.items)

@@ -1,8 +1,13 @@
 // Laws of the definitions, for callers: the clause is the theorem. These functions do nothing.
 ghost use Rattle.std.specs.Prelude.{◌≡◌, ◌++◌, List, [], ◌∷◌};
+ghost use Rattle.arrayvec.specs.ArrayVec.{ArrayVec};
 ghost use Rattle.ata_types.specs.declared.Port.{Port};
 ghost use Rattle.ata_types.specs.declared.PortState.TheVariants.{Ready};
+ghost use Rattle.ata_types.specs.declared.call.Call.{Call};
+ghost use Rattle.ata_types.specs.declared.call.CallResult.{CallResult};
+ghost use Rattle.ata_types.specs.declared.request.Reply.{Reply};
 ghost use Rattle.adapter.specs.Idle.{IsIdle};
+ghost use Rattle.adapter.specs.declared.access.DeviceStep.{DeviceStep};
 ghost use Rattle.refinement.specs.Facts.{RunsWell, Undisturbed};
 ghost use Rattle.configuration.specs.declared.Config.{Config};
 ghost use Rattle.host_boot.specs.Taken.{probe_result_of};
@@ -12,8 +17,6 @@ ghost use Rattle.block_server.specs.Promise.{Simulates};
 ghost use Rattle.block_server.specs.Made.{IsInitialServer};
 ghost use Rattle.block_server.specs.Running.{ask_of, said_of};
 ghost use Rattle.block_server.specs.View.{ServerView, server_of};
-ghost use Rattle.block_server.specs.declared.types.Event.{Event};
-ghost use Rattle.block_server.specs.declared.types.Said.{Said};
 ghost use Rattle.block_server.specs.Costs.{MOST_OF_NEW, MOST_OF_RESET, MOST_OF_REVOKE, MOST_OF_SERVICE, MOST_OF_SUBMIT, MOST_OF_TICK};
 
 use adapter::Stepped;
@@ -32,12 +35,12 @@ use host_boot::laws::law_what_was_taken_over_may_be_served;
 /// restarts it.
 pub fn law_runs_keep_their_promise<A: Stepped>()
     ensures none { (s : ServerView A) → Simulates A.device s s [] [] }
-    ensures one { (old new : ServerView A) (event : Event) (one : Said)
-        → ExtendsHistory (server_of A.device old) (server_of A.device new) (ask_of event) (said_of one)
-        → new.wanted ≡ old.wanted → Simulates A.device old new (event ∷ []) (one ∷ []) }
-    ensures more { (old mid new : ServerView A) (events further : List Event) (said more : List Said)
-        → Simulates A.device old mid events said → Simulates A.device mid new further more
-        → Simulates A.device old new (events ++ further) (said ++ more) }
+    ensures one { (old new : ServerView A) (call : Call DeviceStep) (one : CallResult (ArrayVec Reply))
+        → ExtendsHistory (server_of A.device old) (server_of A.device new) (ask_of call) (said_of one)
+        → new.wanted ≡ old.wanted → Simulates A.device old new (call ∷ []) (one ∷ []) }
+    ensures more { (old mid new : ServerView A) (calls further : List (Call DeviceStep))
+        (said more : List (CallResult (ArrayVec Reply))) → Simulates A.device old mid calls said
+        → Simulates A.device mid new further more → Simulates A.device old new (calls ++ further) (said ++ more) }
 {
     law_seen_are_answered();
     law_healthy_calls_go_well();

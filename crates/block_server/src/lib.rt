@@ -27,7 +27,6 @@ mod sayings;
 mod server;
 mod types;
 
-pub use host_boot::AdapterStuck;
 pub use sayings::Sayings;
 pub use server::Server;
-pub use types::{Event, NoSuchGrant, RunStopped, Said, ServerError, Told};
+pub use types::{RunStopped, ServerError};

@@ -4,10 +4,10 @@ ghost use Rattle.std.specs.Vec.{vec_capacity};
 ghost use Rattle.block_server.specs.Sayings.{said_in, with_replies};
 
 use crate::laws::law_runs_keep_their_promise;
-use crate::{Event, RunStopped, Said, Sayings, Server, Told};
-use adapter::{Adapter, Stepped};
+use crate::{RunStopped, Sayings, Server};
+use adapter::{Adapter, DeviceStep, Stepped};
 use arrayvec::ArrayVec;
-use ata_types::{ClientId, Frame, MemFault, Replies};
+use ata_types::{Call, CallResult, ClientId, Frame, MemFault, Replies};
 
 /// Bytes that one load of a list tells at most.
 const FEW: usize = 64;
@@ -29,7 +29,7 @@ impl<A: Adapter> Server<A> {
         count: u32,
     ) -> Result<ArrayVec<u8, 64>, MemFault>
         ensures adds { ExtendsHistory (server_of A.device self.old) (server_of A.device self.new)
-            (LoadAt client frame offset (min count 64)) (said_of (Said.Loaded result)) }
+            (LoadAt client frame offset (min count 64)) (said_of (CallResult.Loaded result)) }
         ensures wanted { self.new.wanted ≡ self.old.wanted }
         ensures cost { MakesAtMost 1 (A.access_count self.old.adapter) (A.access_count self.new.adapter) }
     {
@@ -52,66 +52,68 @@ impl<A: Stepped> Server<A> {
 
     /// Makes the call. What a service, a tick, a reset that ends, or a revocation of a grant that is there answered is
     /// all that `replies` has then; of what it has after another call nothing is told.
-    fn answer(&mut self, event: &Event, replies: &mut Replies) -> Told
-        ensures adds { ExtendsHistory (server_of A.device self.old) (server_of A.device self.new) (ask_of event.now)
+    fn answer(&mut self, call: &Call<DeviceStep>, replies: &mut Replies) -> CallResult<()>
+        ensures adds { ExtendsHistory (server_of A.device self.old) (server_of A.device self.new) (ask_of call.now)
             (said_of (with_replies result replies.new.items)) }
         ensures wanted { self.new.wanted ≡ self.old.wanted }
-        ensures cost { MakesAtMost (most_of event.now)
+        ensures cost { MakesAtMost (most_of call.now)
             (A.access_count self.old.adapter) (A.access_count self.new.adapter) }
     {
-        match event {
-            Event::Submit(request) => Told::Submitted(self.submit(request)),
-            Event::ClientStore {
+        match call {
+            Call::Submit(request) => CallResult::Submitted(self.submit(request)),
+            Call::ClientStore {
                 client,
                 frame,
                 offset,
                 bytes,
-            } => Told::Stored(self.client_store(*client, *frame, *offset, bytes.as_slice())),
-            Event::ClientLoad {
+            } => {
+                CallResult::Stored(self.client_store(*client, *frame, *offset, bytes.as_slice()))
+            }
+            Call::ClientLoad {
                 client,
                 frame,
                 offset,
                 length,
-            } => Told::Loaded(self.load_few(*client, *frame, *offset, *length)),
-            Event::Service => {
+            } => CallResult::Loaded(self.load_few(*client, *frame, *offset, *length)),
+            Call::Service => {
                 self.service_into(replies);
-                Told::Served
+                CallResult::Served(())
             }
-            Event::Tick => {
+            Call::Tick => {
                 self.tick_into(replies);
-                Told::Served
+                CallResult::Served(())
             }
-            Event::Reset => Told::WasReset(self.reset_into(replies)),
-            Event::Revoke { client, number } => {
-                Told::WasRevoked(self.revoke_into(*client, *number, replies))
+            Call::Reset => CallResult::WasReset(self.reset_into(replies)),
+            Call::Revoke { client, number } => {
+                CallResult::WasRevoked(self.revoke_into(*client, *number, replies))
             }
-            Event::State(port) => Told::State(self.state(*port)),
-            Event::Device(step) => Told::Stepped(self.device(step)),
+            Call::State(port) => CallResult::State(self.state(*port)),
+            Call::Device(step) => CallResult::Stepped(self.device(step)),
         }
     }
 
     /// Makes the calls in order, and puts what each said at the end of `out`. Room for it is made before each call;
     /// where memory for that is refused, the calls before `at` are done, and no other. Room that there was stays.
-    pub fn run(&mut self, events: &[Event], out: &mut Sayings) -> Result<(), RunStopped>
-        ensures done { OnOk result (RunsAsPromised A.device self.old self.new events.now (said_in out.old)
+    pub fn run(&mut self, calls: &[Call<DeviceStep>], out: &mut Sayings) -> Result<(), RunStopped>
+        ensures done { OnOk result (RunsAsPromised A.device self.old self.new calls.now (said_in out.old)
             (said_in out.new)) }
-        ensures stopped { IfErr result (λ e. e.at < length events.now) }
-        ensures ample { vec_len out.old.earlier + length events.now ≤ vec_capacity out.old.earlier → IsOk result }
-        ensures begun { IfErr result (λ e. RunsAsPromised A.device self.old self.new (take e.at events.now)
+        ensures stopped { IfErr result (λ e. e.at < length calls.now) }
+        ensures ample { vec_len out.old.earlier + length calls.now ≤ vec_capacity out.old.earlier → IsOk result }
+        ensures begun { IfErr result (λ e. RunsAsPromised A.device self.old self.new (take e.at calls.now)
             (said_in out.old) (said_in out.new)) }
-        ensures last { OnOk result (1 ≤ length events.now → IsSome out.new.last) }
+        ensures last { OnOk result (1 ≤ length calls.now → IsSome out.new.last) }
         ensures room { vec_capacity out.old.earlier ≤ vec_capacity out.new.earlier }
-        ensures cost { MakesAtMost (most_of_all events.now)
+        ensures cost { MakesAtMost (most_of_all calls.now)
             (A.access_count self.old.adapter) (A.access_count self.new.adapter) }
     {
         law_runs_keep_their_promise::<A>();
-        for (at, event) in events.iter().enumerate() {
+        for (at, call) in calls.iter().enumerate() {
             if out.reserve(1).is_err() {
                 return Err(RunStopped { at });
             }
             out.go_on();
-            let told = self.answer(event, &mut out.replies);
-            out.last = Some(told);
+            let said = self.answer(call, &mut out.replies);
+            out.last = Some(said);
         }
         Ok(())
     }

@@ -3,26 +3,25 @@ ghost use Rattle.std.specs.Prelude.{◌≡◌, ◌<◌, ◌≤◌, ◌+◌, ◌+
 ghost use Rattle.std.specs.Vec.{vec_capacity};
 ghost use Rattle.block_server.specs.Sayings.{said_in, with_replies};
 
-use crate::{Said, Told};
-use ata_types::{Replies, Reply};
+use ata_types::{CallResult, Replies, Reply};
 use std::alloc::{AllocError, Global};
 use std::mem;
 
-/// What a call said, with what a service, a tick, a reset or a revocation answered.
-fn said_with(told: Told, replies: Replies) -> Said
-    ensures { result ≡ with_replies told replies.items }
+/// What a call said, with the replies of a service, a tick, a reset or a revocation.
+fn said_with(said: CallResult<()>, replies: Replies) -> CallResult
+    ensures { result ≡ with_replies said replies.items }
 {
-    match told {
-        Told::Submitted(result) => Said::Submitted(result),
-        Told::Stored(result) => Said::Stored(result),
-        Told::Loaded(result) => Said::Loaded(result),
-        Told::Served => Said::Served(replies),
-        Told::WasReset(Ok(())) => Said::WasReset(Ok(replies)),
-        Told::WasReset(Err(stuck)) => Said::WasReset(Err(stuck)),
-        Told::WasRevoked(Ok(())) => Said::WasRevoked(Ok(replies)),
-        Told::WasRevoked(Err(none)) => Said::WasRevoked(Err(none)),
-        Told::State(state) => Said::State(state),
-        Told::Stepped(done) => Said::Stepped(done),
+    match said {
+        CallResult::Submitted(result) => CallResult::Submitted(result),
+        CallResult::Stored(result) => CallResult::Stored(result),
+        CallResult::Loaded(result) => CallResult::Loaded(result),
+        CallResult::Served(()) => CallResult::Served(replies),
+        CallResult::WasReset(Ok(())) => CallResult::WasReset(Ok(replies)),
+        CallResult::WasReset(Err(stuck)) => CallResult::WasReset(Err(stuck)),
+        CallResult::WasRevoked(Ok(())) => CallResult::WasRevoked(Ok(replies)),
+        CallResult::WasRevoked(Err(none)) => CallResult::WasRevoked(Err(none)),
+        CallResult::State(state) => CallResult::State(state),
+        CallResult::Stepped(done) => CallResult::Stepped(done),
     }
 }
 
@@ -31,8 +30,8 @@ fn said_with(told: Told, replies: Replies) -> Said
 /// has 3 KB, and a list of one call is what `play` makes for each line.)
 #[derive(Drop)]
 pub struct Sayings {
-    earlier: Vec<Said>,
-    pub(crate) last: Option<Told>,
+    earlier: Vec<CallResult>,
+    pub(crate) last: Option<CallResult<()>>,
     /// Where `last` is of a service, a tick, a reset that ended, or a revocation of a grant that was there, what it
     /// answered.
     pub(crate) replies: Replies,
@@ -72,15 +71,15 @@ impl Sayings {
     }
 
     /// What the calls before the last one said.
-    pub fn earlier(&self) -> &[Said]
+    pub fn earlier(&self) -> &[CallResult]
         ensures { result.now ≡ self.now.earlier.items }
     {
         self.earlier.as_slice()
     }
 
     /// What the last call said, if there was one.
-    pub fn last(&self) -> Option<&Told>
-        ensures { MatchOption result (self.now.last ≡ None) (λ told. self.now.last ≡ Some told.now) }
+    pub fn last(&self) -> Option<&CallResult<()>>
+        ensures { MatchOption result (self.now.last ≡ None) (λ said. self.now.last ≡ Some said.now) }
     {
         self.last.as_ref()
     }
@@ -96,16 +95,16 @@ impl Sayings {
     /// Puts what the last call said with that of those before it. A function of its own, since it has room for all
     /// replies.
     #[inline(never)]
-    fn join(&mut self, told: Told)
+    fn join(&mut self, said: CallResult<()>)
         requires { vec_len self.old.earlier < vec_capacity self.old.earlier }
-        ensures earlier { self.new.earlier.items ≡ self.old.earlier.items ++ with_replies told self.old.replies.items
+        ensures earlier { self.new.earlier.items ≡ self.old.earlier.items ++ with_replies said self.old.replies.items
             ∷ [] }
         ensures last { self.new.last ≡ self.old.last }
         ensures len { vec_len self.new.earlier ≡ vec_len self.old.earlier + 1 }
         ensures capacity { vec_capacity self.new.earlier ≡ vec_capacity self.old.earlier }
     {
         let replies = mem::replace(&mut self.replies, Replies::new());
-        self.earlier.push_reserved(said_with(told, replies));
+        self.earlier.push_reserved(said_with(said, replies));
     }
 
     /// Gets ready for what another call says.
@@ -116,13 +115,13 @@ impl Sayings {
         ensures len { vec_len self.new.earlier ≤ vec_len self.old.earlier + 1 }
         ensures capacity { vec_capacity self.new.earlier ≡ vec_capacity self.old.earlier }
     {
-        if let Some(told) = self.last.take() {
-            self.join(told);
+        if let Some(said) = self.last.take() {
+            self.join(said);
         }
     }
 
     /// All that was said, in one list. Memory for what the last call said may be refused.
-    pub fn into_list(self) -> Result<Vec<Said>, AllocError>
+    pub fn into_list(self) -> Result<Vec<CallResult>, AllocError>
         ensures { IfOk result (λ list. list.items ≡ said_in self) }
     {
         let mut said = self;

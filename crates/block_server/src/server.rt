@@ -18,14 +18,15 @@ use crate::recovery::{
 use crate::resetting::{dead_ports, disks_of, issue_ports, last_disk_of, resolve_ports};
 use adapter::{Adapter, DeviceStep, Stepped};
 use ata_types::{
-    MOST_UNANSWERED, Op, PORTS, Port, PortState, Range, Refusal, Replies, Request, RequestId,
+    AdapterStuck, MOST_UNANSWERED, Op, PORTS, Port, PortState, Range, Refusal, Replies, Request,
+    RequestId,
 };
 use block_machine::QueueMode;
 use block_machine::laws::law_due_is_exact;
 use configuration::Config;
 use dma_frames::FrameTable;
 use grants::{Grants, decide};
-use host_boot::{AdapterStuck, ProbeResult, reset, take_over};
+use host_boot::{ProbeResult, reset, take_over};
 use identify::{DiskInfo, Wanted};
 use ncq::done;
 use plan::Plan;

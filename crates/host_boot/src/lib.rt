@@ -33,7 +33,7 @@ mod lawful;
 pub mod laws;
 mod resetting;
 
-pub use resetting::{AdapterStuck, reset};
+pub use resetting::reset;
 
 /// What a port was found to be.
 #[derive(Clone, Copy, PartialEq, Eq, Debug)]

@@ -6,12 +6,8 @@ ghost use Rattle.host_boot.specs.Costs.{RESET_ACCESSES};
 
 use super::lawful::law_base;
 use adapter::Adapter;
-use ata_types::READINGS;
+use ata_types::{AdapterStuck, READINGS};
 use hba_regs::{GlobalControl, Reg};
-
-/// The adapter didn't end its reset.
-#[derive(Clone, Copy, PartialEq, Eq, Debug)]
-pub struct AdapterStuck;
 
 /// Resets the adapter, and waits until the reset is done, for 64 readings of GHC at most (that many are this project's
 /// own). Once it is done the adapter is idle; `AdapterStuck` is told where HR is one still. It may be reset in whatever

@@ -1,10 +1,10 @@
 // What a new model does when it is told, and before an access. It isn't switched on, so that GHC alone is read and
 // written.
 use adapter::{Adapter, DeviceStep, DiskNumber, DiskPage, Entry, FatalError, Stepped};
-use ata_types::{FEWEST_FRAMES, Port, Slot};
+use ata_types::{AdapterStuck, FEWEST_FRAMES, Port, Slot};
 use device_model::{Model, ModelConfig, NoMemory, Trim};
 use hba_regs::Reg;
-use host_boot::{AdapterStuck, reset};
+use host_boot::reset;
 use sector_store::MemStore;
 use std::alloc::Global;
 use std::test::Fail;

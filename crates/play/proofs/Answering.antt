@@ -1,29 +1,31 @@
 -- What the calls that were printed answered.
 use Rattle.std.proofs.Common.{ℕ, Bool, true, ◌≡◌, ◌&&◌, List, [], ◌∷◌, ◌++◌, Option, Some, None, refl, ap, ◌∙◌}
 use Rattle.std.specs.Prelude.{IsSome, is_some}
+use Rattle.arrayvec.specs.ArrayVec.{ArrayVec}
+use Rattle.ata_types.specs.declared.call.Call.{Call}
+use Rattle.ata_types.specs.declared.call.CallResult.{CallResult}
+use Rattle.ata_types.specs.declared.request.Reply.{Reply}
 use Rattle.adapter.specs.Device.{Device}
+use Rattle.adapter.specs.declared.access.DeviceStep.{DeviceStep}
 use Rattle.configuration.specs.Document.{IsReadFrom}
 use Rattle.configuration.specs.declared.Config.{Config}
 use Rattle.device_model.specs.Modelled.{device_at, is_starved}
 use Rattle.device_model.specs.declared.model.Model.{Model}
 use Rattle.block_server.specs.Promise.{Simulates}
 use Rattle.block_server.specs.View.{ServerView}
-use Rattle.block_server.specs.declared.types.Event.{Event}
-use Rattle.block_server.specs.declared.types.Said.{Said}
-use Rattle.play.specs.Events.{line_events}
 use Rattle.play.specs.Played.{Prints, none, call, IsServerOfModel, Played, Ran}
 
 -- no call keeps the promise, nor do calls after others that keep it break it
 pub record GoOn {A : Type 0} (device : A → Device) : Type 0 where
   pub none : (s : ServerView A) → Simulates device s s [] []
-  pub more : (old mid new : ServerView A) (events further : List Event) (said more : List Said) → Simulates device old mid events said
-      → Simulates device mid new further more → Simulates device old new (events ++ further) (said ++ more)
+  pub more : (old mid new : ServerView A) (calls further : List (Call DeviceStep)) (said more : List (CallResult (ArrayVec Reply))) → Simulates device old mid calls said
+      → Simulates device mid new further more → Simulates device old new (calls ++ further) (said ++ more)
 
-pub all_keep : {A : Type 0} (device : A → Device) (starved : A → Bool) (trace : Bool) → GoOn device → (old new : ServerView A) (shown : ℕ) (events : List Event)
-    (said : List Said) (text last : List ℕ) → Prints device starved trace old new shown events said text last → Simulates device old new events said
-all_keep device starved trace laws old new shown events said text last none = laws.none old
-all_keep device starved trace laws old new shown events said text last (call {mid = mid} {shown = before} {events = calls} {event = event} {said = saying} {one = one} {before = printed} {last = latest} prints fed keeps) =
-    laws.more old mid new calls (event ∷ []) saying (one ∷ []) (all_keep device starved trace laws old mid before calls saying printed latest prints) keeps
+pub all_keep : {A : Type 0} (device : A → Device) (starved : A → Bool) (trace : Bool) → GoOn device → (old new : ServerView A) (shown : ℕ) (calls : List (Call DeviceStep))
+    (said : List (CallResult (ArrayVec Reply))) (text last : List ℕ) → Prints device starved trace old new shown calls said text last → Simulates device old new calls said
+all_keep device starved trace laws old new shown calls said text last none = laws.none old
+all_keep device starved trace laws old new shown all said text last (call {mid = mid} {shown = before} {calls = calls} {asked = asked} {said = saying} {one = one} {before = printed} {last = latest} prints fed keeps) =
+    laws.more old mid new calls (asked ∷ []) saying (one ∷ []) (all_keep device starved trace laws old mid before calls saying printed latest prints) keeps
 
 -- where both tell, the test of both is true
 pub both_tell : {T : Type 0} (one other : Option T) → IsSome one → IsSome other → (is_some one && is_some other) ≡ true
@@ -50,7 +52,7 @@ played_of size told config script image blank trace old new values read server l
         begun = begun.1;
         telling = λ image_tells blank_tells.
             ap (λ (d : Device). d.telling) begun.1.stands.device_is ∙ started.made.taken.same.telling ∙ started.modelled.made.telling ∙ ap (λ (b : Bool). b && true) (both_tell _ _ image_tells blank_tells);
-        promise = all_keep (device_at size told) is_starved trace laws server last ran.shown (line_events ran.played) ran.said ran.text ran.last ran.prints begun.0 [] begun.1;
+        promise = all_keep (device_at size told) is_starved trace laws server last ran.shown ran.played ran.said ran.text ran.last ran.prints begun.0 [] begun.1;
       };
       left = left;
     }

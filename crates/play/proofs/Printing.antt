@@ -8,17 +8,17 @@ use Rattle.std.proofs.Math.Seq.{take-add}
 use Rattle.std.proofs.lemmas.Bool.{false≢true}
 use Rattle.std.proofs.lemmas.Grind.{common_steps}
 use Rattle.std.proofs.lemmas.List.{take_all}
-use mathlib.Core.List.{map-append}
+use Rattle.arrayvec.specs.ArrayVec.{ArrayVec}
+use Rattle.ata_types.specs.declared.call.Call.{Call}
+use Rattle.ata_types.specs.declared.call.CallResult.{CallResult}
+use Rattle.ata_types.specs.declared.request.Reply.{Reply}
 use Rattle.adapter.specs.Device.{Device}
+use Rattle.adapter.specs.declared.access.DeviceStep.{DeviceStep}
 use Rattle.adapter.specs.declared.tape.Entry.{Entry}
 use Rattle.block_server.specs.Promise.{Simulates}
 use Rattle.block_server.specs.View.{ServerView}
-use Rattle.block_server.specs.declared.types.Event.{Event}
-use Rattle.block_server.specs.declared.types.Said.{Said}
 use Rattle.script.specs.Script.{Asks, AskInTurn, done, IsBad, IsFirstLine, IsScript, lines_of, lines_after}
-use Rattle.script.specs.declared.line.Line.{Line}
 use Rattle.script.proofs.ScriptLemmas.{AskFrom, ask_more, ask_one, ask_from, asked_lines, not_bad}
-use Rattle.play.specs.Events.{event_of, line_events}
 use Rattle.play.specs.Lines.{call_text}
 use Rattle.play.specs.Played.{Prints, none, call, PrintsPart, Ran, IsWhole}
 
@@ -49,7 +49,7 @@ pub cut_more : (all before : List (List ℕ)) (text first : List ℕ) (after : O
 cut_more all before text first after cut is = cut ∙ ap (λ (lines : List (List ℕ)). before ++ lines) is
 
 -- what is left of a script asks, where the script does
-pub left_ask : (all before : List (List ℕ)) (text : List ℕ) (after : List (List ℕ)) (lines : List Line) → all ≡ before ++ text ∷ after → AskInTurn all lines
+pub left_ask : (all before : List (List ℕ)) (text : List ℕ) (after : List (List ℕ)) (lines : List (Call DeviceStep)) → all ≡ before ++ text ∷ after → AskInTurn all lines
     → AskFrom text after
 left_ask all before text after lines cut asks = ask_from before text after lines (subst (λ (texts : List (List ℕ)). AskInTurn texts lines) cut asks)
 
@@ -62,12 +62,12 @@ module _ {A : Type 0} (device : A → Device) (starved : A → Bool) (trace : Bo
   pub record PlayedSoFar (now : ServerView A) (shown : ℕ) (left : Option (Bor (List ℕ))) (before after : Option (List ℕ)) : Type 0 where
     pub texts : List (List ℕ)
     pub cut : all ≡ texts ++ lines_after left
-    pub played : List Line
+    pub played : List (Call DeviceStep)
     pub asks : AskInTurn texts played
-    pub said : List Said
+    pub said : List (CallResult (ArrayVec Reply))
     pub text : List ℕ
     pub last : List ℕ
-    pub prints : Prints device starved trace first now shown (line_events played) said text last
+    pub prints : Prints device starved trace first now shown played said text last
     pub printed : Appends before after (text ++ last)
 
   pub played_none : (left : Option (Bor (List ℕ))) (before : Option (List ℕ)) → all ≡ lines_after left → PlayedSoFar first 0 left before before
@@ -84,7 +84,7 @@ module _ {A : Type 0} (device : A → Device) (starved : A → Bool) (trace : Bo
   }
 
   -- the lines of one text more
-  asks_more : (texts : List (List ℕ)) (played : List Line) (text : List ℕ) (asked : Option Line) → AskInTurn texts played → Asks text asked
+  asks_more : (texts : List (List ℕ)) (played : List (Call DeviceStep)) (text : List ℕ) (asked : Option (Call DeviceStep)) → AskInTurn texts played → Asks text asked
       → AskInTurn (texts ++ text ∷ []) (played ++ asked_lines asked)
   asks_more texts played text asked asks more = ask_more texts (text ∷ []) played (asked_lines asked) asks (ask_one text asked more)
 
@@ -99,7 +99,7 @@ module _ {A : Type 0} (device : A → Device) (starved : A → Bool) (trace : Bo
     texts = so_far.texts ++ line ∷ [];
     cut = cut_on so_far.texts line left (cut_more all so_far.texts t.now line left so_far.cut is);
     played = so_far.played;
-    asks = subst (λ (lines : List Line). AskInTurn (so_far.texts ++ line ∷ []) lines) (append-nil so_far.played)
+    asks = subst (λ (lines : List (Call DeviceStep)). AskInTurn (so_far.texts ++ line ∷ []) lines) (append-nil so_far.played)
         (asks_more so_far.texts so_far.played line None so_far.asks asks);
     said = so_far.said;
     text = so_far.text;
@@ -108,52 +108,43 @@ module _ {A : Type 0} (device : A → Device) (starved : A → Bool) (trace : Bo
     printed = so_far.printed;
   }
 
-  -- one more call
-  prints_more : (now next : ServerView A) (shown : ℕ) (lines : List Line) (line : Line) (said : List Said) (text last : List ℕ) (one : Said)
-      → Prints device starved trace first now shown (line_events lines) said text last → starved now.adapter ≡ false → Simulates device now next (event_of line ∷ []) (one ∷ [])
-      → Prints device starved trace first next (length (device next.adapter).tape) (line_events (lines ++ line ∷ [])) (said ++ one ∷ []) (text ++ last)
-      (call_text trace shown (device next.adapter).tape one)
-  prints_more now next shown lines line said text last one prints fed keeps =
-      subst (λ (events : List Event). Prints device starved trace first next (length (device next.adapter).tape) events (said ++ one ∷ []) (text ++ last)
-      (call_text trace shown (device next.adapter).tape one)) (sym (map-append event_of lines (line ∷ []))) (call prints fed keeps)
-
   -- a line that was played, and printed whole
-  pub played_line : (now next : ServerView A) (shown : ℕ) (text : List ℕ) (line : Line) (t : Bor (List ℕ)) (left : Option (Bor (List ℕ)))
-      (before mid after : Option (List ℕ)) → PlayedSoFar now shown (Some t) before mid → IsFirstLine t.now text left → Asks text (Some line)
-      → (p : PrintsPart device starved trace shown (event_of line) now next mid after) → length p.text ≤ p.part
+  pub played_line : (now next : ServerView A) (shown : ℕ) (text : List ℕ) (asked : Call DeviceStep) (t : Bor (List ℕ)) (left : Option (Bor (List ℕ)))
+      (before mid after : Option (List ℕ)) → PlayedSoFar now shown (Some t) before mid → IsFirstLine t.now text left → Asks text (Some asked)
+      → (p : PrintsPart device starved trace shown asked now next mid after) → length p.text ≤ p.part
       → starved now.adapter ≡ false → PlayedSoFar next (length (device next.adapter).tape) left before after
-  played_line now next shown text line t left before mid after so_far is asks p whole fed = record {
+  played_line now next shown text asked t left before mid after so_far is asks p whole fed = record {
     texts = so_far.texts ++ text ∷ [];
     cut = cut_on so_far.texts text left (cut_more all so_far.texts t.now text left so_far.cut is);
-    played = so_far.played ++ line ∷ [];
-    asks = asks_more so_far.texts so_far.played text (Some line) so_far.asks asks;
+    played = so_far.played ++ asked ∷ [];
+    asks = asks_more so_far.texts so_far.played text (Some asked) so_far.asks asks;
     said = so_far.said ++ p.one ∷ [];
     text = so_far.text ++ so_far.last;
     last = call_text trace shown (device next.adapter).tape p.one;
-    prints = prints_more now next shown so_far.played line so_far.said so_far.text so_far.last p.one so_far.prints fed p.keeps;
+    prints = call so_far.prints fed p.keeps;
     printed = appends_more before mid after (so_far.text ++ so_far.last) _ so_far.printed
         (subst (λ (printed : List ℕ). Appends mid after printed) (take_all p.part p.text whole ∙ p.text_is) p.printed);
   }
 
 module _ {A : Type 0} (device : A → Device) (starved : A → Bool) (trace : Bool) (first : ServerView A) (script : List ℕ) where
   -- a line that was played, and that was the last one; the lines after it ask what they ask
-  pub ran_part : (now next : ServerView A) (shown : ℕ) (text : List ℕ) (line : Line) (t : Bor (List ℕ)) (left : Option (Bor (List ℕ)))
-      (before mid after : Option (List ℕ)) → PlayedSoFar device starved trace first (lines_of script) now shown (Some t) before mid → IsFirstLine t.now text left → Asks text (Some line)
-      → AskFrom text (lines_after left) → (p : PrintsPart device starved trace shown (event_of line) now next mid after)
+  pub ran_part : (now next : ServerView A) (shown : ℕ) (text : List ℕ) (asked : Call DeviceStep) (t : Bor (List ℕ)) (left : Option (Bor (List ℕ)))
+      (before mid after : Option (List ℕ)) → PlayedSoFar device starved trace first (lines_of script) now shown (Some t) before mid → IsFirstLine t.now text left → Asks text (Some asked)
+      → AskFrom text (lines_after left) → (p : PrintsPart device starved trace shown asked now next mid after)
       → starved now.adapter ≡ false → (ran : Ran device starved trace script first next before after) × (ran.part ≡ p.part)
-  ran_part now next shown text line t left before mid after so_far is asks from p fed = (
+  ran_part now next shown text asked t left before mid after so_far is asks from p fed = (
     record {
-      played = so_far.played ++ line ∷ [];
+      played = so_far.played ++ asked ∷ [];
       rest = from.rest;
-      asks = subst (λ (texts : List (List ℕ)). AskInTurn texts ((so_far.played ++ line ∷ []) ++ from.rest))
+      asks = subst (λ (texts : List (List ℕ)). AskInTurn texts ((so_far.played ++ asked ∷ []) ++ from.rest))
           (sym (cut_on device starved trace first (lines_of script) so_far.texts text left (cut_more (lines_of script) so_far.texts t.now text left so_far.cut is)))
-          (ask_more (so_far.texts ++ text ∷ []) (lines_after left) (so_far.played ++ line ∷ []) from.rest
-          (asks_more device starved trace first (lines_of script) so_far.texts so_far.played text (Some line) so_far.asks asks) from.others);
+          (ask_more (so_far.texts ++ text ∷ []) (lines_after left) (so_far.played ++ asked ∷ []) from.rest
+          (asks_more device starved trace first (lines_of script) so_far.texts so_far.played text (Some asked) so_far.asks asks) from.others);
       shown = length (device next.adapter).tape;
       said = so_far.said ++ p.one ∷ [];
       text = so_far.text ++ so_far.last;
       last = call_text trace shown (device next.adapter).tape p.one;
-      prints = prints_more device starved trace first (lines_of script) now next shown so_far.played line so_far.said so_far.text so_far.last p.one so_far.prints fed p.keeps;
+      prints = call so_far.prints fed p.keeps;
       part = p.part;
       printed = appends_more before mid after (so_far.text ++ so_far.last) _ so_far.printed
           (subst (λ (whole : List ℕ). Appends mid after (take p.part whole)) p.text_is p.printed);
@@ -163,7 +154,7 @@ module _ {A : Type 0} (device : A → Device) (starved : A → Bool) (trace : Bo
   )
 
   -- before the first one
-  pub ran_none : (before : Option (List ℕ)) (lines : List Line) → IsScript script lines → (ran : Ran device starved trace script first first before before) × (ran.part ≡ 0)
+  pub ran_none : (before : Option (List ℕ)) (lines : List (Call DeviceStep)) → IsScript script lines → (ran : Ran device starved trace script first first before before) × (ran.part ≡ 0)
   ran_none before lines asks = (
     record {
       played = [];
@@ -188,7 +179,7 @@ module _ {A : Type 0} (device : A → Device) (starved : A → Bool) (trace : Bo
     record {
       played = so_far.played;
       rest = [];
-      asks = subst (λ (lines : List Line). AskInTurn (lines_of script) lines) (sym (append-nil so_far.played))
+      asks = subst (λ (lines : List (Call DeviceStep)). AskInTurn (lines_of script) lines) (sym (append-nil so_far.played))
           (subst (λ (texts : List (List ℕ)). AskInTurn texts so_far.played) (sym (so_far.cut ∙ append-nil so_far.texts)) so_far.asks);
       shown = shown;
       said = so_far.said;
@@ -203,13 +194,13 @@ module _ {A : Type 0} (device : A → Device) (starved : A → Bool) (trace : Bo
   )
 
 -- a call whose text is these bytes, of which a part was printed
-abbrev pub part_of : {A : Type 0} (device : A → Device) (starved : A → Bool) (trace : Bool) (shown : ℕ) (event asked : Event) (one : Said) (old new : ServerView A)
-    (before after : Option (List ℕ)) (part : ℕ) (bytes : List ℕ) (tape : List Entry) → asked ≡ event → Simulates device old new (asked ∷ []) (one ∷ [])
+abbrev pub part_of : {A : Type 0} (device : A → Device) (starved : A → Bool) (trace : Bool) (shown : ℕ) (asked : Call DeviceStep) (one : CallResult (ArrayVec Reply)) (old new : ServerView A)
+    (before after : Option (List ℕ)) (part : ℕ) (bytes : List ℕ) (tape : List Entry) → Simulates device old new (asked ∷ []) (one ∷ [])
     → tape ≡ (device new.adapter).tape → bytes ≡ call_text trace shown tape one → Appends before after (take part bytes)
-    → (starved new.adapter ≡ true → part ≡ 0) → PrintsPart device starved trace shown event old new before after
-part_of device starved trace shown event asked one old new before after part bytes tape is keeps tape_is bytes_are printed silent = record {
+    → (starved new.adapter ≡ true → part ≡ 0) → PrintsPart device starved trace shown asked old new before after
+part_of device starved trace shown asked one old new before after part bytes tape keeps tape_is bytes_are printed silent = record {
   one = one;
-  keeps = subst (λ (e : Event). Simulates device old new (e ∷ []) (one ∷ [])) is keeps;
+  keeps = keeps;
   text = bytes;
   text_is = bytes_are ∙ ap (λ (t : List Entry). call_text trace shown t one) tape_is;
   part = part;

@@ -1,4 +1,3 @@
 -- The definitions that the contracts cite.
-pub mod Events
 pub mod Lines
 pub mod Played

@@ -2,6 +2,9 @@
 use Rattle.std.specs.Prelude.{ℕ, Bool, true, false, List, [], ◌∷◌, ◌++◌, drop, Ok, Err}
 use Rattle.std.specs.Borrow.{Bor}
 use Rattle.std.specs.List.{flat_map}
+use Rattle.arrayvec.specs.ArrayVec.{ArrayVec}
+use Rattle.ata_types.specs.declared.call.CallResult.{CallResult}
+use Rattle.ata_types.specs.declared.call.CallResult.TheVariants as said
 use Rattle.ata_types.specs.declared.refusal.Refusal.TheVariants as refusal
 use Rattle.ata_types.specs.declared.refusal.Rule.TheVariants.{NoGrant}
 use Rattle.ata_types.specs.declared.request.Reply.{Reply}
@@ -10,8 +13,6 @@ use Rattle.adapter.specs.declared.command.Operation.TheVariants.{Flush}
 use Rattle.adapter.specs.declared.tape.Done.{Done}
 use Rattle.adapter.specs.declared.tape.Entry.{Entry}
 use Rattle.adapter.specs.declared.tape.Entry.TheVariants as entry
-use Rattle.block_server.specs.declared.types.Said.{Said}
-use Rattle.block_server.specs.declared.types.Said.TheVariants as said
 use Rattle.script.specs.Answer.{answer_line}
 use Rattle.script.specs.declared.answer.Answer.TheVariants as answer
 
@@ -29,7 +30,7 @@ abbrev pub done_text : List Reply → List ℕ
 done_text replies = answer_line answer.Done ++ flat_map (λ r. answer_line (answer.Replied r)) replies
 
 -- what a call said
-abbrev pub said_text : Said → List ℕ
+abbrev pub said_text : CallResult (ArrayVec Reply) → List ℕ
 said_text (said.Submitted (Ok id)) = answer_line (answer.Accepted id)
 said_text (said.Submitted (Err refusal)) = answer_line (answer.Refused refusal)
 said_text (said.Stored (Ok done)) = answer_line answer.Stored
@@ -69,5 +70,5 @@ trace_text false shown tape = []
 
 -- what is printed of a call: with a trace, what the tape has gained past the entries that were shown before, and then
 -- what the call said
-abbrev pub call_text : Bool → ℕ → List Entry → Said → List ℕ
+abbrev pub call_text : Bool → ℕ → List Entry → CallResult (ArrayVec Reply) → List ℕ
 call_text trace shown tape one = trace_text trace shown tape ++ said_text one

@@ -1,13 +1,16 @@
 -- A script that is played against a server over a modelled adapter (this project's own).
 use Rattle.std.specs.Prelude.{ℕ, Bool, true, false, ◌≡◌, ◌≤◌, List, [], ◌∷◌, ◌++◌, Option, None, Some, IsSome, codes, length, string_bytes, take}
 use Rattle.std.specs.Io.KnownBytes.{Appends}
+use Rattle.arrayvec.specs.ArrayVec.{ArrayVec}
+use Rattle.ata_types.specs.declared.call.Call.{Call}
+use Rattle.ata_types.specs.declared.call.CallResult.{CallResult}
+use Rattle.ata_types.specs.declared.request.Reply.{Reply}
 use Rattle.adapter.specs.Device.{Device}
+use Rattle.adapter.specs.declared.access.DeviceStep.{DeviceStep}
 use Rattle.block_machine.specs.Histories.{JointState}
 use Rattle.block_server.specs.Made.{IsInitialServer}
 use Rattle.block_server.specs.Promise.{KeepsPromise, Simulates}
 use Rattle.block_server.specs.View.{ServerView, server_of}
-use Rattle.block_server.specs.declared.types.Event.{Event}
-use Rattle.block_server.specs.declared.types.Said.{Said}
 use Rattle.configuration.specs.Document.{IsReadFrom, IsToldOf}
 use Rattle.configuration.specs.declared.Config.{Config}
 use Rattle.configuration.specs.declared.ConfigFault.{ConfigFault}
@@ -18,12 +21,10 @@ use Rattle.device_model.specs.declared.config.ModelConfig.{ModelConfig}
 use Rattle.device_model.specs.declared.disks.Disks.{Disks}
 use Rattle.device_model.specs.declared.model.Model.{Model}
 use Rattle.script.specs.Script.{IsFirstBad, IsScript}
-use Rattle.script.specs.declared.line.Line.{Line}
 use Rattle.script.specs.declared.script.BadLine.{BadLine as FirstBad}
 use Rattle.sector_store.specs.declared.pages.Trim.{Trim}
 use Rattle.sector_store.specs.declared.pages.Trim.TheVariants.{Full, Weak, Without}
 use Rattle.server_history.specs.Histories.{LeadsToServer}
-use Rattle.play.specs.Events.{line_events}
 use Rattle.play.specs.Lines.{call_text}
 use Rattle.play.specs.declared.session.Ended.{Ended}
 use Rattle.play.specs.declared.session.Stop.{Stop}
@@ -74,34 +75,36 @@ pub record IsServerOfModel {S : Type 0} (size : S → ℕ) (told : S → Option 
 -- server stands, of this configuration and of a model of image and blank disk; and where both disks tell their sectors,
 -- the adapter's disks do.
 pub record AreAnswers {S : Type 0} (size : S → ℕ) (told : S → Option (ℕ → List ℕ)) (config : Config) (image blank : S)
-    (server last : ServerView (Model S)) (events : List Event) (said : List Said) : Type 0 where
+    (server last : ServerView (Model S)) (calls : List (Call DeviceStep))
+    (said : List (CallResult (ArrayVec Reply))) : Type 0 where
   pub started : IsServerOfModel size told config image blank server
   pub first : JointState Device
   pub begun : LeadsToServer first [] (server_of (device_at size told) server)
   pub telling : IsSome (told image) → IsSome (told blank) → first.device.telling ≡ true
-  pub promise : KeepsPromise (device_at size told) first [] server last events said
+  pub promise : KeepsPromise (device_at size told) first [] server last calls said
 
 -- These calls lead from the old server to the new one, say this in turn, and keep the server's promise each; none is
 -- made of an adapter that is starved. The text of the last call stands by itself, after that of those before it; where
 -- there is none, both are empty. So many entries of the tape count as shown then: all, once a call was made.
 pub data Prints {A : Type 0} (device : A → Device) (starved : A → Bool) (trace : Bool) (old : ServerView A)
-    : ServerView A → ℕ → List Event → List Said → List ℕ → List ℕ → Type 0 where
+    : ServerView A → ℕ → List (Call DeviceStep) → List (CallResult (ArrayVec Reply)) → List ℕ → List ℕ → Type 0 where
   none : Prints device starved trace old old 0 [] [] [] []
-  call : {mid new : ServerView A} {shown : ℕ} {events : List Event} {event : Event} {said : List Said} {one : Said}
+  call : {mid new : ServerView A} {shown : ℕ} {calls : List (Call DeviceStep)} {asked : Call DeviceStep}
+      {said : List (CallResult (ArrayVec Reply))} {one : CallResult (ArrayVec Reply)}
       {before last : List ℕ}
-      → Prints device starved trace old mid shown events said before last → starved mid.adapter ≡ false
-      → Simulates device mid new (event ∷ []) (one ∷ [])
-      → Prints device starved trace old new (length (device new.adapter).tape) (events ++ event ∷ []) (said ++ one ∷ [])
+      → Prints device starved trace old mid shown calls said before last → starved mid.adapter ≡ false
+      → Simulates device mid new (asked ∷ []) (one ∷ [])
+      → Prints device starved trace old new (length (device new.adapter).tape) (calls ++ asked ∷ []) (said ++ one ∷ [])
       (before ++ last)
       (call_text trace shown (device new.adapter).tape one)
 
 -- A call was made, which keeps the server's promise, and of what is printed of it a part was, from its beginning on:
 -- nothing, where it starved the adapter.
-pub record PrintsPart {A : Type 0} (device : A → Device) (starved : A → Bool) (trace : Bool) (shown : ℕ) (event : Event)
-    (old new : ServerView A)
+pub record PrintsPart {A : Type 0} (device : A → Device) (starved : A → Bool) (trace : Bool) (shown : ℕ)
+    (asked : Call DeviceStep) (old new : ServerView A)
     (before after : Option (List ℕ)) : Type 0 where
-  pub one : Said
-  pub keeps : Simulates device old new (event ∷ []) (one ∷ [])
+  pub one : CallResult (ArrayVec Reply)
+  pub keeps : Simulates device old new (asked ∷ []) (one ∷ [])
   pub text : List ℕ
   pub text_is : text ≡ call_text trace shown (device new.adapter).tape one
   pub part : ℕ
@@ -116,14 +119,14 @@ pub record PrintsPart {A : Type 0} (device : A → Device) (starved : A → Bool
 pub record Ran {A : Type 0} (device : A → Device) (starved : A → Bool) (trace : Bool) (script : List ℕ)
     (old new : ServerView A)
     (before after : Option (List ℕ)) : Type 0 where
-  pub played : List Line
-  pub rest : List Line
+  pub played : List (Call DeviceStep)
+  pub rest : List (Call DeviceStep)
   pub asks : IsScript script (played ++ rest)
   pub shown : ℕ
-  pub said : List Said
+  pub said : List (CallResult (ArrayVec Reply))
   pub text : List ℕ
   pub last : List ℕ
-  pub prints : Prints device starved trace old new shown (line_events played) said text last
+  pub prints : Prints device starved trace old new shown played said text last
   pub part : ℕ
   pub printed : Appends before after (text ++ take part last)
   pub silent : starved new.adapter ≡ true → part ≡ 0
@@ -148,7 +151,7 @@ pub record Played {S : Type 0} (size : S → ℕ) (told : S → Option (ℕ → 
   pub server : ServerView (Model S)
   pub last : ServerView (Model S)
   pub ran : Ran (device_at size told) is_starved trace script server last old new
-  pub answers : AreAnswers size told values image blank server last (line_events ran.played) ran.said
+  pub answers : AreAnswers size told values image blank server last ran.played ran.said
   pub left : model ≡ last.adapter
 
 -- what a fault of a configuration's text ends a run as

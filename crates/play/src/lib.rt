@@ -6,11 +6,9 @@
 //! `play_over` does so over any adapter that can be watched.
 #![tactic(auto)]
 
-mod calls;
 mod printed;
 mod session;
 mod setting;
 
-pub use calls::put_event;
 pub use session::{Ended, Finished, Stop, play, play_over, read};
 pub use setting::{model_with, new_model};

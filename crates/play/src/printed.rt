@@ -8,8 +8,7 @@ ghost use Rattle.script.specs.Answer.{answer_line};
 ghost use Rattle.std.specs.List.{flat_map};
 
 use adapter::{Done, Entry, Operation};
-use ata_types::{Refusal, Reply, Rule};
-use block_server::Told;
+use ata_types::{CallResult, Refusal, Reply, Rule};
 use script::Answer;
 use std::io;
 
@@ -60,22 +59,24 @@ fn print_done<W: io::Write>(out: &mut W, replies: &[Reply]) -> io::Result<()>
 }
 
 /// Prints what a call said, of which the replies of a service, a tick, a reset or a revocation stand in a list.
-fn print_told<W: io::Write>(out: &mut W, told: &Told, replies: &[Reply]) -> io::Result<()>
+fn print_said<W: io::Write>(out: &mut W, said: &CallResult<()>, replies: &[Reply]) -> io::Result<()>
     ensures { OnOk result
-        (Appends (W.contents out.old) (W.contents out.new) (said_text (with_replies told.now replies.now))) }
+        (Appends (W.contents out.old) (W.contents out.new) (said_text (with_replies said.now replies.now))) }
 {
-    match told {
-        Told::Submitted(Ok(id)) => Answer::Accepted(*id).print(out),
-        Told::Submitted(Err(refusal)) => Answer::Refused(*refusal).print(out),
-        Told::Stored(Ok(())) => Answer::Stored.print(out),
-        Told::Loaded(Ok(bytes)) => Answer::Bytes(bytes.as_slice()).print(out),
-        Told::Stored(Err(fault)) | Told::Loaded(Err(fault)) => Answer::Barred(*fault).print(out),
-        Told::Served => print_replies(out, replies),
-        Told::WasReset(Ok(())) | Told::WasRevoked(Ok(())) => print_done(out, replies),
-        Told::WasReset(Err(_)) => Answer::Stuck.print(out),
-        Told::WasRevoked(Err(_)) => Answer::Refused(Refusal::Rule(Rule::NoGrant)).print(out),
-        Told::State(state) => Answer::State(*state).print(out),
-        Told::Stepped(did) => Answer::Stepped(*did).print(out),
+    match said {
+        CallResult::Submitted(Ok(id)) => Answer::Accepted(*id).print(out),
+        CallResult::Submitted(Err(refusal)) => Answer::Refused(*refusal).print(out),
+        CallResult::Stored(Ok(())) => Answer::Stored.print(out),
+        CallResult::Loaded(Ok(bytes)) => Answer::Bytes(bytes.as_slice()).print(out),
+        CallResult::Stored(Err(fault)) | CallResult::Loaded(Err(fault)) => {
+            Answer::Barred(*fault).print(out)
+        }
+        CallResult::Served(()) => print_replies(out, replies),
+        CallResult::WasReset(Ok(())) | CallResult::WasRevoked(Ok(())) => print_done(out, replies),
+        CallResult::WasReset(Err(_)) => Answer::Stuck.print(out),
+        CallResult::WasRevoked(Err(_)) => Answer::Refused(Refusal::Rule(Rule::NoGrant)).print(out),
+        CallResult::State(state) => Answer::State(*state).print(out),
+        CallResult::Stepped(did) => Answer::Stepped(*did).print(out),
     }
 }
 
@@ -127,14 +128,14 @@ pub fn print_call(
     trace: bool,
     tape: &[Entry],
     shown: usize,
-    told: &Told,
+    said: &CallResult<()>,
     replies: &[Reply],
 ) -> io::Result<()>
-    ensures { OnOk result (text.new.items ≡ call_text trace shown tape.now (with_replies told.now replies.now)) }
+    ensures { OnOk result (text.new.items ≡ call_text trace shown tape.now (with_replies said.now replies.now)) }
 {
     text.clear();
     print_trace(text, trace, tape, shown)?;
-    print_told(text, told, replies)
+    print_said(text, said, replies)
 }
 
 /// Writes bytes. Where the output fails, it has taken a beginning of them, which may be nothing; and never is it that a

@@ -1,28 +1,28 @@
 // A script, played from its first line to its last.
 ghost use Rattle.std.specs.Prelude.{◌≡◌, ◌≤◌, ◌∷◌, ◌⊎◌, [], false, List, None, Err, IfOk, IfErr, IfSome, OnOk, Some, length};
 ghost use Rattle.std.specs.Vec.{vec_capacity};
+ghost use Rattle.ata_types.specs.declared.call.Call.{Call};
+ghost use Rattle.ata_types.specs.declared.call.CallResult.{CallResult};
+ghost use Rattle.adapter.specs.declared.access.DeviceStep.{DeviceStep};
 ghost use Rattle.block_server.specs.Sayings.{with_replies};
-ghost use Rattle.block_server.specs.declared.types.Told.{Told};
 ghost use Rattle.block_server.specs.Made.{IsInitialServer, IsReadyFor};
 ghost use Rattle.block_server.specs.Promise.{Simulates};
 ghost use Rattle.block_server.specs.View.{ServerView};
 ghost use Rattle.configuration.specs.Document.{IsReadFrom};
 ghost use Rattle.configuration.specs.Rules.{MeetsAll};
 ghost use Rattle.script.specs.Script.{IsScript};
-ghost use Rattle.script.specs.declared.line.Line.{Line};
 ghost use Rattle.device_model.specs.Modelled.{device_at, is_starved};
-ghost use Rattle.play.specs.Events.{event_of};
 ghost use Rattle.play.specs.Played.{Ends, IsRefused, IsServerOfModel, IsWhole, IsWhy, PrintsPart, Ran};
 
-use crate::calls::put_event;
 use crate::printed::{print_call, write_out};
 use crate::setting::new_model;
-use adapter::{Adapter, Stepped};
+use adapter::{Adapter, DeviceStep, Stepped};
+use ata_types::Call;
 use block_server::laws::law_runs_keep_their_promise;
-use block_server::{Event, Sayings, Server};
+use block_server::{Sayings, Server};
 use configuration::{Config, ConfigFault, Kind};
 use device_model::{Model, NoMemory, Watched};
-use script::{BadLine, Line, check_script, first_line, read_asked};
+use script::{BadLine, check_script, first_line, read_asked};
 use sector_store::SectorStore;
 use std::alloc::{AllocFailed, Global};
 use std::{io, slice};
@@ -81,8 +81,6 @@ impl From<Stop> for Ended {
 struct Room {
     /// What the last call said, for which there is room from the start.
     said: Sayings,
-    /// The call that a line asks for.
-    event: Event,
     /// What is printed of one line.
     text: Vec<u8>,
 }
@@ -113,7 +111,7 @@ impl From<BadLine> for Ended {
 /// The values of a configuration's text, where the lines of the script are good, too.
 pub fn read(alloc: Global, config: &[u8], script: &[u8]) -> Result<Config, Ended>
     ensures read { IfOk result (IsReadFrom config.now) }
-    ensures good { OnOk result ((lines : List Line) × IsScript script.now lines) }
+    ensures good { OnOk result ((calls : List (Call DeviceStep)) × IsScript script.now calls) }
     ensures refused { IfErr result (IsRefused config.now script.now) }
 {
     let values = Config::parse(alloc, config)?;
@@ -166,15 +164,15 @@ fn start<S: SectorStore>(
 }
 
 /// Makes one call, for which there is room. What it said is all that was said then.
-fn make_call<A: Stepped>(server: &mut Server<A>, event: &Event, said: &mut Sayings)
+fn make_call<A: Stepped>(server: &mut Server<A>, call: &Call<DeviceStep>, said: &mut Sayings)
     requires { 1 ≤ vec_capacity said.old.earlier }
-    ensures keeps { (told : Told) × (said.new.last ≡ Some told)
-        × Simulates A.device server.old server.new (event.now ∷ []) (with_replies told said.new.replies.items ∷ []) }
+    ensures keeps { (one : CallResult (Unit {0})) × (said.new.last ≡ Some one)
+        × Simulates A.device server.old server.new (call.now ∷ []) (with_replies one said.new.replies.items ∷ []) }
     ensures room { 1 ≤ vec_capacity said.new.earlier }
 {
     said.clear();
     // There is room for what one call says, so the run isn't stopped.
-    let _done = server.run(slice::from_ref(event), said);
+    let _done = server.run(slice::from_ref(call), said);
 }
 
 /// Plays a line: makes its call, and prints of it what the tape gained past so many entries, with a trace, and what it
@@ -182,7 +180,7 @@ fn make_call<A: Stepped>(server: &mut Server<A>, event: &Event, said: &mut Sayin
 /// nothing.
 fn play_line<A: Watched, W: io::Write>(
     server: &mut Server<A>,
-    line: &Line,
+    call: &Call<DeviceStep>,
     room: &mut Room,
     trace: bool,
     shown: usize,
@@ -191,14 +189,13 @@ fn play_line<A: Watched, W: io::Write>(
     requires fed { A.ended server.old.adapter ≡ false }
     requires room { 1 ≤ vec_capacity room.old.said.earlier }
     ensures room { 1 ≤ vec_capacity room.new.said.earlier }
-    ensures printed { (p : PrintsPart A.device A.ended trace shown (event_of line.now) server.old server.new
+    ensures printed { (p : PrintsPart A.device A.ended trace shown call.now server.old server.new
         (W.contents out.old) (W.contents out.new))
         × OnOk result (length p.text ≤ p.part) × IfErr result (IsWhy (A.ended server.new.adapter) p.part) }
     ensures fed { OnOk result (A.ended server.new.adapter ≡ false) }
     ensures shown { IfOk result (λ count. count ≡ length (A.device server.new.adapter).tape) }
 {
-    put_event(line, &mut room.event);
-    make_call(server, &room.event, &mut room.said);
+    make_call(server, call, &mut room.said);
     let adapter = server.adapter();
     let is_starved = adapter.has_ended();
     if is_starved {
@@ -233,7 +230,7 @@ fn perform<A: Watched, W: io::Write>(
     trace: bool,
     out: &mut W,
 ) -> Result<(), Stop>
-    requires good { (lines : List Line) × IsScript script.now lines }
+    requires good { (calls : List (Call DeviceStep)) × IsScript script.now calls }
     ensures { (ran : Ran A.device A.ended trace script.now server.old server.new (W.contents out.old)
         (W.contents out.new))
         × OnOk result (IsWhole ran) × IfErr result (IsWhy (A.ended server.new.adapter) ran.part) }
@@ -247,11 +244,10 @@ fn perform<A: Watched, W: io::Write>(
     }
     let mut room = Room {
         said,
-        event: Event::Service,
         text: Vec::new(alloc),
     };
     let mut shown = 0;
-    let mut asked = Line::Service;
+    let mut asked = Call::Service;
     let mut rest = Some(script);
     while let Some(text) = rest {
         let (line, after) = first_line(text);
@@ -287,7 +283,7 @@ pub fn play_over<A: Watched + Drop, W: io::Write>(
     out: &mut W,
 ) -> (Result<(), Stop>, Option<A>)
     requires sound { MeetsAll config.now }
-    requires good { (lines : List Line) × IsScript script.now lines }
+    requires good { (calls : List (Call DeviceStep)) × IsScript script.now calls }
     requires ready { IsReadyFor config.now (A.device adapter) }
     ensures left { IfSome result.1 (λ left. ((left ≡ adapter) × (result.0 ≡ Err Stop.NoMemory)
         × (W.contents out.new ≡ W.contents out.old))

@@ -19,8 +19,8 @@ use Rattle.adapter.specs.declared.access.DeviceStep.{DeviceStep}
 use Rattle.adapter.specs.declared.access.DeviceStep.TheVariants as step
 use Rattle.adapter.specs.declared.access.FatalError.{FatalError}
 use Rattle.adapter.specs.declared.access.FatalError.TheVariants.{Interface, HostBus}
-use Rattle.script.specs.declared.line.Line.{Line}
-use Rattle.script.specs.declared.line.Line.TheVariants.{Submit, Store, Load, Service, Tick, Reset, Revoke, State, Device}
+use Rattle.ata_types.specs.declared.call.Call.{Call}
+use Rattle.ata_types.specs.declared.call.Call.TheVariants.{Submit, ClientStore, ClientLoad, Service, Tick, Reset, Revoke, State, Device}
 use Rattle.script.specs.Fields.{Word, fatal_word, frames_word}
 use Rattle.script.specs.Line.{IsLine, IsPlace, IsRequest, IsStep, line_text, line_words, op_word, page_word, place_words, request_words, step_words}
 use Rattle.script.proofs.FrameLemmas.{IsFrame, decimals}
@@ -115,12 +115,12 @@ step_are (step.Unplug port) h = port_are (codes "unplug") port (fixed (codes "un
 step_are (step.Plug port disk) h =
     more (fixed (codes "plug") refl) (more (number port.0 (omega (arith, h.0))) (more (number disk.0 (omega (arith, h.1))) none))
 
-line_are : (line : Line) → IsLine line → AreWords (line_words line)
+line_are : (line : Call DeviceStep) → IsLine line → AreWords (line_words line)
 line_are (Submit r) h = more (op_is r.op) (request_are r.op r h.1)
-line_are (Store client frame offset bytes) h =
+line_are (ClientStore client frame offset bytes) h =
     more (fixed (codes "store") refl) (more (number client.0 (omega (arith, h.0))) (more (number frame.0 (omega (arith, h.1)))
     (more (number offset (omega (arith, h.2))) (more (pairs bytes.items h.3) none))))
-line_are (Load client frame offset count) h =
+line_are (ClientLoad client frame offset count) h =
     more (fixed (codes "load") refl) (more (number client.0 (omega (arith, h.0))) (more (number frame.0 (omega (arith, h.1)))
     (more (number offset (omega (arith, h.2))) (more (number count (omega (arith, h.4))) none))))
 line_are Service h = more (fixed (codes "service") refl) none
@@ -160,10 +160,10 @@ request_few Trim r = omega arith
 request_few Flush r = omega arith
 
 -- no line has more words
-pub few_words : (line : Line) → length (line_words line) ≤ 6
+pub few_words : (line : Call DeviceStep) → length (line_words line) ≤ 6
 few_words (Submit r) = omega (arith, request_few r.op r)
-few_words (Store client frame offset bytes) = omega arith
-few_words (Load client frame offset count) = omega arith
+few_words (ClientStore client frame offset bytes) = omega arith
+few_words (ClientLoad client frame offset count) = omega arith
 few_words Service = omega arith
 few_words Tick = omega arith
 few_words Reset = omega arith
@@ -171,10 +171,10 @@ few_words (Revoke client grant) = omega arith
 few_words (State port) = omega arith
 few_words (Device s) = omega (arith, step_few s)
 
-some_words : (line : Line) → 0 < length (line_words line)
+some_words : (line : Call DeviceStep) → 0 < length (line_words line)
 some_words (Submit r) = omega arith
-some_words (Store client frame offset bytes) = omega arith
-some_words (Load client frame offset count) = omega arith
+some_words (ClientStore client frame offset bytes) = omega arith
+some_words (ClientLoad client frame offset count) = omega arith
 some_words Service = omega arith
 some_words Tick = omega arith
 some_words Reset = omega arith
@@ -188,11 +188,11 @@ parted (w ∷ words) l h = slice_split-join 32 w words
     (λ k d l. Lacks-below 33 128 32 (get_or (w ∷ words) k d) (omega arith) (all_within (w ∷ words) h k d l))
 
 -- parting a line's text gives its words back
-pub parted_line : (line : Line) (text : List ℕ) → IsLine line → line_text line ≡ text → slice_split (λ b. b == 32) text ≡ line_words line
+pub parted_line : (line : Call DeviceStep) (text : List ℕ) → IsLine line → line_text line ≡ text → slice_split (λ b. b == 32) text ≡ line_words line
 parted_line line text h e = ap (slice_split (λ b. b == 32)) (sym e) ∙ parted (line_words line) (some_words line) (line_are line h)
 
 -- a line's words are UTF-8
-pub word_is_utf8 : (line : Line) (k : ℕ) → IsLine line → k < length (line_words line) → IsUtf8 (get_or (line_words line) k [])
+pub word_is_utf8 : (line : Call DeviceStep) (k : ℕ) → IsLine line → k < length (line_words line) → IsUtf8 (get_or (line_words line) k [])
 word_is_utf8 line k h below = IsUtf8-from_Within 33 (get_or (line_words line) k []) (all_within (line_words line) (line_are line h) k [] below)
 
 pub fatal_is_utf8 : (error : FatalError) → IsUtf8 (fatal_word error)
@@ -202,7 +202,7 @@ pub page_is_utf8 : (page : DiskPage) → IsUtf8 (page_word page)
 page_is_utf8 page = IsUtf8-from_Within 33 (page_word page) (page_is page).within
 
 -- what spells the words spells the text that they make
-pub spelled : (found : Option (Unit {0})) (line : Line) (words : List Word) (text : List ℕ) → join_with_byte 32 words ≡ text
+pub spelled : (found : Option (Unit {0})) (line : Call DeviceStep) (words : List Word) (text : List ℕ) → join_with_byte 32 words ≡ text
     → OnSome found (IsLine line × (line_words line ≡ words)) → OnSome found (IsLine line × (line_text line ≡ text))
 spelled None line words text e h = h
 spelled (Some x) line words text e h = (h.0, ap (join_with_byte 32) h.1 ∙ e)

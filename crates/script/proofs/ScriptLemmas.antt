@@ -11,33 +11,34 @@ use Rattle.script.specs.Script.{Asks, AskInTurn, IsFirstLine, done, nothing, one
 use Rattle.std.specs.Iterator.{Yields}
 use Rattle.std.proofs.lemmas.Iterator.{YieldsList}
 use Rattle.std.proofs.lemmas.Iterator.Consumers.{YieldsList-turn, YieldsList-end}
-use Rattle.script.specs.declared.line.Line.{Line}
+use Rattle.adapter.specs.declared.access.DeviceStep.{DeviceStep}
+use Rattle.ata_types.specs.declared.call.Call.{Call}
 
 -- what one text asks, as a list
-abbrev pub asked_lines : Option Line → List Line
+abbrev pub asked_lines : Option (Call DeviceStep) → List (Call DeviceStep)
 asked_lines None = []
 asked_lines (Some line) = line ∷ []
 
 -- lines after lines
-pub ask_more : (texts more : List (List ℕ)) (lines rest : List Line) → AskInTurn texts lines → AskInTurn more rest → AskInTurn (texts ++ more) (lines ++ rest)
+pub ask_more : (texts more : List (List ℕ)) (lines rest : List (Call DeviceStep)) → AskInTurn texts lines → AskInTurn more rest → AskInTurn (texts ++ more) (lines ++ rest)
 ask_more [] more [] rest done then = then
 ask_more [] more (_ ∷ _) rest first then = elim first [ ]
 ask_more (t ∷ texts) more lines rest (nothing asks others) then = nothing asks (ask_more texts more lines rest others then)
 ask_more (t ∷ texts) more (line ∷ lines) rest (one asks others) then = one asks (ask_more texts more lines rest others then)
 
 -- one line
-pub ask_one : (text : List ℕ) (asked : Option Line) → Asks text asked → AskInTurn (text ∷ []) (asked_lines asked)
+pub ask_one : (text : List ℕ) (asked : Option (Call DeviceStep)) → Asks text asked → AskInTurn (text ∷ []) (asked_lines asked)
 ask_one text None asks = nothing asks done
 ask_one text (Some line) asks = one asks done
 
 -- what a text that stands among others asks, and what those after it do
 pub record AskFrom (text : List ℕ) (after : List (List ℕ)) : Type 0 where
-  pub asked : Option Line
+  pub asked : Option (Call DeviceStep)
   pub asks : Asks text asked
-  pub rest : List Line
+  pub rest : List (Call DeviceStep)
   pub others : AskInTurn after rest
 
-pub ask_from : (before : List (List ℕ)) (text : List ℕ) (after : List (List ℕ)) (lines : List Line) → AskInTurn (before ++ text ∷ after) lines
+pub ask_from : (before : List (List ℕ)) (text : List ℕ) (after : List (List ℕ)) (lines : List (Call DeviceStep)) → AskInTurn (before ++ text ∷ after) lines
     → AskFrom text after
 ask_from [] text after lines (nothing asks others) = record { asked = None; asks = asks; rest = lines; others = others }
 ask_from [] text after (line ∷ lines) (one asks others) = record { asked = Some line; asks = asks; rest = lines; others = others }
@@ -45,7 +46,7 @@ ask_from (t ∷ before) text after lines (nothing asks others) = ask_from before
 ask_from (t ∷ before) text after (line ∷ lines) (one asks others) = ask_from before text after lines others
 
 -- a text that asks something or nothing isn't bad
-pub not_bad : (text : List ℕ) (asked : Option Line) → Asks text asked → IsBad text → ⊥
+pub not_bad : (text : List ℕ) (asked : Option (Call DeviceStep)) → Asks text asked → IsBad text → ⊥
 not_bad text None asks bad = bad.0 asks
 not_bad text (Some line) asks bad = bad.1 line asks.0 asks.1
 
@@ -84,7 +85,7 @@ bytes_left (Some text) = suc (length text.now)
 -- so many lines of a text were looked at, and this is left of it
 pub record LookedAt (text : List ℕ) (number : ℕ) (rest : Option (Bor (List ℕ))) : Type 0 where
   pub before : List (List ℕ)
-  pub lines : List Line
+  pub lines : List (Call DeviceStep)
   pub good : AskInTurn before lines
   pub cut : lines_of text ≡ before ++ lines_after rest
   pub counted : number ≡ length before
@@ -95,7 +96,7 @@ fewer_left None n less = omega arith
 fewer_left (Some a) n less = omega (arith, less)
 
 -- one line more
-pub looked_further : (text : List ℕ) (number : ℕ) (left : Bor (List ℕ)) (line : List ℕ) (after : Option (Bor (List ℕ))) (asked : Option Line) →
+pub looked_further : (text : List ℕ) (number : ℕ) (left : Bor (List ℕ)) (line : List ℕ) (after : Option (Bor (List ℕ))) (asked : Option (Call DeviceStep)) →
     LookedAt text number (Some left) → IsFirstLine left.now line after → IfSome after (λ a. length a.now < length left.now) →
     Asks line asked → LookedAt text (number + 1) after
 looked_further text number left line after asked is first less asks =

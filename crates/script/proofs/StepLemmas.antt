@@ -13,8 +13,8 @@ use Rattle.ata_types.specs.declared.request.ClientId.{ClientId}
 use Rattle.ata_types.specs.declared.request.Frame.{Frame}
 use Rattle.ata_types.specs.declared.request.Op.{Op}
 use Rattle.ata_types.specs.declared.request.Op.TheVariants.{Read, Write, Trim, Flush}
-use Rattle.script.specs.declared.line.Line.{Line}
-use Rattle.script.specs.declared.line.Line.TheVariants.{Submit, Store, Load, Service, Tick, Reset, Revoke, State, Device}
+use Rattle.ata_types.specs.declared.call.Call.{Call}
+use Rattle.ata_types.specs.declared.call.Call.TheVariants.{Submit, ClientStore, ClientLoad, Service, Tick, Reset, Revoke, State, Device}
 use Rattle.script.specs.Line.{IsLine, IsStep, line_words, op_word, page_word, step_words}
 use Rattle.script.specs.Fields.{Word}
 
@@ -78,7 +78,7 @@ no_load Write e = absurd (omega (arith, ap length e))
 no_load Trim e = absurd (omega (arith, ap (λ w. get_or w 0 0) e))
 no_load Flush e = absurd (omega (arith, ap length e))
 
-pub record IsStore (line : Line) (client frame offset bytes : Word) : Type 0 where
+pub record IsStore (line : Call DeviceStep) (client frame offset bytes : Word) : Type 0 where
   pub by : ClientId
   pub in_frame : Frame
   pub at : ℕ
@@ -93,12 +93,12 @@ pub record IsStore (line : Line) (client frame offset bytes : Word) : Type 0 whe
   pub frame_is : decimal in_frame.0 ≡ frame
   pub offset_is : decimal at ≡ offset
   pub bytes_are : encode_lower put.items ≡ bytes
-  pub line_is : line ≡ Store by in_frame at put
+  pub line_is : line ≡ ClientStore by in_frame at put
 
 -- what follows `store` is its fields; the number of words or the first word parts it from the other lines
-pub as_store : (line : Line) (client frame offset bytes : Word) → IsLine line
+pub as_store : (line : Call DeviceStep) (client frame offset bytes : Word) → IsLine line
     → line_words line ≡ codes "store" ∷ client ∷ frame ∷ offset ∷ bytes ∷ [] → IsStore line client frame offset bytes
-as_store (Store c f o b) client frame offset bytes h e = record {
+as_store (ClientStore c f o b) client frame offset bytes h e = record {
   by = c;
   in_frame = f;
   at = o;
@@ -116,7 +116,7 @@ as_store (Store c f o b) client frame offset bytes h e = record {
   line_is = refl;
 }
 as_store (Submit r) client frame offset bytes h e = no_store r.op (ap (λ ws. get_or ws 0 []) e)
-as_store (Load c f o n) client frame offset bytes h e = absurd (omega (arith, ap (λ ws. length (get_or ws 0 [])) e))
+as_store (ClientLoad c f o n) client frame offset bytes h e = absurd (omega (arith, ap (λ ws. length (get_or ws 0 [])) e))
 as_store Service client frame offset bytes h e = absurd (omega (arith, ap length e))
 as_store Tick client frame offset bytes h e = absurd (omega (arith, ap length e))
 as_store Reset client frame offset bytes h e = absurd (omega (arith, ap length e))
@@ -124,7 +124,7 @@ as_store (Revoke c g) client frame offset bytes h e = absurd (omega (arith, ap l
 as_store (State p) client frame offset bytes h e = absurd (omega (arith, ap length e))
 as_store (Device s) client frame offset bytes h e = absurd (omega (arith, ap (λ ws. length (get_or ws 0 [])) e))
 
-pub record IsLoad (line : Line) (client frame offset count : Word) : Type 0 where
+pub record IsLoad (line : Call DeviceStep) (client frame offset count : Word) : Type 0 where
   pub by : ClientId
   pub in_frame : Frame
   pub at : ℕ
@@ -138,12 +138,12 @@ pub record IsLoad (line : Line) (client frame offset count : Word) : Type 0 wher
   pub frame_is : decimal in_frame.0 ≡ frame
   pub offset_is : decimal at ≡ offset
   pub count_is : decimal many ≡ count
-  pub line_is : line ≡ Load by in_frame at many
+  pub line_is : line ≡ ClientLoad by in_frame at many
 
 -- and so for `load`
-pub as_load : (line : Line) (client frame offset count : Word) → IsLine line
+pub as_load : (line : Call DeviceStep) (client frame offset count : Word) → IsLine line
     → line_words line ≡ codes "load" ∷ client ∷ frame ∷ offset ∷ count ∷ [] → IsLoad line client frame offset count
-as_load (Load c f o n) client frame offset count h e = record {
+as_load (ClientLoad c f o n) client frame offset count h e = record {
   by = c;
   in_frame = f;
   at = o;
@@ -160,7 +160,7 @@ as_load (Load c f o n) client frame offset count h e = record {
   line_is = refl;
 }
 as_load (Submit r) client frame offset count h e = no_load r.op (ap (λ ws. get_or ws 0 []) e)
-as_load (Store c f o b) client frame offset count h e = absurd (omega (arith, ap (λ ws. length (get_or ws 0 [])) e))
+as_load (ClientStore c f o b) client frame offset count h e = absurd (omega (arith, ap (λ ws. length (get_or ws 0 [])) e))
 as_load Service client frame offset count h e = absurd (omega (arith, ap length e))
 as_load Tick client frame offset count h e = absurd (omega (arith, ap length e))
 as_load Reset client frame offset count h e = absurd (omega (arith, ap length e))

@@ -5,6 +5,8 @@ use Rattle.std.specs.Fmt.{decimal}
 use Rattle.hex.specs.Hex.{encode_lower}
 use Rattle.ata_types.specs.declared.Port.{Port}
 use Rattle.ata_types.specs.declared.Slot.{Slot}
+use Rattle.ata_types.specs.declared.call.Call.{Call}
+use Rattle.ata_types.specs.declared.call.Call.TheVariants.{Submit, ClientStore, ClientLoad, Service, Tick, Reset, Revoke, State, Device}
 use Rattle.ata_types.specs.declared.request.Op.{Op}
 use Rattle.ata_types.specs.declared.request.Op.TheVariants.{Read, Write, Trim, Flush}
 use Rattle.ata_types.specs.declared.request.Request.{Request}
@@ -14,8 +16,6 @@ use Rattle.adapter.specs.declared.access.DiskPage.TheVariants.{Identity, Log}
 use Rattle.adapter.specs.declared.access.DeviceStep.{DeviceStep}
 use Rattle.adapter.specs.declared.access.DeviceStep.TheVariants as step
 use Rattle.script.specs.Fields.{Word, fatal_word, frames_word}
-use Rattle.script.specs.declared.line.Line.{Line}
-use Rattle.script.specs.declared.line.Line.TheVariants.{Submit, Store, Load, Service, Tick, Reset, Revoke, State, Device}
 
 abbrev pub op_word : Op → Word
 op_word Read = codes "read"
@@ -65,11 +65,11 @@ step_words (step.Unplug port) = codes "unplug" ∷ decimal port.0 ∷ []
 step_words (step.Plug port disk) = codes "plug" ∷ decimal port.0 ∷ decimal disk.0 ∷ []
 step_words (step.LosePlug port) = codes "loseplug" ∷ decimal port.0 ∷ []
 
-abbrev pub line_words : Line → List Word
+abbrev pub line_words : Call DeviceStep → List Word
 line_words (Submit request) = op_word request.op ∷ request_words request.op request
-line_words (Store client frame offset bytes) =
+line_words (ClientStore client frame offset bytes) =
     codes "store" ∷ decimal client.0 ∷ decimal frame.0 ∷ decimal offset ∷ encode_lower bytes.items ∷ []
-line_words (Load client frame offset count) =
+line_words (ClientLoad client frame offset count) =
     codes "load" ∷ decimal client.0 ∷ decimal frame.0 ∷ decimal offset ∷ decimal count ∷ []
 line_words Service = codes "service" ∷ []
 line_words Tick = codes "tick" ∷ []
@@ -79,8 +79,8 @@ line_words (State port) = codes "state" ∷ decimal port.0 ∷ []
 line_words (Device asked) = codes "dev" ∷ step_words asked
 
 -- the words, parted by one space
-abbrev pub line_text : Line → List ℕ
-line_text line = join_with_byte 32 (line_words line)
+abbrev pub line_text : Call DeviceStep → List ℕ
+line_text call = join_with_byte 32 (line_words call)
 
 -- the request asks for nothing that a line of its operation has no word for: of a trim there are no frames, and of a
 -- flush no sectors either
@@ -123,11 +123,11 @@ IsStep (step.Plug port disk) = (port.0 < 4) × (disk.0 < 2)
 IsStep (step.LosePlug port) = port.0 < 4
 
 -- the value has a line
-abbrev pub IsLine : Line → Type 0
+abbrev pub IsLine : Call DeviceStep → Type 0
 IsLine (Submit request) = IsSpelled request.op request × IsRequest request
-IsLine (Store client frame offset bytes) = (client.0 < 256) × (frame.0 < 65536) × (offset < 2 ^ 32)
+IsLine (ClientStore client frame offset bytes) = (client.0 < 256) × (frame.0 < 65536) × (offset < 2 ^ 32)
     × All (λ b. b < 256) bytes.items × (1 ≤ length bytes.items) × (length bytes.items ≤ 64)
-IsLine (Load client frame offset count) = (client.0 < 256) × (frame.0 < 65536) × (offset < 2 ^ 32) × (1 ≤ count)
+IsLine (ClientLoad client frame offset count) = (client.0 < 256) × (frame.0 < 65536) × (offset < 2 ^ 32) × (1 ≤ count)
     × (count ≤ 64)
 IsLine Service = Unit {0}
 IsLine Tick = Unit {0}

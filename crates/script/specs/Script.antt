@@ -2,8 +2,9 @@
 use Rattle.std.specs.Prelude.{Bool, true, false, ◌≡◌, ◌==◌, ◌+◌, ◌++◌, ℕ, List, [], ◌∷◌, Option, Some, None, length}
 use Rattle.std.specs.Borrow.{Bor}
 use Rattle.std.specs.List.{slice_split}
+use Rattle.adapter.specs.declared.access.DeviceStep.{DeviceStep}
+use Rattle.ata_types.specs.declared.call.Call.{Call}
 use Rattle.script.specs.Line.{IsLine, line_text}
-use Rattle.script.specs.declared.line.Line.{Line}
 
 -- what stands between line feeds; bytes after the last one are a line too
 abbrev pub lines_of : List ℕ → List (List ℕ)
@@ -24,36 +25,36 @@ AsksNothing [] = Unit {0}
 AsksNothing (b ∷ rest) = b ≡ 35
 
 -- the line's text asks this, or nothing
-abbrev pub Asks : List ℕ → Option Line → Type 0
+abbrev pub Asks : List ℕ → Option (Call DeviceStep) → Type 0
 Asks text None = AsksNothing text
 Asks text (Some line) = IsLine line × (line_text line ≡ text)
 
 -- the line that is asked, if one is
-abbrev pub asked_of : Bool → Line → Option Line
+abbrev pub asked_of : Bool → Call DeviceStep → Option (Call DeviceStep)
 asked_of true line = Some line
 asked_of false line = None
 
 -- the lines' texts ask these in turn
-pub data AskInTurn : List (List ℕ) → List Line → Type 0 where
+pub data AskInTurn : List (List ℕ) → List (Call DeviceStep) → Type 0 where
   done : AskInTurn [] []
-  nothing : {text : List ℕ} {texts : List (List ℕ)} {rest : List Line} → Asks text None → AskInTurn texts rest
-      → AskInTurn (text ∷ texts) rest
-  one : {text : List ℕ} {texts : List (List ℕ)} {line : Line} {rest : List Line}
+  nothing : {text : List ℕ} {texts : List (List ℕ)} {rest : List (Call DeviceStep)} → Asks text None
+      → AskInTurn texts rest → AskInTurn (text ∷ texts) rest
+  one : {text : List ℕ} {texts : List (List ℕ)} {line : Call DeviceStep} {rest : List (Call DeviceStep)}
       → Asks text (Some line) → AskInTurn texts rest → AskInTurn (text ∷ texts) (line ∷ rest)
 
-abbrev pub IsScript : List ℕ → List Line → Type 0
+abbrev pub IsScript : List ℕ → List (Call DeviceStep) → Type 0
 IsScript text lines = AskInTurn (lines_of text) lines
 
 -- the text of a line that neither asks nothing nor is spelled as a line
 abbrev pub IsBad : List ℕ → Type 0
-IsBad text = (AsksNothing text → ⊥) × ((l : Line) → IsLine l → line_text l ≡ text → ⊥)
+IsBad text = (AsksNothing text → ⊥) × ((l : Call DeviceStep) → IsLine l → line_text l ≡ text → ⊥)
 
 -- the line with this number, of which the first is 1, is bad, and the lines before it ask something or nothing
 pub record IsFirstBad (text : List ℕ) (number : ℕ) : Type 0 where
   pub before : List (List ℕ)
   pub bad : List ℕ
   pub after : List (List ℕ)
-  pub lines : List Line
+  pub lines : List (Call DeviceStep)
   pub cut : lines_of text ≡ before ++ bad ∷ after
   pub is_bad : IsBad bad
   pub good : AskInTurn before lines

@@ -1,7 +1,7 @@
 //! The lines of a script for a block server, and the lines that answer them.
 //!
-//! (This project's own; docs/FORMATS.md.) Each line has one spelling, and reading takes no memory.
-//! It knows no server.
+//! (This project's own; docs/FORMATS.md.) A line asks for a `Call`. Each has one spelling, and
+//! reading takes no memory. It knows no server.
 #![tactic(auto)]
 
 mod answer;
@@ -10,5 +10,5 @@ mod line;
 mod script;
 
 pub use answer::Answer;
-pub use line::{Line, read_line};
+pub use line::read_line;
 pub use script::{BadLine, Misspelled, check_script, first_line, read_asked};

@@ -1,7 +1,8 @@
-// One line of a script.
+// One line of a script: the call that it asks for.
 ghost use Rattle.std.specs.Prelude.{◌≡◌, ◌<◌, ◌==◌, ◌↔◌, IsTrue, ◌∷◌, [], codes, Some, None, IfSome, OnSome, length, map};
 ghost use Rattle.std.specs.List.{slice_split};
 ghost use Rattle.script.specs.Line.{IsLine, IsRequest, IsSpelled, IsStep, line_text, line_words, op_word, request_words, step_words, transfer_words};
+ghost use Rattle.ata_types.specs.declared.call.Call.{Call};
 ghost use Rattle.ata_types.specs.declared.request.Op.{Op};
 ghost use Rattle.ata_types.specs.declared.request.Request.{Request};
 ghost use Rattle.adapter.specs.declared.access.DeviceStep.{DeviceStep};
@@ -9,51 +10,10 @@ ghost use Rattle.adapter.specs.declared.access.DeviceStep.{DeviceStep};
 use crate::fields;
 use adapter::DeviceStep;
 use arrayvec::ArrayVec;
-use ata_types::{ClientId, Frame, Op, Port, Request, Sector};
+use ata_types::{Call, ClientId, Op, Request, Sector};
 
 /// The words of the longest line.
 const MOST_WORDS: usize = 6;
-
-/// What a line of a script asks.
-#[derive(Debug, Drop)]
-pub enum Line {
-    /// Make this request.
-    Submit(Request),
-    /// Put bytes into a frame.
-    Store {
-        client: ClientId,
-        frame: Frame,
-        /// In bytes, from the frame's first byte on.
-        offset: u32,
-        /// 1 to 64 of them.
-        bytes: ArrayVec<u8, 64>,
-    },
-    /// Show bytes of a frame.
-    Load {
-        client: ClientId,
-        frame: Frame,
-        /// In bytes, from the frame's first byte on.
-        offset: u32,
-        /// In bytes: 1 to 64.
-        count: u32,
-    },
-    /// Answer what is done.
-    Service,
-    /// Note that a tick has gone by.
-    Tick,
-    /// Reset the adapter.
-    Reset,
-    /// Revoke a client's grant.
-    Revoke {
-        client: ClientId,
-        /// The number of the client's grant.
-        grant: u8,
-    },
-    /// Show the state of a port.
-    State(Port),
-    /// Have the device do a step.
-    Device(DeviceStep),
-}
 
 /// Puts the words of a line, which one space parts, in place of others, if there are no more than a line has.
 fn part<'a>(text: &'a [u8], words: &mut ArrayVec<&'a [u8], MOST_WORDS>) -> Option<()>
@@ -267,19 +227,25 @@ fn step(name: &[u8], words: &[&[u8]]) -> Option<DeviceStep>
     }
 }
 
-/// Reads the trim that is asked, from the words after `trim`, in place of a line.
-fn trim(client: &[u8], grant: &[u8], first: &[u8], count: &[u8], line: &mut Line) -> Option<()>
-    ensures found { OnSome result (IsLine line.new
-        × (line_words line.new ≡ codes "trim" ∷ client.now ∷ grant.now ∷ first.now ∷ count.now ∷ [])) }
-    ensures only { (l : Line) → IsLine l
-        → line_words l ≡ codes "trim" ∷ client.now ∷ grant.now ∷ first.now ∷ count.now ∷ []
-        → (result ≡ Some tt) × (line.new ≡ l) }
+/// Reads the trim that is asked, from the words after `trim`, in place of a call.
+fn trim(
+    client: &[u8],
+    grant: &[u8],
+    first: &[u8],
+    count: &[u8],
+    call: &mut Call<DeviceStep>,
+) -> Option<()>
+    ensures found { OnSome result (IsLine call.new
+        × (line_words call.new ≡ codes "trim" ∷ client.now ∷ grant.now ∷ first.now ∷ count.now ∷ [])) }
+    ensures only { (c : Call DeviceStep) → IsLine c
+        → line_words c ≡ codes "trim" ∷ client.now ∷ grant.now ∷ first.now ∷ count.now ∷ []
+        → (result ≡ Some tt) × (call.new ≡ c) }
 {
     let client = fields::client(client)?;
     let grant = fields::number(grant, 255)? as u8;
     let first = Sector(fields::number(first, u64::MAX)?);
     let count = fields::wide(count)?;
-    *line = Line::Submit(Request {
+    *call = Call::Submit(Request {
         client,
         grant,
         op: Op::Trim,
@@ -291,15 +257,15 @@ fn trim(client: &[u8], grant: &[u8], first: &[u8], count: &[u8], line: &mut Line
 }
 
 /// The same of the flush that is asked, from the words after `flush`. It names no sectors.
-fn flush(client: &[u8], grant: &[u8], line: &mut Line) -> Option<()>
-    ensures found { OnSome result (IsLine line.new
-        × (line_words line.new ≡ codes "flush" ∷ client.now ∷ grant.now ∷ [])) }
-    ensures only { (l : Line) → IsLine l → line_words l ≡ codes "flush" ∷ client.now ∷ grant.now ∷ []
-        → (result ≡ Some tt) × (line.new ≡ l) }
+fn flush(client: &[u8], grant: &[u8], call: &mut Call<DeviceStep>) -> Option<()>
+    ensures found { OnSome result (IsLine call.new
+        × (line_words call.new ≡ codes "flush" ∷ client.now ∷ grant.now ∷ [])) }
+    ensures only { (c : Call DeviceStep) → IsLine c → line_words c ≡ codes "flush" ∷ client.now ∷ grant.now ∷ []
+        → (result ≡ Some tt) × (call.new ≡ c) }
 {
     let client = fields::client(client)?;
     let grant = fields::number(grant, 255)? as u8;
-    *line = Line::Submit(Request {
+    *call = Call::Submit(Request {
         client,
         grant,
         op: Op::Flush,
@@ -311,18 +277,24 @@ fn flush(client: &[u8], grant: &[u8], line: &mut Line) -> Option<()>
 }
 
 /// The same of the store that is asked, from the words after `store`.
-fn store(client: &[u8], frame: &[u8], offset: &[u8], bytes: &[u8], line: &mut Line) -> Option<()>
-    ensures found { OnSome result (IsLine line.new
-        × (line_words line.new ≡ codes "store" ∷ client.now ∷ frame.now ∷ offset.now ∷ bytes.now ∷ [])) }
-    ensures only { (l : Line) → IsLine l
-        → line_words l ≡ codes "store" ∷ client.now ∷ frame.now ∷ offset.now ∷ bytes.now ∷ []
-        → (result ≡ Some tt) × (line.new ≡ l) }
+fn store(
+    client: &[u8],
+    frame: &[u8],
+    offset: &[u8],
+    bytes: &[u8],
+    call: &mut Call<DeviceStep>,
+) -> Option<()>
+    ensures found { OnSome result (IsLine call.new
+        × (line_words call.new ≡ codes "store" ∷ client.now ∷ frame.now ∷ offset.now ∷ bytes.now ∷ [])) }
+    ensures only { (c : Call DeviceStep) → IsLine c
+        → line_words c ≡ codes "store" ∷ client.now ∷ frame.now ∷ offset.now ∷ bytes.now ∷ []
+        → (result ≡ Some tt) × (call.new ≡ c) }
 {
     let client = fields::client(client)?;
     let frame = fields::frame(frame)?;
     let offset = fields::wide(offset)?;
     let bytes = fields::bytes(bytes)?;
-    *line = Line::Store {
+    *call = Call::ClientStore {
         client,
         frame,
         offset,
@@ -332,62 +304,71 @@ fn store(client: &[u8], frame: &[u8], offset: &[u8], bytes: &[u8], line: &mut Li
 }
 
 /// The same of the load that is asked, from the words after `load`.
-fn load(client: &[u8], frame: &[u8], offset: &[u8], count: &[u8], line: &mut Line) -> Option<()>
-    ensures found { OnSome result (IsLine line.new
-        × (line_words line.new ≡ codes "load" ∷ client.now ∷ frame.now ∷ offset.now ∷ count.now ∷ [])) }
-    ensures only { (l : Line) → IsLine l
-        → line_words l ≡ codes "load" ∷ client.now ∷ frame.now ∷ offset.now ∷ count.now ∷ []
-        → (result ≡ Some tt) × (line.new ≡ l) }
+fn load(
+    client: &[u8],
+    frame: &[u8],
+    offset: &[u8],
+    count: &[u8],
+    call: &mut Call<DeviceStep>,
+) -> Option<()>
+    ensures found { OnSome result (IsLine call.new
+        × (line_words call.new ≡ codes "load" ∷ client.now ∷ frame.now ∷ offset.now ∷ count.now ∷ [])) }
+    ensures only { (c : Call DeviceStep) → IsLine c
+        → line_words c ≡ codes "load" ∷ client.now ∷ frame.now ∷ offset.now ∷ count.now ∷ []
+        → (result ≡ Some tt) × (call.new ≡ c) }
 {
     let client = fields::client(client)?;
     let frame = fields::frame(frame)?;
     let offset = fields::wide(offset)?;
     let count = fields::count(count)?;
-    *line = Line::Load {
+    *call = Call::ClientLoad {
         client,
         frame,
         offset,
-        count,
+        length: count,
     };
     Some(())
 }
 
 /// The same of the revocation that is asked, from the words after `revoke`.
-fn revoke(client: &[u8], grant: &[u8], line: &mut Line) -> Option<()>
-    ensures found { OnSome result (IsLine line.new
-        × (line_words line.new ≡ codes "revoke" ∷ client.now ∷ grant.now ∷ [])) }
-    ensures only { (l : Line) → IsLine l → line_words l ≡ codes "revoke" ∷ client.now ∷ grant.now ∷ []
-        → (result ≡ Some tt) × (line.new ≡ l) }
+fn revoke(client: &[u8], grant: &[u8], call: &mut Call<DeviceStep>) -> Option<()>
+    ensures found { OnSome result (IsLine call.new
+        × (line_words call.new ≡ codes "revoke" ∷ client.now ∷ grant.now ∷ [])) }
+    ensures only { (c : Call DeviceStep) → IsLine c → line_words c ≡ codes "revoke" ∷ client.now ∷ grant.now ∷ []
+        → (result ≡ Some tt) × (call.new ≡ c) }
 {
     let client = fields::client(client)?;
     let grant = fields::number(grant, 255)? as u8;
-    *line = Line::Revoke { client, grant };
+    *call = Call::Revoke {
+        client,
+        number: grant,
+    };
     Some(())
 }
 
-/// Reads a step of the device, from the words after `dev`, in place of a line.
+/// Reads a step of the device, from the words after `dev`, in place of a call.
 #[inline(never)]
-fn of_device(words: &[&[u8]], line: &mut Line) -> Option<()>
-    ensures found { OnSome result (IsLine line.new × (line_words line.new ≡ codes "dev" ∷ map (λ w. w.now) words.now)) }
-    ensures only { (l : Line) → IsLine l → line_words l ≡ codes "dev" ∷ map (λ w. w.now) words.now
-        → (result ≡ Some tt) × (line.new ≡ l) }
+fn of_device(words: &[&[u8]], call: &mut Call<DeviceStep>) -> Option<()>
+    ensures found { OnSome result (IsLine call.new × (line_words call.new ≡ codes "dev" ∷ map (λ w. w.now) words.now)) }
+    ensures only { (c : Call DeviceStep) → IsLine c → line_words c ≡ codes "dev" ∷ map (λ w. w.now) words.now
+        → (result ≡ Some tt) × (call.new ≡ c) }
 {
     let (name, rest) = words.split_first()?;
-    *line = Line::Device(step(name, rest)?);
+    *call = Call::Device(step(name, rest)?);
     Some(())
 }
 
 /// A service: no word stands after `service`.
 #[inline(never)]
-fn of_service(words: &[&[u8]], line: &mut Line) -> Option<()>
-    ensures found { OnSome result (IsLine line.new
-        × (line_words line.new ≡ codes "service" ∷ map (λ w. w.now) words.now)) }
-    ensures only { (l : Line) → IsLine l → line_words l ≡ codes "service" ∷ map (λ w. w.now) words.now
-        → (result ≡ Some tt) × (line.new ≡ l) }
+fn of_service(words: &[&[u8]], call: &mut Call<DeviceStep>) -> Option<()>
+    ensures found { OnSome result (IsLine call.new
+        × (line_words call.new ≡ codes "service" ∷ map (λ w. w.now) words.now)) }
+    ensures only { (c : Call DeviceStep) → IsLine c → line_words c ≡ codes "service" ∷ map (λ w. w.now) words.now
+        → (result ≡ Some tt) × (call.new ≡ c) }
 {
     match words {
         [] => {
-            *line = Line::Service;
+            *call = Call::Service;
             Some(())
         }
         _ => None,
@@ -396,15 +377,15 @@ fn of_service(words: &[&[u8]], line: &mut Line) -> Option<()>
 
 /// A tick: no word stands after `tick`.
 #[inline(never)]
-fn of_tick(words: &[&[u8]], line: &mut Line) -> Option<()>
-    ensures found { OnSome result (IsLine line.new
-        × (line_words line.new ≡ codes "tick" ∷ map (λ w. w.now) words.now)) }
-    ensures only { (l : Line) → IsLine l → line_words l ≡ codes "tick" ∷ map (λ w. w.now) words.now
-        → (result ≡ Some tt) × (line.new ≡ l) }
+fn of_tick(words: &[&[u8]], call: &mut Call<DeviceStep>) -> Option<()>
+    ensures found { OnSome result (IsLine call.new
+        × (line_words call.new ≡ codes "tick" ∷ map (λ w. w.now) words.now)) }
+    ensures only { (c : Call DeviceStep) → IsLine c → line_words c ≡ codes "tick" ∷ map (λ w. w.now) words.now
+        → (result ≡ Some tt) × (call.new ≡ c) }
 {
     match words {
         [] => {
-            *line = Line::Tick;
+            *call = Call::Tick;
             Some(())
         }
         _ => None,
@@ -413,15 +394,15 @@ fn of_tick(words: &[&[u8]], line: &mut Line) -> Option<()>
 
 /// A reset: no word stands after `reset`.
 #[inline(never)]
-fn of_reset(words: &[&[u8]], line: &mut Line) -> Option<()>
-    ensures found { OnSome result (IsLine line.new
-        × (line_words line.new ≡ codes "reset" ∷ map (λ w. w.now) words.now)) }
-    ensures only { (l : Line) → IsLine l → line_words l ≡ codes "reset" ∷ map (λ w. w.now) words.now
-        → (result ≡ Some tt) × (line.new ≡ l) }
+fn of_reset(words: &[&[u8]], call: &mut Call<DeviceStep>) -> Option<()>
+    ensures found { OnSome result (IsLine call.new
+        × (line_words call.new ≡ codes "reset" ∷ map (λ w. w.now) words.now)) }
+    ensures only { (c : Call DeviceStep) → IsLine c → line_words c ≡ codes "reset" ∷ map (λ w. w.now) words.now
+        → (result ≡ Some tt) × (call.new ≡ c) }
 {
     match words {
         [] => {
-            *line = Line::Reset;
+            *call = Call::Reset;
             Some(())
         }
         _ => None,
@@ -430,13 +411,13 @@ fn of_reset(words: &[&[u8]], line: &mut Line) -> Option<()>
 
 /// A read or a write, from the words after its own.
 #[inline(never)]
-fn of_transfer(op: Op, words: &[&[u8]], line: &mut Line) -> Option<()>
+fn of_transfer(op: Op, words: &[&[u8]], call: &mut Call<DeviceStep>) -> Option<()>
     requires { (r : Request) → IsSpelled op r × (request_words op r ≡ transfer_words r) }
-    ensures found { OnSome result (IsLine line.new × (line_words line.new ≡ op_word op ∷ map (λ w. w.now) words.now)) }
-    ensures only { (l : Line) → IsLine l → line_words l ≡ op_word op ∷ map (λ w. w.now) words.now
-        → (result ≡ Some tt) × (line.new ≡ l) }
+    ensures found { OnSome result (IsLine call.new × (line_words call.new ≡ op_word op ∷ map (λ w. w.now) words.now)) }
+    ensures only { (c : Call DeviceStep) → IsLine c → line_words c ≡ op_word op ∷ map (λ w. w.now) words.now
+        → (result ≡ Some tt) × (call.new ≡ c) }
 {
-    *line = Line::Submit(Request {
+    *call = Call::Submit(Request {
         client: ClientId(0),
         grant: 0,
         op,
@@ -444,175 +425,175 @@ fn of_transfer(op: Op, words: &[&[u8]], line: &mut Line) -> Option<()>
         count: 0,
         frames: ArrayVec::new(),
     });
-    match line {
-        Line::Submit(request) => transfer(op, words, request),
+    match call {
+        Call::Submit(request) => transfer(op, words, request),
         _ => None,
     }
 }
 
 /// A trim, from the words after `trim`.
 #[inline(never)]
-fn of_trim(words: &[&[u8]], line: &mut Line) -> Option<()>
-    ensures found { OnSome result (IsLine line.new
-        × (line_words line.new ≡ codes "trim" ∷ map (λ w. w.now) words.now)) }
-    ensures only { (l : Line) → IsLine l → line_words l ≡ codes "trim" ∷ map (λ w. w.now) words.now
-        → (result ≡ Some tt) × (line.new ≡ l) }
+fn of_trim(words: &[&[u8]], call: &mut Call<DeviceStep>) -> Option<()>
+    ensures found { OnSome result (IsLine call.new
+        × (line_words call.new ≡ codes "trim" ∷ map (λ w. w.now) words.now)) }
+    ensures only { (c : Call DeviceStep) → IsLine c → line_words c ≡ codes "trim" ∷ map (λ w. w.now) words.now
+        → (result ≡ Some tt) × (call.new ≡ c) }
 {
     match words {
-        [client, grant, first, count] => trim(client, grant, first, count, line),
+        [client, grant, first, count] => trim(client, grant, first, count, call),
         _ => None,
     }
 }
 
 /// A flush, from the words after `flush`.
 #[inline(never)]
-fn of_flush(words: &[&[u8]], line: &mut Line) -> Option<()>
-    ensures found { OnSome result (IsLine line.new
-        × (line_words line.new ≡ codes "flush" ∷ map (λ w. w.now) words.now)) }
-    ensures only { (l : Line) → IsLine l → line_words l ≡ codes "flush" ∷ map (λ w. w.now) words.now
-        → (result ≡ Some tt) × (line.new ≡ l) }
+fn of_flush(words: &[&[u8]], call: &mut Call<DeviceStep>) -> Option<()>
+    ensures found { OnSome result (IsLine call.new
+        × (line_words call.new ≡ codes "flush" ∷ map (λ w. w.now) words.now)) }
+    ensures only { (c : Call DeviceStep) → IsLine c → line_words c ≡ codes "flush" ∷ map (λ w. w.now) words.now
+        → (result ≡ Some tt) × (call.new ≡ c) }
 {
     match words {
-        [client, grant] => flush(client, grant, line),
+        [client, grant] => flush(client, grant, call),
         _ => None,
     }
 }
 
 /// A store, from the words after `store`.
 #[inline(never)]
-fn of_store(words: &[&[u8]], line: &mut Line) -> Option<()>
-    ensures found { OnSome result (IsLine line.new
-        × (line_words line.new ≡ codes "store" ∷ map (λ w. w.now) words.now)) }
-    ensures only { (l : Line) → IsLine l → line_words l ≡ codes "store" ∷ map (λ w. w.now) words.now
-        → (result ≡ Some tt) × (line.new ≡ l) }
+fn of_store(words: &[&[u8]], call: &mut Call<DeviceStep>) -> Option<()>
+    ensures found { OnSome result (IsLine call.new
+        × (line_words call.new ≡ codes "store" ∷ map (λ w. w.now) words.now)) }
+    ensures only { (c : Call DeviceStep) → IsLine c → line_words c ≡ codes "store" ∷ map (λ w. w.now) words.now
+        → (result ≡ Some tt) × (call.new ≡ c) }
 {
     match words {
-        [client, frame, offset, bytes] => store(client, frame, offset, bytes, line),
+        [client, frame, offset, bytes] => store(client, frame, offset, bytes, call),
         _ => None,
     }
 }
 
 /// A load, from the words after `load`.
 #[inline(never)]
-fn of_load(words: &[&[u8]], line: &mut Line) -> Option<()>
-    ensures found { OnSome result (IsLine line.new
-        × (line_words line.new ≡ codes "load" ∷ map (λ w. w.now) words.now)) }
-    ensures only { (l : Line) → IsLine l → line_words l ≡ codes "load" ∷ map (λ w. w.now) words.now
-        → (result ≡ Some tt) × (line.new ≡ l) }
+fn of_load(words: &[&[u8]], call: &mut Call<DeviceStep>) -> Option<()>
+    ensures found { OnSome result (IsLine call.new
+        × (line_words call.new ≡ codes "load" ∷ map (λ w. w.now) words.now)) }
+    ensures only { (c : Call DeviceStep) → IsLine c → line_words c ≡ codes "load" ∷ map (λ w. w.now) words.now
+        → (result ≡ Some tt) × (call.new ≡ c) }
 {
     match words {
-        [client, frame, offset, count] => load(client, frame, offset, count, line),
+        [client, frame, offset, count] => load(client, frame, offset, count, call),
         _ => None,
     }
 }
 
 /// A revocation, from the words after `revoke`.
 #[inline(never)]
-fn of_revoke(words: &[&[u8]], line: &mut Line) -> Option<()>
-    ensures found { OnSome result (IsLine line.new
-        × (line_words line.new ≡ codes "revoke" ∷ map (λ w. w.now) words.now)) }
-    ensures only { (l : Line) → IsLine l → line_words l ≡ codes "revoke" ∷ map (λ w. w.now) words.now
-        → (result ≡ Some tt) × (line.new ≡ l) }
+fn of_revoke(words: &[&[u8]], call: &mut Call<DeviceStep>) -> Option<()>
+    ensures found { OnSome result (IsLine call.new
+        × (line_words call.new ≡ codes "revoke" ∷ map (λ w. w.now) words.now)) }
+    ensures only { (c : Call DeviceStep) → IsLine c → line_words c ≡ codes "revoke" ∷ map (λ w. w.now) words.now
+        → (result ≡ Some tt) × (call.new ≡ c) }
 {
     match words {
-        [client, grant] => revoke(client, grant, line),
+        [client, grant] => revoke(client, grant, call),
         _ => None,
     }
 }
 
 /// A port's state, from the words after `state`.
 #[inline(never)]
-fn of_state(words: &[&[u8]], line: &mut Line) -> Option<()>
-    ensures found { OnSome result (IsLine line.new
-        × (line_words line.new ≡ codes "state" ∷ map (λ w. w.now) words.now)) }
-    ensures only { (l : Line) → IsLine l → line_words l ≡ codes "state" ∷ map (λ w. w.now) words.now
-        → (result ≡ Some tt) × (line.new ≡ l) }
+fn of_state(words: &[&[u8]], call: &mut Call<DeviceStep>) -> Option<()>
+    ensures found { OnSome result (IsLine call.new
+        × (line_words call.new ≡ codes "state" ∷ map (λ w. w.now) words.now)) }
+    ensures only { (c : Call DeviceStep) → IsLine c → line_words c ≡ codes "state" ∷ map (λ w. w.now) words.now
+        → (result ≡ Some tt) × (call.new ≡ c) }
 {
     match words {
         [port] => {
-            *line = Line::State(fields::port(port)?);
+            *call = Call::State(fields::port(port)?);
             Some(())
         }
         _ => None,
     }
 }
 
-/// Reads what the first word of a line of a rarer kind and those after it ask, in place of a line.
-fn asked_else(name: &[u8], words: &[&[u8]], line: &mut Line) -> Option<()>
+/// Reads what the first word of a line of a rarer kind and those after it ask, in place of a call.
+fn asked_else(name: &[u8], words: &[&[u8]], call: &mut Call<DeviceStep>) -> Option<()>
     requires { (name.now ≡ codes "dev" → ⊥) × (name.now ≡ codes "service" → ⊥) × (name.now ≡ codes "read" → ⊥)
         × (name.now ≡ codes "write" → ⊥) }
-    ensures found { OnSome result (IsLine line.new × (line_words line.new ≡ name.now ∷ map (λ w. w.now) words.now)) }
-    ensures only { (l : Line) → IsLine l → line_words l ≡ name.now ∷ map (λ w. w.now) words.now
-        → (result ≡ Some tt) × (line.new ≡ l) }
+    ensures found { OnSome result (IsLine call.new × (line_words call.new ≡ name.now ∷ map (λ w. w.now) words.now)) }
+    ensures only { (c : Call DeviceStep) → IsLine c → line_words c ≡ name.now ∷ map (λ w. w.now) words.now
+        → (result ≡ Some tt) × (call.new ≡ c) }
 {
     if is(name, "tick") {
-        return of_tick(words, line);
+        return of_tick(words, call);
     }
     if is(name, "reset") {
-        return of_reset(words, line);
+        return of_reset(words, call);
     }
     if is(name, "trim") {
-        return of_trim(words, line);
+        return of_trim(words, call);
     }
     if is(name, "flush") {
-        return of_flush(words, line);
+        return of_flush(words, call);
     }
     if is(name, "store") {
-        return of_store(words, line);
+        return of_store(words, call);
     }
     if is(name, "load") {
-        return of_load(words, line);
+        return of_load(words, call);
     }
     if is(name, "revoke") {
-        return of_revoke(words, line);
+        return of_revoke(words, call);
     }
     if is(name, "state") {
-        return of_state(words, line);
+        return of_state(words, call);
     }
     None
 }
 
-/// Reads what a line's first word and those after it ask, in place of a line. Each kind of line has a function of its
+/// Reads what a line's first word and those after it ask, in place of a call. Each kind of line has a function of its
 /// own, so that what one kind has room for is cleared for that kind alone.
-fn asked(name: &[u8], words: &[&[u8]], line: &mut Line) -> Option<()>
-    ensures found { OnSome result (IsLine line.new × (line_words line.new ≡ name.now ∷ map (λ w. w.now) words.now)) }
-    ensures only { (l : Line) → IsLine l → line_words l ≡ name.now ∷ map (λ w. w.now) words.now
-        → (result ≡ Some tt) × (line.new ≡ l) }
+fn asked(name: &[u8], words: &[&[u8]], call: &mut Call<DeviceStep>) -> Option<()>
+    ensures found { OnSome result (IsLine call.new × (line_words call.new ≡ name.now ∷ map (λ w. w.now) words.now)) }
+    ensures only { (c : Call DeviceStep) → IsLine c → line_words c ≡ name.now ∷ map (λ w. w.now) words.now
+        → (result ≡ Some tt) × (call.new ≡ c) }
 {
     if is(name, "dev") {
-        return of_device(words, line);
+        return of_device(words, call);
     }
     if is(name, "service") {
-        return of_service(words, line);
+        return of_service(words, call);
     }
     if is(name, "read") {
-        return of_transfer(Op::Read, words, line);
+        return of_transfer(Op::Read, words, call);
     }
     if is(name, "write") {
-        return of_transfer(Op::Write, words, line);
+        return of_transfer(Op::Write, words, call);
     }
-    asked_else(name, words, line)
+    asked_else(name, words, call)
 }
 
-/// Reads a line, without its line feed, in place of another one. `None` says that no line is spelled so; what stands
-/// in the place then is any line.
+/// Reads the call that a line asks for, without its line feed, in place of another one. `None` says that no line is
+/// spelled so; what stands in the place then is any call.
 #[inline(never)]
-pub fn read_line_into(text: &[u8], line: &mut Line) -> Option<()>
-    ensures found { OnSome result (IsLine line.new × (line_text line.new ≡ text.now)) }
-    ensures only { (l : Line) → IsLine l → line_text l ≡ text.now → (result ≡ Some tt) × (line.new ≡ l) }
+pub fn read_line_into(text: &[u8], call: &mut Call<DeviceStep>) -> Option<()>
+    ensures found { OnSome result (IsLine call.new × (line_text call.new ≡ text.now)) }
+    ensures only { (c : Call DeviceStep) → IsLine c → line_text c ≡ text.now → (result ≡ Some tt) × (call.new ≡ c) }
 {
     let mut words = ArrayVec::new();
     part(text, &mut words)?;
     let (name, rest) = words.as_slice().split_first()?;
-    asked(name, rest, line)
+    asked(name, rest, call)
 }
 
-/// Reads a line, without its line feed. `None` says that no line is spelled so.
-pub fn read_line(text: &[u8]) -> Option<Line>
-    ensures found { IfSome result (λ line. IsLine line × (line_text line ≡ text.now)) }
-    ensures only { (line : Line) → IsLine line → line_text line ≡ text.now → result ≡ Some line }
+/// Reads the call that a line asks for, without its line feed. `None` says that no line is spelled so.
+pub fn read_line(text: &[u8]) -> Option<Call<DeviceStep>>
+    ensures found { IfSome result (λ call. IsLine call × (line_text call ≡ text.now)) }
+    ensures only { (c : Call DeviceStep) → IsLine c → line_text c ≡ text.now → result ≡ Some c }
 {
-    let mut line = Line::Service;
-    read_line_into(text, &mut line)?;
-    Some(line)
+    let mut call = Call::Service;
+    read_line_into(text, &mut call)?;
+    Some(call)
 }

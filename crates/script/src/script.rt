@@ -2,10 +2,12 @@
 ghost use Rattle.std.specs.Prelude.{◌≡◌, ◌<◌, ◌==◌, ◌↔◌, IsTrue, IfOk, IfErr, IfSome, List, OnErr, OnOk, length};
 ghost use Rattle.std.specs.List.{position};
 ghost use Rattle.script.specs.Script.{Asks, asked_of, AsksNothing, IsBad, IsFirstBad, IsFirstLine, IsScript};
-ghost use Rattle.script.specs.declared.line.Line.{Line};
+ghost use Rattle.adapter.specs.declared.access.DeviceStep.{DeviceStep};
+ghost use Rattle.ata_types.specs.declared.call.Call.{Call};
 
-use crate::Line;
 use crate::line::read_line_into;
+use adapter::DeviceStep;
+use ata_types::Call;
 use thiserror::Error;
 
 /// A line is spelled as none.
@@ -25,17 +27,17 @@ fn asks_nothing(text: &[u8]) -> bool
     matches!(text, [] | [b'#', ..])
 }
 
-/// Reads what a line of a script asks, without its line feed, in place of another line, and says whether it asks
-/// anything: an empty line does not, nor one that begins with `#`. What stands in the place is any line then, and so it
-/// is where the line is bad.
-pub fn read_asked(text: &[u8], line: &mut Line) -> Result<bool, Misspelled>
-    ensures ok { IfOk result (λ some. Asks text.now (asked_of some line.new)) }
+/// Reads the call that a line of a script asks for, without its line feed, in place of another one, and says whether it
+/// asks for any: an empty line does not, nor one that begins with `#`. What stands in the place is any call then, and
+/// so it is where the line is bad.
+pub fn read_asked(text: &[u8], call: &mut Call<DeviceStep>) -> Result<bool, Misspelled>
+    ensures ok { IfOk result (λ some. Asks text.now (asked_of some call.new)) }
     ensures bad { OnErr result (IsBad text.now) }
 {
     if asks_nothing(text) {
         return Ok(false);
     }
-    match read_line_into(text, line) {
+    match read_line_into(text, call) {
         Some(()) => Ok(true),
         None => Err(Misspelled),
     }
@@ -45,11 +47,11 @@ pub fn read_asked(text: &[u8], line: &mut Line) -> Result<bool, Misspelled>
 /// tells the first bad line; lines that ask nothing are counted, too. It takes no memory, and keeps no line:
 /// `read_asked` reads each again.
 pub fn check_script(text: &[u8]) -> Result<(), BadLine>
-    ensures ok { OnOk result ((lines : List Line) × IsScript text.now lines) }
+    ensures ok { OnOk result ((calls : List (Call DeviceStep)) × IsScript text.now calls) }
     ensures bad { IfErr result (λ bad. IsFirstBad text.now bad.0) }
 {
     let mut number = 0;
-    let mut asked = Line::Service;
+    let mut asked = Call::Service;
     let mut rest = Some(text);
     while let Some(left) = rest {
         let (line, after) = first_line(left);

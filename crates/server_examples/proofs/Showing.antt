@@ -40,18 +40,19 @@ use Rattle.server_history.specs.Server.{ServerState}
 use Rattle.block_server.specs.Promise.{RunsAsPromised}
 use Rattle.block_server.specs.Running.{ask_of, said_of}
 use Rattle.block_server.specs.View.{ServerView, server_of}
-use Rattle.block_server.specs.declared.types.Event.{Event}
-use Rattle.block_server.specs.declared.types.Event.TheVariants.{Submit, ClientStore, Service, Reset, State, Device as Tell}
-use Rattle.block_server.specs.declared.types.Said.{Said}
-use Rattle.block_server.specs.declared.types.Said.TheVariants as said
+use Rattle.ata_types.specs.declared.call.Call.TheVariants.{Submit, ClientStore, Service, Reset, State, Device as Tell}
+use Rattle.arrayvec.specs.ArrayVec.{ArrayVec}
+use Rattle.ata_types.specs.declared.call.Call.{Call}
+use Rattle.ata_types.specs.declared.call.CallResult.{CallResult}
+use Rattle.ata_types.specs.declared.call.CallResult.TheVariants as said
 use Rattle.server_examples.specs.Shown.{HasRun, ReleasesFrame, RunLaws, ServesRead, ServesReadAnew}
 
-pub has_run : {A : Type 0} (device : A → Device) (old new : ServerView A) (events : List Event) (before after : List Said) → RunsAsPromised device old new events before after → before ≡ []
+pub has_run : {A : Type 0} (device : A → Device) (old new : ServerView A) (events : List (Call DeviceStep)) (before after : List (CallResult (ArrayVec Reply))) → RunsAsPromised device old new events before after → before ≡ []
     → HasBegun (server_of device old) → (device old.adapter).telling ≡ true → HasRun device old new events after
 has_run device old new events before after promised empty begun telling =
     let kept = promised.keeps begun.0 [] begun.1 in
     let whole = append-nil kept.added in
-    let is : promised.said ≡ after = sym (promised.told ∙ ap (λ (xs : List Said). xs ++ promised.said) empty) in
+    let is : promised.said ≡ after = sym (promised.told ∙ ap (λ (xs : List (CallResult (ArrayVec Reply))). xs ++ promised.said) empty) in
     subst (HasRun device old new events) is (record {
       first = begun.0;
       begun = begun.1;
@@ -64,7 +65,7 @@ has_run device old new events before after promised empty begun telling =
     })
 
 -- what calls asked and said
-abbrev asks_of : List Event → List Said → List (Ask DeviceStep × machine.CallResult)
+abbrev asks_of : List (Call DeviceStep) → List (CallResult (ArrayVec Reply)) → List (Ask DeviceStep × machine.CallResult)
 asks_of (event ∷ events) (one ∷ more) = (ask_of event, said_of one) ∷ asks_of events more
 asks_of _ _ = []
 
@@ -74,7 +75,7 @@ Grows past [] later = later ≡ past
 Grows past (one ∷ more) later = (h : Happening Device DeviceStep) × (h.event.ask ≡ one.0) × (h.event.said ≡ one.1) × Grows (h ∷ past) more later
 
 -- so it has by calls that stand in their order
-grows : (calls past : List (Happening Device DeviceStep)) (events : List Event) (some : List Said) → map (λ h. h.event.ask) calls ≡ map ask_of events
+grows : (calls past : List (Happening Device DeviceStep)) (events : List (Call DeviceStep)) (some : List (CallResult (ArrayVec Reply))) → map (λ h. h.event.ask) calls ≡ map ask_of events
     → map (λ h. h.event.said) calls ≡ map said_of some → Grows past (asks_of events some) (reverse calls ++ past)
 grows [] past [] [] asks says = refl
 grows [] past [] (one ∷ more) asks says = cc
@@ -89,11 +90,11 @@ grows (h ∷ calls) past (event ∷ events) (one ∷ more) asks says =
     let turned = ap (λ (l : List (Happening Device DeviceStep)). l ++ past) (reverse-append (h ∷ []) calls) ∙ append_assoc (reverse calls) (h ∷ []) past in
     (h, asked, told, subst (Grows (h ∷ past) (asks_of events more)) (sym turned) (grows calls (h ∷ past) events more asks_on says_on))
 
-grown : {A : Type 0} {device : A → Device} {old new : ServerView A} {events : List Event} {some : List Said} (r : HasRun device old new events some) → Grows [] (asks_of events some) r.past
+grown : {A : Type 0} {device : A → Device} {old new : ServerView A} {events : List (Call DeviceStep)} {some : List (CallResult (ArrayVec Reply))} (r : HasRun device old new events some) → Grows [] (asks_of events some) r.past
 grown {A} {device} {old} {new} {events} {some} r =
     subst (Grows [] (asks_of events some)) (append-nil (reverse (reverse r.past)) ∙ reverse-reverse r.past) (grows (reverse r.past) [] events some r.calls.asks r.calls.says)
 
-pub has_said : {A : Type 0} {device : A → Device} {old new : ServerView A} {events : List Event} {some other : List Said} → HasRun device old new events some → some ≡ other → HasRun device old new events other
+pub has_said : {A : Type 0} {device : A → Device} {old new : ServerView A} {events : List (Call DeviceStep)} {some other : List (CallResult (ArrayVec Reply))} → HasRun device old new events some → some ≡ other → HasRun device old new events other
 has_said {A} {device} {old} {new} {events} {some} {other} r is = subst (HasRun device old new events) is r
 
 in_middle : {X : Type 0} (late : List X) (x : X) (early : List X) → Contains (late ++ x ∷ early) x

@@ -28,18 +28,19 @@ use Rattle.server_history.specs.Server.{ServerState}
 use Rattle.block_server.specs.Clients.{AreCalls}
 use Rattle.block_server.specs.Running.{ask_of, said_of}
 use Rattle.block_server.specs.View.{ServerView, server_of}
-use Rattle.block_server.specs.declared.types.Event.{Event}
-use Rattle.block_server.specs.declared.types.Said.{Said}
-use Rattle.block_server.specs.declared.types.Said.TheVariants as says
+use Rattle.arrayvec.specs.ArrayVec.{ArrayVec}
+use Rattle.ata_types.specs.declared.call.Call.{Call}
+use Rattle.ata_types.specs.declared.call.CallResult.{CallResult}
+use Rattle.ata_types.specs.declared.call.CallResult.TheVariants as says
 
 -- These calls of a new server said this: a history leads to the server before them without calls, and with theirs to
 -- the server after them. It is a run, and each read that it answers Ok holds what was left.
-pub record HasRun {A : Type 0} (device : A → Device) (old new : ServerView A) (events : List Event)
-    (said : List Said) : Type 0 where
+pub record HasRun {A : Type 0} (device : A → Device) (old new : ServerView A) (asked : List (Call DeviceStep))
+    (said : List (CallResult (ArrayVec Reply))) : Type 0 where
   pub first : JointState Device
   pub begun : LeadsToServer first [] (server_of device old)
   pub past : List (Happening Device DeviceStep)
-  pub calls : AreCalls past (map ask_of events) (map said_of said)
+  pub calls : AreCalls past (map ask_of asked) (map said_of said)
   pub leads : LeadsToServer first past (server_of device new)
   pub run : IsRun first.moment (events_of past)
   pub reads : EveryReadHolds first.moment (events_of past)
@@ -86,13 +87,13 @@ pub record ReleasesFrame (old new : ServerState) (asked : Request) (frame : Fram
   pub free : (now first (reset ∷ past)).moment.machine.lent frame ≡ None
 
 -- A request was accepted; the device did what it was told; and a service told one request Ok.
-abbrev pub IsServedAtOnce : List Said → Type 0
+abbrev pub IsServedAtOnce : List (CallResult (ArrayVec Reply)) → Type 0
 IsServedAtOnce said = (id : RequestId) × (reply : Reply) × (reply.outcome ≡ Ok)
     × (said ≡ says.Submitted (Done id) ∷ says.Stepped true ∷ says.Served (record { items = reply ∷ [] }) ∷ [])
 
 -- A request was accepted where three ports are absent; the device did what it was told; a service followed, the device
 -- once more, and a service that told one request Ok.
-abbrev pub IsServedAnew : List Said → Type 0
+abbrev pub IsServedAnew : List (CallResult (ArrayVec Reply)) → Type 0
 IsServedAnew said = (id : RequestId) × (before : List Reply) × (reply : Reply) × (reply.outcome ≡ Ok)
     × (said ≡ says.Submitted (Done id) ∷ says.State Absent ∷ says.State Absent ∷ says.State Absent ∷ says.Stepped true
     ∷ says.Served (record { items = before })
@@ -100,7 +101,7 @@ IsServedAnew said = (id : RequestId) × (before : List Reply) × (reply : Reply)
 
 -- The device did what it was told, twice; a request was accepted, and a service told one PortDead. A store was refused
 -- since its frame is lent; and after a reset that answered nothing one was done.
-abbrev pub IsReleased : List Said → Type 0
+abbrev pub IsReleased : List (CallResult (ArrayVec Reply)) → Type 0
 IsReleased said = (id : RequestId) × (reply : Reply) × (reply.outcome ≡ PortDead)
     × (said ≡ says.Stepped true ∷ says.Stepped true ∷ says.Submitted (Done id)
     ∷ says.Served (record { items = reply ∷ [] }) ∷ says.Stored (Err FrameLent)

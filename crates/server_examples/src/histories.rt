@@ -11,10 +11,11 @@ ghost use Rattle.block_server.specs.View.{server_of};
 use adapter::{DeviceStep, FatalError, Stepped};
 use arrayvec::ArrayVec;
 use ata_types::{
-    ClientId, Frame, MemFault, Op, Outcome, Port, PortState, Request, RequestId, Slot,
+    Call, CallResult, ClientId, Frame, MemFault, Op, Outcome, Port, PortState, Request, RequestId,
+    Slot,
 };
 use block_machine::laws::{law_lent_was_accepted, law_runs_are_legal};
-use block_server::{Event, Said, Sayings, Server};
+use block_server::{Sayings, Server};
 use driver_history::troubles::law_shown_faults_are_heeded;
 use machine_runs::laws::{
     law_a_lone_request_is_issued, law_accepted_was_asked, law_answers_are_lawful,
@@ -41,52 +42,56 @@ fn law_laws_of_runs()
 }
 
 /// What calls of a new server say, one after another. None where memory for that is refused.
-fn calls<A: Stepped>(alloc: Global, server: &mut Server<A>, events: &[Event]) -> Option<Vec<Said>>
+fn calls<A: Stepped>(
+    alloc: Global,
+    server: &mut Server<A>,
+    asked: &[Call<DeviceStep>],
+) -> Option<Vec<CallResult>>
     requires begun { HasBegun (server_of A.device server.old) }
     requires telling { (A.device server.old.adapter).telling ≡ true }
-    ensures { IfSome result (λ said. HasRun A.device server.old server.new events.now said.items) }
+    ensures { IfSome result (λ said. HasRun A.device server.old server.new asked.now said.items) }
 {
     let mut said = Sayings::new(alloc);
-    match server.run(events, &mut said) {
+    match server.run(asked, &mut said) {
         Ok(()) => said.into_list().ok(),
         Err(_) => None,
     }
 }
 
 /// Whether the call accepted a request.
-fn is_accepted(said: &Said) -> bool
-    ensures { IsTrue result → (id : RequestId) × (said.now ≡ Said.Submitted (Ok id)) }
+fn is_accepted(said: &CallResult) -> bool
+    ensures { IsTrue result → (id : RequestId) × (said.now ≡ CallResult.Submitted (Ok id)) }
 {
-    matches!(said, Said::Submitted(Ok(_)))
+    matches!(said, CallResult::Submitted(Ok(_)))
 }
 
 /// Whether the call told that a port is absent.
-fn is_absent(said: &Said) -> bool
-    ensures { IsTrue result → said.now ≡ Said.State PortState.Absent }
+fn is_absent(said: &CallResult) -> bool
+    ensures { IsTrue result → said.now ≡ CallResult.State PortState.Absent }
 {
-    matches!(said, Said::State(PortState::Absent))
+    matches!(said, CallResult::State(PortState::Absent))
 }
 
 /// Whether the device did what it was told.
-fn is_done(said: &Said) -> bool
-    ensures { IsTrue result → said.now ≡ Said.Stepped true }
+fn is_done(said: &CallResult) -> bool
+    ensures { IsTrue result → said.now ≡ CallResult.Stepped true }
 {
-    matches!(said, Said::Stepped(true))
+    matches!(said, CallResult::Stepped(true))
 }
 
 /// Whether the call was a service or a tick.
-fn is_served(said: &Said) -> bool
-    ensures { IsTrue result → (replies : List Reply) × (said.now ≡ Said.Served (record { items = replies })) }
+fn is_served(said: &CallResult) -> bool
+    ensures { IsTrue result → (replies : List Reply) × (said.now ≡ CallResult.Served (record { items = replies })) }
 {
-    matches!(said, Said::Served(_))
+    matches!(said, CallResult::Served(_))
 }
 
 /// Whether a service or a tick told one request this outcome, and no other any.
-fn is_told(said: &Said, outcome: Outcome) -> bool
-    ensures { IsTrue result → (reply : Reply) × (said.now ≡ Said.Served (record { items = reply ∷ [] }))
+fn is_told(said: &CallResult, outcome: Outcome) -> bool
+    ensures { IsTrue result → (reply : Reply) × (said.now ≡ CallResult.Served (record { items = reply ∷ [] }))
         × (reply.outcome ≡ outcome) }
 {
-    let Said::Served(replies) = said else {
+    let CallResult::Served(replies) = said else {
         return false;
     };
     match replies.as_slice() {
@@ -96,25 +101,25 @@ fn is_told(said: &Said, outcome: Outcome) -> bool
 }
 
 /// Whether a store was refused since its frame is lent.
-fn is_refused(said: &Said) -> bool
-    ensures { IsTrue result → said.now ≡ Said.Stored (Err MemFault.FrameLent) }
+fn is_refused(said: &CallResult) -> bool
+    ensures { IsTrue result → said.now ≡ CallResult.Stored (Err MemFault.FrameLent) }
 {
-    matches!(said, Said::Stored(Err(MemFault::FrameLent)))
+    matches!(said, CallResult::Stored(Err(MemFault::FrameLent)))
 }
 
 /// Whether a store was done.
-fn is_stored(said: &Said) -> bool
-    ensures { IsTrue result → said.now ≡ Said.Stored (Ok tt) }
+fn is_stored(said: &CallResult) -> bool
+    ensures { IsTrue result → said.now ≡ CallResult.Stored (Ok tt) }
 {
-    matches!(said, Said::Stored(Ok(())))
+    matches!(said, CallResult::Stored(Ok(())))
 }
 
 /// Whether a reset ended, and answered nothing.
-fn is_reset(said: &Said) -> bool
-    ensures { IsTrue result → said.now ≡ Said.WasReset (Ok (record { items = [] })) }
+fn is_reset(said: &CallResult) -> bool
+    ensures { IsTrue result → said.now ≡ CallResult.WasReset (Ok (record { items = [] })) }
 {
     match said {
-        Said::WasReset(Ok(replies)) => replies.is_empty(),
+        CallResult::WasReset(Ok(replies)) => replies.is_empty(),
         _ => false,
     }
 }
@@ -129,19 +134,19 @@ pub fn serves_a_read<A: Stepped>(alloc: Global, server: &mut Server<A>, read: Re
     let Op::Read = read.op else {
         return false;
     };
-    let events = [
-        Event::Submit(read),
-        Event::Device(DeviceStep::Finish(Port(0), Slot(0))),
-        Event::Service,
+    let asked = [
+        Call::Submit(read),
+        Call::Device(DeviceStep::Finish(Port(0), Slot(0))),
+        Call::Service,
     ];
-    let Some(said) = calls(alloc, server, &events) else {
+    let Some(said) = calls(alloc, server, &asked) else {
         return false;
     };
     is_served_at_once(&said)
 }
 
 /// Whether a request was accepted, the device did what it was told, and then one request was told Ok.
-fn is_served_at_once(said: &[Said]) -> bool
+fn is_served_at_once(said: &[CallResult]) -> bool
     ensures { IsTrue result → IsServedAtOnce said.now }
 {
     match said {
@@ -161,42 +166,42 @@ pub fn serves_a_read_anew<A: Stepped>(alloc: Global, server: &mut Server<A>, rea
     let Op::Read = read.op else {
         return false;
     };
-    let events = [
-        Event::Submit(read),
-        Event::State(Port(1)),
-        Event::State(Port(2)),
-        Event::State(Port(3)),
-        Event::Device(DeviceStep::Fatal(Port(0), FatalError::Interface)),
-        Event::Service,
-        Event::Device(DeviceStep::Finish(Port(0), Slot(0))),
-        Event::Service,
+    let asked = [
+        Call::Submit(read),
+        Call::State(Port(1)),
+        Call::State(Port(2)),
+        Call::State(Port(3)),
+        Call::Device(DeviceStep::Fatal(Port(0), FatalError::Interface)),
+        Call::Service,
+        Call::Device(DeviceStep::Finish(Port(0), Slot(0))),
+        Call::Service,
     ];
-    let Some(said) = calls(alloc, server, &events) else {
+    let Some(said) = calls(alloc, server, &asked) else {
         return false;
     };
     is_served_anew(&said)
 }
 
 /// Whether a request was accepted where three other ports are absent.
-fn is_alone(first: &Said, one: &Said, two: &Said, three: &Said) -> bool
-    ensures { IsTrue result → (id : RequestId) × (first.now ≡ Said.Submitted (Ok id))
-        × (one.now ≡ Said.State PortState.Absent) × (two.now ≡ Said.State PortState.Absent)
-        × (three.now ≡ Said.State PortState.Absent) }
+fn is_alone(first: &CallResult, one: &CallResult, two: &CallResult, three: &CallResult) -> bool
+    ensures { IsTrue result → (id : RequestId) × (first.now ≡ CallResult.Submitted (Ok id))
+        × (one.now ≡ CallResult.State PortState.Absent) × (two.now ≡ CallResult.State PortState.Absent)
+        × (three.now ≡ CallResult.State PortState.Absent) }
 {
     is_accepted(first) && is_absent(one) && is_absent(two) && is_absent(three)
 }
 
 /// Whether the device did something, and so once more after a service, and then one request was told Ok.
-fn is_mended(failed: &Said, served: &Said, done: &Said, last: &Said) -> bool
+fn is_mended(failed: &CallResult, served: &CallResult, done: &CallResult, last: &CallResult) -> bool
     ensures { IsTrue result → (before : List Reply) × (reply : Reply) × (reply.outcome ≡ Outcome.Ok)
-        × (failed.now ≡ Said.Stepped true) × (served.now ≡ Said.Served (record { items = before }))
-        × (done.now ≡ Said.Stepped true) × (last.now ≡ Said.Served (record { items = reply ∷ [] })) }
+        × (failed.now ≡ CallResult.Stepped true) × (served.now ≡ CallResult.Served (record { items = before }))
+        × (done.now ≡ CallResult.Stepped true) × (last.now ≡ CallResult.Served (record { items = reply ∷ [] })) }
 {
     is_done(failed) && is_served(served) && is_done(done) && is_told(last, Outcome::Ok)
 }
 
 /// Whether all that was said in turn.
-fn is_served_anew(said: &[Said]) -> bool
+fn is_served_anew(said: &[CallResult]) -> bool
     ensures { IsTrue result → IsServedAnew said.now }
 {
     match said {
@@ -222,26 +227,26 @@ pub fn releases_a_frame<A: Stepped>(
         frame }
 {
     law_laws_of_runs();
-    let events = [
-        Event::Device(DeviceStep::Hold(Port(0))),
-        Event::Device(DeviceStep::Fatal(Port(0), FatalError::HostBus)),
-        Event::Submit(request),
-        Event::Service,
-        Event::ClientStore {
+    let asked = [
+        Call::Device(DeviceStep::Hold(Port(0))),
+        Call::Device(DeviceStep::Fatal(Port(0), FatalError::HostBus)),
+        Call::Submit(request),
+        Call::Service,
+        Call::ClientStore {
             client,
             frame,
             offset: 0,
             bytes: ArrayVec::new(),
         },
-        Event::Reset,
-        Event::ClientStore {
+        Call::Reset,
+        Call::ClientStore {
             client,
             frame,
             offset: 0,
             bytes: ArrayVec::new(),
         },
     ];
-    let Some(said) = calls(alloc, server, &events) else {
+    let Some(said) = calls(alloc, server, &asked) else {
         return false;
     };
     is_released(&said)
@@ -249,7 +254,7 @@ pub fn releases_a_frame<A: Stepped>(
 
 /// Whether the device did two things, a request was accepted and told `PortDead`, and a store into a lent frame was
 /// done only after a reset.
-fn is_released(said: &[Said]) -> bool
+fn is_released(said: &[CallResult]) -> bool
     ensures { IsTrue result → IsReleased said.now }
 {
     match said {

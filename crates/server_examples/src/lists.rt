@@ -2,8 +2,8 @@
 use crate::servers::{QUEUED, config, request};
 use adapter::DeviceStep;
 use arrayvec::ArrayVec;
-use ata_types::{ClientId, Frame, Op, Outcome, Port, Reply, RequestId, Slot};
-use block_server::{Event, Said, Sayings, Server};
+use ata_types::{Call, CallResult, ClientId, Frame, Op, Outcome, Port, Reply, RequestId, Slot};
+use block_server::{Sayings, Server};
 use device_model::Model;
 use play::new_model;
 use sector_store::{MemStore, SectorStore};
@@ -32,8 +32,8 @@ fn server_of_numbers(alloc: Global) -> Result<Server<Model<MemStore>>, Fail> {
 }
 
 /// A look of client 1 at so many bytes of frame 76.
-fn look(offset: u32, length: u32) -> Event {
-    Event::ClientLoad {
+fn look(offset: u32, length: u32) -> Call<DeviceStep> {
+    Call::ClientLoad {
         client: ClientId(1),
         frame: Frame(76),
         offset,
@@ -42,26 +42,26 @@ fn look(offset: u32, length: u32) -> Event {
 }
 
 /// The first calls of a read.
-fn first_calls() -> [Event; 2] {
+fn first_calls() -> [Call<DeviceStep>; 2] {
     [
-        Event::Submit(request(Op::Read, 100, 8, 76, 1)),
-        Event::Device(DeviceStep::Finish(Port(0), Slot(0))),
+        Call::Submit(request(Op::Read, 100, 8, 76, 1)),
+        Call::Device(DeviceStep::Finish(Port(0), Slot(0))),
     ]
 }
 
 /// The others.
-fn last_calls() -> [Event; 3] {
-    [Event::Service, look(0, 4), look(512, 2)]
+fn last_calls() -> [Call<DeviceStep>; 3] {
+    [Call::Service, look(0, 4), look(512, 2)]
 }
 
 /// Whether the calls said what a read says; the last two, these bytes.
-fn is_of_a_read(said: &[Said]) -> bool {
+fn is_of_a_read(said: &[CallResult]) -> bool {
     let [
-        Said::Submitted(Ok(id)),
-        Said::Stepped(true),
-        Said::Served(replies),
-        Said::Loaded(Ok(first)),
-        Said::Loaded(Ok(second)),
+        CallResult::Submitted(Ok(id)),
+        CallResult::Stepped(true),
+        CallResult::Served(replies),
+        CallResult::Loaded(Ok(first)),
+        CallResult::Loaded(Ok(second)),
     ] = said
     else {
         return false;
@@ -100,7 +100,7 @@ fn two_calls_need_room_for_two(rt: HostRuntime) -> Result<(), Fail> {
     let mut server = server_of_numbers(rt.alloc())?;
     let ran = server.run(&first_calls(), &mut said);
     let _model = server.close();
-    let is_last = matches!(said.last(), Some(block_server::Told::Stepped(true)));
+    let is_last = matches!(said.last(), Some(CallResult::Stepped(true)));
     assert_eq!(rt; (ran, said.earlier().len(), is_last), (Ok(()), 1, true));
     Ok(())
 }

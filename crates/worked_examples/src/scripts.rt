@@ -2,14 +2,14 @@
 // cases of the program.
 use adapter::{Clear, DeviceStep, Direction, DiskNumber, DiskPage, FatalError, Move, Operation};
 use arrayvec::ArrayVec;
-use ata_types::{ClientId, Outcome, Port, PortState, Refusal, Reply, RequestId, Slot};
-use script::{Answer, BadLine, Line, Misspelled, read_line};
+use ata_types::{Call, ClientId, Outcome, Port, PortState, Refusal, Reply, RequestId, Slot};
+use script::{Answer, BadLine, Misspelled, read_line};
 use std::alloc::AllocError;
 use std::snapshot::Snapshot;
 
 fn step_of(text: &[u8]) -> Option<DeviceStep> {
     match read_line(text) {
-        Some(Line::Device(step)) => Some(step),
+        Some(Call::Device(step)) => Some(step),
         _ => None,
     }
 }

@@ -1,11 +1,13 @@
 use Rattle.std.proofs.Common.{◌≡◌, ◌∷◌, ◌++◌, [], List, Option, Some, None, ap, arith, length, length-append, refl, subst, sym, ◌∙◌}
 use Rattle.std.specs.Prelude.{IsOk, IsSome, OnOk, Ok, Err}
 use Rattle.std.specs.declared.result.Result.{Result}
+use Rattle.arrayvec.specs.ArrayVec.{ArrayVec}
+use Rattle.ata_types.specs.declared.call.Call.{Call}
+use Rattle.ata_types.specs.declared.call.CallResult.{CallResult}
+use Rattle.ata_types.specs.declared.request.Reply.{Reply}
+use Rattle.adapter.specs.declared.access.DeviceStep.{DeviceStep}
 use Rattle.block_server.specs.Promise.{Simulates}
 use Rattle.block_server.specs.Sayings.{last_of, with_replies}
-use Rattle.block_server.specs.declared.types.Event.{Event}
-use Rattle.block_server.specs.declared.types.Said.{Said}
-use Rattle.block_server.specs.declared.types.Told.{Told}
 use Rattle.play.proofs.session.make_call.Goals as goal
 
 on_ok : {T E : Type 0} (r : Result T E) (P : Type 0) → OnOk r P → IsOk r → P
@@ -31,11 +33,11 @@ returns-clause-keeps g c =
     let last = some_of new.last (on_ok c.run-done.result _ c.run-done.ensures.last ok (omega (arith, c.from_ref.ensures.len))) in
     let one = with_replies last.0 new.replies.items in
     let shown : new.earlier.items ++ one ∷ [] ≡ ran.said =
-    ap (λ (o : Option Told). new.earlier.items ++ last_of o new.replies.items) (sym last.1) ∙ ran.told ∙ ap (λ (before : List Said). before ++ ran.said) c.clear.ensures.said in
-    let Q : List Event → List Said → Type 0 = λ events said. Simulates device c.args.server.now c.run-done.new.self events said in (
+    ap (λ (o : Option (CallResult (Unit {0}))). new.earlier.items ++ last_of o new.replies.items) (sym last.1) ∙ ran.told ∙ ap (λ (before : List (CallResult (ArrayVec Reply))). before ++ ran.said) c.clear.ensures.said in
+    let Q : List (Call DeviceStep) → List (CallResult (ArrayVec Reply)) → Type 0 = λ calls said. Simulates device c.args.server.now c.run-done.new.self calls said in (
       last.0,
       last.1,
-      subst (λ (events : List Event). Q events (one ∷ [])) c.from_ref.ensures.value
+      subst (λ (calls : List (Call DeviceStep)). Q calls (one ∷ [])) c.from_ref.ensures.value
           (subst (Q calls) (alone new.earlier.items one ran.said shown (ran.each ∙ c.from_ref.ensures.len)) ran.keeps),
     )
 

@@ -3,7 +3,7 @@ use Rattle.std.specs.Borrow.{Bor}
 use Rattle.std.specs.Prelude.{MatchOption}
 use Rattle.std.proofs.lemmas.Bool.{false≢true}
 use Rattle.block_server.specs.Sayings.{with_replies}
-use Rattle.block_server.specs.declared.types.Told.{Told}
+use Rattle.ata_types.specs.declared.call.CallResult.{CallResult}
 use Rattle.play.specs.Lines.{call_text}
 use Rattle.play.proofs.Printing.{appends_none, part_of}
 use Rattle.play.proofs.session.play_line.Goals as goal
@@ -16,8 +16,8 @@ returns-then-is_starved-clause-printed g c =
     let said = with_replies call.0 c.make_call.new.said.replies.items in
     let out = g.W.Write.contents c.args.out.now in
     let tape = (device c.make_call.new.server.adapter).tape in (
-      part_of device g.A.Watched.ended c.args.trace c.args.shown _ c.put_event.new.event said c.args.server.now c.make_call.new.server out out 0
-          (call_text c.args.trace c.args.shown tape said) tape c.put_event.ensures call.2 refl refl (appends_none out) (λ is. refl),
+      part_of device g.A.Watched.ended c.args.trace c.args.shown _ said c.args.server.now c.make_call.new.server out out 0
+          (call_text c.args.trace c.args.shown tape said) tape call.2 refl refl (appends_none out) (λ is. refl),
       tt,
       refl,
     )
@@ -29,8 +29,8 @@ returns-in_default-clause-printed g c =
     let said = with_replies call.0 c.make_call.new.said.replies.items in
     let out = g.W.Write.contents c.args.out.now in
     let tape = (device c.make_call.new.server.adapter).tape in (
-      part_of device g.A.Watched.ended c.args.trace c.args.shown _ c.put_event.new.event said c.args.server.now c.make_call.new.server out out 0
-          (call_text c.args.trace c.args.shown tape said) tape c.put_event.ensures call.2 refl refl (appends_none out) (λ is. refl),
+      part_of device g.A.Watched.ended c.args.trace c.args.shown _ said c.args.server.now c.make_call.new.server out out 0
+          (call_text c.args.trace c.args.shown tape said) tape call.2 refl refl (appends_none out) (λ is. refl),
       tt,
       refl,
     )
@@ -45,14 +45,14 @@ returns-in_default-write_out-clause-printed g c =
     let fed : g.A.Watched.ended c.make_call.new.server.adapter ≡ false =
     ap g.A.Watched.ended (sym c.adapter-adapter.ensures) ∙ sym c.has_ended-is_starved.ensures ∙ c.if-is_starved.false in
     let last = c.make_call.new.said.last in
-    let Last : Option (Bor Told) → Type 0 = λ o. MatchOption o (last ≡ None) (λ told. last ≡ Some told.now) in
+    let Last : Option (Bor (CallResult (Unit {0}))) → Type 0 = λ o. MatchOption o (last ≡ None) (λ told. last ≡ Some told.now) in
     let here = subst Last c.unwrap.ensures c.last.ensures in
     let same : c.unwrap.result.now ≡ call.0 = cc in
     let one : with_replies c.unwrap.result.now c.replies.result.now ≡ said =
-    ap (λ (told : Told). with_replies told c.replies.result.now) same ∙ ap (with_replies call.0) c.replies.ensures in
+    ap (λ (one : CallResult (Unit {0})). with_replies one c.replies.result.now) same ∙ ap (with_replies call.0) c.replies.ensures in
     let wrote = c.in_default-write_out.ensures.written in (
-      part_of device g.A.Watched.ended c.args.trace c.args.shown _ c.put_event.new.event said c.args.server.now c.make_call.new.server _ _ wrote.0
-          c.as_slice.result.now c.tape-tape.result.now c.put_event.ensures call.2 tape (c.as_slice.ensures.value ∙ c.in-Ok.ensures ∙ ap (call_text c.args.trace c.args.shown c.tape-tape.result.now) one) wrote.1 (λ is. absurd (false≢true (sym fed ∙ is))),
+      part_of device g.A.Watched.ended c.args.trace c.args.shown _ said c.args.server.now c.make_call.new.server _ _ wrote.0
+          c.as_slice.result.now c.tape-tape.result.now call.2 tape (c.as_slice.ensures.value ∙ c.in-Ok.ensures ∙ ap (call_text c.args.trace c.args.shown c.tape-tape.result.now) one) wrote.1 (λ is. absurd (false≢true (sym fed ∙ is))),
       tt,
       fed,
     )
@@ -67,14 +67,14 @@ returns-clause-printed g c =
     let fed : g.A.Watched.ended c.make_call.new.server.adapter ≡ false =
     ap g.A.Watched.ended (sym c.adapter-adapter.ensures) ∙ sym c.has_ended-is_starved.ensures ∙ c.if-is_starved.false in
     let last = c.make_call.new.said.last in
-    let Last : Option (Bor Told) → Type 0 = λ o. MatchOption o (last ≡ None) (λ told. last ≡ Some told.now) in
+    let Last : Option (Bor (CallResult (Unit {0}))) → Type 0 = λ o. MatchOption o (last ≡ None) (λ told. last ≡ Some told.now) in
     let here = subst Last c.unwrap.ensures c.last.ensures in
     let same : c.unwrap.result.now ≡ call.0 = cc in
     let one : with_replies c.unwrap.result.now c.replies.result.now ≡ said =
-    ap (λ (told : Told). with_replies told c.replies.result.now) same ∙ ap (with_replies call.0) c.replies.ensures in
+    ap (λ (one : CallResult (Unit {0})). with_replies one c.replies.result.now) same ∙ ap (with_replies call.0) c.replies.ensures in
     let wrote = c.in-Ok-write_out.ensures.written in (
-      part_of device g.A.Watched.ended c.args.trace c.args.shown _ c.put_event.new.event said c.args.server.now c.make_call.new.server _ _ wrote.0
-          c.as_slice.result.now c.tape-tape.result.now c.put_event.ensures call.2 tape (c.as_slice.ensures.value ∙ c.in-Ok.ensures ∙ ap (call_text c.args.trace c.args.shown c.tape-tape.result.now) one) wrote.1 (λ is. absurd (false≢true (sym fed ∙ is))),
+      part_of device g.A.Watched.ended c.args.trace c.args.shown _ said c.args.server.now c.make_call.new.server _ _ wrote.0
+          c.as_slice.result.now c.tape-tape.result.now call.2 tape (c.as_slice.ensures.value ∙ c.in-Ok.ensures ∙ ap (call_text c.args.trace c.args.shown c.tape-tape.result.now) one) wrote.1 (λ is. absurd (false≢true (sym fed ∙ is))),
       wrote.2,
       tt,
     )

@@ -15,7 +15,7 @@ pub returns-clause-found : goal.returns-clause-found
 returns-clause-found c =
     let parts : map (λ w. w.now) c.as_slice.result.now ≡ slice_split (λ b. b == 32) c.args.text.now = search rules in
     let first : c.as_slice.result.now ≡ c.in_ok-name.name.now ∷ c.in_ok-name.rest.now = search rules in
-    spelled c.asked.result c.asked.new.line (map (λ w. w.now) (c.in_ok-name.name.now ∷ c.in_ok-name.rest.now)) c.args.text.now
+    spelled c.asked.result c.asked.new.call (map (λ w. w.now) (c.in_ok-name.name.now ∷ c.in_ok-name.rest.now)) c.args.text.now
     (ap (join_with_byte 32) (sym (ap (map (λ w. w.now)) first) ∙ parts) ∙ join_with_byte-slice_split 32 c.args.text.now) c.asked.ensures.found
 
 pub returns-clause-only : goal.returns-clause-only

@@ -3,19 +3,23 @@ use Rattle.std.specs.Prelude.{IfOk, IfSome, Option, Ok, Err}
 use Rattle.std.specs.Result.{result_ok}
 use Rattle.std.specs.declared.result.Result.{Result}
 use Rattle.block_server.specs.Sayings.{said_in}
-use Rattle.block_server.specs.declared.types.Said.{Said}
+use Rattle.arrayvec.specs.ArrayVec.{ArrayVec}
+use Rattle.ata_types.specs.declared.call.Call.{Call}
+use Rattle.ata_types.specs.declared.call.CallResult.{CallResult}
+use Rattle.ata_types.specs.declared.request.Reply.{Reply}
+use Rattle.adapter.specs.declared.access.DeviceStep.{DeviceStep}
 use Rattle.server_examples.specs.Shown.{HasRun}
 use Rattle.server_examples.proofs.Showing.{has_run}
 use Rattle.server_examples.proofs.histories.calls.Goals as goal
 
 -- what is so of all that was said is so of a list of it, where there is one
-listed : {E : Type 0} (Is : List Said → Type 0) (said : List Said) → Is said → (r : Result (Vec Said Global) E) → IfOk r (λ list. list.items ≡ said)
+listed : {E : Type 0} (Is : List (CallResult (ArrayVec Reply)) → Type 0) (said : List (CallResult (ArrayVec Reply))) → Is said → (r : Result (Vec (CallResult (ArrayVec Reply)) Global) E) → IfOk r (λ list. list.items ≡ said)
     → IfSome (result_ok r) (λ list. Is list.items)
 listed Is said is (Ok list) has = subst Is (sym has) is
 listed Is said is (Err e) has = tt
 
 pub returns-in-Ok : goal.returns-in-Ok
 returns-in-Ok g c =
-    let Is : List Said → Type 0 = λ said. HasRun g.A.Adapter.device c.args.server.now c.run.new.self c.args.events.now said in
-    let ran = has_run g.A.Adapter.device c.args.server.now c.run.new.self c.args.events.now (said_in c.new-said.result) (said_in c.run.new.out) c.in-Ok.ensures.done c.new-said.ensures c.requires.begun c.requires.telling in
-    subst (λ (o : Option (Vec Said Global)). IfSome o (λ list. Is list.items)) (sym c.ok.ensures.value) (listed Is (said_in c.run.new.out) ran c.into_list.result c.into_list.ensures)
+    let Is : List (CallResult (ArrayVec Reply)) → Type 0 = λ said. HasRun g.A.Adapter.device c.args.server.now c.run.new.self c.args.asked.now said in
+    let ran = has_run g.A.Adapter.device c.args.server.now c.run.new.self c.args.asked.now (said_in c.new-said.result) (said_in c.run.new.out) c.in-Ok.ensures.done c.new-said.ensures c.requires.begun c.requires.telling in
+    subst (λ (o : Option (Vec (CallResult (ArrayVec Reply)) Global)). IfSome o (λ list. Is list.items)) (sym c.ok.ensures.value) (listed Is (said_in c.run.new.out) ran c.into_list.result c.into_list.ensures)

@@ -5,8 +5,11 @@ use Rattle.block_server.specs.Costs.{most_of_all}
 use Rattle.block_server.proofs.Counting.{most_more, most_taken}
 use Rattle.block_server.specs.Promise.{RunsAsPromised, Simulates}
 use Rattle.block_server.specs.Sayings.{said_in, with_replies}
-use Rattle.block_server.specs.declared.types.Event.{Event}
-use Rattle.block_server.specs.declared.types.Said.{Said}
+use Rattle.arrayvec.specs.ArrayVec.{ArrayVec}
+use Rattle.ata_types.specs.declared.call.Call.{Call}
+use Rattle.ata_types.specs.declared.call.CallResult.{CallResult}
+use Rattle.ata_types.specs.declared.request.Reply.{Reply}
+use Rattle.adapter.specs.declared.access.DeviceStep.{DeviceStep}
 use Rattle.block_server.proofs.server.Server.run.Goals as goal
 
 pub loop-at-init : goal.loop-at-init
@@ -21,27 +24,27 @@ loop-at-init g c = record {
 pub loop-at-preserved : goal.loop-at-preserved
 loop-at-preserved g c =
     let so_far = c.loop-at.invariant.ran in
-    let below : c.loop-at.at < length c.args.events.now = omega arith in
-    let event = c.index-events-at.result in
-    let one = with_replies c.answer-told.result c.answer-told.new.replies.items in
-    let P : List Event → Type 0 = λ calls. Simulates g.A.Adapter.device c.args.self.now c.answer-told.new.self calls (so_far.said ++ one ∷ []) in
-    let Q : List Event → Type 0 = λ calls. length (so_far.said ++ one ∷ []) ≡ length calls in
-    let calls = ap (λ (e : Event). take c.loop-at.at c.args.events.now ++ e ∷ []) c.index-events-at.is ∙ sym (take_more c.args.events.now c.loop-at.at event below) in
+    let below : c.loop-at.at < length c.args.calls.now = omega arith in
+    let call = c.index-calls-at.result in
+    let one = with_replies c.answer-said.result c.answer-said.new.replies.items in
+    let P : List (Call DeviceStep) → Type 0 = λ calls. Simulates g.A.Adapter.device c.args.self.now c.answer-said.new.self calls (so_far.said ++ one ∷ []) in
+    let Q : List (Call DeviceStep) → Type 0 = λ calls. length (so_far.said ++ one ∷ []) ≡ length calls in
+    let calls = ap (λ (e : Call DeviceStep). take c.loop-at.at c.args.calls.now ++ e ∷ []) c.index-calls-at.is ∙ sym (take_more c.args.calls.now c.loop-at.at call below) in
     let before = c.go_on.ensures.earlier ∙ c.reserve.ensures.said ∙ so_far.told in
     record {
       ran = record {
         said = so_far.said ++ one ∷ [];
-        told = ap (λ (l : List Said). l ++ one ∷ []) before ∙ append_assoc (said_in c.args.out.now) so_far.said (one ∷ []);
-        each = subst Q calls (length-append so_far.said (one ∷ []) ∙ ap (λ n. n + 1) so_far.each ∙ sym (length-append (take c.loop-at.at c.args.events.now) (event ∷ [])));
-        keeps = subst P calls (c.law_runs_keep_their_promise.ensures.more _ _ _ _ _ _ _ so_far.keeps (c.law_runs_keep_their_promise.ensures.one _ _ event one c.answer-told.ensures.adds c.answer-told.ensures.wanted));
+        told = ap (λ (l : List (CallResult (ArrayVec Reply))). l ++ one ∷ []) before ∙ append_assoc (said_in c.args.out.now) so_far.said (one ∷ []);
+        each = subst Q calls (length-append so_far.said (one ∷ []) ∙ ap (λ n. n + 1) so_far.each ∙ sym (length-append (take c.loop-at.at c.args.calls.now) (call ∷ [])));
+        keeps = subst P calls (c.law_runs_keep_their_promise.ensures.more _ _ _ _ _ _ _ so_far.keeps (c.law_runs_keep_their_promise.ensures.one _ _ call one c.answer-said.ensures.adds c.answer-said.ensures.wanted));
       };
       length = omega (arith, c.go_on.ensures.len, c.reserve.ensures.len, c.loop-at.invariant.length);
       last = λ some. refl;
       room = omega (arith, c.loop-at.invariant.room, c.reserve.ensures.capacity, c.go_on.ensures.capacity);
       cost =
-          let M : List Event → Type 0 = λ events. MakesAtMost (most_of_all events) (g.A.Adapter.access_count c.args.self.now.adapter) (g.A.Adapter.access_count c.answer-told.new.self.adapter) in
-          let more = most_more (take c.loop-at.at c.args.events.now) event in
-          subst M calls (omega (arith, more, c.loop-at.invariant.cost, c.answer-told.ensures.cost));
+          let M : List (Call DeviceStep) → Type 0 = λ calls. MakesAtMost (most_of_all calls) (g.A.Adapter.access_count c.args.self.now.adapter) (g.A.Adapter.access_count c.answer-said.new.self.adapter) in
+          let more = most_more (take c.loop-at.at c.args.calls.now) call in
+          subst M calls (omega (arith, more, c.loop-at.invariant.cost, c.answer-said.ensures.cost));
     }
 
 pub returns-then-is_err-clause-ample : goal.returns-then-is_err-clause-ample
@@ -49,8 +52,8 @@ returns-then-is_err-clause-ample g c = search rules
 
 pub returns-clause-done : goal.returns-clause-done
 returns-clause-done g c =
-    let P : List Event → Type 0 = λ events. RunsAsPromised g.A.Adapter.device c.args.self.now c.loop-at.self events (said_in c.args.out.now) (said_in c.loop-at.out) in
-    subst P (take_all c.loop-at.at c.args.events.now (omega arith)) c.loop-at.invariant.ran
+    let P : List (Call DeviceStep) → Type 0 = λ calls. RunsAsPromised g.A.Adapter.device c.args.self.now c.loop-at.self calls (said_in c.args.out.now) (said_in c.loop-at.out) in
+    subst P (take_all c.loop-at.at c.args.calls.now (omega arith)) c.loop-at.invariant.ran
 
 pub returns-clause-last : goal.returns-clause-last
 returns-clause-last g c some = c.loop-at.invariant.last (omega (arith, some))
@@ -61,7 +64,7 @@ returns-then-is_err-clause-begun g c =
     record { said = r.said; told = c.reserve.ensures.said ∙ r.told; each = r.each; keeps = r.keeps }
 
 pub returns-clause-cost : goal.returns-clause-cost
-returns-clause-cost g c = let all = most_taken c.loop-at.at c.args.events.now in omega (arith, all, c.loop-at.invariant.cost)
+returns-clause-cost g c = let all = most_taken c.loop-at.at c.args.calls.now in omega (arith, all, c.loop-at.invariant.cost)
 
 pub returns-then-is_err-clause-cost : goal.returns-then-is_err-clause-cost
-returns-then-is_err-clause-cost g c = let all = most_taken c.loop-at.at c.args.events.now in omega (arith, all, c.loop-at.invariant.cost)
+returns-then-is_err-clause-cost g c = let all = most_taken c.loop-at.at c.args.calls.now in omega (arith, all, c.loop-at.invariant.cost)

@@ -1,0 +1,68 @@
+// What a server is asked, and what it answers: as values, for lists of calls and for the lines of a script.
+use crate::{ClientId, Frame, MemFault, Port, PortState, Refusal, Replies, Request, RequestId};
+use arrayvec::ArrayVec;
+
+/// A call of the server. `S` are the steps that its device can be told to do.
+#[derive(Debug, Drop)]
+pub enum Call<S> {
+    /// Make this request.
+    Submit(Request),
+    /// Put bytes into a frame.
+    ClientStore {
+        client: ClientId,
+        frame: Frame,
+        /// In bytes, from the frame's first byte on.
+        offset: u32,
+        bytes: ArrayVec<u8, 64>,
+    },
+    /// Show bytes of a frame.
+    ClientLoad {
+        client: ClientId,
+        frame: Frame,
+        /// In bytes, from the frame's first byte on.
+        offset: u32,
+        /// In bytes; above 64 it counts as 64.
+        length: u32,
+    },
+    /// Answer what is done.
+    Service,
+    /// Note that a tick has gone by.
+    Tick,
+    /// Reset the adapter.
+    Reset,
+    /// Revoke a client's grant.
+    Revoke {
+        client: ClientId,
+        /// The number by which the client's requests name the grant.
+        number: u8,
+    },
+    /// Show the state of a port.
+    State(Port),
+    /// Have the device do a step.
+    Device(S),
+}
+
+/// The adapter didn't end its reset.
+#[derive(Clone, Copy, PartialEq, Eq, Debug)]
+pub struct AdapterStuck;
+
+/// The client has no grant of this number.
+#[derive(Clone, Copy, Debug, PartialEq, Eq)]
+pub struct NoSuchGrant;
+
+/// What a call of the server answered. `R` is what stands for its replies: the replies, or `()` where they stand in a
+/// list aside.
+#[derive(Debug, Drop)]
+pub enum CallResult<R = Replies> {
+    Submitted(Result<RequestId, Refusal>),
+    Stored(Result<(), MemFault>),
+    Loaded(Result<ArrayVec<u8, 64>, MemFault>),
+    /// What a service or a tick answered.
+    Served(R),
+    /// What a reset answered, if it ended.
+    WasReset(Result<R, AdapterStuck>),
+    /// What a revocation answered, if the grant was there.
+    WasRevoked(Result<R, NoSuchGrant>),
+    State(PortState),
+    Stepped(bool),
+}
