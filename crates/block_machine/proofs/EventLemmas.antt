@@ -5,12 +5,13 @@ use Rattle.std.specs.List.{list_any}
 use Rattle.ata_types.specs.declared.request.ClientId.{ClientId}
 use Rattle.ata_types.specs.declared.request.Frame.{Frame}
 use Rattle.ata_types.specs.declared.request.RequestId.{RequestId}
+use Rattle.ata_types.specs.declared.request.Op.TheVariants.{Read}
 use Rattle.ata_types.specs.declared.request.Outcome.TheVariants.{Ok, DeviceError, Aborted, Unplugged, PortDead, Revoked}
 use Rattle.block_machine.specs.State.{Block, Memory, Pending, Machine, frame_at, is_reader}
 use Rattle.block_machine.specs.Steps.{Step, Accept, Touch, Again, Answer, Release, Store, May, after_step, stays, unlend, is_lent_to, put_bytes, memory_after, AllTouched}
-use Rattle.block_machine.specs.Left.{after, IsLegal, IsStart, AllTold}
+use Rattle.block_machine.specs.Left.{after, IsLegal, IsStart, AllTold, HoldsLeft}
 use Rattle.block_machine.specs.Ports.{Ports, Evidence}
-use Rattle.block_machine.specs.Events.{AbstractState, Ask, Submit, StoreAt, LoadAt, Service, Tick, Reset, RevokeOf, State, Device, CallRecord, AllMay, IsByDevice, IsByServer, Belong, AllLawful, moment_of, IsRun, steps_of, AnswerHolds, AnswersHold, EveryReadHolds}
+use Rattle.block_machine.specs.Events.{AbstractState, Ask, Submit, StoreAt, LoadAt, Service, Tick, Reset, RevokeOf, State, Device, CallRecord, AllMay, IsByDevice, IsByServer, Belong, AllLawful, moment_of, IsRun, steps_of, EveryReadHolds}
 use Rattle.block_machine.proofs.Order.{In}
 use Rattle.block_machine.proofs.Sound.{Sound}
 use Rattle.block_machine.proofs.Trace.{runs_lives}
@@ -194,9 +195,9 @@ stays_step memory m (Store client frame offset bytes) may s q h = absurd q
 stays_step memory m _ may s q h = h
 
 -- a read that is answered Ok has in the last memory what is left
-answer_holds : (start : Machine) (memory : Memory) (past : List Step) (step : Step) → IsStart start → IsLegal start (step ∷ past) → AllTold start past → IsWhole step
-    → Stays memory (after start (step ∷ past)) → AnswerHolds start memory past step
-answer_holds start memory past (Answer e Ok) s l told w stays = λ op.
+answer_holds : (start : Machine) (memory : Memory) (past : List Step) (e : Pending) → IsStart start → IsLegal start (Answer e Ok ∷ past) → AllTold start past → IsWhole (Answer e Ok)
+    → Stays memory (after start (Answer e Ok ∷ past)) → e.request.asked.op ≡ Read → HoldsLeft start past memory e.request
+answer_holds start memory past e s l told w stays op =
     let m = after start past in
     let sound = (traced start past s l.0).sound in
     let holds = law_read_holds_left start past e s l.0 told l.1.0 w.0 op in
@@ -209,30 +210,22 @@ answer_holds start memory past (Answer e Ok) s l told w stays = λ op.
           (q.0, q.1, λ b lb. stays (frame_at e.request.asked.frames.items (i / 8)) (gone (i / 8) (omega (arith, room, lt))) (512 * (i % 8) + b) ∙ q.2 b lb);
       rest = λ i b beyond lt lb. stays (frame_at e.request.asked.frames.items (i / 8)) (gone (i / 8) (omega (arith, lt))) (512 * (i % 8) + b) ∙ holds.rest i b beyond lt lb;
     }
-answer_holds start memory past (Answer e (DeviceError status error)) s l told w stays = tt
-answer_holds start memory past (Answer e Aborted) s l told w stays = tt
-answer_holds start memory past (Answer e Unplugged) s l told w stays = tt
-answer_holds start memory past (Answer e PortDead) s l told w stays = tt
-answer_holds start memory past (Answer e Revoked) s l told w stays = tt
-answer_holds start memory past _ s l told w stays = tt
 
--- so has each read of a call that answers
-answers_hold : (start : Machine) (memory : Memory) (steps past : List Step) → IsStart start → IsLegal start (steps ++ past) → AllTold start (steps ++ past) → AllWhole (steps ++ past)
-    → ((step : Step) → In step steps → IsQuiet step) → Stays memory (after start (steps ++ past)) → AnswersHold start memory past steps
-answers_hold start memory [] past s l told w quiet stays = tt
-answers_hold start memory (step ∷ before) past s l told w quiet stays = (
-  answers_hold start memory before past s l.0 told.0 w.0 (λ x i. quiet x (inr i))
-      (stays_step memory (after start (before ++ past)) step l.1 (traced start (before ++ past) s l.0).sound (quiet step (inl refl)) stays),
-  answer_holds start memory (before ++ past) step s l told.0 w.1 stays,
-)
+-- a call's steps in which the read is answered Ok
+abbrev answering : List Step → Pending → List Step → List Step
+answering rest e before = rest ++ Answer e Ok ∷ before
 
-silent_holds : (start : Machine) (memory : Memory) (past : List Step) (step : Step) → IsSilent step → AnswerHolds start memory past step
-silent_holds start memory past (Answer e outcome) h = absurd h
-silent_holds start memory past _ h = tt
+-- so has each read that a call answers, at the call's end
+answers_hold : (start : Machine) (memory : Memory) (rest : List Step) (e : Pending) (before past : List Step) → IsStart start → IsLegal start (answering rest e before ++ past)
+    → AllTold start (answering rest e before ++ past) → AllWhole (answering rest e before ++ past) → ((step : Step) → In step (answering rest e before) → IsQuiet step)
+    → Stays memory (after start (answering rest e before ++ past)) → e.request.asked.op ≡ Read → HoldsLeft start (before ++ past) memory e.request
+answers_hold start memory [] e before past s l told w quiet stays = answer_holds start memory (before ++ past) e s l told.0 w.1 stays
+answers_hold start memory (step ∷ rest) e before past s l told w quiet stays = answers_hold start memory rest e before past s l.0 told.0 w.0 (λ x i. quiet x (inr i))
+    (stays_step memory (after start (answering rest e before ++ past)) step l.1 (traced start (answering rest e before ++ past) s l.0).sound (quiet step (inl refl)) stays)
 
-silents_hold : (start : Machine) (memory : Memory) (steps past : List Step) → ((step : Step) → In step steps → IsSilent step) → AnswersHold start memory past steps
-silents_hold start memory [] past h = tt
-silents_hold start memory (step ∷ before) past h = (silents_hold start memory before past (λ x i. h x (inr i)), silent_holds start memory (before ++ past) step (h step (inl refl)))
+answer_is_in : (rest : List Step) (e : Pending) (before : List Step) → In (Answer e Ok) (answering rest e before)
+answer_is_in [] e before = inl refl
+answer_is_in (step ∷ rest) e before = inr (answer_is_in rest e before)
 
 belongs : {D : Type 0} (ask : Ask D) (ports : Ports) (steps : List Step) → Belong ask ports steps → (step : Step) → In step steps → IsByDevice step ⊎ IsByServer ask ports step
 belongs ask ports [] b step i = absurd i
@@ -241,19 +234,33 @@ belongs ask ports (x ∷ xs) b step (inr i) = belongs ask ports xs b.0 step i
 
 -- each read of a run that was answered Ok has, at the end of its call, what is left
 pub law_every_read_holds : {D : Type 0} (first : AbstractState) (run : List (CallRecord D)) → IsRun first run → AllTold first.machine (steps_of run) → EveryReadHolds first run
-law_every_read_holds first [] r told = tt
-law_every_read_holds first (event ∷ past) r told = (
-  law_every_read_holds first past r.0 (told_before event.steps (steps_of past) told),
-  ⊎_elim
-      (λ (q : Quiet event.ask event.ports). answers_hold first.machine (moment_of first (event ∷ past)).machine.memory event.steps (steps_of past)
-      (run_starts first past r.0) (run_legal first (event ∷ past) r) told (run_whole first (event ∷ past) r)
-      (λ step i. ⊎_elim (λ d. (devices_quiet step d).0) (λ h. q step h) (belongs event.ask event.ports event.steps r.1.belong step i))
-      (λ f none b. ap (λ (m : Machine). m.memory f b) (moment_is first (event ∷ past))))
-      (λ (q : Silent event.ask event.ports). silents_hold first.machine (moment_of first (event ∷ past)).machine.memory event.steps (steps_of past)
-      (λ step i. ⊎_elim (λ d. (devices_quiet step d).1) (λ h. q step h) (belongs event.ask event.ports event.steps r.1.belong step i)))
-      (quiet_or_silent event.ask event.ports),
-)
+law_every_read_holds {D} first run r told later earlier event rest before e is split op =
+    in_run later (subst (IsRun first) is r) (subst (λ (l : List (CallRecord D)). AllTold first.machine (steps_of l)) is told)
   where
     told_before : (late early : List Step) → AllTold first.machine (late ++ early) → AllTold first.machine early
     told_before [] early t = t
     told_before (step ∷ late) early t = told_before late early t.0
+
+    Held : Type 0
+    Held = HoldsLeft first.machine (before ++ steps_of earlier) (moment_of first (event ∷ earlier)).machine.memory e.request
+
+    in_call : IsRun first (event ∷ earlier) → AllTold first.machine (steps_of (event ∷ earlier)) → Held
+    in_call r told = ⊎_elim
+        (λ (q : Quiet event.ask event.ports). answers_hold first.machine (moment_of first (event ∷ earlier)).machine.memory rest e before (steps_of earlier)
+        (run_starts first earlier r.0)
+        (subst (λ (steps : List Step). IsLegal first.machine (steps ++ steps_of earlier)) split (run_legal first (event ∷ earlier) r))
+        (subst (λ (steps : List Step). AllTold first.machine (steps ++ steps_of earlier)) split told)
+        (subst (λ (steps : List Step). AllWhole (steps ++ steps_of earlier)) split (run_whole first (event ∷ earlier) r))
+        (λ step i. ⊎_elim (λ d. (devices_quiet step d).0) (λ h. q step h) (its step i))
+        (λ f none b. ap (λ (m : Machine). m.memory f b) (moment_is first (event ∷ earlier)
+        ∙ ap (λ (steps : List Step). after first.machine (steps ++ steps_of earlier)) split))
+        op)
+        (λ (q : Silent event.ask event.ports). absurd (⊎_elim (λ d. (devices_quiet (Answer e Ok) d).1) (λ h. q (Answer e Ok) h) (its (Answer e Ok) (answer_is_in rest e before))))
+        (quiet_or_silent event.ask event.ports)
+      where
+        its : (step : Step) → In step (answering rest e before) → IsByDevice step ⊎ IsByServer event.ask event.ports step
+        its step i = belongs event.ask event.ports event.steps r.1.belong step (subst (In step) (sym split) i)
+
+    in_run : (later : List (CallRecord D)) → IsRun first (later ++ event ∷ earlier) → AllTold first.machine (steps_of (later ++ event ∷ earlier)) → Held
+    in_run [] r told = in_call r told
+    in_run (x ∷ later) r told = in_run later r.0 (told_before x.steps (steps_of (later ++ event ∷ earlier)) told)

@@ -45,9 +45,7 @@ is_earlier_on_port a b = a.port.0 == b.port.0 && nat_lt a.id.0 b.id.0
 -- A request stands in the way of r. A plain r waits for each issued and each earlier one of its port.
 -- A queued r waits for the plain ones, issued or earlier, and for earlier ones that conflict with it.
 abbrev pub waits_for : QueueMode → Unanswered → Unanswered → Bool
-waits_for mode r other =
-    other.port.0 == r.port.0
-    && (if is_plain mode r.op
+waits_for mode r other = other.port.0 == r.port.0 && (if is_plain mode r.op
     then other.issued || nat_lt other.id.0 r.id.0
     else (is_plain mode other.op && other.issued)
     || (nat_lt other.id.0 r.id.0 && (is_plain mode other.op || must_keep_order other r)))

@@ -1,6 +1,6 @@
 -- Calls of the server as events, and runs of them (this project's own). An event ties what was asked, what was said,
 -- what the ports showed, and the machine's steps. `D` are the steps that a device can be told to do.
-use Rattle.std.specs.Prelude.{◌≡◌, ◌≢◌, ◌⊎◌, ℕ, ◌<◌, ◌≤◌, ◌==◌, Bool, true, false, IsTrue, List, [], ◌∷◌, ◌++◌, length, map, count_by, Contains, AllPairs, IsPermutation, Option, Some, None, Result, Ok, Err}
+use Rattle.std.specs.Prelude.{◌≡◌, ◌≢◌, ◌⊎◌, ◌↔◌, ℕ, ◌<◌, ◌≤◌, ◌==◌, Bool, true, false, IsTrue, List, [], ◌∷◌, ◌++◌, length, map, count_by, Contains, AllPairs, IsPermutation, Option, Some, None, Result, Ok, Err}
 use Rattle.std.specs.List.{list_any}
 use Rattle.ata_types.specs.declared.Port.{Port}
 use Rattle.ata_types.specs.declared.PortState.{PortState}
@@ -19,7 +19,7 @@ use Rattle.block_machine.specs.Rules.{HasRow, IsUnder, without_row}
 use Rattle.block_machine.specs.Refusals.{Situation, IsAcceptable, IsFirstRefusal, IsOpen, IsFirstMemFault}
 use Rattle.block_machine.specs.Due.{NoneDue}
 use Rattle.block_machine.specs.Ports.{Ports, AreFit, SamePort, SamePorts, SameDisk, Evidence, IsInterrupted, MayBecome, IsServiced, IsStuck}
-use Rattle.block_machine.specs.State.{Memory, Accepted, Pending, Machine, unanswered}
+use Rattle.block_machine.specs.State.{Accepted, Pending, Machine, unanswered}
 use Rattle.block_machine.specs.Steps.{Step, Accept, Issue, Touch, End, Age, Again, Answer, Revoke, Release, Unplug, Replace, Store, Load, May, AllTouched, unanswered_of}
 use Rattle.block_machine.specs.Left.{after, IsStart, HoldsLeft}
 
@@ -218,11 +218,10 @@ IsLawful old evidence ports e outcome.Revoked = (e.issued ≡ false) ⊎ IsReady
 -- stopped: else its command may still move.
 abbrev pub AllLawful : AbstractState → Evidence → Ports → List Step → Type 0
 AllLawful old evidence ports [] = Unit {0}
-AllLawful old evidence ports (Answer e o ∷ before) = AllLawful old evidence ports before
-    × IsLawful old evidence ports e o
-AllLawful old evidence ports (Again e ∷ before) = AllLawful old evidence ports before
+AllLawful old evidence ports (Answer e o ∷ rest) = AllLawful old evidence ports rest × IsLawful old evidence ports e o
+AllLawful old evidence ports (Again e ∷ rest) = AllLawful old evidence ports rest
     × Contains evidence.stopped e.request.port
-AllLawful old evidence ports (step ∷ before) = AllLawful old evidence ports before
+AllLawful old evidence ports (step ∷ rest) = AllLawful old evidence ports rest
 
 -- the answers of a call, as they are told: by port, and then by id
 abbrev pub IsToldBefore : Pending × Outcome → Pending × Outcome → Type 0
@@ -255,8 +254,7 @@ situation_of m = record {
 
 -- no request of a ready port is due
 abbrev pub AllIssued : AbstractState → Type 0
-AllIssued m = (port : Port) → m.ports.state port ≡ Ready → NoneDue (m.ports.mode port) (map unanswered m.machine.book)
-    port
+AllIssued m = (p : Port) → m.ports.state p ≡ Ready → NoneDue (m.ports.mode p) (map unanswered m.machine.book) p
 
 -- where a port isn't ready, none of its requests is unanswered
 abbrev pub IsEmptied : AbstractState → Port → Type 0
@@ -322,8 +320,7 @@ HadDisk old steps new port = ShowsDisk (new.ports.state port)
 -- The tick comes first, and once, at the ports that are ready then.
 pub record AgesOnce (ports : Ports) (steps : List Step) : Type 0 where
   pub ready : Port → Bool
-  pub is_ready : (port : Port) → (IsTrue (ready port) → ports.state port ≡ Ready)
-      × (ports.state port ≡ Ready → IsTrue (ready port))
+  pub is_ready : (port : Port) → IsTrue (ready port) ↔ (ports.state port ≡ Ready)
   pub later : List Step
   pub first : steps ≡ later ++ Age ready ∷ []
   pub once : count_by is_age later ≡ 0
@@ -338,8 +335,7 @@ pub record RestartsTimedOut (old : AbstractState) (evidence : Evidence) (steps :
   pub answer : (e : Pending) (o : Outcome) → Contains steps (Answer e o) → HasTimedOut old e.request.port
   pub ended : (port : Port) → HasTimedOut old port → AnswersEnded old.machine steps port
   pub anew : (port : Port) → HasTimedOut old port → NoneKeepsIssue steps new.machine port
-  pub interrupts : (port : Port) → HasTimedOut old port → IsInterrupted evidence port
-  pub spares : (port : Port) → IsInterrupted evidence port → HasTimedOut old port
+  pub interrupts : (port : Port) → HasTimedOut old port ↔ IsInterrupted evidence port
   pub finds : FindsAnother steps old.ports new.ports
   pub disk : (port : Port) → HasTimedOut old port → HadDisk old steps new port
 
@@ -357,9 +353,9 @@ TellsDead old steps = (e : Pending) (o : Outcome) → Contains steps (Answer e o
     → o ≡ outcome.PortDead
 
 -- What a service says and does. It tells dead ports; where it tells one of a port's requests Unplugged, it leaves none
--- of that port's unanswered; it issues what is due; it leaves no request unanswered where the port isn't ready; it
--- makes of each port what it may; and one that it changed shows a disk only where one was in. (What it makes of
--- trouble, the crate that knows the device says.)
+-- of that port's unanswered; it issues what is due; it leaves no request unanswered where the port isn't ready; what
+-- had ended is answered Ok, where the port was ready; it makes of each port what it may; and one that it changed shows
+-- a disk only where one was in. (What it makes of trouble, the crate that knows the device says.)
 pub record AnswersService (old : AbstractState) (evidence : Evidence) (steps : List Step) (replies : List Reply)
     (new : AbstractState) : Type 0 where
   pub tells : Tells steps replies
@@ -367,6 +363,7 @@ pub record AnswersService (old : AbstractState) (evidence : Evidence) (steps : L
   pub unplugs : UnplugsAll steps new.machine
   pub issues : AllIssued new
   pub emptied : (port : Port) → IsEmptied new port
+  pub ended : (port : Port) → old.ports.state port ≡ Ready → AnswersEnded old.machine steps port
   pub becomes : (port : Port) → IsServiced old.ports evidence new.ports port
   pub disk : (port : Port) → SamePort old.ports new.ports port ⊎ HadDisk old steps new port
 
@@ -380,17 +377,8 @@ pub record AnswersTick (old : AbstractState) (evidence : Evidence) (steps : List
   pub issues : AllIssued new
   pub emptied : (port : Port) → old.ports.state port ≡ Ready → IsEmptied new port
 
--- What a reset that ends makes of each port: it boots it, none of its requests keeps an issue, none is unanswered where
--- it isn't ready then, a port that is served has stopped, and one that shows a disk had it, or got it.
-pub record IsRebooted (old : AbstractState) (evidence : Evidence) (steps : List Step) (new : AbstractState)
-    (port : Port) : Type 0 where
-  pub emptied : IsEmptied new port
-  pub becomes : MayBecome old.ports evidence new.ports port
-  pub anew : NoneKeepsIssue steps new.machine port
-  pub stopped : old.ports.served port ≡ true → Contains evidence.stopped port
-  pub disk : HadDisk old steps new port
-
--- What a reset that ends says and does.
+-- What a reset that ends says and does. Kept frames are given back first. Of each port no request keeps its issue, none
+-- is unanswered where it isn't ready then, one that is served has stopped, and one that shows a disk had it, or got it.
 pub record AnswersReset (old : AbstractState) (evidence : Evidence) (steps : List Step) (replies : List Reply)
     (new : AbstractState) : Type 0 where
   pub tells : Tells steps replies
@@ -398,21 +386,22 @@ pub record AnswersReset (old : AbstractState) (evidence : Evidence) (steps : Lis
   pub unplugs : UnplugsAll steps new.machine
   pub finds : FindsAnother steps old.ports new.ports
   pub issues : AllIssued new
-  pub reboots : (port : Port) → IsRebooted old evidence steps new port
+  pub emptied : (port : Port) → IsEmptied new port
+  pub becomes : (port : Port) → MayBecome old.ports evidence new.ports port
+  pub anew : (port : Port) → NoneKeepsIssue steps new.machine port
+  pub stopped : (port : Port) → old.ports.served port ≡ true → Contains evidence.stopped port
+  pub disk : (port : Port) → HadDisk old steps new port
 
 -- What a revocation says and does. The row was there, and goes, and no other does. Of the unanswered requests exactly
--- those are told Revoked that waited when the call began and were accepted under that grant. And then what is due is
--- issued.
+-- those are told Revoked that waited when the call began and were accepted under that grant; and nothing else is told
+-- (`IsByServer`). And then what is due is issued.
 pub record AnswersRevoke (client : ClientId) (number : ℕ) (old : AbstractState) (steps : List Step)
-    (replies : List Reply)
-    (new : AbstractState) : Type 0 where
+    (replies : List Reply) (new : AbstractState) : Type 0 where
   pub there : HasRow client number old.machine.rows
   pub rows : new.machine.rows ≡ without_row client number old.machine.rows
   pub tells : Tells steps replies
-  pub all : (e : Pending) → Contains old.machine.book e → e.issued ≡ false
-      → IsUnder client number e.request.asked.client e.request.asked.grant → Contains steps (Answer e outcome.Revoked)
-  pub only : (e : Pending) (o : Outcome) → Contains steps (Answer e o) → Contains old.machine.book e
-      × (e.issued ≡ false) × IsUnder client number e.request.asked.client e.request.asked.grant
+  pub told : (e : Pending) → Contains steps (Answer e outcome.Revoked) ↔ (Contains old.machine.book e
+      × (e.issued ≡ false) × IsUnder client number e.request.asked.client e.request.asked.grant)
   pub same : SamePorts old.ports new.ports
   pub issues : AllIssued new
 
@@ -423,18 +412,14 @@ IsAnswered (Submit r) (Submitted (Ok id)) old evidence steps new = IsAcceptable 
     × ((a : Accepted) × (accepts_of steps ≡ a ∷ []) × (a.id ≡ id)) × SamePorts old.ports new.ports × AllIssued new
 IsAnswered (Submit r) (Submitted (Err refusal)) old evidence steps new = IsFirstRefusal (situation_of old) r refusal
     × (steps ≡ []) × SamePorts old.ports new.ports
-IsAnswered (StoreAt client frame offset bytes) (Stored None) old evidence steps new =
-    IsOpen old.machine.owner old.machine.lent client frame offset (length bytes)
-    × (transfers_of steps ≡ bytes ∷ []) × SamePorts old.ports new.ports
-IsAnswered (StoreAt client frame offset bytes) (Stored (Some fault)) old evidence steps new =
-    IsFirstMemFault old.machine.owner old.machine.lent client frame offset (length bytes) fault
-    × (steps ≡ []) × SamePorts old.ports new.ports
-IsAnswered (LoadAt client frame offset count) (Loaded (Ok bytes)) old evidence steps new =
-    IsOpen old.machine.owner old.machine.lent client frame offset count
-    × (transfers_of steps ≡ bytes ∷ []) × SamePorts old.ports new.ports
-IsAnswered (LoadAt client frame offset count) (Loaded (Err fault)) old evidence steps new =
-    IsFirstMemFault old.machine.owner old.machine.lent client frame offset count fault
-    × (steps ≡ []) × SamePorts old.ports new.ports
+IsAnswered (StoreAt client frame at bytes) (Stored None) old evidence steps new = SamePorts old.ports new.ports
+    × IsOpen old.machine.owner old.machine.lent client frame at (length bytes) × (transfers_of steps ≡ bytes ∷ [])
+IsAnswered (StoreAt client frame at bytes) (Stored (Some fault)) old evidence steps new = SamePorts old.ports new.ports
+    × IsFirstMemFault old.machine.owner old.machine.lent client frame at (length bytes) fault × (steps ≡ [])
+IsAnswered (LoadAt client frame at n) (Loaded (Ok bytes)) old evidence steps new = SamePorts old.ports new.ports
+    × IsOpen old.machine.owner old.machine.lent client frame at n × (transfers_of steps ≡ bytes ∷ [])
+IsAnswered (LoadAt client frame at n) (Loaded (Err fault)) old evidence steps new = SamePorts old.ports new.ports
+    × IsFirstMemFault old.machine.owner old.machine.lent client frame at n fault × (steps ≡ [])
 IsAnswered Service (Served replies) old evidence steps new = AnswersService old evidence steps replies new
 IsAnswered Tick (Served replies) old evidence steps new = AnswersTick old evidence steps replies new
 IsAnswered Reset (WasReset (Some replies)) old evidence steps new = AnswersReset old evidence steps replies new
@@ -519,19 +504,10 @@ WasGiven id client (event ∷ past) =
     ((r : Request) × (event.ask ≡ Submit r) × (event.said ≡ Submitted (Ok id)) × (r.client ≡ client))
     ⊎ WasGiven id client past
 
--- a read that this step answers Ok has, in this memory, what is left
-abbrev pub AnswerHolds : Machine → Memory → List Step → Step → Type 0
-AnswerHolds start memory past (Answer e outcome.Ok) = e.request.asked.op ≡ Read → HoldsLeft start past memory e.request
-AnswerHolds start memory past _ = Unit {0}
-
--- so has each read that these steps of a call, after this past, answer Ok
-abbrev pub AnswersHold : Machine → Memory → List Step → List Step → Type 0
-AnswersHold start memory past [] = Unit {0}
-AnswersHold start memory past (step ∷ before) =
-    AnswersHold start memory past before × AnswerHolds start memory (before ++ past) step
-
--- Each read of the run that was answered Ok has, at the end of the call that answered it, what is left.
+-- Each read that a call of the run answers Ok has at the end of that call what is left: by the calls before it, and by
+-- the call's own steps before the answer.
 abbrev pub EveryReadHolds : {D : Type 0} → AbstractState → List (CallRecord D) → Type 0
-EveryReadHolds first [] = Unit {0}
-EveryReadHolds first (event ∷ past) = EveryReadHolds first past
-    × AnswersHold first.machine (moment_of first (event ∷ past)).machine.memory (steps_of past) event.steps
+EveryReadHolds {D} first run = (later earlier : List (CallRecord D)) (event : CallRecord D)
+    (late early : List Step) (read : Pending) → run ≡ later ++ event ∷ earlier
+    → event.steps ≡ late ++ Answer read outcome.Ok ∷ early → read.request.asked.op ≡ Read → HoldsLeft first.machine
+    (early ++ steps_of earlier) (moment_of first (event ∷ earlier)).machine.memory read.request

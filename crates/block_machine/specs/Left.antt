@@ -64,10 +64,9 @@ plug_count port (step ∷ past) = if plugs port step then suc (plug_count port p
 
 -- what disk number n of the port held when it was put in
 abbrev pub bytes_when_plugged : Machine → Port → ℕ → List Step → DiskBytes
-bytes_when_plugged start port n [] = start.disks port
-bytes_when_plugged start port n (step ∷ past) =
-    if plugs port step && suc (plug_count port past) == n then disk_put_in step
-    else bytes_when_plugged start port n past
+bytes_when_plugged start p n [] = start.disks p
+bytes_when_plugged start p n (step ∷ past) =
+    if plugs p step && suc (plug_count p past) == n then disk_put_in step else bytes_when_plugged start p n past
 
 -- the step accepts the request
 abbrev pub IsAccept : Step → Accepted → Type 0
@@ -126,8 +125,7 @@ pub record Wrote (port : Port) (k n before : ℕ) (history : List Step) (writer 
 
 -- The last of these in order of acceptance put the block there. If there is none, disk number n came with it.
 abbrev pub IsLast : Machine → Port → ℕ → ℕ → ℕ → List Step → Block → Type 0
-IsLast start port k n before history block =
-    ((writer : Accepted) × Wrote port k n before history writer
+IsLast start port k n before history block = ((writer : Accepted) × Wrote port k n before history writer
     × ((other : Accepted) → Wrote port k n before history other → other.id.0 ≤ writer.id.0)
     × (block ≡ written_by writer.asked.op writer.held (k - writer.asked.first.0)))
     ⊎ (((writer : Accepted) → Wrote port k n before history writer → ⊥)

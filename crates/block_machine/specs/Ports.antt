@@ -1,5 +1,5 @@
 -- What the ports are to clients and to the book, and what a call may make of them (this project's own).
-use Rattle.std.specs.Prelude.{◌≡◌, ◌≢◌, ◌⊎◌, ℕ, ◌<◌, ◌≤◌, Bool, true, false, List, Contains}
+use Rattle.std.specs.Prelude.{◌≡◌, ◌≢◌, ◌⊎◌, ◌↔◌, ℕ, ◌<◌, ◌≤◌, Bool, true, false, List, Contains}
 use Rattle.ata_types.specs.declared.Port.{Port}
 use Rattle.ata_types.specs.declared.PortState.{PortState}
 use Rattle.ata_types.specs.declared.PortState.TheVariants.{Absent, Ready, Unfit, Dead}
@@ -81,8 +81,7 @@ IsInterrupted evidence port = Contains evidence.stopped port ⊎ Contains eviden
 -- call exactly where it got stuck in it; and one that isn't ready remembers the disk that it was last ready with.
 pub record MayBecome (old : Ports) (evidence : Evidence) (new : Ports) (port : Port) : Type 0 where
   pub served : new.served port ≡ old.served port
-  pub stuck : new.state port ≡ Dead → Contains evidence.stuck port
-  pub dies : Contains evidence.stuck port → new.state port ≡ Dead
+  pub stuck : (new.state port ≡ Dead) ↔ Contains evidence.stuck port
   pub keeps : new.state port ≢ Ready → SameDisk old new port
 
 -- What a service may make of it: a dead port stays what it is, since a reset alone ends that;

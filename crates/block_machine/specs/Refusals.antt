@@ -55,9 +55,9 @@ IsFirstRefusal s r refusal = IsFirst rank (Applies s r) refusal
 -- the cause applies to a client's access to so many bytes of a frame from this offset on
 abbrev pub MemApplies : (Frame → Option ClientId) → (Frame → Option RequestId) → ClientId → Frame → ℕ → ℕ → MemFault
     → Type 0
-MemApplies owner lent client frame offset count FrameForeign = owner frame ≢ Some client
-MemApplies owner lent client frame offset count FrameLent = IsSome (lent frame)
-MemApplies owner lent client frame offset count OutsideFrame = FRAME_BYTES < offset + count
+MemApplies owner lent client frame at n FrameForeign = owner frame ≢ Some client
+MemApplies owner lent client frame at n FrameLent = IsSome (lent frame)
+MemApplies owner lent client frame at n OutsideFrame = FRAME_BYTES < at + n
 
 -- in which order these are told
 abbrev pub mem_rank : MemFault → ℕ × ℕ
@@ -67,11 +67,9 @@ mem_rank OutsideFrame = (3, 0)
 
 -- no cause applies to the access
 abbrev pub IsOpen : (Frame → Option ClientId) → (Frame → Option RequestId) → ClientId → Frame → ℕ → ℕ → Type 0
-IsOpen owner lent client frame offset count = (fault : MemFault) → MemApplies owner lent client frame offset count fault
-    → ⊥
+IsOpen owner lent client frame at n = (fault : MemFault) → MemApplies owner lent client frame at n fault → ⊥
 
 -- the cause applies to the access, and none before it
 abbrev pub IsFirstMemFault : (Frame → Option ClientId) → (Frame → Option RequestId) → ClientId → Frame → ℕ → ℕ
     → MemFault → Type 0
-IsFirstMemFault owner lent client frame offset count fault = IsFirst mem_rank
-    (MemApplies owner lent client frame offset count) fault
+IsFirstMemFault owner lent client frame at n fault = IsFirst mem_rank (MemApplies owner lent client frame at n) fault

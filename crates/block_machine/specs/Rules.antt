@@ -31,15 +31,15 @@ Names client number row = IsUnder client number row.client row.number
 
 -- the rows don't stand under one client and number
 abbrev pub DifferInName : GrantRow → GrantRow → Type 0
-DifferInName a b = Names a.client a.number b → ⊥
+DifferInName a b = IsUnder a.client a.number b.client b.number → ⊥
 
 -- the row is the one that the request names
 abbrev pub IsNamed : List GrantRow → Request → GrantRow → Type 0
-IsNamed rows r row = Contains rows row × Names r.client r.grant row
+IsNamed rows r row = Contains rows row × IsUnder r.client r.grant row.client row.number
 
 -- a row of this client is there under this number
 abbrev pub HasRow : ClientId → ℕ → List GrantRow → Type 0
-HasRow client number rows = (row : GrantRow) × Contains rows row × Names client number row
+HasRow client number rows = (row : GrantRow) × Contains rows row × IsUnder client number row.client row.number
 
 -- the rows but for the one of this client under this number
 abbrev pub without_row : ClientId → ℕ → List GrantRow → List GrantRow
@@ -109,8 +109,7 @@ IsBefore a b = (a.0 < b.0) ⊎ ((a.0 ≡ b.0) × (a.1 < b.1))
 
 -- the cause applies, and none of a rank before its own does
 abbrev pub IsFirst : {C : Type 0} → (C → ℕ × ℕ) → (C → Type 0) → C → Type 0
-IsFirst {C} rank_of Applies cause = Applies cause × ((other : C) → IsBefore (rank_of other) (rank_of cause)
-    → Applies other → ⊥)
+IsFirst {C} rank_of Applies cause = Applies cause × ((c : C) → IsBefore (rank_of c) (rank_of cause) → Applies c → ⊥)
 
 -- the frames have no fault
 abbrev pub HasNoFault : (Frame → Option ClientId) → (Frame → Option RequestId) → ClientId → List Frame → Type 0

@@ -57,19 +57,20 @@ pub record Pending : Type 0 where
   -- whether it was ended since
   pub ended : Bool
 
--- what of a request that waits, or is issued, says which requests are due
-abbrev pub waiting : Accepted → Unanswered
-waiting r = record {
-  id = r.id;
-  port = r.port;
-  op = r.asked.op;
-  range = record { first = r.asked.first; count = r.asked.count };
-  issued = false;
+-- what of an unanswered request says which requests are due
+abbrev pub unanswered : Pending → Unanswered
+unanswered e = record {
+  id = e.request.id;
+  port = e.request.port;
+  op = e.request.asked.op;
+  range = record { first = e.request.asked.first; count = e.request.asked.count };
+  issued = e.issued;
 }
 
--- and the same of a request with how far it is
-abbrev pub unanswered : Pending → Unanswered
-unanswered e = record (waiting e.request) { issued = e.issued }
+-- and the same of a request that was just accepted
+abbrev pub waiting : Accepted → Unanswered
+waiting r =
+    unanswered (record { request = r; issues = 0; age = 0; issued = false; touched = λ _. false; ended = false })
 
 -- What the machine holds.
 pub record Machine : Type 0 where

@@ -9,8 +9,9 @@ use Rattle.ata_types.specs.declared.request.Op.TheVariants.{Write}
 use Rattle.ata_types.specs.declared.request.Outcome.{Outcome}
 use Rattle.ata_types.specs.declared.request.Outcome.TheVariants.{Aborted, PortDead, Revoked}
 use Rattle.ata_types.specs.declared.grant.GrantRow.{GrantRow}
+use Rattle.ata_types.specs.declared.refusal.Rule.{Rule}
 use Rattle.block_machine.specs.declared.due.QueueMode.{QueueMode}
-use Rattle.block_machine.specs.Rules.{IsNamed, BreaksNone, HasRow, without_row}
+use Rattle.block_machine.specs.Rules.{IsNamed, Breaks, HasRow, without_row}
 use Rattle.block_machine.specs.Refusals.{IsOpen}
 use Rattle.block_machine.specs.Due.{IsDue, is_flush, is_writer}
 use Rattle.block_machine.specs.State.{Block, DiskBytes, Memory, Accepted, Pending, Machine, block_of, frame_at, sector_of, unanswered, is_reader, written_by}
@@ -124,40 +125,35 @@ stays e _ = false
 abbrev pub after_step : Machine → Step → Machine
 after_step m (Accept r) = record m { book = m.book ++ newly_accepted r ∷ []; lent = lend r m.lent; next = suc m.next }
 after_step m (Issue mode e) = record m { book = map (at e.request.id newly_issued) m.book }
-after_step m (Touch e i block) =
-    record m {
-      disks = disks_after e.request i m.disks;
-      aside = put_aside e.request i m.disks m.aside;
-      memory = memory_after e.request i block m.memory;
-      book = map (at e.request.id (touch i)) m.book;
-      kept = map (at e.request.id (touch i)) m.kept;
-    }
-after_step m (End e) =
-    record m {
-      aside = λ p k. if e.request.port.0 == p.0 && is_flush e.request.asked.op then [] else m.aside p k;
-      book = map (at e.request.id mark_ended) m.book;
-      kept = map (at e.request.id mark_ended) m.kept;
-    }
+after_step m (Touch e i block) = record m {
+  disks = disks_after e.request i m.disks;
+  aside = put_aside e.request i m.disks m.aside;
+  memory = memory_after e.request i block m.memory;
+  book = map (at e.request.id (touch i)) m.book;
+  kept = map (at e.request.id (touch i)) m.kept;
+}
+after_step m (End e) = record m {
+  aside = λ p k. if e.request.port.0 == p.0 && is_flush e.request.asked.op then [] else m.aside p k;
+  book = map (at e.request.id mark_ended) m.book;
+  kept = map (at e.request.id mark_ended) m.kept;
+}
 after_step m (Age ready) = record m { book = map (older ready) m.book }
 after_step m (Again e) = record m { book = map (at e.request.id requeued) m.book }
-after_step m (Answer e outcome) =
-    record m {
-      book = without e.request.id m.book;
-      kept = if stays e outcome then e ∷ m.kept else m.kept;
-      lent = if stays e outcome then m.lent else unlend e.request.id m.lent;
-    }
+after_step m (Answer e outcome) = record m {
+  book = without e.request.id m.book;
+  kept = if stays e outcome then e ∷ m.kept else m.kept;
+  lent = if stays e outcome then m.lent else unlend e.request.id m.lent;
+}
 after_step m (Revoke client number) = record m { rows = without_row client number m.rows }
 after_step m Release = record m { kept = []; lent = unlend_all m.kept m.lent }
 after_step m (Unplug port) = record m { present = λ p. if p.0 == port.0 then false else m.present p }
-after_step m (Replace port id size disk) =
-    record m {
-      present = λ p. if p.0 == port.0 then true else m.present p;
-      disk_ids = λ p. if p.0 == port.0 then id else m.disk_ids p;
-      sizes = λ p. if p.0 == port.0 then size else m.sizes p;
-      disks = λ p. if p.0 == port.0 then disk else m.disks p;
-      aside = λ p k.
-          if p.0 == port.0 then (if id == m.disk_ids p then m.disks p k ∷ m.aside p k else []) else m.aside p k;
-    }
+after_step m (Replace port id size disk) = record m {
+  present = λ p. if p.0 == port.0 then true else m.present p;
+  disk_ids = λ p. if p.0 == port.0 then id else m.disk_ids p;
+  sizes = λ p. if p.0 == port.0 then size else m.sizes p;
+  disks = λ p. if p.0 == port.0 then disk else m.disks p;
+  aside = λ p k. if p.0 == port.0 then (if id == m.disk_ids p then m.disks p k ∷ m.aside p k else []) else m.aside p k;
+}
 after_step m (Store client frame offset bytes) =
     record m { memory = put_bytes frame offset (length bytes) (slice_index bytes) m.memory }
 after_step m (Load client frame offset bytes) = m
@@ -183,7 +179,7 @@ unanswered_of book client = count_by (λ e. e.request.asked.client.0 == client.0
 pub record IsNew (m : Machine) (r : Accepted) : Type 0 where
   pub id : r.id.0 ≡ m.next
   pub id_left : m.next < 2 ^ 64
-  pub unbroken : BreaksNone m.rows m.owner m.lent r.asked
+  pub unbroken : (rule : Rule) → Breaks m.rows m.owner m.lent r.asked rule → ⊥
   pub port : (row : GrantRow) → IsNamed m.rows r.asked row → r.port ≡ row.port
   pub few : unanswered_of m.book r.asked.client < 16
   pub held : r.held ≡ block_of m.memory r.asked.frames.items

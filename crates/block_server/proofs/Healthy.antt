@@ -39,7 +39,7 @@ use Rattle.identify.specs.declared.DiskInfo.{DiskInfo}
 use Rattle.identify.specs.declared.wanted.Wanted.{Wanted}
 use Rattle.server_history.specs.Histories.{ExtendsHistory, LeadsToServer}
 use Rattle.server_history.specs.Server.{is_served, ports_of, state_of}
-use Rattle.block_server.specs.Clients.{AreCalls, EachAfter, HoldsBetween, IsConfinedCall, IsInState, IsSeenAt, OutlivesUnplugs}
+use Rattle.block_server.specs.Clients.{ConfinesMoves, EachAfter, HoldsBetween, IsBackedCall, IsInState, IsSeenAt, OutlivesUnplugs}
 use Rattle.block_server.specs.Made.{IsInitialServer}
 use Rattle.block_server.specs.Promise.{IsServedWell, IsToldWell, Simulates, ServesPorts}
 use Rattle.block_server.specs.Running.{ask_of, said_of}
@@ -97,13 +97,6 @@ mapped : {X : Type 0} (f : Happening Device DeviceStep → X) (one two : Calls) 
 mapped f one two a b p q =
     ap (map f) (reverse-append two one) ∙ map-append f (reverse one) (reverse two) ∙ ap (λ l. l ++ map f (reverse two)) p ∙ ap (λ l. a ++ l) q
 
-calls_joined : (one two : Calls) (events further : List (Call DeviceStep)) (said more : List (call.CallResult (ArrayVec Reply))) → AreCalls one (map ask_of events) (map said_of said)
-    → AreCalls two (map ask_of further) (map said_of more) → AreCalls (two ++ one) (map ask_of (events ++ further)) (map said_of (said ++ more))
-calls_joined one two events further said more a b = record {
-  asks = mapped (λ h. h.event.ask) one two _ _ a.asks b.asks ∙ sym (map-append ask_of events further);
-  says = mapped (λ h. h.event.said) one two _ _ a.says b.says ∙ sym (map-append said_of said more);
-}
-
 -- the call is no reset, nor a tick that finds a request of the port so old that it is restarted
 abbrev Spares : JointState Device → Port → Calls → Happening Device DeviceStep → Type 0
 Spares first port before h = (h.event.ask ≢ Reset) × (h.event.ask ≡ Tick → HasTimedOut (now first before).moment port → ⊥)
@@ -131,7 +124,7 @@ holds_between : (wanted : List Wanted) (i : JointState Device) → HoldsAt wante
 holds_between wanted i (s, h) = record {
   served = h.served;
   state = λ port low. in_state (wanted_of wanted port.0) s i port (i.moment.ports.served port) (i.moment.ports.state port) refl (h.port port low);
-  waits = λ port low. none_waits (wanted_of wanted port.0) s i port (i.moment.ports.served port) (i.moment.ports.state port) (h.port port low);
+  waits = λ port low on unready. none_waits (wanted_of wanted port.0) s i port (i.moment.ports.served port) (i.moment.ports.state port) (h.port port low) unready on;
   memory = h.knows.agrees.memory;
   disk = h.knows.agrees.disk;
   sectors = h.knows.agrees.sectors;
@@ -142,12 +135,12 @@ holds_now wanted first [] history = history.1.0
 holds_now wanted first (h ∷ past) history = history.2.holds
 
 -- the tape after calls is the tape before with more
-grows : (wanted : List Wanted) (first : JointState Device) (past added : Calls) → EachAfter (IsConfinedCall wanted first) past added
+grows : (wanted : List Wanted) (first : JointState Device) (past added : Calls) → EachAfter (IsBackedCall wanted first) past added
     → (gained : List Entry) × ((now first (added ++ past)).device.tape ≡ (now first past).device.tape ++ gained)
 grows wanted first past [] each = ([], sym (append-nil (now first past).device.tape))
 grows wanted first past (h ∷ added) each =
     let before = grows wanted first past added each.0 in
-    let here = each.1.moves in
+    let here = each.1 in
     (before.0 ++ here.gained, here.tape ∙ ap (λ (t : List Entry). t ++ here.gained) before.1 ∙ append_assoc (now first past).device.tape before.0 here.gained)
 
 seen_at : {A : Type 0} (device : A → Device) (s : ServerView A) (first : JointState Device) (past : Calls) → LeadsToServer first past (server_of device s)
@@ -189,7 +182,7 @@ parts port old mid new one two first second u =
 told_well : (ask : Ask DeviceStep) (said : CallResult) (old : AbstractState) (evidence : Evidence) (steps : List Step) (new : AbstractState) (e : Pending) (told : Outcome)
     → IsAnswered ask said old evidence steps new → Contains steps (Answer e told) → IsCalmlyTold ask told
     → (told ≡ Ok → WasIssued old.machine e.request.id × (e.issued ≡ true) × AllTouched e × (e.ended ≡ true)) → IsToldWell ask old.machine e told
-told_well (RevokeOf client number) (WasRevoked (Some replies)) old evidence steps new e told answered here calm rests = (calm, (answered.only e told here).1)
+told_well (RevokeOf client number) (WasRevoked (Some replies)) old evidence steps new e told answered here calm rests = (calm, ((answered.told e).0 (subst (λ (o : Outcome). Contains steps (Answer e o)) calm here)).1)
 told_well (RevokeOf client number) (WasRevoked None) old evidence steps new e told answered here calm rests =
     absurd (All-contains (λ _. ⊥) [] (Answer e told) (All-nil (λ _. ⊥)) (subst (λ (list : List Step). Contains list (Answer e told)) answered.1 here))
 told_well (RevokeOf client number) said old evidence steps new e told answered here calm rests = absurd answered
@@ -214,31 +207,41 @@ module _ (laws : HistoryLaws) where
         },
       )
 
-  all_confined : (wanted : List Wanted) (first : JointState Device) (past added : Calls) → IsDriverHistory wanted first (added ++ past)
-      → EachAfter (IsConfinedCall wanted first) past added
+  all_backed : (wanted : List Wanted) (first : JointState Device) (past added : Calls) → IsDriverHistory wanted first (added ++ past)
+      → EachAfter (IsBackedCall wanted first) past added
+  all_backed wanted first past [] history = tt
+  all_backed wanted first past (h ∷ added) history =
+      let device = history.2.backed in (
+        all_backed wanted first past added history.0,
+        record {
+          gained = device.gained;
+          tape = device.tape;
+          tells = device.tells;
+          plugged = λ port. let disks = device.plugged port in (disks.0, disks.2, disks.1);
+          holds = holds_between wanted (now first (h ∷ (added ++ past))) history.2.holds;
+        },
+      )
+
+  all_confined : (wanted : List Wanted) (first : JointState Device) (past added : Calls) → IsDriverHistory wanted first (added ++ past) → ConfinesMoves first past added
   all_confined wanted first past [] history = tt
-  all_confined wanted first past (h ∷ added) history = (
-    all_confined wanted first past added history.0,
-    record {
-      moves = laws.moves wanted first (added ++ past) h history;
-      holds = holds_between wanted (now first (h ∷ (added ++ past))) history.2.holds;
-    },
-  )
+  all_confined wanted first past (h ∷ added) history = (all_confined wanted first past added history.0, laws.moves wanted first (added ++ past) h history)
 
   module _ {A : Type 0} (device : A → Device) where
     pub no_call : (s : ServerView A) → Simulates device s s [] []
     no_call s first past leads = record {
       added = [];
       clients = record {
-        calls = record { asks = refl; says = refl };
+        asks = refl;
+        says = refl;
         wanted = refl;
         from = seen_at device s first past leads;
         to = seen_at device s first past leads;
         run = laws.run s.wanted first past leads.history;
         reads = laws.reads s.wanted first past leads.history;
         begins = holds_between s.wanted (now first past) (holds_now s.wanted first past leads.history);
-        confined = tt;
+        backed = tt;
       };
+      moves = tt;
       disks = record { finds = laws.lasts s.wanted first past leads.history };
       driver = record { leads = leads; serves = tt; healthy = λ port ready stays spared. (tt, ready, stays.well) };
     }
@@ -271,15 +274,17 @@ module _ (laws : HistoryLaws) where
         record {
           added = h ∷ [];
           clients = record {
-            calls = record { asks = ap (λ (a : Ask DeviceStep). a ∷ []) x.1; says = ap (λ (a : CallResult). a ∷ []) x.2 };
+            asks = ap (λ (a : Ask DeviceStep). a ∷ []) x.1;
+            says = ap (λ (a : CallResult). a ∷ []) x.2;
             wanted = wanted;
             from = seen_at device old first past leads;
             to = seen_at device new first (h ∷ past) here;
             run = laws.run new.wanted first (h ∷ past) history;
             reads = laws.reads new.wanted first (h ∷ past) history;
             begins = holds_between old.wanted (now first past) (holds_now old.wanted first past leads.history);
-            confined = all_confined new.wanted first past (h ∷ []) history;
+            backed = all_backed new.wanted first past (h ∷ []) history;
           };
+          moves = all_confined new.wanted first past (h ∷ []) history;
           disks = record { finds = laws.lasts new.wanted first (h ∷ past) history };
           driver = record {
             leads = here;
@@ -308,22 +313,24 @@ module _ (laws : HistoryLaws) where
         record {
           added = two ++ one;
           clients = record {
-            calls = calls_joined one two events further said more a.clients.calls b.clients.calls;
+            asks = mapped (λ h. h.event.ask) one two _ _ a.clients.asks b.clients.asks ∙ sym (map-append ask_of events further);
+            says = mapped (λ h. h.event.said) one two _ _ a.clients.says b.clients.says ∙ sym (map-append said_of said more);
             wanted = b.clients.wanted ∙ a.clients.wanted;
             from = a.clients.from;
             to = subst (λ (l : Calls). IsSeenAt (visible_of device new) (now first l)) whole b.clients.to;
             run = subst (λ (l : Calls). IsRun first.moment (events_of l)) whole b.clients.run;
             reads = subst (λ (l : Calls). first.device.telling ≡ true → EveryReadHolds first.moment (events_of l)) whole b.clients.reads;
             begins = a.clients.begins;
-            confined = all_confined new.wanted first past (two ++ one) leads.history;
+            backed = all_backed new.wanted first past (two ++ one) leads.history;
           };
+          moves = all_confined new.wanted first past (two ++ one) leads.history;
           disks = subst (OutlivesUnplugs first) whole b.disks;
           driver = record {
             leads = leads;
             serves = each_joined (ServesPorts first) past one two a.driver.serves b.driver.serves;
             healthy = λ port ready stays spared.
-                let started = grows mid.wanted first past one a.clients.confined in
-                let ended = grows new.wanted first (one ++ past) two b.clients.confined in
+                let started = grows mid.wanted first past one a.clients.backed in
+                let ended = grows new.wanted first (one ++ past) two b.clients.backed in
                 let u = parts port.0 (device old.adapter) (device mid.adapter) (device new.adapter) started.0 ended.0
                 (ap (λ (d : Device). d.tape) (sym a.clients.to.device_is) ∙ started.1 ∙ ap (λ (d : Device). d.tape ++ started.0) a.clients.from.device_is)
                 (ap (λ (d : Device). d.tape) (sym b.clients.to.device_is) ∙ ended.1 ∙ ap (λ (d : Device). d.tape ++ ended.0) b.clients.from.device_is) stays.undisturbed in

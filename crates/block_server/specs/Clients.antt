@@ -7,14 +7,16 @@ use Rattle.ata_types.specs.declared.grant.GrantRow.{GrantRow}
 use Rattle.ata_types.specs.declared.request.ClientId.{ClientId}
 use Rattle.ata_types.specs.declared.request.Frame.{Frame}
 use Rattle.ata_types.specs.declared.request.RequestId.{RequestId}
-use Rattle.adapter.specs.Device.{Device}
+use Rattle.adapter.specs.Device.{Device, Disk}
 use Rattle.adapter.specs.Rules.{IsOn}
 use Rattle.adapter.specs.declared.access.DeviceStep.{DeviceStep}
+use Rattle.adapter.specs.declared.tape.Entry.{Entry}
 use Rattle.refinement.specs.Relation.{IsDiskOf, SameMemory, SameSectors}
-use Rattle.block_machine.specs.Events.{Ask, CallResult, EveryReadHolds, IsRun, steps_of}
+use Rattle.refinement.specs.Tape.{PutsInDisks, TellsAmong}
+use Rattle.block_machine.specs.Events.{Ask, CallResult, EveryReadHolds, IsEmptied, IsRun, steps_of}
 use Rattle.block_machine.specs.Histories.{Happening, JointState, events_of, now}
 use Rattle.durability.specs.Durable.{EveryPlugFinds}
-use Rattle.driver_history.specs.Holds.{NoneWaits, ShowsDiskInfo}
+use Rattle.driver_history.specs.Holds.{ShowsDiskInfo}
 use Rattle.driver_history.specs.Moves.{KeepsMoves}
 use Rattle.host_boot.specs.Taken.{IsServed, wanted_of}
 use Rattle.identify.specs.Wanted.{serial_of}
@@ -23,16 +25,9 @@ use Rattle.identify.specs.declared.wanted.Wanted.{Wanted}
 use Rattle.port_boot.specs.States.{EndsAs, HasFitDisk}
 
 -- Each of these calls, the newest first, which came after that history, is of this kind.
-abbrev pub EachAfter : (List (Happening Device DeviceStep) → Happening Device DeviceStep → Type 0)
-    → List (Happening Device DeviceStep) → List (Happening Device DeviceStep) → Type 0
+abbrev pub EachAfter : {X : Type 0} → (List X → X → Type 0) → List X → List X → Type 0
 EachAfter Is past [] = Unit {0}
 EachAfter Is past (h ∷ added) = EachAfter Is past added × Is (added ++ past) h
-
--- These calls, the newest first, asked that and said this, one after another.
-pub record AreCalls (added : List (Happening Device DeviceStep)) (asked : List (Ask DeviceStep))
-    (said : List CallResult) : Type 0 where
-  pub asks : map (λ h. h.event.ask) (reverse added) ≡ asked
-  pub says : map (λ h. h.event.said) (reverse added) ≡ said
 
 -- What can be seen of a server: the device behind its adapter, the disks that are wanted in its ports, its grants, by
 -- frame the owner and the request that it is lent to, and the states of its ports.
@@ -60,52 +55,62 @@ pub record IsSeenAt (v : Visible) (i : JointState Device) : Type 0 where
 -- or for that page. Of a dead one an engine was awaited in vain; or the adapter isn't on, since its last reset wasn't
 -- seen to end (PxSSTS, PxTFD, PxSIG, PxCMD: AHCI 1.3.1, 3.3; IDENTIFY DEVICE: ACS-3, 7.12).
 abbrev pub IsInState : Wanted → JointState Device → Port → Bool → PortState → Type 0
-IsInState wanted i port false state = state ≡ Absent
-IsInState wanted i port true Ready = IsOn i.device
-    × (info : DiskInfo) × HasFitDisk (serial_of wanted) port.0 i.device info
-    × ShowsDiskInfo i.moment.ports port i.device.cap info
-IsInState wanted i port true Dead = EndsAs (serial_of wanted) Dead port.0 i.device ⊎ (IsOn i.device → ⊥)
-IsInState wanted i port true state = EndsAs (serial_of wanted) state port.0 i.device
+IsInState wanted i p false state = state ≡ Absent
+IsInState wanted i p true Ready = IsOn i.device × (info : DiskInfo) × HasFitDisk (serial_of wanted) p.0 i.device info
+    × ShowsDiskInfo i.moment.ports p i.device.cap info
+IsInState wanted i p true Dead = EndsAs (serial_of wanted) Dead p.0 i.device ⊎ (IsOn i.device → ⊥)
+IsInState wanted i p true state = EndsAs (serial_of wanted) state p.0 i.device
 
 -- What holds between two calls. Of ports 0 to 3 those are served in which a disk is wanted and which the adapter has;
 -- each is in its state for a reason; and on one that isn't ready no request waits, unless the adapter isn't on.
 -- Clients' frames hold what the machine's do. The disk of each port is the machine's; and where the adapter's disks
 -- tell their sectors, these hold the same.
 pub record HoldsBetween (wanted : List Wanted) (i : JointState Device) : Type 0 where
-  pub served : (port : Port) → port.0 < 4 → (i.moment.ports.served port ≡ true)
-      ↔ IsServed (wanted_of wanted port.0) port.0 i.device
-  pub state : (port : Port) → port.0 < 4
-      → IsInState (wanted_of wanted port.0) i port (i.moment.ports.served port) (i.moment.ports.state port)
-  pub waits : (port : Port) → port.0 < 4 → i.moment.ports.state port ≢ Ready → IsOn i.device
-      → NoneWaits i.moment.machine port
+  pub served : (p : Port) → p.0 < 4 → (i.moment.ports.served p ≡ true) ↔ IsServed (wanted_of wanted p.0) p.0 i.device
+  pub state : (p : Port) → p.0 < 4
+      → IsInState (wanted_of wanted p.0) i p (i.moment.ports.served p) (i.moment.ports.state p)
+  pub waits : (p : Port) → p.0 < 4 → IsOn i.device → IsEmptied i.moment p
   pub memory : SameMemory i.moment.machine i.device.memory
   pub disk : (port : ℕ) → IsDiskOf i.moment.machine (i.device.port port) port
   pub sectors : i.device.telling ≡ true → (port : ℕ) → SameSectors i.moment.machine (i.device.port port).disk port
 
 -- ---- the promise
 
--- In a call moves and clears keep to their places, and after it there holds what holds between calls.
-pub record IsConfinedCall (wanted : List Wanted) (first : JointState Device) (past : List (Happening Device DeviceStep))
+-- The call's device steps are those that its tape tells of, one by one: what moved, was cleared or ended is of a
+-- request that was issued then, or kept; a move is of a sector of its own, to or from its place in a frame that was
+-- lent to it. The disks that were put in are the device's. And after the call there holds what holds between calls.
+pub record IsBackedCall (wanted : List Wanted) (first : JointState Device) (past : List (Happening Device DeviceStep))
     (h : Happening Device DeviceStep) : Type 0 where
-  pub moves : KeepsMoves first.moment.machine (steps_of (events_of past)) h.event.steps (now first past).device h.device
+  pub gained : List Entry
+  pub tape : h.device.tape ≡ (now first past).device.tape ++ gained
+  pub tells : TellsAmong (now first past).moment.machine gained h.event.steps
+  pub plugged : (p : ℕ) → (disks : List Disk) × PutsInDisks p disks h.event.steps
+      × ((h.device.port p).plugged ≡ ((now first past).device.port p).plugged ++ disks)
   pub holds : HoldsBetween wanted (now first (h ∷ past))
 
--- What is promised to clients of calls that asked that and said this, after a history from where the server was made.
--- With them the history is a run of the block machine, which leads to the server as it is seen after them; in it each
--- read that was answered Ok has what was left, where the adapter's disks tell their sectors. And in each of the calls
--- moves and clears keep to their places, and before and after it there holds what holds between calls; the disks that
--- are wanted stay so.
+-- What is promised to clients of calls, the newest first, that asked that and said this, one after another, after a
+-- history from where the server was made. With them the history is a run of the block machine, which leads to the
+-- server as it is seen after them; in it each read that was answered Ok has what was left, where the adapter's disks
+-- tell their sectors. The device stands behind its steps in each of the calls, and before and after it there holds what
+-- holds between calls; the disks that are wanted stay so.
 pub record ServesClients (first : JointState Device) (past added : List (Happening Device DeviceStep))
-    (old new : Visible)
-    (asked : List (Ask DeviceStep)) (said : List CallResult) : Type 0 where
-  pub calls : AreCalls added asked said
+    (old new : Visible) (asked : List (Ask DeviceStep)) (said : List CallResult) : Type 0 where
+  pub asks : map (λ h. h.event.ask) (reverse added) ≡ asked
+  pub says : map (λ h. h.event.said) (reverse added) ≡ said
   pub wanted : new.wanted ≡ old.wanted
   pub from : IsSeenAt old (now first past)
   pub to : IsSeenAt new (now first (added ++ past))
   pub run : IsRun first.moment (events_of (added ++ past))
   pub reads : first.device.telling ≡ true → EveryReadHolds first.moment (events_of (added ++ past))
   pub begins : HoldsBetween old.wanted (now first past)
-  pub confined : EachAfter (IsConfinedCall new.wanted first) past added
+  pub backed : EachAfter (IsBackedCall new.wanted first) past added
+
+-- What is promised of moves of data, which follows: in each of these calls moves and clears keep to their places, of
+-- requests that were accepted when they broke no rule.
+abbrev pub ConfinesMoves : JointState Device → List (Happening Device DeviceStep) → List (Happening Device DeviceStep)
+    → Type 0
+ConfinesMoves first past added = EachAfter (λ before h. KeepsMoves first.moment.machine (steps_of (events_of before))
+    h.event.steps (now first before).device h.device) past added
 
 -- What is promised to clients of disks that are pulled out. Of a write or trim that was answered Ok before a flush of
 -- its port was accepted that was answered Ok, too, with its disk in from the acceptance of the write to the answer of

@@ -24,7 +24,7 @@ use Rattle.driver_history.specs.Histories.{Issues}
 use Rattle.host_boot.specs.Taken.{probe_result_of}
 use Rattle.server_history.specs.Histories.{LeadsToServer}
 use Rattle.server_history.specs.Server.{state_of}
-use Rattle.block_server.specs.Clients.{EachAfter, OutlivesUnplugs, ServesClients}
+use Rattle.block_server.specs.Clients.{ConfinesMoves, EachAfter, OutlivesUnplugs, ServesClients}
 use Rattle.block_server.specs.Running.{ask_of, said_of}
 use Rattle.block_server.specs.View.{ServerView, server_of, visible_of}
 
@@ -83,13 +83,14 @@ pub record DrivesDevice {A : Type 0} (device : A → Device) (first : JointState
       × (state_of (probe_result_of new.ports port.0) ≡ Ready) × RunsWell ((device new.adapter).port port.0)
 
 -- After a history that leads to the server before them, the calls of a list, which said this, add theirs: with what is
--- promised to clients, of the calls and of disks that come back, and of the device.
+-- promised to clients, of the calls, of moves and of disks that come back, and of the device.
 pub record KeepsPromise {A : Type 0} (device : A → Device) (first : JointState Device)
     (past : List (Happening Device DeviceStep))
     (old new : ServerView A) (calls : List (Call DeviceStep)) (said : List (CallResult (ArrayVec Reply))) : Type 0 where
   pub added : List (Happening Device DeviceStep)
   pub clients : ServesClients first past added (visible_of device old) (visible_of device new) (map ask_of calls)
       (map said_of said)
+  pub moves : ConfinesMoves first past added
   pub disks : OutlivesUnplugs first (added ++ past)
   pub driver : DrivesDevice device first past added old new
 

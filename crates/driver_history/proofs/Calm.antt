@@ -196,4 +196,4 @@ restarts_of ask said old evidence steps new answered asks = tick_restarts said o
 -- a tick interrupts none that it doesn't bring to its limit
 pub tick_spares : (ask : Ask DeviceStep) (said : CallResult) (old : AbstractState) (evidence : Evidence) (steps : List Step) (new : AbstractState) (port : Port) → IsAnswered ask said old evidence steps new
     → (ask ≡ Tick → HasTimedOut old port → ⊥) → ask ≡ Tick → IsInterrupted evidence port → ⊥
-tick_spares ask said old evidence steps new port answered young asks i = young asks ((restarts_of ask said old evidence steps new answered asks).spares port i)
+tick_spares ask said old evidence steps new port answered young asks i = young asks (((restarts_of ask said old evidence steps new answered asks).interrupts port).1 i)

@@ -26,10 +26,10 @@ same_port (Submit r) (Submitted (Ok id)) old evidence steps new port a one two t
 same_port (Submit r) (Submitted (Err refusal)) old evidence steps new port a one two three = a.2 port
 same_port (RevokeOf client number) (WasRevoked (Some replies)) old evidence steps new port a one two three = a.same port
 same_port (RevokeOf client number) (WasRevoked None) old evidence steps new port a one two three = a.2 port
-same_port (StoreAt client frame offset bytes) (Stored None) old evidence steps new port a one two three = a.2 port
-same_port (StoreAt client frame offset bytes) (Stored (Some fault)) old evidence steps new port a one two three = a.2 port
-same_port (LoadAt client frame offset count) (Loaded (Ok bytes)) old evidence steps new port a one two three = a.2 port
-same_port (LoadAt client frame offset count) (Loaded (Err fault)) old evidence steps new port a one two three = a.2 port
+same_port (StoreAt client frame offset bytes) (Stored None) old evidence steps new port a one two three = a.0 port
+same_port (StoreAt client frame offset bytes) (Stored (Some fault)) old evidence steps new port a one two three = a.0 port
+same_port (LoadAt client frame offset count) (Loaded (Ok bytes)) old evidence steps new port a one two three = a.0 port
+same_port (LoadAt client frame offset count) (Loaded (Err fault)) old evidence steps new port a one two three = a.0 port
 same_port (State at) (Shown state) old evidence steps new port a one two three = a.2 port
 same_port (Told step) (Stepped true) old evidence steps new port a one two three = a.1 port
 same_port (Told step) (Stepped false) old evidence steps new port a one two three = a.1 port

@@ -52,10 +52,10 @@ among_first m op move own first rest t = record {
 }
 
 goes_first : (o : Option Op) (m : Machine) (move : tape_move.Move) (own first rest : List Step) → TellsMove o (after m own) move first → Goes o m (rest ++ (first ++ own)) move
-goes_first None m move own first rest t = t.place_is
+goes_first None m move own first rest t = t.0
 goes_first (Some Read) m move own first rest t = among_first m Read move own first rest t
 goes_first (Some Write) m move own first rest t = among_first m Write move own first rest t
-goes_first (Some Trim) m move own first rest t = t.place_is
+goes_first (Some Trim) m move own first rest t = t.0
 goes_first (Some Flush) m move own first rest t = absurd t
 
 among_later : (m : Machine) (op : Op) (move : tape_move.Move) (rest early : List Step) → IsAmong (after m early) rest op move → IsAmong m (rest ++ early) op move

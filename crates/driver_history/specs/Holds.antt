@@ -34,8 +34,7 @@ use Rattle.port_control.specs.Ports.{programmed}
 -- adapter, disk and the tag's 32 values allow; else one at a time (CAP: AHCI 1.3.1, 3.1.1).
 abbrev pub mode_of : ℕ → DiskInfo → QueueMode
 mode_of cap info =
-    if bit cap 30 && info.ncq
-    then record { queued = true; usable = min (cap / 256 % 32 + 1) (min info.depth 32) }
+    if bit cap 30 && info.ncq then record { queued = true; usable = min (cap / 256 % 32 + 1) (min info.depth 32) }
     else record { queued = false; usable = 1 }
 
 -- what the port is to clients is what its disk's page says

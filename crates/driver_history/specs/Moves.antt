@@ -51,5 +51,4 @@ pub record KeepsMoves (start : Machine) (earlier steps : List Step) (old new : D
   pub tape : new.tape ≡ old.tape ++ gained
   pub moves : (move : tape_move.Move) → Contains gained (entry.Move move)
       → KeepsTo (op_of move.operation) start earlier steps move
-  pub clears : (clear : tape_clear.Clear) → Contains gained (entry.Clear clear)
-      → IsConfinedClear start earlier steps clear
+  pub clears : (c : tape_clear.Clear) → Contains gained (entry.Clear c) → IsConfinedClear start earlier steps c

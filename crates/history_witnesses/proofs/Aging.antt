@@ -115,8 +115,7 @@ module _ (age : ℕ) where
       answer = λ e o here. absurd (unanswered_then e o here);
       ended = λ port h. absurd (not_hung age young port h);
       anew = λ port h. absurd (not_hung age young port h);
-      interrupts = λ port h. absurd (not_hung age young port h);
-      spares = λ port why. absurd (⊎_elim (nowhere port) (nowhere port) why);
+      interrupts = λ port. (λ h. absurd (not_hung age young port h), λ why. absurd (⊎_elim (nowhere port) (nowhere port) why));
       finds = λ e here. absurd (unanswered_then e outcome.Unplugged here);
       disk = λ port h. absurd (not_hung age young port h);
     }

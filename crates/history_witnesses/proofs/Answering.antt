@@ -113,8 +113,7 @@ becomes n = (
   λ _. (
     record {
       served = refl;
-      stuck = λ is. absurd (not_dead_then n is);
-      dies = λ h. absurd (nowhere (port_at n) h);
+      stuck = (λ is. absurd (not_dead_then n is), λ h. absurd (nowhere (port_at n) h));
       keeps = λ is. (refl, refl);
     },
     changes n,
@@ -342,6 +341,7 @@ service_happens = record {
     unplugs = record { emptied = λ e other here. absurd (not_unplugged e here); alike = λ e other here. absurd (not_unplugged e here) };
     issues = λ port is r at_port due. absurd (nowhere r due.here);
     emptied = λ port other e here. absurd (nowhere e here);
+    ended = λ port is e here at_port done. absurd (not_ended 0 e here done);
     becomes = λ port. becomes port.0;
     disk = λ port. had_disk port.0;
   };

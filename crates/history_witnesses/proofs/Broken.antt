@@ -128,6 +128,7 @@ happens = record {
     unplugs = unplugs restart is_restart;
     issues = λ port is r at_port due. absurd (nowhere r due.here);
     emptied = λ port other e here. absurd (nowhere e here);
+    ended = λ port is e here at_port done. absurd (not_ended 0 e here done);
     becomes = λ port. becomes port.0;
     disk = λ port. had_disk port.0;
   };

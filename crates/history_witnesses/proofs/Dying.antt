@@ -43,7 +43,7 @@ use Rattle.history_witnesses.proofs.Devices.{leaves}
 use Rattle.history_witnesses.proofs.Holding.{first_slots, have_first, unnamed_evidenced, unserved_at, uses_first, IsCalm, no_trouble}
 use Rattle.history_witnesses.proofs.Issuing.{none_named, nothing}
 use Rattle.history_witnesses.proofs.Submitting.{issued, pages, second, submitted}
-use Rattle.history_witnesses.proofs.Accepting.{asked, both, first, holds_submitted, in_book, issuing, submit, submit_happens, submit_ties, submitted_at, waiting, serves, the_answer}
+use Rattle.history_witnesses.proofs.Accepting.{asked, both, first, holds_submitted, in_book, issuing, submit, submit_happens, submit_ties, submitted_at, waiting, serves, the_answer, not_ended}
 use Rattle.history_witnesses.proofs.Pages.{plain_disks}
 use Rattle.history_witnesses.proofs.Ready.{begins, calm, fit_ready, served_of, served_ready, starts}
 use Rattle.history_witnesses.proofs.Members.{nowhere, only, either}
@@ -277,8 +277,7 @@ becomes (suc (suc n)) = (
   λ other. (
     record {
       served = refl;
-      stuck = λ is. absurd (let x : Absent ≡ Dead = is in cc);
-      dies = λ h. absurd (nowhere (port_at (suc (suc n))) h);
+      stuck = (λ is. absurd (let x : Absent ≡ Dead = is in cc), λ h. absurd (nowhere (port_at (suc (suc n))) h));
       keeps = λ is. (refl, refl);
     },
     inl (refl, refl, refl, refl, refl, refl),
@@ -299,6 +298,7 @@ service_happens = record {
     unplugs = record { emptied = λ e other here. absurd (not_unplugged e here); alike = λ e other here. absurd (not_unplugged e here) };
     issues = λ port is r at_port due. absurd (nowhere r due.here);
     emptied = λ port other e here. absurd (nowhere e here);
+    ended = λ port is e here at_port done. absurd (not_ended 0 e here done);
     becomes = λ port. becomes port.0;
     disk = λ port. inl (refl, refl, refl, refl, refl, refl);
   };

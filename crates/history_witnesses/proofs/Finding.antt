@@ -61,8 +61,7 @@ stay_serviced disk evidence n unstuck = (
   λ _. (
     record {
       served = refl;
-      stuck = λ is. absurd (not_dead n is);
-      dies = λ h. absurd (unstuck h);
+      stuck = (λ is. absurd (not_dead n is), λ h. absurd (unstuck h));
       keeps = λ is. (refl, refl);
     },
     inl (refl, refl, refl, refl, refl, refl),
@@ -270,6 +269,7 @@ module _ (c : Discovery) where
         unplugs = record { emptied = λ e other here. absurd (not_unplugged e here); alike = λ e other here. absurd (not_unplugged e here) };
         issues = λ port ready. is.none_due port;
         emptied = λ port other e here at. other (ap (λ (n : ℕ). two_states (port_at n)) (ap (λ (q : Port). q.0) (sym at) ∙ is.agreeing.first_alone e here));
+        ended = λ port ready e here at_port done. absurd (true≢false (sym done ∙ is.unended e here));
         becomes = λ port. stay_serviced c.disk nothing port.0 (nowhere port);
         disk = λ port. inl (refl, refl, refl, refl, refl, refl);
       };

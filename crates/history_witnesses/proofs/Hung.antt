@@ -125,8 +125,7 @@ restarts_hung = record {
   answer = λ e o here. is_hung e.request.port (answers_first e o here);
   ended = λ port h e here at_port ended. absurd (not_ended 2 e here ended);
   anew = λ port h e here. absurd (nowhere e here);
-  interrupts = λ port h. subst (IsInterrupted (restart_evidence [])) (sym (hung_first 2 port h)) (inl (named 0));
-  spares = interrupted;
+  interrupts = λ port. (λ h. subst (IsInterrupted (restart_evidence [])) (sym (hung_first 2 port h)) (inl (named 0)), interrupted port);
   finds = λ e here. (not_dead_then e.request.port.0, λ ready. absurd (not_ready_first e.request.port (answers_first e outcome.Unplugged here) ready));
   disk = λ port h shows. inl (subst (λ (p : Port). (issued_for 2).present p ≡ true) (sym (hung_first 2 port h)) refl);
 }

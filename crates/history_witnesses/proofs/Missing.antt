@@ -118,7 +118,7 @@ same_past (suc n) = (refl, refl, refl, refl, refl, refl)
 becomes : (n : ℕ) → IsServiced unfit_ports evidence one_absent (port_at n)
 becomes n = (
   λ is. absurd (not_dead n is),
-  λ _. (record { served = refl; stuck = λ is. absurd (not_dead_then n is); dies = λ h. absurd (nowhere (port_at n) h); keeps = λ is. (refl, refl) }, changes n),
+  λ _. (record { served = refl; stuck = (λ is. absurd (not_dead_then n is), λ h. absurd (nowhere (port_at n) h)); keeps = λ is. (refl, refl) }, changes n),
 )
   where
     changes : (n : ℕ) → SamePort unfit_ports one_absent (port_at n) ⊎ IsInterrupted evidence (port_at n)
@@ -262,6 +262,7 @@ answers = record {
   unplugs = record { emptied = λ e other here. absurd (nowhere (Answer e outcome.Unplugged) here); alike = λ e other here. absurd (nowhere (Answer e outcome.Unplugged) here) };
   issues = λ port ready. absurd (not_ready_then port.0 ready);
   emptied = λ port other e here. absurd (nowhere e here);
+  ended = λ port ready e here. absurd (nowhere e here);
   becomes = λ port. becomes port.0;
   disk = λ port. had_disk port.0;
 }

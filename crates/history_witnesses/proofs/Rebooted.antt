@@ -87,8 +87,7 @@ not_ready_then is = let x : Unfit 8 ≡ Ready = is in cc
 pub may_become : (failed : List Port) (n : ℕ) → MayBecome both (restart_evidence failed) one (port_at n)
 may_become failed n = record {
   served = refl;
-  stuck = λ is. absurd (not_dead_then n is);
-  dies = λ h. absurd (nowhere (port_at n) h);
+  stuck = (λ is. absurd (not_dead_then n is), λ h. absurd (nowhere (port_at n) h));
   keeps = λ is. (refl, refl);
 }
 

@@ -315,6 +315,7 @@ happens = record {
     unplugs = record { emptied = λ e other here. absurd (unplugged_not e here); alike = λ e other here. absurd (unplugged_not e here) };
     issues = λ port is r at_port due. absurd (nowhere r due.here);
     emptied = λ port other e here. absurd (nowhere e here);
+    ended = λ port is e here at_port done. absurd (not_ended 0 e here done);
     becomes = λ port. stay_serviced plain_disks fault_evidence port.0 (nowhere port);
     disk = λ port. inl (refl, refl, refl, refl, refl, refl);
   };

@@ -25,7 +25,7 @@ use Rattle.refinement.specs.Links.{SparesRegister}
 use Rattle.refinement.specs.Places.{list_of, received_of}
 use Rattle.refinement.specs.Slots.{IsEmptySlot}
 use Rattle.refinement.specs.Witness.{first_id}
-use Rattle.block_machine.specs.Events.{AnswersReset, Happens, IsRebooted, Reset, ShowsDisk, WasReset}
+use Rattle.block_machine.specs.Events.{AnswersReset, Happens, Reset, ShowsDisk, WasReset}
 use Rattle.block_machine.specs.Histories.{Happening, JointState}
 use Rattle.block_machine.specs.Left.{after}
 use Rattle.block_machine.specs.Ports.{AreFit, Evidence, IsInterrupted, MayBecome, Ports}
@@ -127,8 +127,7 @@ served_stopped (suc (suc n)) h = absurd (⊎_elim
 becomes : (n : ℕ) → MayBecome both evidence unfit_ports (port_at n)
 becomes n = record {
   served = refl;
-  stuck = λ is. absurd (not_dead n is);
-  dies = λ h. absurd (nowhere (port_at n) h);
+  stuck = (λ is. absurd (not_dead n is), λ h. absurd (nowhere (port_at n) h));
   keeps = λ is. (refl, refl);
 }
 
@@ -142,19 +141,10 @@ the_answer e o here = ⊎_elim
     (either answer Release (Answer e o) here)
 
 -- a port that isn't served is absent
-reboots : (n : ℕ) → IsRebooted submitted_at.moment evidence steps rebooted_at.moment (port_at n)
-reboots n = record {
-  emptied = λ other e here. absurd (nowhere e here);
-  becomes = becomes n;
-  anew = λ e here. absurd (nowhere e here);
-  stopped = stopped_served n;
-  disk = λ shows. inl (had n shows);
-}
-  where
-    had : (n : ℕ) → ShowsDisk (unfit_ports.state (port_at n)) → issuing.present (port_at n) ≡ true
-    had zero shows = refl
-    had (suc zero) shows = refl
-    had (suc (suc n)) shows = absurd shows
+had : (n : ℕ) → ShowsDisk (unfit_ports.state (port_at n)) → issuing.present (port_at n) ≡ true
+had zero shows = refl
+had (suc zero) shows = refl
+had (suc (suc n)) shows = absurd shows
 
 answers : AnswersReset submitted_at.moment evidence steps replies rebooted_at.moment
 answers = record {
@@ -166,7 +156,11 @@ answers = record {
   };
   finds = λ e here. (not_dead e.request.port.0, λ ready. absurd (not_ready e.request.port.0 ready));
   issues = λ port is r at_port due. absurd (nowhere r due.here);
-  reboots = λ port. reboots port.0;
+  emptied = λ port other e here. absurd (nowhere e here);
+  becomes = λ port. becomes port.0;
+  anew = λ port e here. absurd (nowhere e here);
+  stopped = λ port. stopped_served port.0;
+  disk = λ port shows. inl (had port.0 shows);
 }
 
 pub happens : Happens submitted_at.moment reset.event

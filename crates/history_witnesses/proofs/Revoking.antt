@@ -6,6 +6,7 @@ use Rattle.std.proofs.lemmas.List.Sorted.{IsPermutation-refl}
 use Rattle.std.specs.List.{Contains}
 use Rattle.ata_types.specs.declared.grant.GrantRow.{GrantRow}
 use Rattle.ata_types.specs.declared.request.Outcome.{Outcome}
+use Rattle.ata_types.specs.declared.request.Outcome.TheVariants as outcome
 use Rattle.adapter.specs.Device.{Device}
 use Rattle.adapter.specs.declared.access.DeviceStep.{DeviceStep}
 use Rattle.refinement.specs.Relation.{port_at}
@@ -64,8 +65,10 @@ happens = record {
     there = granted 0 (0, omega arith, refl) refl;
     rows = refl;
     tells = record { answers = []; same = IsPermutation-refl _; ordered = λ i j d less low. absurd (omega (arith, less, low)); told = refl };
-    all = λ e here waits under. absurd (true≢false (sym (ap (λ (x : Pending). x.issued) (in_book 0 e here)) ∙ waits));
-    only = λ e o here. absurd (unanswered_then e o here);
+    told = λ e. (
+      λ here. absurd (unanswered_then e outcome.Revoked here),
+      λ of. absurd (true≢false (sym (ap (λ (x : Pending). x.issued) (in_book 0 e of.0)) ∙ of.1)),
+    );
     same = λ port. (refl, refl, refl, refl, refl, refl);
     issues = λ port is. not_due 0 port;
   };

@@ -16,7 +16,7 @@ use Rattle.block_machine.specs.Events.{Submit, Service, Submitted, Served, CallR
 use Rattle.machine_runs.specs.Worked.{DiesInAService}
 use Rattle.block_machine.proofs.Members.{contains_none, contains_here, contains_there, contains_cases}
 use Rattle.block_machine.proofs.Setting.{port, frame, empty_starts, acceptable, granted}
-use Rattle.machine_runs.proofs.Scene.{mode, id, call, one_sector, ports_in, first, shows_none, changed_here, IsQuiet, row_zero, write_at, new, none_waits, none_unplugged, ports_fit, none_dead}
+use Rattle.machine_runs.proofs.Scene.{mode, id, call, one_sector, ports_in, first, shows_none, changed_here, IsQuiet, row_zero, write_at, new, none_waits, none_unplugged, ports_fit, none_dead, none_ended}
 use Rattle.machine_runs.proofs.WaitingRun.{write, run1, happens1}
 use Rattle.machine_runs.proofs.ResetRun.{dead_not_ready, dead_here}
 
@@ -92,7 +92,8 @@ happens3 = record {
     unplugs = none_unplugged service.steps (moment_of first run3).machine refl;
     issues = λ p ready. dead_not_ready p ready;
     emptied = λ p ne e h. absurd (contains_none e h);
-    becomes = λ p. (λ dead. none_dead p dead, λ _. (record { served = refl; stuck = dead_here p; dies = λ h. dies p h; keeps = λ _. (refl, refl) }, changed_here Ready Dead seen (inl (contains_here port [] port refl)) p));
+    ended = λ p _. none_ended (moment_of first run2).machine service.steps refl p;
+    becomes = λ p. (λ dead. none_dead p dead, λ _. (record { served = refl; stuck = (dead_here p, λ h. dies p h); keeps = λ _. (refl, refl) }, changed_here Ready Dead seen (inl (contains_here port [] port refl)) p));
     disk = λ p. inr (λ shows. shows_none Dead (λ s. s) p shows);
   };
 }

@@ -181,7 +181,7 @@ granted_event {D} (RevokeOf client number) (WasRevoked (Some replies)) old evide
         let parts = and_parts (had.0.client.0 == client.0) (had.0.number == number) is in
         let its_client : had.0.client ≡ client = ap (λ (n : ℕ). record { 0 = n }) (eqb-true had.0.client.0 client.0 parts.0) in
         let under : IsUnder client number e.request.asked.client e.request.asked.grant = (sym had.2.0 ∙ its_client, sym had.2.1 ∙ eqb-true had.0.number number parts.1) in
-        absurd (answered_gone D client number ports old.machine s steps may b e e Revoked (a.all e here waits under) h waits refl)
+        absurd (answered_gone D client number ports old.machine s steps may b e e Revoked ((a.told e).1 (here, waits, under)) h waits refl)
     by had false is here =
         (had.0, subst (λ (rows : List GrantRow). Contains rows had.0) (sym a.rows) (in_filter (λ (row : GrantRow). not (is_under client number row.client row.number)) old.machine.rows had.0 had.1 (ap not is)), had.2)
 granted_event (RevokeOf client number) (WasRevoked None) old evidence steps ports a s may b g e h waits = subst (λ (list : List Step). IsGrantedAll (after old.machine list)) (sym a.1) g e h waits

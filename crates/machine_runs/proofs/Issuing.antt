@@ -14,7 +14,7 @@ use Rattle.block_machine.specs.State.{Accepted, Pending, Machine, Memory}
 use Rattle.block_machine.specs.Steps.{Step, Accept, Issue, Touch, End, Age, Again, Answer, Release, Revoke, Unplug, Replace, Store, Load, May, after_step, at, newly_issued, touch, mark_ended, requeued, older}
 use Rattle.block_machine.specs.Left.{after, IsLegal, IsStart, HoldsLeft}
 use Rattle.block_machine.specs.Confined.{WithinLimits}
-use Rattle.block_machine.specs.Events.{AbstractState, CallRecord, AllLawful, AnswersHold, EveryReadHolds, IsLawful, IsRun, issues_it, moment_of, steps_of}
+use Rattle.block_machine.specs.Events.{AbstractState, CallRecord, AllLawful, EveryReadHolds, IsLawful, IsRun, issues_it, moment_of, steps_of}
 use Rattle.block_machine.proofs.Members.{contains_none, contains_here, contains_there, contains_cases, map_in, into_map, at_cases, without_in, append_in}
 use Rattle.block_machine.proofs.Keeps.{older_keeps, older_issued}
 use Rattle.block_machine.proofs.Limits.{law_limits_hold, older_issues}
@@ -305,14 +305,6 @@ in_place (x ∷ steps) step h = ⊎_elim
     (λ i. let p = in_place steps step i in (x ∷ p.0, p.1, ap (λ (ys : List Step). x ∷ ys) p.2))
     (contains_cases x steps step h)
 
-answer_holds : (start : Machine) (memory : Memory) (past steps late early : List Step) (e : Pending) → AnswersHold start memory past steps → steps ≡ late ++ Answer e Ok ∷ early
-    → e.request.asked.op ≡ Read → HoldsLeft start (early ++ past) memory e.request
-answer_holds start memory past steps late early e holds split = go late (subst (AnswersHold start memory past) split holds)
-  where
-    go : (late : List Step) → AnswersHold start memory past (late ++ Answer e Ok ∷ early) → e.request.asked.op ≡ Read → HoldsLeft start (early ++ past) memory e.request
-    go [] h = h.1
-    go (x ∷ late) h = go late h.0
-
 pub law_ok_was_served : {D : Type 0} (first : AbstractState) (past : List (CallRecord D)) (event : CallRecord D) (e : Pending) → IsRun first (event ∷ past) → EveryReadHolds first (event ∷ past)
     → Contains event.steps (Answer e Ok) → CallAnswersOk first past event e
 law_ok_was_served first past event e r holds h =
@@ -332,5 +324,5 @@ law_ok_was_served first past event e r holds h =
         touched = law_ok_was_touched first (event ∷ past) p.0 (p.1 ++ steps_of past) e r split;
         ended = law_ok_was_ended first (event ∷ past) p.0 (p.1 ++ steps_of past) e r split;
       };
-      holds = answer_holds first.machine (moment_of first (event ∷ past)).machine.memory (steps_of past) event.steps p.0 p.1 e holds.1 p.2;
+      holds = holds [] past event p.0 p.1 e refl p.2;
     }

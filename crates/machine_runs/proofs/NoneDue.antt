@@ -95,10 +95,10 @@ issued_event : {D : Type 0} (ask : Ask D) (said : CallResult) (old : AbstractSta
 issued_event (Submit r) (Submitted (Ok id)) old evidence steps ports a b fit all = a.3
 issued_event (Submit r) (Submitted (Err refusal)) old evidence steps ports a b fit all =
     issued_still old (left old steps ports) (ap (λ (xs : List Step). map unanswered (after old.machine xs).book) a.1) a.2 all
-issued_event {D} (StoreAt c f o x) (Stored None) old evidence steps ports a b fit all = issued_still old (left old steps ports) (idle_steps {D = D} (StoreAt c f o x) ports old.machine steps refl b) a.2 all
-issued_event {D} (StoreAt c f o x) (Stored (Some fault)) old evidence steps ports a b fit all = issued_still old (left old steps ports) (idle_steps {D = D} (StoreAt c f o x) ports old.machine steps refl b) a.2 all
-issued_event {D} (LoadAt c f o n) (Loaded (Ok bytes)) old evidence steps ports a b fit all = issued_still old (left old steps ports) (idle_steps {D = D} (LoadAt c f o n) ports old.machine steps refl b) a.2 all
-issued_event {D} (LoadAt c f o n) (Loaded (Err fault)) old evidence steps ports a b fit all = issued_still old (left old steps ports) (idle_steps {D = D} (LoadAt c f o n) ports old.machine steps refl b) a.2 all
+issued_event {D} (StoreAt c f o x) (Stored None) old evidence steps ports a b fit all = issued_still old (left old steps ports) (idle_steps {D = D} (StoreAt c f o x) ports old.machine steps refl b) a.0 all
+issued_event {D} (StoreAt c f o x) (Stored (Some fault)) old evidence steps ports a b fit all = issued_still old (left old steps ports) (idle_steps {D = D} (StoreAt c f o x) ports old.machine steps refl b) a.0 all
+issued_event {D} (LoadAt c f o n) (Loaded (Ok bytes)) old evidence steps ports a b fit all = issued_still old (left old steps ports) (idle_steps {D = D} (LoadAt c f o n) ports old.machine steps refl b) a.0 all
+issued_event {D} (LoadAt c f o n) (Loaded (Err fault)) old evidence steps ports a b fit all = issued_still old (left old steps ports) (idle_steps {D = D} (LoadAt c f o n) ports old.machine steps refl b) a.0 all
 issued_event {D} (State p) (Shown state) old evidence steps ports a b fit all = issued_still old (left old steps ports) (idle_steps {D = D} (State p) ports old.machine steps refl b) a.2 all
 issued_event {D} (Device d) (Stepped true) old evidence steps ports a b fit all = issued_still old (left old steps ports) (idle_steps {D = D} (Device d) ports old.machine steps refl b) a.1 all
 issued_event {D} (Device d) (Stepped false) old evidence steps ports a b fit all = issued_still old (left old steps ports) (idle_steps {D = D} (Device d) ports old.machine steps refl b) a.1 all

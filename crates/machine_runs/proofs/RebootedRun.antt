@@ -33,7 +33,7 @@ abbrev abort : CallRecord (Unit {0})
 abort = record { ask = Reset; said = WasReset (Some (reply_of (tried 4, outcome.Aborted) ∷ [])); evidence = halted; steps = Issue mode waits ∷ Answer (tried 4) outcome.Aborted ∷ Release ∷ []; ports = ports }
 
 becomes : (p : Port) → MayBecome ports halted ports p
-becomes p = record { served = refl; stuck = λ dead. none_dead p dead; dies = λ h. absurd (All-contains (λ _. ⊥) [] p (All-nil (λ _. ⊥)) h); keeps = λ _. (refl, refl) }
+becomes p = record { served = refl; stuck = (λ dead. none_dead p dead, λ h. absurd (All-contains (λ _. ⊥) [] p (All-nil (λ _. ⊥)) h)); keeps = λ _. (refl, refl) }
 
 -- the moment before a reset
 abbrev before : Machine → ℕ → AbstractState
@@ -56,13 +56,11 @@ again m n rows present few = record {
     unplugs = none_unplugged (retry n).steps (moment_after (before m n) (retry n)).machine refl;
     finds = finds_none (retry n).steps ports ports refl;
     issues = λ p _. none_due p;
-    reboots = λ p. record {
-      emptied = emptied_of (tried (suc n) ∷ waits ∷ []) (of_two (tried (suc n)) waits (λ e. e.request.port ≡ port) refl refl) p;
-      becomes = becomes p;
-      anew = λ e h _ issued. of_two (tried (suc n)) waits (λ x. x.issued ≡ true → IsIssuedIn x.request.id (retry n).steps) (λ _. refl) (λ t. absurd (false≢true t)) e h issued;
-      stopped = stopped_here p;
-      disk = λ _. inl (present p);
-    };
+    emptied = λ p. emptied_of (tried (suc n) ∷ waits ∷ []) (of_two (tried (suc n)) waits (λ e. e.request.port ≡ port) refl refl) p;
+    becomes = λ p. becomes p;
+    anew = λ p e h _ issued. of_two (tried (suc n)) waits (λ x. x.issued ≡ true → IsIssuedIn x.request.id (retry n).steps) (λ _. refl) (λ t. absurd (false≢true t)) e h issued;
+    stopped = λ p. stopped_here p;
+    disk = λ p _. inl (present p);
   };
 }
 
@@ -83,13 +81,11 @@ happens6 = record {
     unplugs = none_unplugged abort.steps (moment_after (moment_of first run5) abort).machine refl;
     finds = finds_none abort.steps ports ports refl;
     issues = λ p _. one_issued (unanswered (newly_issued waits)) refl p;
-    reboots = λ p. record {
-      emptied = emptied_of (newly_issued waits ∷ []) (only_one (newly_issued waits) (λ x. x.request.port ≡ port) refl) p;
-      becomes = becomes p;
-      anew = λ e h _ _. only_one (newly_issued waits) (λ x. IsIssuedIn x.request.id abort.steps) refl e h;
-      stopped = stopped_here p;
-      disk = λ _. inl refl;
-    };
+    emptied = λ p. emptied_of (newly_issued waits ∷ []) (only_one (newly_issued waits) (λ x. x.request.port ≡ port) refl) p;
+    becomes = λ p. becomes p;
+    anew = λ p e h _ _. only_one (newly_issued waits) (λ x. IsIssuedIn x.request.id abort.steps) refl e h;
+    stopped = λ p. stopped_here p;
+    disk = λ p _. inl refl;
   };
 }
 

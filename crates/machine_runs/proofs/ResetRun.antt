@@ -105,8 +105,7 @@ ticks old young new same = record {
   again = λ e h. absurd (false≢true (only_age (Again e) h));
   answer = λ e o h. absurd (false≢true (only_age (Answer e o) h));
   ended = λ p hung. absurd (not_hung old young p hung);
-  interrupts = λ p hung. absurd (not_hung old young p hung);
-  spares = λ p i. absurd (⊎_elim (contains_none p) (contains_none p) i);
+  interrupts = λ p. (λ hung. absurd (not_hung old young p hung), λ i. absurd (⊎_elim (contains_none p) (contains_none p) i));
   finds = finds_none (Age aging ∷ []) old.ports new.ports refl;
   disk = λ p hung. absurd (not_hung old young p hung);
   anew = λ p hung. absurd (not_hung old young p hung);
@@ -181,11 +180,10 @@ restarted = record {
       (Again e) h e refl;
   answer = λ e o h. absurd (false≢true (sym (each_step (λ step. is_answer step ≡ false) refl refl refl (Answer e o) h)));
   ended = λ p _. none_ended (moment_of first run3).machine restarting.steps refl p;
-  interrupts = λ p h. inl (contains_here port [] p (ready_port p h.ready));
-  spares = λ p i. ⊎_elim
+  interrupts = λ p. (λ h. inl (contains_here port [] p (ready_port p h.ready)), λ i. ⊎_elim
       (λ h. ⊎_elim (λ (same : p ≡ port). subst (λ (x : Port). HasTimedOut (moment_of first run3) x) (sym same) hung) (λ n. absurd (contains_none p n)) (contains_cases port [] p h))
       (λ h. absurd (contains_none p h))
-      i;
+      i);
   finds = finds_none restarting.steps ports ports refl;
   disk = λ p _ _. inl refl;
   anew = λ p _ e h _ _. ⊎_elim
@@ -272,7 +270,8 @@ happens6 = record {
     unplugs = none_unplugged service.steps (moment_of first run6).machine refl;
     issues = λ p ready. dead_not_ready p ready;
     emptied = λ p ne e h. absurd (contains_none e h);
-    becomes = λ p. (λ _. (refl, refl, refl, refl, refl, refl), λ alive. (record { served = refl; stuck = λ dead. absurd (alive dead); dies = λ h. absurd (contains_none p h); keeps = λ _. (refl, refl) }, inl (refl, refl, refl, refl, refl, refl)));
+    ended = λ p _. none_ended (moment_of first run5).machine service.steps refl p;
+    becomes = λ p. (λ _. (refl, refl, refl, refl, refl, refl), λ alive. (record { served = refl; stuck = (λ dead. absurd (alive dead), λ h. absurd (contains_none p h)); keeps = λ _. (refl, refl) }, inl (refl, refl, refl, refl, refl, refl)));
     disk = λ p. inl (refl, refl, refl, refl, refl, refl);
   };
 }
@@ -291,13 +290,11 @@ happens7 = record {
     unplugs = none_unplugged reset.steps (moment_of first run7).machine refl;
     finds = finds_none reset.steps (ports_in Dead) ports refl;
     issues = λ p _. none_there p;
-    reboots = λ p. record {
-      emptied = λ ne e h. absurd (contains_none e h);
-      becomes = record { served = refl; stuck = λ e. none_dead p e; dies = λ h. absurd (contains_none p h); keeps = λ _. (refl, refl) };
-      anew = λ e h. absurd (contains_none e h);
-      stopped = stopped_here p;
-      disk = λ _. inl refl;
-    };
+    emptied = λ p ne e h. absurd (contains_none e h);
+    becomes = λ p. record { served = refl; stuck = (λ e. none_dead p e, λ h. absurd (contains_none p h)); keeps = λ _. (refl, refl) };
+    anew = λ p e h. absurd (contains_none e h);
+    stopped = λ p. stopped_here p;
+    disk = λ p _. inl refl;
   };
 }
 

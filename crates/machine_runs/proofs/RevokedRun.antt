@@ -13,7 +13,7 @@ use Rattle.block_machine.specs.Events.{RevokeOf, Service, Served, WasRevoked, Ca
 use Rattle.machine_runs.specs.Revoked.{IsTakenBack}
 use Rattle.block_machine.proofs.Members.{contains_none, contains_here, contains_there, contains_cases}
 use Rattle.block_machine.proofs.Setting.{client, row, empty_starts, granted, port}
-use Rattle.machine_runs.proofs.Scene.{first, reply, call, done, served, row_zero, one_issued, none_there, one_told, one_touched, ports_fit, plain_service, none_dead, none_unplugged, stay_ready}
+use Rattle.machine_runs.proofs.Scene.{first, reply, call, done, served, row_zero, one_issued, none_there, one_told, one_touched, ports_fit, plain_service, none_dead, none_ended, none_unplugged, stay_ready}
 use Rattle.machine_runs.proofs.WaitingRun.{run2, write, read, happens1, happens2}
 use Rattle.block_machine.specs.Ports.{Evidence}
 
@@ -55,15 +55,14 @@ happens3 = record {
     there = granted 0 row_zero refl;
     rows = refl;
     tells = one_told (newly_accepted read) outcome.Revoked event3.steps refl revoked refl;
-    all = all;
-    only = only;
+    told = λ e. (told e, λ of. waiting_told e of.0 of.1 of.2);
     same = λ p. (refl, refl, refl, refl, refl, refl);
     issues = λ p _. one_issued (unanswered (newly_issued (newly_accepted write))) refl p;
   };
 }
   where
-    all : (e : Pending) → Contains (moment_of first run2).machine.book e → e.issued ≡ false → IsUnder client 0 e.request.asked.client e.request.asked.grant → Contains event3.steps (Answer e outcome.Revoked)
-    all e h waits under = ⊎_elim
+    waiting_told : (e : Pending) → Contains (moment_of first run2).machine.book e → e.issued ≡ false → IsUnder client 0 e.request.asked.client e.request.asked.grant → Contains event3.steps (Answer e outcome.Revoked)
+    waiting_told e h waits under = ⊎_elim
         (λ (same : e ≡ newly_issued (newly_accepted write)). absurd (false≢true (sym waits ∙ ap (λ (x : Pending). x.issued) same)))
         (λ i. ⊎_elim
         (λ (same : e ≡ newly_accepted read). contains_here (Answer (newly_accepted read) outcome.Revoked) (Revoke client 0 ∷ []) (Answer e outcome.Revoked) (ap (λ (x : Pending). Answer x outcome.Revoked) same))
@@ -71,19 +70,19 @@ happens3 = record {
         (contains_cases (newly_accepted read) [] e i))
         (contains_cases (newly_issued (newly_accepted write)) (newly_accepted read ∷ []) e h)
 
-    only : (e : Pending) (o : Outcome) → Contains event3.steps (Answer e o) → Contains (moment_of first run2).machine.book e × (e.issued ≡ false) × IsUnder client 0 e.request.asked.client e.request.asked.grant
-    only e o h = ⊎_elim
-        (λ (same : Answer e o ≡ Answer (newly_accepted read) outcome.Revoked).
+    told : (e : Pending) → Contains event3.steps (Answer e outcome.Revoked) → Contains (moment_of first run2).machine.book e × (e.issued ≡ false) × IsUnder client 0 e.request.asked.client e.request.asked.grant
+    told e h = ⊎_elim
+        (λ (same : Answer e outcome.Revoked ≡ Answer (newly_accepted read) outcome.Revoked).
         let its : e ≡ newly_accepted read = ap told_of same in (
           contains_there (newly_issued (newly_accepted write)) (newly_accepted read ∷ []) e (contains_here (newly_accepted read) [] e its),
           ap (λ (x : Pending). x.issued) its,
           subst (λ (x : Pending). IsUnder client 0 x.request.asked.client x.request.asked.grant) (sym its) (refl, refl),
         ))
         (λ i. ⊎_elim
-        (λ (same : Answer e o ≡ Revoke client 0). let no : ⊥ = cc in absurd no)
-        (λ n. absurd (contains_none (Answer e o) n))
-        (contains_cases (Revoke client 0) [] (Answer e o) i))
-        (contains_cases (Answer (newly_accepted read) outcome.Revoked) (Revoke client 0 ∷ []) (Answer e o) h)
+        (λ (same : Answer e outcome.Revoked ≡ Revoke client 0). let no : ⊥ = cc in absurd no)
+        (λ n. absurd (contains_none (Answer e outcome.Revoked) n))
+        (contains_cases (Revoke client 0) [] (Answer e outcome.Revoked) i))
+        (contains_cases (Answer (newly_accepted read) outcome.Revoked) (Revoke client 0 ∷ []) (Answer e outcome.Revoked) h)
 
 happens4 : Happens (moment_of first run3) event4
 happens4 = record {
@@ -93,7 +92,7 @@ happens4 = record {
   lawful = (tt, (record { pending = newly_issued (newly_accepted write); here = contains_here (newly_issued (newly_accepted write)) [] (newly_issued (newly_accepted write)) refl; id_is = refl; issued = refl }, refl, one_touched, refl));
   fit = ports_fit Ready refl;
   disks = λ e o h i same. (refl, refl);
-  answered = plain_service (moment_of first run3).machine (moment_of first run4).machine event4.steps (reply 1 ∷ []) (one_told (done write) outcome.Ok event4.steps refl (reply 1) refl) refl (λ p. none_there p) (λ e h. absurd (contains_none e h));
+  answered = plain_service (moment_of first run3).machine (moment_of first run4).machine event4.steps (reply 1 ∷ []) (one_told (done write) outcome.Ok event4.steps refl (reply 1) refl) refl (none_ended (moment_of first run3).machine event4.steps refl) (λ p. none_there p) (λ e h. absurd (contains_none e h));
 }
 
 -- ---- where the port fails first
@@ -122,6 +121,7 @@ happens_failed = record {
     unplugs = none_unplugged failed.steps (moment_of first (failed ∷ run3)).machine refl;
     issues = λ p _. none_there p;
     emptied = λ p ne e h. absurd (contains_none e h);
+    ended = λ p _. none_ended (moment_of first run3).machine failed.steps refl p;
     becomes = λ p. (λ dead. none_dead p dead, λ _. (stay_ready failure refl p, inl (refl, refl, refl, refl, refl, refl)));
     disk = λ p. inl (refl, refl, refl, refl, refl, refl);
   };

@@ -13,11 +13,11 @@ use Rattle.ata_types.specs.declared.refusal.Refusal.TheVariants as refused
 use Rattle.ata_types.specs.declared.grant.GrantRow.{GrantRow}
 use Rattle.block_machine.specs.Rules.{IsNamed}
 use Rattle.block_machine.specs.Refusals.{IsAcceptable}
-use Rattle.block_machine.specs.Ports.{Ports, Evidence, SamePorts, AreFit, IsServiced, IsStuck}
+use Rattle.block_machine.specs.Ports.{Ports, Evidence, MayBecome, SamePorts, AreFit, IsServiced, IsStuck}
 use Rattle.block_machine.specs.State.{Accepted, Pending, Machine}
 use Rattle.block_machine.specs.Steps.{Step, Issue, Age, Touch, End, Again, Answer, Release, IsNew, touch, mark_ended}
 use Rattle.block_machine.specs.Left.{after}
-use Rattle.block_machine.specs.Events.{AbstractState, Ask, AllMay, Belong, IsEmptied, IsRebooted, Submit, StoreAt, LoadAt, Service, Tick, Reset, State, Device, RevokeOf, CallResult, Submitted, Stored, Loaded, Served, WasReset, WasRevoked, Shown, Stepped, CallRecord, IsAnswered, Happens, AllLawful, AgesOnce, RestartsTimedOut, ReleasesOnce, IssuesLast, IsRun, IsStillStuck, StaysStuck, accepts_of, is_age, is_release, issues_it, handles, moment_of, situation_of, moment_after}
+use Rattle.block_machine.specs.Events.{AbstractState, Ask, AllMay, Belong, IsEmptied, Submit, StoreAt, LoadAt, Service, Tick, Reset, State, Device, RevokeOf, CallResult, Submitted, Stored, Loaded, Served, WasReset, WasRevoked, Shown, Stepped, CallRecord, IsAnswered, Happens, AllLawful, AgesOnce, RestartsTimedOut, ReleasesOnce, IssuesLast, IsRun, IsStillStuck, StaysStuck, accepts_of, is_age, is_release, issues_it, handles, moment_of, situation_of, moment_after}
 use Rattle.block_machine.proofs.Members.{contains_none, contains_cases, map_in}
 use Rattle.block_machine.proofs.Keeps.{at_keeps}
 use Rattle.block_machine.specs.Confined.{IsGranted}
@@ -58,22 +58,22 @@ data Kind {D : Type 0} (ask : Ask D) (said : CallResult) (old : AbstractState) (
   Serves : is_tick ask ≡ false → is_reset ask ≡ false → ((port : Port) → IsEmptied new port × IsServiced old.ports evidence new.ports port) → Kind ask said old evidence steps new was
   Ticks : is_reset ask ≡ false → AgesOnce old.ports steps → RestartsTimedOut old evidence steps new → ((port : Port) → old.ports.state port ≡ Ready → IsEmptied new port)
       → (was → StaysStuck ask said was) → Kind ask said old evidence steps new was
-  Resets : is_tick ask ≡ false → ReleasesOnce steps → ((port : Port) → IsRebooted old evidence steps new port) → Kind ask said old evidence steps new was
+  Resets : is_tick ask ≡ false → ReleasesOnce steps → ((port : Port) → IsEmptied new port × MayBecome old.ports evidence new.ports port) → Kind ask said old evidence steps new was
   Sticks : is_tick ask ≡ false → ((port : Port) → IsStuck old.ports evidence new.ports port) → StaysStuck ask said was → Kind ask said old evidence steps new was
 
 kind : {D : Type 0} (ask : Ask D) (said : CallResult) (old : AbstractState) (evidence : Evidence) (steps : List Step) (new : AbstractState) (was : Type 0) → IsAnswered ask said old evidence steps new → Kind ask said old evidence steps new was
 kind (Submit r) (Submitted (Ok id)) old evidence steps new was a = Leaves refl refl a.2 (λ w. w)
 kind (Submit r) (Submitted (Err refusal)) old evidence steps new was a = Leaves refl refl a.2 (λ w. w)
-kind (StoreAt c f o b) (Stored None) old evidence steps new was a = Leaves refl refl a.2 (λ w. w)
-kind (StoreAt c f o b) (Stored (Some fault)) old evidence steps new was a = Leaves refl refl a.2 (λ w. w)
-kind (LoadAt c f o n) (Loaded (Ok bytes)) old evidence steps new was a = Leaves refl refl a.2 (λ w. w)
-kind (LoadAt c f o n) (Loaded (Err fault)) old evidence steps new was a = Leaves refl refl a.2 (λ w. w)
+kind (StoreAt c f o b) (Stored None) old evidence steps new was a = Leaves refl refl a.0 (λ w. w)
+kind (StoreAt c f o b) (Stored (Some fault)) old evidence steps new was a = Leaves refl refl a.0 (λ w. w)
+kind (LoadAt c f o n) (Loaded (Ok bytes)) old evidence steps new was a = Leaves refl refl a.0 (λ w. w)
+kind (LoadAt c f o n) (Loaded (Err fault)) old evidence steps new was a = Leaves refl refl a.0 (λ w. w)
 kind (State port) (Shown state) old evidence steps new was a = Leaves refl refl a.2 (λ w. w)
 kind (Device d) (Stepped true) old evidence steps new was a = Leaves refl refl a.1 (λ w. w)
 kind (Device d) (Stepped false) old evidence steps new was a = Leaves refl refl a.1 (λ w. w)
 kind Service (Served replies) old evidence steps new was a = Serves refl refl (λ port. (a.emptied port, a.becomes port))
 kind Tick (Served replies) old evidence steps new was a = Ticks refl a.ages a.restarts a.emptied (λ w. w)
-kind Reset (WasReset (Some replies)) old evidence steps new was a = Resets refl a.releases a.reboots
+kind Reset (WasReset (Some replies)) old evidence steps new was a = Resets refl a.releases (λ port. (a.emptied port, a.becomes port))
 kind Reset (WasReset None) old evidence steps new was a = Sticks refl a.1 tt
 kind (RevokeOf c n) (WasRevoked (Some replies)) old evidence steps new was a = Leaves refl refl a.same (λ w. w)
 kind (RevokeOf c n) (WasRevoked None) old evidence steps new was a = Leaves refl refl a.2 (λ w. w)
@@ -167,7 +167,7 @@ placed_event ask said old evidence steps new was e fit here placed (Ticks r ages
     (λ h. absurd (false≢true (ap is_ready (sym dead.0) ∙ ap is_ready h.0.ready)))
     (hung.ports e.request.port))
     placed
-placed_event ask said old evidence steps new was e fit here placed (Resets t releases ports) = inl (emptied_ready new e here (ports e.request.port).emptied)
+placed_event ask said old evidence steps new was e fit here placed (Resets t releases ports) = inl (emptied_ready new e here (ports e.request.port).0)
 placed_event ask said old evidence steps new was e fit here placed (Sticks t ports keep) = inr (((ports e.request.port).1 (placed_served old.ports e.request.port was fit placed)).0, keep)
 
 pub law_unanswered_where_ready : {D : Type 0} (first : AbstractState) (run : List (CallRecord D)) (e : Pending) → IsRun first run → Contains (moment_of first run).machine.book e
@@ -347,9 +347,9 @@ dead_or _ = inr (λ e. false≢true (ap is_dead e))
 was_dead : {D : Type 0} (ask : Ask D) (said : CallResult) (old : AbstractState) (evidence : Evidence) (steps : List Step) (new : AbstractState) (port : Port) → AreFit new.ports → new.ports.state port ≡ Dead
     → Kind ask said old evidence steps new (Unit {0}) → (old.ports.state port ≡ Dead) ⊎ Contains evidence.stuck port
 was_dead ask said old evidence steps new port fit dead (Leaves t r same keep) = inl (sym (same port).1 ∙ dead)
-was_dead ask said old evidence steps new port fit dead (Serves t r ports) = ⊎_elim (λ was. inl was) (λ alive. inr (((ports port).1.1 alive).0.stuck dead)) (dead_or (old.ports.state port))
-was_dead ask said old evidence steps new port fit dead (Ticks r ages hung empty keep) = ⊎_elim (λ same. inl (sym same.1.1 ∙ dead)) (λ h. inr (h.1.stuck dead)) (hung.ports port)
-was_dead ask said old evidence steps new port fit dead (Resets t releases ports) = inr ((ports port).becomes.stuck dead)
+was_dead ask said old evidence steps new port fit dead (Serves t r ports) = ⊎_elim (λ was. inl was) (λ alive. inr (((ports port).1.1 alive).0.stuck.0 dead)) (dead_or (old.ports.state port))
+was_dead ask said old evidence steps new port fit dead (Ticks r ages hung empty keep) = ⊎_elim (λ same. inl (sym same.1.1 ∙ dead)) (λ h. inr (h.1.stuck.0 dead)) (hung.ports port)
+was_dead ask said old evidence steps new port fit dead (Resets t releases ports) = inr ((ports port).1.stuck.0 dead)
 was_dead ask said old evidence steps new port fit dead (Sticks t ports keep) =
     inr (((ports port).1 (sym (ports port).0 ∙ placed_served new.ports port (Unit {0}) fit (inr (dead, tt)))).1)
 

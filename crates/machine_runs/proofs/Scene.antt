@@ -267,7 +267,7 @@ pub serviced : (p : Port) → IsServiced ports none ports p
 serviced p = (
   λ dead. none_dead p dead,
   λ _. (
-    record { served = refl; stuck = λ e. none_dead p e; dies = λ h. absurd (contains_none p h); keeps = λ _. (refl, refl) },
+    record { served = refl; stuck = (λ e. none_dead p e, λ h. absurd (contains_none p h)); keeps = λ _. (refl, refl) },
     inl (refl, refl, refl, refl, refl, refl),
   ),
 )
@@ -292,8 +292,7 @@ changed_here old new evidence here p = go (p.0 == 0) refl
 pub stay_ready : (evidence : Evidence) → evidence.stuck ≡ [] → (p : Port) → MayBecome ports evidence ports p
 stay_ready evidence none p = record {
   served = refl;
-  stuck = λ dead. none_dead p dead;
-  dies = λ h. absurd (contains_none p (subst (λ (stuck : List Port). Contains stuck p) none h));
+  stuck = (λ dead. none_dead p dead, λ h. absurd (contains_none p (subst (λ (stuck : List Port). Contains stuck p) none h)));
   keeps = λ _. (refl, refl);
 }
 
@@ -357,14 +356,15 @@ emptied_of book mine p ne e h q = ne (subst (λ (x : Port). at_port Ready x ≡ 
 
 -- a service with no evidence, of a server whose one port stays ready
 pub plain_service : (old new : Machine) (steps : List Step) (replies : List Reply) → Tells steps replies → list_any is_unplugged steps ≡ false
-    → ((p : Port) → NoneDue mode (map unanswered new.book) p) → ((e : Pending) → Contains new.book e → e.request.port ≡ port)
+    → ((p : Port) → AnswersEnded old steps p) → ((p : Port) → NoneDue mode (map unanswered new.book) p) → ((e : Pending) → Contains new.book e → e.request.port ≡ port)
     → AnswersService (record { machine = old; ports = ports }) none steps replies (record { machine = new; ports = ports })
-plain_service old new steps replies tells plugged issues mine = record {
+plain_service old new steps replies tells plugged ended issues mine = record {
   tells = tells;
   dead = λ e o h dead. none_dead e.request.port dead;
   unplugs = none_unplugged steps new plugged;
   issues = λ p _. issues p;
   emptied = emptied_of new.book mine;
+  ended = λ p _. ended p;
   becomes = serviced;
   disk = λ p. inl (refl, refl, refl, refl, refl, refl);
 }

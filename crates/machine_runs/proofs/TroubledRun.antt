@@ -19,7 +19,7 @@ use Rattle.machine_runs.specs.Worked.{MeetsTrouble}
 use Rattle.block_machine.proofs.Members.{contains_none, contains_here, contains_there, contains_cases, none_of}
 use Rattle.block_machine.proofs.Keeps.{same_port}
 use Rattle.block_machine.proofs.Setting.{on, frame, row, two_rows, empty, empty_starts, acceptable, granted}
-use Rattle.machine_runs.proofs.Scene.{none, mode, id, one_sector, done, is_dead, IsQuiet, row_zero, write_at, fit_read, new, none_waits, none_there, one_told, none_told, one_touched, none_unplugged, is_unfit, is_told_dead, emptied_at}
+use Rattle.machine_runs.proofs.Scene.{none, mode, id, one_sector, done, is_dead, IsQuiet, row_zero, write_at, fit_read, new, none_waits, none_there, one_told, none_told, one_touched, none_unplugged, is_unfit, is_told_dead, emptied_at, none_ended, last_ended}
 
 -- ports 0 and 1 in these states, and no other port
 abbrev both : PortState → PortState → Port → PortState
@@ -182,7 +182,7 @@ stays : (p : Port) → IsServiced (ports_in Ready Absent) failure (ports_in Read
 stays p = (
   λ dead. not_dead Ready Absent refl refl p dead,
   λ _. (
-    record { served = refl; stuck = λ dead. not_dead Ready Absent refl refl p dead; dies = λ h. absurd (contains_none p h); keeps = λ _. (refl, refl) },
+    record { served = refl; stuck = (λ dead. not_dead Ready Absent refl refl p dead, λ h. absurd (contains_none p h)); keeps = λ _. (refl, refl) },
     inl (refl, refl, refl, refl, refl, refl),
   ),
 )
@@ -348,13 +348,13 @@ happens7 = record {
     unplugs = unplugs_all;
     issues = λ p _. none_waits _ refl p;
     emptied = λ p ne e h. emptied_at (both Ready Absent) (tried 2) refl p ne e h;
+    ended = λ p _. last_ended (moment_of first run6).machine service.steps (losing ∷ failing ∷ tried 1 ∷ []) (done finished) refl refl (done finished) refl (4, omega arith, refl) p;
     becomes = λ p. (
       λ dead. not_dead Ready Ready refl refl p dead,
       λ _. (
         record {
           served = refl;
-          stuck = λ dead. not_dead Ready Absent refl refl p dead;
-          dies = λ h. absurd (contains_none p h);
+          stuck = (λ dead. not_dead Ready Absent refl refl p dead, λ h. absurd (contains_none p h));
           keeps = λ _. (refl, refl);
         },
         changed_there service.evidence (second (on 0) (on 1)) p,
@@ -390,6 +390,7 @@ retried m n rows few = record {
     unplugs = none_unplugged (retry n).steps (moment_after (before m n) (retry n)).machine refl;
     issues = λ p _. none_waits _ refl p;
     emptied = λ p ne e h. emptied_at (both Ready Absent) (tried (suc n)) refl p ne e h;
+    ended = λ p _. none_ended (before m n).machine (retry n).steps refl p;
     becomes = stays;
     disk = λ p. inl (refl, refl, refl, refl, refl, refl);
   };
@@ -409,6 +410,7 @@ happens10 = record {
     unplugs = none_unplugged abort.steps (moment_after (moment_of first run9) abort).machine refl;
     issues = λ p _. none_there p;
     emptied = λ p ne e h. absurd (contains_none e h);
+    ended = λ p _. none_ended (moment_of first run9).machine abort.steps refl p;
     becomes = stays;
     disk = λ p. inl (refl, refl, refl, refl, refl, refl);
   };

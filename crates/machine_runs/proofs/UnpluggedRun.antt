@@ -115,19 +115,17 @@ restarted : RestartsTimedOut (moment_of first run5) gone tick.steps (moment_of f
 restarted = record {
   ports = restarts_into (moment_of first run5).machine Absent gone hung (λ p. record {
     served = refl;
-    stuck = λ dead. absent_not_dead p dead;
-    dies = λ h. absurd (contains_none p h);
+    stuck = (λ dead. absent_not_dead p dead, λ h. absurd (contains_none p h));
     keeps = λ _. (refl, refl);
   });
   again = λ e h. absurd (false≢true (sym (none_of is_again tick.steps (Again e) refl h)));
   answer = λ e o h. subst (λ (x : Port). HasTimedOut (moment_of first run5) x) (sym (each_step (λ step. port_of step ≡ port) refl refl refl (Answer e o) h)) hung;
   ended = λ p _. none_ended (moment_of first run5).machine tick.steps refl p;
   anew = λ p _ e h. absurd (contains_none e h);
-  interrupts = λ p h. inl (contains_here port [] p (ready_port p h.ready));
-  spares = λ p i. ⊎_elim
+  interrupts = λ p. (λ h. inl (contains_here port [] p (ready_port p h.ready)), λ i. ⊎_elim
       (λ h. subst (λ (x : Port). HasTimedOut (moment_of first run5) x) (sym (only_port p h)) hung)
       (λ h. absurd (contains_none p h))
-      i;
+      i);
   finds = λ e h. (λ dead. absent_not_dead e.request.port dead, λ ready. absent_not_ready e.request.port ready);
   disk = λ p _ shows. shows_none Absent (λ s. s) p shows;
 }

@@ -14,7 +14,7 @@ use Rattle.machine_runs.specs.Worked.{WaitsItsTurn}
 use Rattle.block_machine.proofs.Members.{contains_none, contains_here, contains_there, contains_cases}
 use Rattle.block_machine.proofs.Counting.{issued_not_due}
 use Rattle.block_machine.proofs.Setting.{port, empty_starts, acceptable, granted}
-use Rattle.machine_runs.proofs.Scene.{mode, first, id, call, reply, sector_request, done, served, IsQuiet, row_zero, fit_write, fit_read, new, one_issued, none_there, one_told, one_touched, ports_fit, plain_service, only_one}
+use Rattle.machine_runs.proofs.Scene.{mode, first, id, call, reply, sector_request, done, served, IsQuiet, row_zero, fit_write, fit_read, new, one_issued, none_there, one_told, one_touched, ports_fit, plain_service, only_one, none_ended, last_ended}
 
 abbrev pub run0 : List (CallRecord (Unit {0}))
 run0 = []
@@ -119,7 +119,7 @@ happens3 = record {
   lawful = (tt, (record { pending = newly_issued (newly_accepted write); here = contains_here (newly_issued (newly_accepted write)) (newly_accepted read ∷ []) (newly_issued (newly_accepted write)) refl; id_is = refl; issued = refl }, refl, one_touched, refl));
   fit = ports_fit Ready refl;
   disks = λ e o h i same. (refl, refl);
-  answered = plain_service (moment_of first run2).machine (moment_of first run3).machine event3.steps (reply 1 ∷ []) (one_told (done write) outcome.Ok event3.steps refl (reply 1) refl) refl (λ p. one_issued (unanswered (newly_issued (newly_accepted read))) refl p) (only_one (newly_issued (newly_accepted read)) (λ e. e.request.port ≡ port) refl);
+  answered = plain_service (moment_of first run2).machine (moment_of first run3).machine event3.steps (reply 1 ∷ []) (one_told (done write) outcome.Ok event3.steps refl (reply 1) refl) refl (none_ended (moment_of first run2).machine event3.steps refl) (λ p. one_issued (unanswered (newly_issued (newly_accepted read))) refl p) (only_one (newly_issued (newly_accepted read)) (λ e. e.request.port ≡ port) refl);
 }
 
 happens4 : Happens (moment_of first run3) event4
@@ -141,7 +141,7 @@ happens5 = record {
   lawful = (tt, (record { pending = done read; here = contains_here (done read) [] (done read) refl; id_is = refl; issued = refl }, refl, one_touched, refl));
   fit = ports_fit Ready refl;
   disks = λ e o h i same. (refl, refl);
-  answered = plain_service (moment_of first run4).machine (moment_of first run5).machine event5.steps (reply 2 ∷ []) (one_told (done read) outcome.Ok event5.steps refl (reply 2) refl) refl (λ p. none_there p) (λ e h. absurd (contains_none e h));
+  answered = plain_service (moment_of first run4).machine (moment_of first run5).machine event5.steps (reply 2 ∷ []) (one_told (done read) outcome.Ok event5.steps refl (reply 2) refl) refl (last_ended (moment_of first run4).machine event5.steps [] (done read) refl refl (done read) refl (0, omega arith, refl)) (λ p. none_there p) (λ e h. absurd (contains_none e h));
 }
 
 pub waits_its_turn : WaitsItsTurn

@@ -15,7 +15,7 @@ use Rattle.block_machine.specs.Events.{Submit, StoreAt, LoadAt, Service, Device,
 use Rattle.machine_runs.specs.Worked.{FindsTheFlushed, MayComeBack, ReadsOneOf}
 use Rattle.block_machine.proofs.Members.{contains_none, contains_here, contains_there, contains_cases}
 use Rattle.block_machine.proofs.Setting.{client, port, frame, request, empty_starts, acceptable, granted}
-use Rattle.machine_runs.proofs.Scene.{none, mode, first, at_port, ports_in, id, call, reply, sector_request, done, served, is_open, IsQuiet, row_zero, fit_write, fit_read, fit_flush, new, one_issued, none_there, one_told, none_told, one_touched, ports_fit, none_dead, none_unplugged, plain_service, ready_port, shows_none, changed_here, absent_not_dead}
+use Rattle.machine_runs.proofs.Scene.{none, mode, first, at_port, ports_in, id, call, reply, sector_request, done, served, is_open, IsQuiet, row_zero, fit_write, fit_read, fit_flush, new, one_issued, none_there, one_told, none_told, one_touched, ports_fit, none_dead, none_unplugged, plain_service, ready_port, shows_none, changed_here, absent_not_dead, none_ended}
 
 abbrev run0 : List (CallRecord (Unit {0}))
 run0 = []
@@ -161,7 +161,7 @@ happens1 = record {
   lawful = tt;
   fit = ports_fit Ready refl;
   disks = λ e o h i same. (refl, refl);
-  answered = (is_open (moment_of first run0).machine 100 0 1 refl refl (omega arith), refl, λ p. (refl, refl, refl, refl, refl, refl));
+  answered = (λ p. (refl, refl, refl, refl, refl, refl), is_open (moment_of first run0).machine 100 0 1 refl refl (omega arith), refl);
 }
 
 happens2 : Happens (moment_of first run1) event2
@@ -183,7 +183,7 @@ happens3 = record {
   lawful = (tt, (record { pending = newly_issued (newly_accepted write); here = contains_here (newly_issued (newly_accepted write)) [] (newly_issued (newly_accepted write)) refl; id_is = refl; issued = refl }, refl, one_touched, refl));
   fit = ports_fit Ready refl;
   disks = λ e o h i same. (refl, refl);
-  answered = plain_service (moment_of first run2).machine (moment_of first run3).machine event3.steps (reply 1 ∷ []) (one_told (done write) outcome.Ok event3.steps refl (reply 1) refl) refl (λ p. none_there p) (λ e h. absurd (contains_none e h));
+  answered = plain_service (moment_of first run2).machine (moment_of first run3).machine event3.steps (reply 1 ∷ []) (one_told (done write) outcome.Ok event3.steps refl (reply 1) refl) refl (none_ended (moment_of first run2).machine event3.steps refl) (λ p. none_there p) (λ e h. absurd (contains_none e h));
 }
 
 happens4 : Happens (moment_of first run3) event4
@@ -205,7 +205,7 @@ happens5 = record {
   lawful = (tt, (record { pending = newly_issued (newly_accepted flush); here = contains_here (newly_issued (newly_accepted flush)) [] (newly_issued (newly_accepted flush)) refl; id_is = refl; issued = refl }, refl, (λ k lt. absurd (omega (arith, lt))), refl));
   fit = ports_fit Ready refl;
   disks = λ e o h i same. (refl, refl);
-  answered = plain_service (moment_of first run4).machine (moment_of first run5).machine event5.steps (reply 2 ∷ []) (one_told (mark_ended (newly_issued (newly_accepted flush))) outcome.Ok event5.steps refl (reply 2) refl) refl (λ p. none_there p) (λ e h. absurd (contains_none e h));
+  answered = plain_service (moment_of first run4).machine (moment_of first run5).machine event5.steps (reply 2 ∷ []) (one_told (mark_ended (newly_issued (newly_accepted flush))) outcome.Ok event5.steps refl (reply 2) refl) refl (none_ended (moment_of first run4).machine event5.steps refl) (λ p. none_there p) (λ e h. absurd (contains_none e h));
 }
 
 happens6 : Happens (moment_of first run5) event6
@@ -216,7 +216,7 @@ happens6 = record {
   lawful = tt;
   fit = ports_fit Ready refl;
   disks = λ e o h i same. (refl, refl);
-  answered = (is_open (moment_of first run5).machine 100 0 1 refl refl (omega arith), refl, λ p. (refl, refl, refl, refl, refl, refl));
+  answered = (λ p. (refl, refl, refl, refl, refl, refl), is_open (moment_of first run5).machine 100 0 1 refl refl (omega arith), refl);
 }
 
 happens7 : Happens (moment_of first run6) event7
@@ -238,7 +238,7 @@ happens8 = record {
   lawful = (tt, (record { pending = newly_issued (newly_accepted later); here = contains_here (newly_issued (newly_accepted later)) [] (newly_issued (newly_accepted later)) refl; id_is = refl; issued = refl }, refl, one_touched, refl));
   fit = ports_fit Ready refl;
   disks = λ e o h i same. (refl, refl);
-  answered = plain_service (moment_of first run7).machine (moment_of first run8).machine event8.steps (reply 3 ∷ []) (one_told (done later) outcome.Ok event8.steps refl (reply 3) refl) refl (λ p. none_there p) (λ e h. absurd (contains_none e h));
+  answered = plain_service (moment_of first run7).machine (moment_of first run8).machine event8.steps (reply 3 ∷ []) (one_told (done later) outcome.Ok event8.steps refl (reply 3) refl) refl (none_ended (moment_of first run7).machine event8.steps refl) (λ p. none_there p) (λ e h. absurd (contains_none e h));
 }
 
 happens9 : Happens (moment_of first run8) event9
@@ -267,7 +267,8 @@ happens10 = record {
     unplugs = none_unplugged [] (moment_of first run10).machine refl;
     issues = λ p _. none_there p;
     emptied = λ p ne e h. absurd (contains_none e h);
-    becomes = λ p. (λ dead. none_dead p dead, λ _. (record { served = refl; stuck = λ dead. absent_not_dead p dead; dies = λ h. absurd (contains_none p h); keeps = λ _. (refl, refl) }, changed_here Ready Absent gone (inl (contains_here port [] port refl)) p));
+    ended = λ p _. none_ended (moment_of first run9).machine [] refl p;
+    becomes = λ p. (λ dead. none_dead p dead, λ _. (record { served = refl; stuck = (λ dead. absent_not_dead p dead, λ h. absurd (contains_none p h)); keeps = λ _. (refl, refl) }, changed_here Ready Absent gone (inl (contains_here port [] port refl)) p));
     disk = λ p. inr (λ shows. shows_none Absent (λ s. s) p shows);
   };
 }
@@ -308,7 +309,8 @@ happens12 disk = record {
     unplugs = none_unplugged [] (moment_of first (run12 disk)).machine refl;
     issues = λ p _. none_there p;
     emptied = λ p ne e h. absurd (contains_none e h);
-    becomes = λ p. (λ dead. absent_not_dead p dead, λ _. (record { served = refl; stuck = λ dead. none_dead p dead; dies = λ h. absurd (contains_none p h); keeps = λ _. (refl, refl) }, changed_here Absent Ready booting (inl (contains_here port [] port refl)) p));
+    ended = λ p _. none_ended (moment_of first (run11 disk)).machine [] refl p;
+    becomes = λ p. (λ dead. absent_not_dead p dead, λ _. (record { served = refl; stuck = (λ dead. none_dead p dead, λ h. absurd (contains_none p h)); keeps = λ _. (refl, refl) }, changed_here Absent Ready booting (inl (contains_here port [] port refl)) p));
     disk = λ p. inr (λ shows. inl (present p (shows_ready p shows)));
   };
 }
@@ -332,7 +334,7 @@ happens14 disk = record {
   lawful = (tt, (record { pending = newly_issued (newly_accepted (read disk)); here = contains_here (newly_issued (newly_accepted (read disk))) [] (newly_issued (newly_accepted (read disk))) refl; id_is = refl; issued = refl }, refl, one_touched, refl));
   fit = ports_fit Ready refl;
   disks = λ e o h i same. (refl, refl);
-  answered = plain_service (moment_of first (run13 disk)).machine (moment_of first (run14 disk)).machine (event14 disk).steps (reply 4 ∷ []) (one_told (done (read disk)) outcome.Ok (event14 disk).steps refl (reply 4) refl) refl (λ p. none_there p) (λ e h. absurd (contains_none e h));
+  answered = plain_service (moment_of first (run13 disk)).machine (moment_of first (run14 disk)).machine (event14 disk).steps (reply 4 ∷ []) (one_told (done (read disk)) outcome.Ok (event14 disk).steps refl (reply 4) refl) refl (none_ended (moment_of first (run13 disk)).machine (event14 disk).steps refl) (λ p. none_there p) (λ e h. absurd (contains_none e h));
 }
 
 loaded : (disk : DiskBytes) (b : ℕ) → b < 1 → slice_index (disk 100 0 ∷ []) b ≡ (moment_of first (run14 disk)).machine.memory (frame 101) (0 + b)
@@ -346,7 +348,7 @@ happens15 disk = record {
   lawful = tt;
   fit = ports_fit Ready refl;
   disks = λ e o h i same. (refl, refl);
-  answered = (is_open (moment_of first (run14 disk)).machine 101 0 1 refl refl (omega arith), refl, λ p. (refl, refl, refl, refl, refl, refl));
+  answered = (λ p. (refl, refl, refl, refl, refl, refl), is_open (moment_of first (run14 disk)).machine 101 0 1 refl refl (omega arith), refl);
 }
 
 runs10 : IsRun first run10

@@ -81,7 +81,7 @@ abbrev pub IsUnfit : ℕ → ℕ → Device → Type 0
 IsUnfit n port d = ((n ≡ 7) × BacksFault Busy (d.port port).notes)
     ⊎ ((n ≡ 8) × ((signature : ℕ) × BacksFault (NotAta signature) (d.port port).notes))
     ⊎ ((n ≡ 9) × SawDevice (d.port port).notes × ((d.port port).notes.command_count ≡ READINGS))
-    ⊎ ((page : List ℕ) × HasPage port d page × HasUnfitNumber n page)
+    ⊎ ((page : List ℕ) × HasPage port d page × ((fault : Fault) × IsFirstUnfit page fault × (n ≡ unfit_number fault)))
 
 -- the state that tells of a fault
 abbrev pub IsStateOfFault : PortState → PortFault → Type 0

@@ -86,7 +86,7 @@ ShowsIdle v = bit v 7 || bit v 3 ≡ false
 
 -- a device with a link, since SCTL was written
 abbrev pub SawDevice : Notes → Type 0
-SawDevice n = HasLink n.last_ssts × (n.link_count ≡ READINGS)
+SawDevice n = (n.last_ssts % 16 ≡ 3) × (n.link_count ≡ READINGS)
 
 -- neither BSY nor DRQ
 abbrev pub SawIdle : Notes → Type 0
@@ -98,7 +98,7 @@ abbrev pub BacksFault : PortFault → Notes → Type 0
 BacksFault NoDevice n = (n.last_ssts % 16 ≢ 3) × (n.link_count ≡ READINGS)
 BacksFault Busy n = SawDevice n × (n.busy_count ≡ READINGS)
 BacksFault EngineStuck n = n.engine_count ≡ READINGS
-BacksFault (NotAta signature) n = SawDevice n × SawIdle n × (n.last_sig ≡ signature) × (signature ≢ 0x101)
+BacksFault (NotAta signature) n = SawDevice n × ShowsIdle n.last_tfd × (n.last_sig ≡ signature) × (signature ≢ 0x101)
 
 -- ---- what the calls leave
 

@@ -32,17 +32,13 @@ pub record MovesSector (m : Machine) (op : Op) (move : tape_move.Move) (steps : 
   pub lent : m.lent (frame_at pending.request.asked.frames.items (number / 8)) ≡ Some pending.request.id
   pub step : steps ≡ Touch pending number (slice_index move.bytes.value) ∷ []
 
--- a page or a block went between disk and scratch frame: no step of the machine
-pub record IsPageMove (move : tape_move.Move) (steps : List Step) : Type 0 where
-  pub place_is : move.address ≡ scratch_of move.port.0
-  pub none : steps ≡ []
-
--- a move, by the client's operation that its command does
+-- A move, by the client's operation that its command does. A page, or a trim's block, goes between disk and scratch
+-- frame: that is no step of the machine.
 abbrev pub TellsMove : Option Op → Machine → tape_move.Move → List Step → Type 0
-TellsMove None m move steps = IsPageMove move steps
+TellsMove None m move steps = (move.address ≡ scratch_of move.port.0) × (steps ≡ [])
 TellsMove (Some Read) m move steps = MovesSector m Read move steps
 TellsMove (Some Write) m move steps = MovesSector m Write move steps
-TellsMove (Some Trim) m move steps = IsPageMove move steps
+TellsMove (Some Trim) m move steps = (move.address ≡ scratch_of move.port.0) × (steps ≡ [])
 TellsMove (Some Flush) m move steps = ⊥
 
 -- n sectors touched in a row, from one on: the request then, and the steps, the newest first. No bytes are moved.
@@ -79,13 +75,7 @@ abbrev pub TellsDone : Option Op → Machine → tape_done.Done → List Step �
 TellsDone None m done steps = steps ≡ []
 TellsDone (Some op) m done steps = EndsPending m op done steps
 
--- another disk was put in: which one
-pub record IsReplace (port : Port) (name : ℕ) (steps : List Step) : Type 0 where
-  pub size : ℕ
-  pub content : DiskBytes
-  pub step : steps ≡ Replace port name size content ∷ []
-
--- the machine's steps that an entry tells of
+-- The machine's steps that an entry tells of. Of a disk that was put in the tape has the name alone.
 abbrev pub TellsEntry : Machine → Entry → List Step → Type 0
 TellsEntry m (entry.Move move) steps = TellsMove (op_of move.operation) m move steps
 TellsEntry m (entry.Clear clear) steps = ClearsSectors m clear steps
@@ -93,7 +83,8 @@ TellsEntry m (entry.Done done) steps = TellsDone (op_of done.operation) m done s
 TellsEntry m (entry.Fault fault) steps = steps ≡ []
 TellsEntry m (entry.Fatal port) steps = steps ≡ []
 TellsEntry m (entry.Unplug port) steps = steps ≡ Unplug port ∷ []
-TellsEntry m (entry.Plug port name) steps = IsReplace port name steps
+TellsEntry m (entry.Plug port name) steps =
+    (size : ℕ) × (content : DiskBytes) × (steps ≡ Replace port name size content ∷ [])
 
 -- the entries, the oldest first, tell of these steps, the newest first: nothing else, and in their order
 abbrev pub TapeTells : Machine → List Entry → List Step → Type 0

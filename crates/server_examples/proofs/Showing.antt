@@ -57,7 +57,8 @@ has_run device old new events before after promised empty begun telling =
       first = begun.0;
       begun = begun.1;
       past = kept.added;
-      calls = kept.clients.calls;
+      asks = kept.clients.asks;
+      says = kept.clients.says;
       leads = subst (λ (past : List (Happening Device DeviceStep)). LeadsToServer begun.0 past (server_of device new)) whole kept.driver.leads;
       run = subst (λ (past : List (Happening Device DeviceStep)). IsRun begun.0.moment (events_of past)) whole kept.clients.run;
       reads = subst (λ (past : List (Happening Device DeviceStep)). EveryReadHolds begun.0.moment (events_of past)) whole
@@ -92,7 +93,7 @@ grows (h ∷ calls) past (event ∷ events) (one ∷ more) asks says =
 
 grown : {A : Type 0} {device : A → Device} {old new : ServerView A} {events : List (Call DeviceStep)} {some : List (CallResult (ArrayVec Reply))} (r : HasRun device old new events some) → Grows [] (asks_of events some) r.past
 grown {A} {device} {old} {new} {events} {some} r =
-    subst (Grows [] (asks_of events some)) (append-nil (reverse (reverse r.past)) ∙ reverse-reverse r.past) (grows (reverse r.past) [] events some r.calls.asks r.calls.says)
+    subst (Grows [] (asks_of events some)) (append-nil (reverse (reverse r.past)) ∙ reverse-reverse r.past) (grows (reverse r.past) [] events some r.asks r.says)
 
 pub has_said : {A : Type 0} {device : A → Device} {old new : ServerView A} {events : List (Call DeviceStep)} {some other : List (CallResult (ArrayVec Reply))} → HasRun device old new events some → some ≡ other → HasRun device old new events other
 has_said {A} {device} {old} {new} {events} {some} {other} r is = subst (HasRun device old new events) is r
@@ -456,7 +457,7 @@ store_refused : (old : AbstractState) (event : CallRecord DeviceStep) (client : 
 store_refused old event client frame offset bytes is says answered =
     let said_so = subst (λ (s : machine.CallResult). IsAnswered event.ask s old event.evidence event.steps (moment_after old event)) says answered in
     let a = subst (λ (q : Ask DeviceStep). IsAnswered q (Stored (Some FrameLent)) old event.evidence event.steps (moment_after old event)) is said_so in
-    subst (λ (xs : List Step). IsSome ((after old.machine xs).lent frame)) (sym a.1) a.0.0
+    subst (λ (xs : List Step). IsSome ((after old.machine xs).lent frame)) (sym a.2) a.1.0
 
 some_of : {X : Type 0} (o : Option X) → IsSome o → (x : X) × (o ≡ Some x)
 some_of None is = absurd (false≢true is)
@@ -472,7 +473,7 @@ store_done : (old : AbstractState) (event : CallRecord DeviceStep) (client : Cli
 store_done old event client frame offset bytes is says answered =
     let said_so = subst (λ (s : machine.CallResult). IsAnswered event.ask s old event.evidence event.steps (moment_after old event)) says answered in
     let a = subst (λ (q : Ask DeviceStep). IsAnswered q (Stored None) old event.evidence event.steps (moment_after old event)) is said_so in
-    none_of (old.machine.lent frame) (λ lent. a.0 FrameLent lent)
+    none_of (old.machine.lent frame) (λ lent. a.1 FrameLent lent)
 
 -- a reset that ends, and answers nothing
 reset_releases : (old : AbstractState) (event : CallRecord DeviceStep) → event.ask ≡ AskReset → event.said ≡ WasReset (Some [])

@@ -1,5 +1,5 @@
 -- Histories of the server that are shown to exist, by calls of it that are made (this project's own).
-use Rattle.std.specs.Prelude.{◌≡◌, ◌⊎◌, ◌≤◌, true, None, List, [], ◌∷◌, ◌++◌, count_by, cond, Contains, Some, ◌+◌, map, Ok as Done, Err}
+use Rattle.std.specs.Prelude.{◌≡◌, ◌⊎◌, ◌≤◌, true, None, List, [], ◌∷◌, ◌++◌, count_by, cond, Contains, Some, ◌+◌, map, reverse, Ok as Done, Err}
 use Rattle.ata_types.specs.declared.Port.{Port}
 use Rattle.ata_types.specs.declared.PortState.TheVariants.{Absent, Ready, Dead}
 use Rattle.ata_types.specs.declared.request.Frame.{Frame}
@@ -25,7 +25,6 @@ use Rattle.identify.specs.declared.wanted.Wanted.{Wanted}
 use Rattle.machine_runs.specs.Told.{AsksFor, CameFrom, CallAnswersOk, WasAsked, waits_again}
 use Rattle.server_history.specs.Histories.{LeadsToServer}
 use Rattle.server_history.specs.Server.{ServerState}
-use Rattle.block_server.specs.Clients.{AreCalls}
 use Rattle.block_server.specs.Running.{ask_of, said_of}
 use Rattle.block_server.specs.View.{ServerView, server_of}
 use Rattle.arrayvec.specs.ArrayVec.{ArrayVec}
@@ -40,7 +39,8 @@ pub record HasRun {A : Type 0} (device : A → Device) (old new : ServerView A) 
   pub first : JointState Device
   pub begun : LeadsToServer first [] (server_of device old)
   pub past : List (Happening Device DeviceStep)
-  pub calls : AreCalls past (map ask_of asked) (map said_of said)
+  pub asks : map (λ h. h.event.ask) (reverse past) ≡ map ask_of asked
+  pub says : map (λ h. h.event.said) (reverse past) ≡ map said_of said
   pub leads : LeadsToServer first past (server_of device new)
   pub run : IsRun first.moment (events_of past)
   pub reads : EveryReadHolds first.moment (events_of past)

@@ -355,7 +355,7 @@ module _ (uses : SlotStates) (m : Machine) (d : Device) (a : StateRelation uses 
         told = λ t. (tt, λ same. comes_back t (known (same ∙ (a.disk port).id)));
         gained = _;
         tape = refl;
-        tells = (machine.Replace (port_at port) disk.name disk.size content ∷ [], [], record { size = disk.size; content = content; step = refl }, refl, refl);
+        tells = (machine.Replace (port_at port) disk.name disk.size content ∷ [], [], (disk.size, content, refl), refl, refl);
         plugged = changed_at d.port port _ (λ q p. (disks : List device.Disk) × (p.plugged ≡ (d.port q).plugged ++ disks) × PutsInDisks q disks (machine.Replace (port_at port) disk.name disk.size content ∷ []))
             (disk ∷ [], refl, inr (refl, ([], disk, refl, record { name_is = refl; size_is = refl; holds = λ told is k b kl bl. ap (λ (o : Option (ℕ → List ℕ)). content_of o k b) (sym is) }, refl)))
             (λ q ne. ([], sym (append-nil (d.port q).plugged), inl (λ e. ne (sym e), refl)));

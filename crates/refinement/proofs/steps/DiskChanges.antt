@@ -51,10 +51,10 @@ module _ (port : Port) where
   none_of all steps e none = ap Changes e ∙ none
 
   move_none : (o : Option Op) (m : Machine) (move : tape_move.Move) (steps : List Step) → TellsMove o m move steps → Changes steps ≡ false
-  move_none None m move steps t = none_of _ steps t.none refl
+  move_none None m move steps t = none_of _ steps t.1 refl
   move_none (Some Read) m move steps t = none_of _ steps t.step refl
   move_none (Some Write) m move steps t = none_of _ steps t.step refl
-  move_none (Some Trim) m move steps t = none_of _ steps t.none refl
+  move_none (Some Trim) m move steps t = none_of _ steps t.1 refl
   move_none (Some Flush) m move steps t = absurd t
 
   done_none : (o : Option Op) (m : Machine) (done : tape_done.Done) (steps : List Step) → TellsDone o m done steps → Changes steps ≡ false
@@ -76,7 +76,7 @@ module _ (port : Port) where
   entry_alike m (entry.Fault fault) steps t = inr (λ x. x, none_of _ steps t refl)
   entry_alike m (entry.Fatal at) steps t = inr (λ x. x, none_of _ steps t refl)
   entry_alike m (entry.Unplug at) steps t = at_one at (Unplug at) refl steps t
-  entry_alike m (entry.Plug at name) steps t = at_one at (Replace at name t.size t.content) refl steps t.step
+  entry_alike m (entry.Plug at name) steps t = at_one at (Replace at name t.0 t.1) refl steps t.2
 
   -- ---- entries
 

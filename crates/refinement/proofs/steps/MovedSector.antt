@@ -382,7 +382,7 @@ module _ (uses : SlotStates) (m : Machine) (d : Device) (a : StateRelation uses 
         told = λ _. tt;
         gained = _;
         tape = refl;
-        tells = ([], [], subst (λ (w : Option Op). TellsMove w m (move_of port slot t bytes) []) (sym o) (record { place_is = trim_place.2; none = refl }), refl, refl);
+        tells = ([], [], subst (λ (w : Option Op). TellsMove w m (move_of port slot t bytes) []) (sym o) (trim_place.2, refl), refl, refl);
         plugged = plugged_kept d port _ [] refl (λ _. refl);
         agrees = acted NoPort uses m m d a d.memory (d.tape ++ entry.Move (move_of port slot t bytes) ∷ []) port slot _ (record {
           id = record { 0 = 0 };

@@ -135,7 +135,7 @@ module _ (uses : SlotStates) (m : Machine) (d : Device) (a : StateRelation uses 
       told = λ _. tt;
       gained = _;
       tape = refl;
-      tells = ([], [], subst (λ (w : Option Op). TellsMove w m (move_of port slot t bytes) []) (sym (ap op_of operation_is ∙ h.own)) (record { place_is = place; none = refl }), refl, refl);
+      tells = ([], [], subst (λ (w : Option Op). TellsMove w m (move_of port slot t bytes) []) (sym (ap op_of operation_is ∙ h.own)) (place, refl), refl, refl);
       plugged = plugged_kept d port _ [] refl (λ _. refl);
       agrees = acted Here uses m m d a (patched d.memory (next_place t) bytes) (d.tape ++ entry.Move (move_of port slot t bytes) ∷ []) port slot _ (record {
         id = record { 0 = 0 };

@@ -44,10 +44,10 @@ from_steps : {steps all : List Step} → steps ≡ all → AllDevices all → Al
 from_steps e a = subst AllDevices (sym e) a
 
 move_device : (o : Option Op) (m : Machine) (move : tape_move.Move) (steps : List Step) → TellsMove o m move steps → AllDevices steps
-move_device None m move steps t = from_steps t.none tt
+move_device None m move steps t = from_steps t.1 tt
 move_device (Some Read) m move steps t = from_steps t.step (tt, tt)
 move_device (Some Write) m move steps t = from_steps t.step (tt, tt)
-move_device (Some Trim) m move steps t = from_steps t.none tt
+move_device (Some Trim) m move steps t = from_steps t.1 tt
 move_device (Some Flush) m move steps t = absurd t
 
 done_device : (o : Option Op) (m : Machine) (done : tape_done.Done) (steps : List Step) → TellsDone o m done steps → AllDevices steps
@@ -61,7 +61,7 @@ entry_device m (entry.Done done) steps t = done_device (op_of done.operation) m 
 entry_device m (entry.Fault fault) steps t = from_steps t tt
 entry_device m (entry.Fatal port) steps t = from_steps t tt
 entry_device m (entry.Unplug port) steps t = from_steps t (tt, tt)
-entry_device m (entry.Plug port name) steps t = from_steps t.step (tt, tt)
+entry_device m (entry.Plug port name) steps t = from_steps t.2 (tt, tt)
 
 pub tells_device : (m : Machine) (entries : List Entry) (steps : List Step) → TapeTells m entries steps → AllDevices steps
 tells_device m [] steps t = from_steps t tt

@@ -205,8 +205,7 @@ serviced_lift a b c d one other q x y alike i = (
   (λ lives. let w = i.1 (λ dead. lives (sym x.1 ∙ dead)) in (
     record {
       served = y.0 ∙ w.0.served ∙ x.0;
-      stuck = λ dead. alike.stuck.0 (w.0.stuck (sym y.1 ∙ dead));
-      dies = λ named. y.1 ∙ w.0.dies (alike.stuck.1 named);
+      stuck = (λ dead. alike.stuck.0 (w.0.stuck.0 (sym y.1 ∙ dead)), λ named. y.1 ∙ w.0.stuck.1 (alike.stuck.1 named));
       keeps = λ unready. same_disk a b c d q x y (w.0.keeps (λ ready. unready (y.1 ∙ ready)));
     },
     ⊎_elim (λ same. inl (same_then a c d q (same_then a b c q x same) y)) (λ int. inr (⊎_elim (λ s. inl (alike.stopped.0 s)) (λ t. inr (alike.stuck.0 t)) int)) w.1,

@@ -179,8 +179,7 @@ module _ (laws : LawsBelow) (s : ServerState) (t : StuckInvariant s) where
         answer = λ e o here. absurd (none_answered e o here);
         ended = λ port hung. absurd (not_hung port hung);
         anew = λ port hung. absurd (not_hung port hung);
-        interrupts = λ port hung. absurd (not_hung port hung);
-        spares = λ port i. absurd (uninterrupted s.device old.ports port i);
+        interrupts = λ port. (λ hung. absurd (not_hung port hung), λ i. absurd (uninterrupted s.device old.ports port i));
         finds = λ e here. absurd (none_answered e _ here);
         disk = λ port hung. absurd (not_hung port hung);
       };

@@ -444,8 +444,7 @@ module _ (laws : LawsBelow) (s : ServerState) (t : StuckInvariant s) where
             (λ alive. (
               record {
                 served = same.0;
-                stuck = λ dead. absurd (alive (sym same.1 ∙ dead));
-                dies = λ here. absurd (nowhere port here);
+                stuck = (λ dead. absurd (alive (sym same.1 ∙ dead)), λ here. absurd (nowhere port here));
                 keeps = λ unready. (same.2, same.3);
               },
               inl same,
@@ -462,6 +461,7 @@ module _ (laws : LawsBelow) (s : ServerState) (t : StuckInvariant s) where
         unplugs = deaths_unplug_none (ports_of s) x.steps x.deaths (after old.machine x.steps);
         issues = λ port ready. absurd (never_ready s t.dead port.0 ready);
         emptied = λ port unready. nobody_waits port;
+        ended = λ port ready. absurd (never_ready s t.dead port.0 ((same_ports port).1 ∙ ready));
         becomes = becomes;
         disk = λ port. inl (same_ports port);
       }

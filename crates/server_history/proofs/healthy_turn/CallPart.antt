@@ -276,8 +276,7 @@ module _ (laws : LawsBelow) (port : Port) (replies : List Reply) (old new : Serv
       λ lives. (
         record {
           served = port_same.0;
-          stuck = λ dead. absurd (lives (sym port_same.1 ∙ dead));
-          dies = λ stuck. absurd (nowhere port stuck);
+          stuck = (λ dead. absurd (lives (sym port_same.1 ∙ dead)), λ stuck. absurd (nowhere port stuck));
           keeps = λ _. (port_same.2, port_same.3);
         },
         inl port_same,

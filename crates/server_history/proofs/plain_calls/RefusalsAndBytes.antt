@@ -195,7 +195,7 @@ module _ (laws : LawsBelow) where
         → IsFirstMemFault (owner_of s.table) (lent_to s.table) client frame offset (length bytes) fault → ExtendsHistory s s (StoreAt client frame offset bytes) (store_said (Err fault))
     store_refused_event client frame offset bytes fault is =
         nothing_event s (StoreAt client frame offset bytes) (store_said (Err fault)) goes (λ m. (refl, refl))
-        (λ old at evidence. (as_told s old.moment.machine at.machine (λ owner lent. IsFirstMemFault owner lent client frame offset (length bytes) fault) is, refl, ports_same old.moment.ports (ports_of s) at.ports_are))
+        (λ old at evidence. (ports_same old.moment.ports (ports_of s) at.ports_are, as_told s old.moment.machine at.machine (λ owner lent. IsFirstMemFault owner lent client frame offset (length bytes) fault) is, refl))
         (λ old was at port. tt)
         (λ m are port. record { finds = tt; faults = tt; probes = tt; boots = tt; port_error = goes.port_error m are port; well = λ i. absurd (uninterrupted s.device m.ports port i); heeds = uninterrupted s.device m.ports port })
 
@@ -203,7 +203,7 @@ module _ (laws : LawsBelow) where
         → IsFirstMemFault (owner_of s.table) (lent_to s.table) client frame offset count fault → ExtendsHistory s s (LoadAt client frame offset count) (load_said (Err fault) bytes)
     load_refused_event client frame offset count bytes fault is =
         nothing_event s (LoadAt client frame offset count) (load_said (Err fault) bytes) goes (λ m. (refl, refl))
-        (λ old at evidence. (as_told s old.moment.machine at.machine (λ owner lent. IsFirstMemFault owner lent client frame offset count fault) is, refl, ports_same old.moment.ports (ports_of s) at.ports_are))
+        (λ old at evidence. (ports_same old.moment.ports (ports_of s) at.ports_are, as_told s old.moment.machine at.machine (λ owner lent. IsFirstMemFault owner lent client frame offset count fault) is, refl))
         (λ old was at port. tt)
         (λ m are port. record { finds = tt; faults = tt; probes = tt; boots = tt; port_error = goes.port_error m are port; well = λ i. absurd (uninterrupted s.device m.ports port i); heeds = uninterrupted s.device m.ports port })
 
@@ -259,7 +259,7 @@ module _ (laws : LawsBelow) where
           x.0.may (devices_belong {D = DeviceStep} (LoadAt client frame offset (length bytes)) (ports_of s) x.0.steps x.0.only, inr (refl, refl, refl, refl))
           (devices_last x.0.steps x.0.only, λ id h i. false≢true h)
           (devices_lawful old.moment no_evidence (ports_of s) x.0.steps x.0.only)
-          (as_told s old.moment.machine at.machine (λ owner lent. IsOpen owner lent client frame offset (length bytes)) opens, ap (λ (rest : List (List ℕ)). bytes ∷ rest) (devices_transfer x.0.steps x.0.only), ports_same old.moment.ports (ports_of s) at.ports_are)
+          (ports_same old.moment.ports (ports_of s) at.ports_are, as_told s old.moment.machine at.machine (λ owner lent. IsOpen owner lent client frame offset (length bytes)) opens, ap (λ (rest : List (List ℕ)). bytes ∷ rest) (devices_transfer x.0.steps x.0.only))
           tt
           (Loading (4096 * frame.0 + offset) bytes ∷ [])
           ((new, loads, refl), refl)
@@ -277,7 +277,7 @@ module _ (laws : LawsBelow) where
           x.0.may (devices_belong {D = DeviceStep} (StoreAt client frame offset bytes) (ports_of s) x.0.steps x.0.only, inr (refl, refl, refl, refl))
           (devices_last x.0.steps x.0.only, λ id h i. false≢true h)
           (devices_lawful old.moment no_evidence (ports_of s) x.0.steps x.0.only)
-          (as_told s old.moment.machine at.machine (λ owner lent. IsOpen owner lent client frame offset (length bytes)) opens, ap (λ (rest : List (List ℕ)). bytes ∷ rest) (devices_transfer x.0.steps x.0.only), ports_same old.moment.ports (ports_of s) at.ports_are)
+          (ports_same old.moment.ports (ports_of s) at.ports_are, as_told s old.moment.machine at.machine (λ owner lent. IsOpen owner lent client frame offset (length bytes)) opens, ap (λ (rest : List (List ℕ)). bytes ∷ rest) (devices_transfer x.0.steps x.0.only))
           tt
           (Storing (4096 * frame.0 + offset) bytes ∷ [])
           ((new, stores, refl), refl)

@@ -220,8 +220,7 @@ module _ (laws : LawsBelow) (port : Port) (replies : List Reply) (old new : Serv
     λ lives. (
       record {
         served = ap is_served found_new ∙ found_served (wanted_of old.wanted port.0) port x.port_error a.was x.result.next a.device r.mid.device a.found a.is ∙ sym (ap is_served a.ready);
-        stuck = λ dead. subst (λ (p : Revalidation). Contains (stuck_of port p) port) (sym (found_prospect (dead_found dead))) ((0, omega arith, refl));
-        dies = λ stuck. state_new ∙ ap state_of (dead_prospect (stuck_is port a.revalidation stuck));
+        stuck = (λ dead. subst (λ (p : Revalidation). Contains (stuck_of port p) port) (sym (found_prospect (dead_found dead))) ((0, omega arith, refl)), λ stuck. state_new ∙ ap state_of (dead_prospect (stuck_is port a.revalidation stuck)));
         keeps = λ other. same_disk (disk_is a.found (Some a.was) (λ is. other (state_new ∙ is)));
       },
       inr interrupted,

@@ -17,7 +17,7 @@ use Rattle.ata_types.specs.declared.request.Reply.{Reply}
 use Rattle.ata_types.specs.declared.request.RequestId.{RequestId}
 use Rattle.server_history.proofs.state.ListMembers.{contains_cases}
 use Rattle.block_machine.specs.Due.{of_port}
-use Rattle.block_machine.specs.Events.{AllLawful, AllMay, AnswersReset, Belong, FindsAnother, EndsUndone, HadDisk, IsLawful, IsRebooted, IssuesLast, KeepsDisks, AbstractState, NoneKeepsIssue, ReleasesOnce, Reset, ShowsDisk, Tells, UnplugsAll, WasIssued, WasReset, answers_of, issues_it, IsReadyAgain}
+use Rattle.block_machine.specs.Events.{AllLawful, AllMay, AnswersReset, Belong, FindsAnother, EndsUndone, HadDisk, IsLawful, IssuesLast, KeepsDisks, AbstractState, NoneKeepsIssue, ReleasesOnce, Reset, ShowsDisk, Tells, UnplugsAll, WasIssued, WasReset, answers_of, issues_it, IsReadyAgain}
 use Rattle.block_machine.specs.Histories.{Happening, JointState, IsReachable, now}
 use Rattle.block_machine.specs.Left.{after}
 use Rattle.block_machine.specs.Ports.{MayBecome, Ports, SameDisk}
@@ -461,8 +461,7 @@ module _ (laws : ResetLaws) (s taken settled new : ServerState) (replies : List 
   becomes : (port : Port) → MayBecome (ports_of s) by.evidence (ports_of new) port
   becomes port = record {
     served = ap is_served (found_new port.0 ∙ found_taken port.0) ∙ served_same port.0;
-    stuck = by.stuck_all port;
-    dies = by.stuck_only port;
+    stuck = (by.stuck_all port, by.stuck_only port);
     keeps = shows_same port;
   }
 
@@ -495,9 +494,6 @@ module _ (laws : ResetLaws) (s taken settled new : ServerState) (replies : List 
       saw = saw_before laws.below port takes.resets.followed.driven.accesses s.device takes.idle taken.device takes.resets.followed.driven.all
           (taken_saw laws port (probe_result_of takes.host.ports port.0) never (subst (λ (x : ProbeResult). ShowsDisk (state_of x)) found_is shows) takes.host.ports takes.idle taken.device takes.resets.idle refl takes.takes.way)
 
-  reboots : (port : Port) → IsRebooted (server_moment s m) by.evidence steps end port
-  reboots port = record { emptied = none_waits port; becomes = becomes port; anew = anew port; stopped = by.stopped port; disk = had port }
-
   answered : AnswersReset (server_moment s m) by.evidence steps replies end
   answered = record {
     tells = tells;
@@ -505,7 +501,11 @@ module _ (laws : ResetLaws) (s taken settled new : ServerState) (replies : List 
     unplugs = unplugs;
     finds = finds;
     issues = λ port ready. none_due new (after m steps) stands_new (mode_in new port) port (new_settled.issued port);
-    reboots = reboots;
+    emptied = none_waits;
+    becomes = becomes;
+    anew = anew;
+    stopped = by.stopped;
+    disk = had;
   }
 
   was_is : server_moment s m ≡ was

@@ -77,8 +77,10 @@ module _ (laws : LawsBelow) (s : ServerState) (client : ClientId) (number : ℕ)
       rows = stands.rows ∙ rows_are ∙ ap (without_row client number) (sym h.stands.rows);
       tells = let t = revoked.tells_replies laws s client number replies mid r old.machine h in
           record { answers = t.answers; same = subst (IsPermutation t.answers) (sym unanswered) t.same; ordered = t.ordered; told = t.told };
-      all = λ e here waits its. Contains-append_right late early (Answer e Revoked) (revoked.all laws s client number replies mid r old.machine h e here waits its);
-      only = λ e o there. revoked.only laws s client number replies mid r old.machine h e o (early_answer e o there);
+      told = λ e. (
+        λ there. revoked.only laws s client number replies mid r old.machine h e Revoked (early_answer e Revoked there),
+        λ of. Contains-append_right late early (Answer e Revoked) (revoked.all laws s client number replies mid r old.machine h e of.0 of.1 of.2),
+      );
       same = ports_same old.ports (ports_of new) (ports_are ∙ sym new_is);
       issues = λ q ready. none_due new (after old.machine (late ++ early)) stands (mode_in new q) q (issued q ready);
     }

@@ -243,8 +243,7 @@ module _ (laws : LawsBelow) (s new : ServerState) (seen : Device) (port : Port) 
     λ _. (
       record {
         served = ap is_served found_then ∙ found_served wanted port TimedOut no_disk b.anew.result.next b.anew.stopped new.device b.found after_it ∙ sym (ap is_served is);
-        stuck = λ dead. stuck_all port b.found (dead_is b.found (sym (ap state_of found_then) ∙ dead));
-        dies = λ here. ap state_of found_then ∙ ap state_of (stuck_only port b.found here);
+        stuck = (λ dead. stuck_all port b.found (dead_is b.found (sym (ap state_of found_then) ∙ dead)), λ here. ap state_of found_then ∙ ap state_of (stuck_only port b.found here));
         keeps = λ other. (ap last_serial_of (same_disk other), ap last_sectors_of (same_disk other));
       },
       inr (interrupted wanted port b.anew.result.next b.anew.stopped new.device b.found b.anew.is),

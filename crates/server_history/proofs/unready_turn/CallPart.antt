@@ -231,7 +231,7 @@ module _ (laws : LawsBelow) (s : ServerState) (seen : Device) (port : Port) (sta
     its_stuck = All-nil (λ q. q ≡ port);
     becomes = (
       λ dead. (refl, refl, refl, refl, refl, refl),
-      λ alive. (record { served = refl; stuck = λ dead. absurd (alive dead); dies = λ here. absurd (nowhere port here); keeps = λ other. (refl, refl) }, inl (refl, refl, refl, refl, refl, refl)),
+      λ alive. (record { served = refl; stuck = (λ dead. absurd (alive dead), λ here. absurd (nowhere port here)); keeps = λ other. (refl, refl) }, inl (refl, refl, refl, refl, refl, refl)),
     );
     engine = inl (All-weaker (IsLooking port) (LeavesEngine port) (leaving port port) looks.driven.accesses looks.driven.only);
     stops = λ here. absurd (nowhere port here);

@@ -169,7 +169,7 @@ module _ (plan : Plan) (laws : LawsBelow) (s : ServerState) (start : SettledInva
             (d.evidenced.stopped_only stopped))
             (λ stuck. ⊎_elim
             (λ (dead : old.ports.state q ≡ Dead). let z : ReadyState ≡ Dead = sym ready_c ∙ (d.becomes.0 dead).1 ∙ dead in absurd cc)
-            (λ (lives : old.ports.state q ≢ Dead). let z : ReadyState ≡ Dead = sym ready_c ∙ (d.becomes.1 lives).0.dies stuck in absurd cc)
+            (λ (lives : old.ports.state q ≢ Dead). let z : ReadyState ≡ Dead = sym ready_c ∙ (d.becomes.1 lives).0.stuck.1 stuck in absurd cc)
             (dead_or_not (old.ports.state q)))
             i
 

@@ -266,8 +266,7 @@ module _ (plan : Plan) (laws : LawsBelow) (s : ServerState) (start : SettledInva
           λ lives. (
             record {
               served = same.0;
-              stuck = λ dead. absurd (lives (sym same.1 ∙ dead));
-              dies = λ named. absurd (un.5 named);
+              stuck = (λ dead. absurd (lives (sym same.1 ∙ dead)), λ named. absurd (un.5 named));
               keeps = λ x. (same.2, same.3);
             },
             inl same,

@@ -108,6 +108,7 @@ module _ (laws : LawsBelow) (s new : ServerState) (replies : List Reply) (start 
     unplugs = p.unplugs;
     issues = λ port ready. none_due new (after old.machine p.steps) p.stands (mode_in new port) port (p.settled.issued port);
     emptied = none_waits;
+    ended = λ port ready. ((done port).ties.0.heeds ready).ended;
     becomes = λ port. (done port).becomes;
     disk = λ port. (done port).disk;
   }

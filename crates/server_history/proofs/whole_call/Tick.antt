@@ -127,7 +127,7 @@ module _ (laws : LawsBelow) (port : Port) (low : port.0 < 4) (c : ServerState) (
       owes = (refl, refl, refl, uninterrupted);
       tells = record { answers = []; same = IsPermutation-refl []; ordered = λ i j d lt below. absurd (omega (arith, lt, below)); told = refl };
       unplugs = record { emptied = λ e other here there. absurd (nowhere (Answer e Unplugged) here); alike = λ e other here there. absurd (nowhere (Answer e Unplugged) here) };
-      becomes = (λ dead. same, λ lives. (record { served = refl; stuck = λ dead. absurd (lives dead); dies = λ named. absurd (nowhere port named); keeps = λ unready. (refl, refl) }, inl same));
+      becomes = (λ dead. same, λ lives. (record { served = refl; stuck = (λ dead. absurd (lives dead), λ named. absurd (nowhere port named)); keeps = λ unready. (refl, refl) }, inl same));
       disk = inl same;
       keeps = inl (refl, refl);
       issues = λ ready. none_issued c m is [] (λ id. refl) (mode_in c port) port (settled.issued port);
@@ -411,8 +411,7 @@ module _ (laws : LawsBelow) (s new : ServerState) (replies : List Reply) (start 
     answer = λ e o here. is_hung e.request.port (answered_hung e o (in_steps e o here));
     ended = λ port h. ended_before port (restart port h).ended;
     anew = λ port h. anew_before port (restart port h).anew;
-    interrupts = λ port h. (restart port h).interrupts;
-    spares = λ port i. ⊎_elim (λ r. is_hung port r.0) (λ r. absurd (r.1.uninterrupted i)) (restarted_or_not port);
+    interrupts = λ port. (λ h. (restart port h).interrupts, λ i. ⊎_elim (λ r. is_hung port r.0) (λ r. absurd (r.1.uninterrupted i)) (restarted_or_not port));
     finds = λ e here.
         let early = in_steps e Unplugged here in
         (restart e.request.port (is_hung e.request.port (answered_hung e Unplugged early))).another e early refl;

@@ -159,7 +159,7 @@ module _ (plan : Plan) (laws : LawsBelow) (s : ServerState) (start : SettledInva
         (x.evidenced.stopped_only stopped))
         (λ stuck. ⊎_elim
         (λ (dead : state_of (probe_result_of c.ports n) ≡ Dead). let z : ReadyState ≡ Dead = sym ready_mid ∙ (x.becomes.0 dead).1 ∙ dead in absurd cc)
-        (λ (lives : state_of (probe_result_of c.ports n) ≢ Dead). let z : ReadyState ≡ Dead = sym ready_mid ∙ (x.becomes.1 lives).0.dies stuck in absurd cc)
+        (λ (lives : state_of (probe_result_of c.ports n) ≢ Dead). let z : ReadyState ≡ Dead = sym ready_mid ∙ (x.becomes.1 lives).0.stuck.1 stuck in absurd cc)
         (dead_or_not (state_of (probe_result_of c.ports n))))
         i
 
